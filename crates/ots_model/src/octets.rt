@@ -1,0 +1,134 @@
+ghost use Rattle.std.specs.Prelude.{◌≡◌, ℕ, ◌^◌, ◌<◌, ◌≤◌, ◌⊎◌, IsOk, IfOk, IfErr, IsErrOf, length};
+ghost use Rattle.ots_model.specs.declared.octets.TheConstants.{REFERENCE_LIMIT};
+
+use std::alloc::{AllocError, Global};
+use std::marker::Model;
+
+/// How many octets a reference has at most (our profile).
+pub const REFERENCE_LIMIT: usize = 1024;
+
+/// Some octets. Contracts see them as a list.
+#[derive(Debug, Drop)]
+pub struct Octets {
+    items: Vec<u8>,
+}
+
+impl Model for Octets {
+    ghost use Rattle.std.specs.Prelude.{List, ℕ};
+
+    ghost Value = { List ℕ };
+
+    ghost view = { λ o. o.items.items };
+}
+
+impl Octets {
+    /// A copy of these octets.
+    pub fn new(alloc: Global, octets: &[u8]) -> Result<Octets, AllocError>
+        ensures copy { IfOk result (λ copy. copy ≡ octets.now) }
+    {
+        Ok(Octets {
+            items: octets.to_vec(alloc)?,
+        })
+    }
+
+    /// The octets of a vector, which takes no memory.
+    pub fn from_vec(items: Vec<u8>) -> Octets
+        ensures same { result ≡ items.items }
+    {
+        Octets { items }
+    }
+
+    /// The octets.
+    pub fn bytes(&self) -> &[u8]
+        ensures same { result.now ≡ self.now }
+    {
+        self.items.as_slice()
+    }
+}
+
+/// Why octets are no reference.
+#[derive(Clone, Copy, Debug, PartialEq, Eq)]
+pub enum RefFault {
+    /// There are more octets than a reference has: so many.
+    TooLong(u32),
+    /// Memory ran out.
+    Memory,
+}
+
+/// The octets of an object reference, at most 1,024. Contracts see them as a list.
+#[derive(Debug, Drop)]
+pub struct RefBytes {
+    items: Vec<u8>,
+}
+
+impl Model for RefBytes {
+    ghost use Rattle.std.specs.Prelude.{List, ℕ, length, ◌≤◌};
+    ghost use Rattle.ots_model.specs.declared.octets.TheConstants.{REFERENCE_LIMIT};
+
+    ghost Value = { List ℕ };
+
+    ghost view = { λ r. r.items.items };
+
+    ghost invariant = { λ r. length r.items.items ≤ REFERENCE_LIMIT };
+}
+
+impl RefBytes {
+    /// A copy of these octets, of fewer than 2^31.
+    pub fn new(alloc: Global, octets: &[u8]) -> Result<RefBytes, RefFault>
+        requires { length octets.now < 2 ^ 31 }
+        ensures copy { IfOk result (λ copy. copy ≡ octets.now) }
+        ensures short { IsOk result → length octets.now ≤ REFERENCE_LIMIT }
+        ensures too_long { REFERENCE_LIMIT < length octets.now → IsErrOf result (RefFault.TooLong (length octets.now)) }
+        ensures memory { IfErr result (λ fault. (fault ≡ RefFault.Memory) ⊎ (REFERENCE_LIMIT < length octets.now)) }
+    {
+        if octets.len() > REFERENCE_LIMIT {
+            return Err(RefFault::TooLong(octets.len() as u32));
+        }
+        match octets.to_vec(alloc) {
+            Ok(items) => Ok(RefBytes { items }),
+            Err(_) => Err(RefFault::Memory),
+        }
+    }
+
+    /// A copy of the reference.
+    pub fn copy(&self, alloc: Global) -> Result<RefBytes, AllocError>
+        ensures copy { IfOk result (λ copy. copy ≡ self.now) }
+    {
+        Ok(RefBytes {
+            items: self.items.as_slice().to_vec(alloc)?,
+        })
+    }
+
+    /// The reference of a vector's octets, which takes no memory.
+    pub fn from_vec(items: Vec<u8>) -> RefBytes
+        requires { length items.items ≤ REFERENCE_LIMIT }
+        ensures same { result ≡ items.items }
+    {
+        RefBytes { items }
+    }
+
+    /// The octets.
+    pub fn bytes(&self) -> &[u8]
+        ensures same { result.now ≡ self.now }
+        ensures short { length self.now ≤ REFERENCE_LIMIT }
+    {
+        self.items.as_slice()
+    }
+}
+
+#[cfg(test)]
+mod tests {
+    use super::*;
+    use std::test::Fail;
+
+    #[test]
+    fn copies_and_the_limit(rt: HostRuntime) -> Result<(), Fail> {
+        let plain = Octets::new(rt.alloc(), b"abc")?;
+        assert_eq!(rt; plain.bytes(), b"abc".as_slice());
+        let longest = RefBytes::new(rt.alloc(), &[7; REFERENCE_LIMIT])?;
+        assert_eq!(rt; longest.copy(rt.alloc())?.bytes().len(), 1024);
+        let too_long = RefBytes::new(rt.alloc(), &[7; REFERENCE_LIMIT + 1]).err();
+        assert_eq!(rt; too_long, Some(RefFault::TooLong(1025)));
+        Ok(())
+    }
+}
