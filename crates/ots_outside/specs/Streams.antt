@@ -1,0 +1,19 @@
+use Rattle.std.specs.Prelude.{ℕ}
+use Rattle.ots_outside.specs.declared.streams.StdSource.{StdSource}
+use Rattle.ots_outside.specs.declared.streams.StdSink.{StdSink}
+
+-- the reader that the source reads from
+abbrev pub source_reader : {R : Type 0} → StdSource R → R
+source_reader source = source.reader
+
+-- how many reads have failed
+abbrev pub source_faults : {R : Type 0} → StdSource R → ℕ
+source_faults source = source.faults
+
+-- the writer that the sink writes to
+abbrev pub sink_writer : {W : Type 0} → StdSink W → W
+sink_writer sink = sink.writer
+
+-- how many writes have failed
+abbrev pub sink_faults : {W : Type 0} → StdSink W → ℕ
+sink_faults sink = sink.faults
