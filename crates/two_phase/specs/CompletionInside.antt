@@ -1,0 +1,13 @@
+use Rattle.two_phase.specs.declared.completion.State.{State}
+use Rattle.two_phase.specs.declared.completion.State.TheVariants as states
+use Rattle.two_phase.specs.declared.completion.Completion.TheInside.{Inside}
+use Rattle.two_phase.specs.Progress.{Progress, Idle, Polling}
+
+-- a state, as contracts see it
+abbrev pub seen : State → Progress
+seen (states.Idle room) = Idle room
+seen (states.Underway p) = Polling p
+
+-- the same, by the fields
+abbrev pub shown : Inside → Progress
+shown c = seen c.state
