@@ -1,0 +1,22 @@
+use Rattle.std.proofs.Common.{refl, sym, arith}
+use Rattle.ots_world.proofs.FlowLemmas.{lowest_within, delivered_indexed}
+use Rattle.ots_world.proofs.state.State.deliver_lowest.Goals as goal
+
+pub overflow_add-self : goal.overflow_add-self
+overflow_add-self c = omega (
+  arith,
+  lowest_within c.args.self.now.board c.in-Some.place (sym c.in-Some.ensures.lowest),
+  c.sent-sent.ensures.count,
+  c.sent-sent.ensures.within,
+)
+
+pub returns : goal.returns
+returns c = let is = sym c.in-Some.ensures.lowest in record {
+  delivers = (
+    c.in-Some.place,
+    is,
+    c.in_ok-deliver.ensures.does,
+    refl,
+    delivered_indexed c.args.self.now _ c.in-Some.place c.requires is c.in_ok-deliver.ensures.does.0 refl refl,
+  );
+}
