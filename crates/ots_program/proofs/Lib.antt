@@ -1,0 +1,9 @@
+pub mod Rows
+pub mod Replays
+pub mod Told
+pub mod Turned
+pub mod Taken
+pub mod Carried
+pub mod Runs
+pub mod Seen
+pub mod Safely

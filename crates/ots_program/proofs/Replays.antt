@@ -1,0 +1,35 @@
+-- A replay, line by line.
+use Rattle.std.proofs.Common.{◌≡◌, ◌+◌, ◌<◌, ◌≤◌, List, [], ◌∷◌, refl}
+use Rattle.std.proofs.lemmas.Bool.{le-leb, lt-leb, le-ltb, lt-ltb}
+use Rattle.ots_model.specs.declared.line.Line.{Line}
+use Rattle.ots_world.specs.Script.{reading}
+use Rattle.ots_world.specs.World.{World}
+use Rattle.ots_program.specs.declared.status.TheConstants.{LINES_LIMIT, OCTETS_LIMIT}
+use Rattle.ots_program.specs.Replay.{Row, size, Ending, Completed, Limited, Place, Goes, Stops, turn, turn_of, behind, ahead_of, replay_from}
+
+-- a line too many
+pub turn-past_lines : (p : Place) (row : Row) → LINES_LIMIT ≤ p.lines → turn p row ≡ Stops (Limited (p.lines + 1) LINES_LIMIT) []
+unfolding turn
+turn-past_lines p row h = rw (le-leb LINES_LIMIT p.lines h) refl
+
+-- an octet too many
+pub turn-past_octets : (p : Place) (row : Row) → p.lines < LINES_LIMIT → OCTETS_LIMIT < p.octets + size row → turn p row ≡ Stops (Limited (p.lines + 1) OCTETS_LIMIT) []
+unfolding turn
+turn-past_octets p row h long = rw (lt-leb LINES_LIMIT p.lines h, lt-ltb OCTETS_LIMIT (p.octets + size row) long) refl
+
+-- a line within the limits
+pub turn-within : (p : Place) (row : Row) → p.lines < LINES_LIMIT → p.octets + size row ≤ OCTETS_LIMIT → turn p row ≡ turn_of p (reading row.text)
+unfolding turn
+turn-within p row h short = rw (lt-leb LINES_LIMIT p.lines h, le-ltb OCTETS_LIMIT (p.octets + size row) short) refl
+
+pub replay-ended : (p : Place) → replay_from p [] ≡ record { lines = []; further = []; ending = Completed }
+unfolding replay_from
+replay-ended p = refl
+
+pub replay-goes : (p : Place) (row : Row) (others : List Row) (world : World) (lines : List Line) → turn p row ≡ Goes world lines → replay_from p (row ∷ others) ≡ ahead_of lines (replay_from (behind p row world) others)
+unfolding replay_from
+replay-goes p row others world lines e = rw (e, replay_from) refl
+
+pub replay-stops : (p : Place) (row : Row) (others : List Row) (ending : Ending) (further : List Line) → turn p row ≡ Stops ending further → replay_from p (row ∷ others) ≡ record { lines = []; further = further; ending = ending }
+unfolding replay_from
+replay-stops p row others ending further e = rw (e, replay_from) refl

@@ -1,0 +1,133 @@
+-- What a sink has taken of a replay.
+use Rattle.std.proofs.Common.{◌≡◌, ℕ, ◌+◌, min, List, [], ◌++◌, length, take, Option, Some, None, Result, Ok, Err, OnOk, IfErr, IfSome, refl, append_assoc, arith}
+use Rattle.std.proofs.lemmas.Grind.{common_steps}
+use Rattle.std.proofs.Math.Seq.{take-append-add}
+use Rattle.ots_model.specs.declared.line.Line.{Line}
+use Rattle.ots_model.specs.Line.{text_of}
+use Rattle.ots_outside.specs.Sink.{Takes, TakesPart}
+use Rattle.ots_program.specs.declared.player.Player.{Player}
+use Rattle.ots_program.specs.declared.player.Stop.{Stop}
+use Rattle.ots_program.specs.declared.player.Stop.TheVariants as stops
+use Rattle.ots_program.specs.declared.status.Status.{Status}
+use Rattle.ots_program.specs.declared.status.Status.TheVariants as statuses
+use Rattle.ots_program.specs.Answers.{Advances, BreaksOff, Completes, Halts, TakesFront, Tells, Writes, status_of}
+use Rattle.ots_program.specs.Playing.{Passes, StopsAt, Ends, left}
+use Rattle.ots_program.specs.Replay.{Replay, ahead_of}
+use Rattle.ots_program.proofs.Told.{IsFront, IsFront-ahead, IsFront-passed, IsFront-stopped, IsFront-ended, take-shorter, text_of-append}
+
+Takes-none : (taken : Option (List ℕ)) → Takes taken [] taken
+Takes-none None = tt
+Takes-none (Some taken) = grind (arith, common_steps)
+
+Takes-trans : (xs ys : List ℕ) (before mid after : Option (List ℕ)) → Takes before xs mid → Takes mid ys after → Takes before (xs ++ ys) after
+Takes-trans xs ys None mid after h k = tt
+Takes-trans xs ys (Some taken) None after h k = absurd (cc (h))
+Takes-trans xs ys (Some taken) (Some more) after h k =
+    let e : more ≡ taken ++ xs = cc (h) in
+    rw (k, e, append_assoc) refl
+
+Takes-part : (octets : List ℕ) (before after : Option (List ℕ)) → Takes before octets after → TakesPart before octets after
+Takes-part octets None after h = tt
+Takes-part octets (Some taken) after h = (length octets, grind (arith, common_steps, h))
+
+-- what was taken in part is a front of the replay's text
+TakesFront-part : (told : List ℕ) (r : Replay) (before after : Option (List ℕ)) → IsFront told r → TakesPart before told after → IfSome before (λ taken. TakesFront (r.lines ++ r.further) taken after)
+TakesFront-part told r None after front h = tt
+TakesFront-part told r (Some taken) after front h = (min h.0 (length told), rw (h.1, front.split, take-shorter h.0 told front.rest) refl)
+
+pub Advances-none : (r : Replay) (taken : Option (List ℕ)) → Advances r r taken taken
+Advances-none r taken = record { lines = []; whole = refl; taken = Takes-none taken }
+
+pub Advances-trans : (r s t : Replay) (before mid after : Option (List ℕ)) → Advances r s before mid → Advances s t mid after → Advances r t before after
+Advances-trans r s t before mid after h k =
+    record { lines = h.lines ++ k.lines; whole = rw (h.whole, k.whole, append_assoc) refl; taken = rw (text_of-append h.lines k.lines) (Takes-trans (text_of h.lines) (text_of k.lines) before mid after h.taken k.taken) }
+
+-- the output was written
+pub Advances-written : (r s : Replay) (told : List ℕ) (before after : Option (List ℕ)) → Passes r s [] told → Takes before told after → Advances r s before after
+Advances-written r s told before after h k = record { lines = h.lines; whole = h.whole; taken = rw h.told at k }
+
+-- the output was written in part
+pub Halts-write : (r : Replay) (told : List ℕ) (before after : Option (List ℕ)) → IsFront told r → TakesPart before told after → Halts statuses.WriteFault r before after
+Halts-write r told before after front h = record { early = tt; tells = tt; writes = TakesFront-part told r before after front h }
+
+TakesFront-advanced : (r s : Replay) (before after : Option (List ℕ)) → Advances r s before after → IfSome before (λ taken. TakesFront (r.lines ++ r.further) taken after)
+TakesFront-advanced r s before after h =
+    rw h.whole (TakesFront-part (text_of h.lines) (ahead_of h.lines s) before after (IsFront-ahead h.lines s) (Takes-part (text_of h.lines) before after h.taken))
+
+pub Halts-read : (r s : Replay) (before after : Option (List ℕ)) → Advances r s before after → Halts statuses.ReadFault r before after
+Halts-read r s before after h = record { early = tt; tells = tt; writes = TakesFront-advanced r s before after h }
+
+pub Halts-memory : (r s : Replay) (before after : Option (List ℕ)) → Advances r s before after → Halts statuses.Memory r before after
+Halts-memory r s before after h = record { early = tt; tells = tt; writes = TakesFront-advanced r s before after h }
+
+-- the replay stopped, and the output was written
+Writes-stopped : (stop : Stop) (r : Replay) (told : List ℕ) (before after : Option (List ℕ)) → StopsAt stop r [] told → Takes before told after → IfSome before (λ taken. Writes (status_of stop) r taken after)
+Writes-stopped stop r told None after h k = tt
+Writes-stopped (stops.Script line) r told (Some taken) after h k = rw h.1 at k
+Writes-stopped (stops.Limit line number) r told (Some taken) after h k = (h.1.0, rw h.1.1 at k)
+Writes-stopped stops.Memory r told (Some taken) after h k =
+    TakesFront-part told r (Some taken) after (IsFront-stopped stops.Memory r told h) (Takes-part told (Some taken) after k)
+
+Tells-stopped : (stop : Stop) (r : Replay) (told : List ℕ) → StopsAt stop r [] told → Tells (status_of stop) r.ending
+Tells-stopped (stops.Script line) r told h = h.0
+Tells-stopped (stops.Limit line number) r told h = h.0
+Tells-stopped stops.Memory r told h = tt
+
+pub BreaksOff-stopped : (stop : Stop) → BreaksOff (status_of stop)
+BreaksOff-stopped (stops.Script line) = tt
+BreaksOff-stopped (stops.Limit line number) = tt
+BreaksOff-stopped stops.Memory = tt
+
+pub Halts-stopped : (stop : Stop) (r : Replay) (told : List ℕ) (before after : Option (List ℕ)) → StopsAt stop r [] told → Takes before told after → Halts (status_of stop) r before after
+Halts-stopped stop r told before after h k =
+    record { early = BreaksOff-stopped stop; tells = Tells-stopped stop r told h; writes = Writes-stopped stop r told before after h k }
+
+-- a front of what is left, behind the lines so far
+TakesFront-ahead : (lines : List Line) (r : Replay) (taken more : List ℕ) (after : Option (List ℕ)) → more ≡ taken ++ text_of lines → TakesFront (r.lines ++ r.further) more after → TakesFront ((lines ++ r.lines) ++ r.further) taken after
+TakesFront-ahead lines r taken more after e h =
+    (length (text_of lines) + h.0, rw (h.1, e, append_assoc lines r.lines r.further, text_of-append lines (r.lines ++ r.further), take-append-add (text_of lines) (text_of (r.lines ++ r.further)) h.0, append_assoc) refl)
+
+Writes-ahead : (status : Status) (lines : List Line) (r : Replay) (taken more : List ℕ) (after : Option (List ℕ)) → BreaksOff status → more ≡ taken ++ text_of lines → Writes status r more after → Writes status (ahead_of lines r) taken after
+Writes-ahead statuses.Done lines r taken more after early e h = absurd early
+Writes-ahead statuses.Usage lines r taken more after early e h = absurd early
+Writes-ahead (statuses.Script line) lines r taken more after early e h = rw (h, e, text_of-append lines r.lines, append_assoc) refl
+Writes-ahead (statuses.Limit line number) lines r taken more after early e h =
+    (h.0, rw (h.1, e, append_assoc lines r.lines (take h.0 r.further), text_of-append lines (r.lines ++ take h.0 r.further), append_assoc) refl)
+Writes-ahead statuses.ReadFault lines r taken more after early e h = TakesFront-ahead lines r taken more after e h
+Writes-ahead statuses.WriteFault lines r taken more after early e h = TakesFront-ahead lines r taken more after e h
+Writes-ahead statuses.Memory lines r taken more after early e h = TakesFront-ahead lines r taken more after e h
+
+IfSome-ahead : (status : Status) (lines : List Line) (r : Replay) (before mid after : Option (List ℕ)) → BreaksOff status → Takes before (text_of lines) mid → IfSome mid (λ taken. Writes status r taken after) → IfSome before (λ taken. Writes status (ahead_of lines r) taken after)
+IfSome-ahead status lines r None mid after early h k = tt
+IfSome-ahead status lines r (Some taken) None after early h k = absurd (cc (h))
+IfSome-ahead status lines r (Some taken) (Some more) after early h k = Writes-ahead status lines r taken more after early (cc (h)) k
+
+-- where it advanced to a replay that breaks off, it breaks off
+pub Halts-advanced : (status : Status) (r s : Replay) (before mid after : Option (List ℕ)) → Advances r s before mid → Halts status s mid after → Halts status r before after
+Halts-advanced status r s before mid after h k =
+    rw h.whole (record { early = k.early; tells = k.tells; writes = IfSome-ahead status h.lines s before mid after k.early h.taken k.writes })
+
+-- where it advanced to a replay that comes to its end, it comes to its end
+pub Completes-advanced : (r s : Replay) (before mid after : Option (List ℕ)) → Advances r s before mid → Completes s mid after → Completes r before after
+Completes-advanced r s before mid after h k =
+    rw h.whole (record { ending = k.ending; taken = rw (text_of-append h.lines s.lines) (Takes-trans (text_of h.lines) (text_of s.lines) before mid after h.taken k.taken) })
+
+pub Completes-ended : (r : Replay) (told : List ℕ) (before after : Option (List ℕ)) → Ends r [] told → Takes before told after → Completes r before after
+Completes-ended r told before after h k = record { ending = h.ending; taken = rw h.told at k }
+
+-- the output of a piece was written in part
+pub Halts-fed : (result : Result (Unit {0}) Stop) (player next : Player) (piece output told rest : List ℕ) (before after : Option (List ℕ)) → output ≡ []
+    → OnOk result ((rest : List ℕ) → Passes (left player (piece ++ rest)) (left next rest) output told)
+    → IfErr result (λ stop. (rest : List ℕ) → StopsAt stop (left player (piece ++ rest)) output told)
+    → TakesPart before told after → Halts statuses.WriteFault (left player (piece ++ rest)) before after
+Halts-fed (Ok done) player next piece output told rest before after none on stop h =
+    Halts-write _ told before after (IsFront-passed _ _ told (rw none at (on rest))) h
+Halts-fed (Err why) player next piece output told rest before after none on stop h =
+    Halts-write _ told before after (IsFront-stopped why _ told (rw none at (stop rest))) h
+
+-- the last output was written in part
+pub Halts-finished : (result : Result (Unit {0}) Stop) (r : Replay) (output told : List ℕ) (before after : Option (List ℕ)) → output ≡ []
+    → OnOk result (Ends r output told) → IfErr result (λ stop. StopsAt stop r output told)
+    → TakesPart before told after → Halts statuses.WriteFault r before after
+Halts-finished (Ok done) r output told before after none on stop h = Halts-write r told before after (IsFront-ended r told (rw none at on)) h
+Halts-finished (Err why) r output told before after none on stop h = Halts-write r told before after (IsFront-stopped why r told (rw none at stop)) h

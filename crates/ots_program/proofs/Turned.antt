@@ -1,0 +1,86 @@
+-- What a line's turn makes of a replay.
+use Rattle.std.proofs.Common.{◌≡◌, ℕ, ◌+◌, ◌<◌, ◌≤◌, min, List, [], ◌∷◌, ◌++◌, length, true, false, Result, Ok, Err, OnOk, IfErr, refl, append_assoc, append-nil, arith}
+use Rattle.ots_world.specs.Does.{TellsPart}
+use Rattle.ots_world.specs.Standing.{Standing}
+use Rattle.ots_program.specs.declared.player.Player.{Player}
+use Rattle.ots_program.specs.declared.player.Stop.{Stop}
+use Rattle.ots_program.specs.declared.player.Stop.TheVariants as stops
+use Rattle.ots_program.specs.declared.status.TheConstants.{LINES_LIMIT, OCTETS_LIMIT}
+use Rattle.ots_program.specs.Playing.{Passes, StopsAt, Ends, Turns, GoesOn, world_of, lines_of, place_of, row_of, left}
+use Rattle.ots_program.specs.Replay.{Row, Place, Turn, Goes, Stops, Limited, Refused, rows, size, behind, turn, replay_from}
+use Rattle.ots_program.proofs.Replays.{replay-ended, replay-goes, replay-stops, turn-past_lines, turn-past_octets}
+use Rattle.ots_program.proofs.Rows.{IsOneLine, rows-ended, rows-open, rows-begun}
+use Rattle.ots_program.proofs.Told.{Tells-none, take-shorter}
+
+-- at a limit
+StopsAt-limit : (p : Place) (row : Row) (others : List Row) (number : ℕ) (before : List ℕ) → turn p row ≡ Stops (Limited (p.lines + 1) number) [] → StopsAt (stops.Limit (p.lines + 1) number) (replay_from p (row ∷ others)) before before
+StopsAt-limit p row others number before e = rw (replay-stops p row others _ [] e) (refl, (0, Tells-none before))
+
+pub StopsAt-past_lines : (p : Place) (text : List ℕ) (octet : ℕ) (rest before : List ℕ) → IsOneLine text → LINES_LIMIT ≤ p.lines → StopsAt (stops.Limit (p.lines + 1) LINES_LIMIT) (replay_from p (rows (text ++ octet ∷ rest))) before before
+StopsAt-past_lines p text octet rest before one h =
+    let b = rows-begun text octet rest one in
+    rw b.split (StopsAt-limit p b.row b.others LINES_LIMIT before (turn-past_lines p b.row h))
+
+pub StopsAt-past_octets : (p : Place) (text : List ℕ) (octet : ℕ) (rest before : List ℕ) → IsOneLine text → p.lines < LINES_LIMIT → OCTETS_LIMIT ≤ p.octets + length text → StopsAt (stops.Limit (p.lines + 1) OCTETS_LIMIT) (replay_from p (rows (text ++ octet ∷ rest))) before before
+StopsAt-past_octets p text octet rest before one h long =
+    let b = rows-begun text octet rest one in
+    rw b.split (StopsAt-limit p b.row b.others OCTETS_LIMIT before (turn-past_octets p b.row h (omega (arith, b.long))))
+
+-- memory ran out in a turn
+TellsPart-turned : (t : Turn) (p : Place) (row : Row) (others : List Row) (before after : List ℕ) → turn p row ≡ t → TellsPart (lines_of t) before after → StopsAt stops.Memory (replay_from p (row ∷ others)) before after
+TellsPart-turned (Goes world lines) p row others before after e h =
+    let r = replay_from (behind p row world) others in
+    rw (replay-goes p row others world lines e) (min h.0 (length lines), rw (append_assoc, take-shorter h.0 lines (r.lines ++ r.further)) h.1)
+TellsPart-turned (Stops ending further) p row others before after e h = rw (replay-stops p row others ending further e) h
+
+-- a turn stopped
+pub StopsAt-turned : (stop : Stop) (p : Place) (row : Row) (others : List Row) (now : Standing) (before after : List ℕ) → Turns (Err stop) (turn p row) now before after → StopsAt stop (replay_from p (row ∷ others)) before after
+StopsAt-turned (stops.Script line) p row others now before after h =
+    rw (replay-stops p row others (Refused line) [] h.0, h.1) (refl, Tells-none before)
+StopsAt-turned (stops.Limit line number) p row others now before after h =
+    rw (replay-stops p row others (Limited line number) h.further h.stops) (refl, h.told)
+StopsAt-turned stops.Memory p row others now before after h = TellsPart-turned (turn p row) p row others before after refl h
+
+-- a turn went on
+pub Passes-turned : (p : Place) (row : Row) (others : List Row) (now : Standing) (before after : List ℕ) → GoesOn (turn p row) now before after → Passes (replay_from p (row ∷ others)) (replay_from (behind p row (world_of now)) others) before after
+Passes-turned p row others now before after h =
+    rw h.stands (record { lines = h.lines; whole = replay-goes p row others h.world h.lines h.goes; told = h.told })
+
+-- the last turn went on
+pub Ends-turned : (p : Place) (row : Row) (now : Standing) (before after : List ℕ) → GoesOn (turn p row) now before after → Ends (replay_from p (row ∷ [])) before after
+Ends-turned p row now before after h =
+    rw (replay-goes p row [] h.world h.lines h.goes, replay-ended) (record { ending = refl; told = rw append-nil h.told })
+
+-- there was no last turn
+pub Ends-none : (p : Place) (before : List ℕ) → Ends (replay_from p []) before before
+Ends-none p before = rw replay-ended (record { ending = refl; told = Tells-none before })
+
+pub Ends-empty : (p : Place) (text before : List ℕ) → length text ≡ 0 → Ends (replay_from p (rows (text ++ []))) before before
+Ends-empty p [] before h = Ends-none p before
+Ends-empty p (octet ∷ text) before h = absurd (omega arith)
+
+-- the last line had no line feed
+pub Ends-open : (result : Result (Unit {0}) Stop) (p : Place) (text : List ℕ) (now : Standing) (before after : List ℕ) → IsOneLine text → 0 < length text → Turns result (turn p (record { text = text; ended = false })) now before after → OnOk result (Ends (replay_from p (rows (text ++ []))) before after)
+Ends-open (Err stop) p text now before after one some h = tt
+Ends-open (Ok done) p [] now before after one some h = absurd (omega arith)
+Ends-open (Ok done) p (octet ∷ text) now before after one some h =
+    rw (append-nil text, rows-open octet text one) (Ends-turned p (record { text = octet ∷ text; ended = false }) now before after h)
+
+pub StopsAt-open : (result : Result (Unit {0}) Stop) (p : Place) (text : List ℕ) (now : Standing) (before after : List ℕ) → IsOneLine text → 0 < length text → Turns result (turn p (record { text = text; ended = false })) now before after → IfErr result (λ stop. StopsAt stop (replay_from p (rows (text ++ []))) before after)
+StopsAt-open (Ok done) p text now before after one some h = tt
+StopsAt-open (Err stop) p [] now before after one some h = absurd (omega arith)
+StopsAt-open (Err stop) p (octet ∷ text) now before after one some h =
+    rw (append-nil text, rows-open octet text one) (StopsAt-turned stop p (record { text = octet ∷ text; ended = false }) [] now before after h)
+
+-- a line with its line feed
+pub Passes-fed : (result : Result (Unit {0}) Stop) (p q : Player) (octet : ℕ) (before after : List ℕ) → IsOneLine p.line.items → octet ≡ 10 → Turns result (turn (place_of p) (row_of p true)) q.world before after
+    → OnOk result (q.line.items ≡ []) → OnOk result (q.lines ≡ p.lines + 1) → OnOk result (q.octets ≡ p.octets + size (row_of p true))
+    → OnOk result ((rest : List ℕ) → Passes (left p (octet ∷ rest)) (left q rest) before after)
+Passes-fed (Err stop) p q octet before after one feed h emptied counted measured = tt
+Passes-fed (Ok done) p q octet before after one feed h emptied counted measured =
+    λ rest. rw (feed, rows-ended p.line.items rest one, emptied, counted, measured) (Passes-turned (place_of p) (row_of p true) (rows rest) q.world before after h)
+
+pub StopsAt-fed : (result : Result (Unit {0}) Stop) (p : Player) (octet : ℕ) (now : Standing) (before after : List ℕ) → IsOneLine p.line.items → octet ≡ 10 → Turns result (turn (place_of p) (row_of p true)) now before after → IfErr result (λ stop. (rest : List ℕ) → StopsAt stop (left p (octet ∷ rest)) before after)
+StopsAt-fed (Ok done) p octet now before after one feed h = tt
+StopsAt-fed (Err stop) p octet now before after one feed h =
+    λ rest. rw (feed, rows-ended p.line.items rest one) (StopsAt-turned stop (place_of p) (row_of p true) (rows rest) now before after h)

@@ -1,0 +1,11 @@
+//! What the program does with its command line: the one entry, generic over its devices.
+#![tactic(auto)]
+
+pub use command::{run, run_plain};
+pub use devices::{Devices, Word};
+pub use status::{LINES_LIMIT, OCTETS_LIMIT, Status};
+
+mod command;
+mod devices;
+mod player;
+mod status;

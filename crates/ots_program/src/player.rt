@@ -1,0 +1,210 @@
+ghost use Rattle.std.specs.Prelude.{◌≡◌, ℕ, ◌+◌, ◌<◌, ◌≤◌, List, [], ◌∷◌, ◌++◌, IsOk, IfErr, OnOk};
+
+use crate::status::{LINES_LIMIT, OCTETS_LIMIT};
+use ots_world::{ScriptEvent, ScriptFault, World, WorldFault, parse_line};
+use std::alloc::{AllocError, AllocFailed, Global};
+
+/// Why a replay stops.
+#[derive(Clone, Copy, Debug, PartialEq, Eq)]
+pub enum Stop {
+    /// That line is refused.
+    Script(u64),
+    /// At that line a count would pass this limit.
+    Limit(u64, u64),
+    /// Memory ran out.
+    Memory,
+}
+
+impl Stop {
+    ghost use Rattle.ots_program.specs.Playing.{stop_by};
+
+    /// The stop at this line, which the world refuses.
+    fn by_world(fault: WorldFault, line: u64) -> Stop
+        ensures { result ≡ stop_by fault line }
+    {
+        match fault {
+            WorldFault::Names => Stop::Script(line),
+            WorldFault::Limit(limit) => Stop::Limit(line, limit),
+            WorldFault::Memory => Stop::Memory,
+        }
+    }
+}
+
+impl From<AllocError> for Stop {
+    ghost use Rattle.ots_program.specs.declared.player.Stop.TheVariants.{Memory};
+
+    ghost from_gives = { λ _ stop. stop ≡ Memory };
+
+    fn from(_error: AllocError) -> Stop {
+        Stop::Memory
+    }
+}
+
+impl<T: Drop> From<AllocFailed<T>> for Stop {
+    ghost use Rattle.ots_program.specs.declared.player.Stop.TheVariants.{Memory};
+
+    ghost from_gives = { λ _ stop. stop ≡ Memory };
+
+    fn from(_error: AllocFailed<T>) -> Stop {
+        Stop::Memory
+    }
+}
+
+/// A replay under way.
+#[derive(Drop)]
+pub struct Player {
+    pub alloc: Global,
+    pub world: World,
+    /// What has come of the next line.
+    pub line: Vec<u8>,
+    /// How many lines were read.
+    pub lines: u64,
+    /// How many octets were read before the next line.
+    pub octets: u64,
+    /// The lines told and not written yet.
+    pub output: Vec<u8>,
+}
+
+impl Player {
+    ghost use Rattle.ots_world.specs.Script.{Says, reading};
+    ghost use Rattle.ots_program.specs.Playing.{Plays, left, Passes, StopsAt, Ends, Turns, place_of, row_of};
+    ghost use Rattle.ots_program.specs.Replay.{replay, size, turn, turn_of};
+
+    /// A replay at the start of its script.
+    pub fn new(alloc: Global) -> Player
+        ensures plays { Plays result }
+        ensures left { (octets : List ℕ) → left result octets ≡ replay octets }
+        ensures output { result.output.items ≡ [] }
+    {
+        Player {
+            alloc,
+            world: World::new(alloc),
+            line: Vec::new(alloc),
+            lines: 0,
+            octets: 0,
+            output: Vec::new(alloc),
+        }
+    }
+
+    /// These octets of the script have come.
+    pub fn feed(&mut self, piece: &[u8]) -> Result<(), Stop>
+        requires plays { Plays self.old }
+        ensures plays { OnOk result (Plays self.new) }
+        ensures passes { OnOk result ((rest : List ℕ) →
+            Passes (left self.old (piece.now ++ rest)) (left self.new rest) self.old.output.items self.new.output.items) }
+        ensures stops { IfErr result (λ stop. (rest : List ℕ) →
+            StopsAt stop (left self.old (piece.now ++ rest)) self.old.output.items self.new.output.items) }
+    {
+        for octet in piece {
+            self.take(*octet)?;
+        }
+        Ok(())
+    }
+
+    /// The script has ended, and its last line may lack its line feed. Answers the lines that are not written yet, and
+    /// how the replay ended.
+    pub fn finish(mut self) -> (Vec<u8>, Result<(), Stop>)
+        requires plays { Plays self }
+        ensures ends { OnOk result.1 (Ends (left self []) self.output.items result.0.items) }
+        ensures stops { IfErr result.1 (λ stop. StopsAt stop (left self []) self.output.items result.0.items) }
+    {
+        let ended = self.end();
+        let Player {
+            world,
+            lines,
+            mut output,
+            ..
+        } = self;
+        let ended = match ended {
+            Ok(()) => world
+                .finish(&mut output)
+                .map_err(|fault| Stop::by_world(fault, lines)),
+            Err(stop) => Err(stop),
+        };
+        (output, ended)
+    }
+
+    /// The next octet of the script has come.
+    fn take(&mut self, octet: u8) -> Result<(), Stop>
+        requires plays { Plays self.old }
+        ensures plays { OnOk result (Plays self.new) }
+        ensures passes { OnOk result ((rest : List ℕ) →
+            Passes (left self.old (octet ∷ rest)) (left self.new rest) self.old.output.items self.new.output.items) }
+        ensures stops { IfErr result (λ stop. (rest : List ℕ) →
+            StopsAt stop (left self.old (octet ∷ rest)) self.old.output.items self.new.output.items) }
+    {
+        if self.lines >= LINES_LIMIT {
+            return Err(Stop::Limit(self.lines + 1, LINES_LIMIT));
+        }
+        if self.octets + self.line.len() as u64 >= OCTETS_LIMIT {
+            return Err(Stop::Limit(self.lines + 1, OCTETS_LIMIT));
+        }
+        if octet == b'\n' {
+            return self.take_line(true);
+        }
+        self.line.push(octet)?;
+        Ok(())
+    }
+
+    /// The last line may be there without its line feed.
+    fn end(&mut self) -> Result<(), Stop>
+        requires plays { Plays self.old }
+        ensures stands { OnOk result (IsOk self.new.world) }
+        ensures ends { OnOk result (Ends (left self.old []) self.old.output.items self.new.output.items) }
+        ensures stops { IfErr result (λ stop. StopsAt stop (left self.old []) self.old.output.items self.new.output.items) }
+    {
+        if self.line.is_empty() {
+            return Ok(());
+        }
+        self.take_line(false)
+    }
+
+    /// The next line is whole, with its line feed or without.
+    fn take_line(&mut self, ended: bool) -> Result<(), Stop>
+        requires plays { Plays self.old }
+        requires lines { self.old.lines < LINES_LIMIT }
+        requires octets { self.old.octets + size (row_of self.old ended) ≤ OCTETS_LIMIT }
+        ensures turned { Turns result (turn (place_of self.old) (row_of self.old ended)) self.new.world self.old.output.items self.new.output.items }
+        ensures emptied { OnOk result (self.new.line.items ≡ []) }
+        ensures counted { OnOk result (self.new.lines ≡ self.old.lines + 1) }
+        ensures measured { OnOk result (self.new.octets ≡ self.old.octets + size (row_of self.old ended)) }
+    {
+        self.carry_out()?;
+        self.lines += 1;
+        self.octets += self.line.len() as u64 + u64::from(ended);
+        self.line.clear();
+        Ok(())
+    }
+
+    /// What the next line says is carried out.
+    fn carry_out(&mut self) -> Result<(), Stop>
+        requires plays { Plays self.old }
+        requires lines { self.old.lines < LINES_LIMIT }
+        ensures turned { Turns result (turn_of (place_of self.old) (reading self.old.line.items)) self.new.world self.old.output.items self.new.output.items }
+        ensures line { self.new.line ≡ self.old.line }
+        ensures lines { self.new.lines ≡ self.old.lines }
+        ensures octets { self.new.octets ≡ self.old.octets }
+    {
+        match parse_line(self.alloc, self.line.as_slice()) {
+            Ok(Some(event)) => self.act(&event),
+            Ok(None) => Ok(()),
+            Err(ScriptFault::BadLine) => Err(Stop::Script(self.lines + 1)),
+            Err(ScriptFault::Memory) => Err(Stop::Memory),
+        }
+    }
+
+    /// The world carries out what the next line says.
+    fn act(&mut self, event: &ScriptEvent) -> Result<(), Stop>
+        requires plays { Plays self.old }
+        requires lines { self.old.lines < LINES_LIMIT }
+        ensures turned { Turns result (turn_of (place_of self.old) (Says event.now)) self.new.world self.old.output.items self.new.output.items }
+        ensures line { self.new.line ≡ self.old.line }
+        ensures lines { self.new.lines ≡ self.old.lines }
+        ensures octets { self.new.octets ≡ self.old.octets }
+    {
+        match self.world.step(event, &mut self.output) {
+            Ok(()) => Ok(()),
+            Err(fault) => Err(Stop::by_world(fault, self.lines + 1)),
+        }
+    }
+}
