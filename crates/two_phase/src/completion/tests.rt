@@ -54,7 +54,7 @@ fn check(rt: &impl Abort, alloc: Global, case: &Case) -> Result<(), Fail> {
 }
 
 #[test]
-fn words_and_outcomes(rt: HostRuntime) -> Result<(), Fail> {
+fn a_commit_needs_every_vote_and_its_record(rt: HostRuntime) -> Result<(), Fail> {
     let cases = [
         Case {
             participants: 2,
@@ -77,6 +77,16 @@ fn words_and_outcomes(rt: HostRuntime) -> Result<(), Fail> {
             words: &[(Word::Prepare, 1), (Word::Prepare, 2), (Word::Rollback, 2)],
             outcome: Some(Outcome::Rollback(Reason::JournalFull(8, 9))),
         },
+    ];
+    for case in &cases {
+        check(&rt, rt.alloc(), case)?;
+    }
+    Ok(())
+}
+
+#[test]
+fn a_vote_to_roll_back_ends_the_votes(rt: HostRuntime) -> Result<(), Fail> {
+    let cases = [
         Case {
             participants: 2,
             one_phase: false,
@@ -93,6 +103,16 @@ fn words_and_outcomes(rt: HostRuntime) -> Result<(), Fail> {
             words: &[(Word::Prepare, 1), (Word::Rollback, 2), (Word::Rollback, 3)],
             outcome: Some(Outcome::Rollback(Reason::Vote(1))),
         },
+    ];
+    for case in &cases {
+        check(&rt, rt.alloc(), case)?;
+    }
+    Ok(())
+}
+
+#[test]
+fn a_lost_vote_rolls_back_and_read_only_ones_commit(rt: HostRuntime) -> Result<(), Fail> {
+    let cases = [
         Case {
             participants: 2,
             one_phase: false,
@@ -109,6 +129,16 @@ fn words_and_outcomes(rt: HostRuntime) -> Result<(), Fail> {
             words: &[(Word::Prepare, 1), (Word::Prepare, 2)],
             outcome: Some(Outcome::Commit),
         },
+    ];
+    for case in &cases {
+        check(&rt, rt.alloc(), case)?;
+    }
+    Ok(())
+}
+
+#[test]
+fn one_participant_decides_alone(rt: HostRuntime) -> Result<(), Fail> {
+    let cases = [
         Case {
             participants: 1,
             one_phase: true,
