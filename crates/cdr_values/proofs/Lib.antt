@@ -1,0 +1,5 @@
+pub mod Given
+pub mod Standing
+pub mod Numbers
+pub mod Counted
+pub mod Spelling
