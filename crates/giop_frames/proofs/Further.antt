@@ -1,0 +1,195 @@
+-- What stands in front of octets stands there too where more octets follow, and a fault that is found there stays found.
+use Rattle.std.proofs.Common.{◌≡◌, ℕ, zero, suc, ◌+◌, ◌<◌, ◌≤◌, ◌⊎◌, inl, inr, ⊎_elim, Bool, true, false, cond, not, nat_eq, ltb, List, [], ◌∷◌, ◌++◌, length, get_or, take, drop, Result, Ok, Err, refl, sym, ap, ◌∙◌, append_assoc, arith}
+use Rattle.std.specs.Prelude.{◌≢◌, ◌&&◌, slice_index}
+use Rattle.std.specs.List.{starts_with}
+use Rattle.std.proofs.lemmas.Bool.{ltb-true, ltb-false, le-ltb, cases_lt}
+use Rattle.std.proofs.lemmas.Bool.Decides.{Decides-eqb}
+use Rattle.std.proofs.lemmas.List.{take_at, drop_at, drop-append-le, take-append-le, get_or_append_left, get_or_past, length-append, length-take, length-drop}
+use Rattle.std.proofs.lemmas.Slice.Eq.{starts_is}
+use Rattle.cdr_values.specs.Reading.{◌>>=◌}
+use Rattle.giop_frames.specs.declared.fault.FrameFault.{FrameFault}
+use Rattle.giop_frames.specs.declared.fault.FrameFault.TheVariants.{BadMagic, BadVersion, BadType, BadFragment, Short}
+use Rattle.giop_frames.specs.declared.header.Header.{Header}
+use Rattle.giop_frames.specs.Header.{magic, version, type_octet, header_at}
+use Rattle.giop_frames.specs.Stream.{Part, IsStreamPart, may_go_on, part_at, part_header_at}
+use Rattle.giop_frames.proofs.Given.{guard_ok}
+use Rattle.giop_frames.proofs.Headers.{header_only}
+use Rattle.giop_frames.proofs.Holding.{part_found}
+
+-- ---- faults of steps
+
+-- a result that failed
+abbrev failed : {A : Type 0} → FrameFault → Result A FrameFault
+failed fault = Err fault
+
+-- results that failed alike have one fault
+pub err_is : {A : Type 0} (f g : FrameFault) → failed {A = A} f ≡ failed g → f ≡ g
+err_is f g e = cc
+
+-- a test that failed, or what followed it
+guard_err : {A : Type 0} (b : Bool) (d : FrameFault) (r : Result A FrameFault) (f : FrameFault) → cond b (Err d) r ≡ Err f → ((b ≡ true) × (d ≡ f)) ⊎ ((b ≡ false) × (r ≡ Err f))
+guard_err {A} true d r f e = inl (refl, err_is {A = A} d f e)
+guard_err false d r f e = inr (refl, e)
+
+-- a step that failed, or what followed it
+bind_err : {A B : Type 0} (r : Result A FrameFault) (f : A → Result B FrameFault) (fault : FrameFault) → (r >>= f) ≡ Err fault → (r ≡ Err fault) ⊎ ((x : A) × (r ≡ Ok x) × (f x ≡ Err fault))
+bind_err (Ok x) f fault e = inr (x, refl, e)
+bind_err {A} {B} (Err d) f fault e = inl (ap (failed {A = A}) (err_is {A = B} d fault e))
+
+-- ---- a part that stands in front
+
+-- nothing is wrong with a part that goes on where it may
+no_fault : (more may : Bool) → (more ≡ true → may ≡ true) → (more && not may) ≡ false
+no_fault true may h = rw (h refl) refl
+no_fault false may h = refl
+
+-- a part is found, whatever follows it
+pub part_only : (p : Part) (octets rest : List ℕ) → IsStreamPart p octets → part_at (octets ++ rest) ≡ Ok (p, rest)
+unfolding part_at part_header_at
+part_only p octets rest is =
+    let h = p.header in
+    let w = is.part in
+    let front : List ℕ = magic ++ (version ++ (w.flags ∷ type_octet h.kind ∷ w.size)) in
+    let size : length front ≡ 12 = omega (arith, w.sized.size) in
+    let all : length octets ≡ 12 + h.size = omega (arith, ap length w.parts, length-append front p.content, size, w.counted) in
+    let behind : octets ++ rest ≡ front ++ (p.content ++ rest) = ap (λ (x : List ℕ). x ++ rest) w.parts ∙ append_assoc front p.content rest in
+    let content : take h.size (drop 12 (octets ++ rest)) ≡ p.content = ap (λ (x : List ℕ). take h.size (drop 12 x)) behind ∙ ap (take h.size) (drop_at front (p.content ++ rest) 12 size) ∙ take_at p.content rest h.size w.counted in
+    let long : ltb (length (octets ++ rest)) (12 + h.size) ≡ false = le-ltb _ _ (omega (arith, all, length-append octets rest)) in
+    rw (header_only h p.content octets rest w, no_fault h.more (may_go_on h) is.goes_on, long, content, drop_at octets rest (12 + h.size) all) refl
+
+-- a part that is found is found with more octets too
+pub part_stays : (octets more : List ℕ) (p : Part) (rest : List ℕ) → part_at octets ≡ Ok (p, rest) → part_at (octets ++ more) ≡ Ok (p, rest ++ more)
+part_stays octets more p rest e =
+    let f = part_found octets p rest e in
+    ap part_at (ap (λ (x : List ℕ). x ++ more) f.parts ∙ append_assoc f.front rest more) ∙ part_only p f.front (rest ++ more) f.is_part
+
+-- ---- tests of the octets in front
+
+-- there is no mark in front, as far as the octets go
+abbrev lacks : List ℕ → List ℕ → Bool
+lacks mark octets = not (starts_with nat_eq mark octets)
+
+-- a fact that more octets tell
+later : (a b : Bool) → (b ≡ true → a ≡ true) → not a ≡ true → not b ≡ true
+later a false h e = refl
+later true true h e = absurd cc
+later false true h e = let no : false ≡ true = h refl in absurd cc
+
+-- a mark that is lacking is lacking with more octets too
+lacks_more : (mark octets more : List ℕ) → lacks mark octets ≡ true → lacks mark (octets ++ more) ≡ true
+lacks_more mark octets more =
+    let all = octets ++ more in
+    let past = drop (length all) mark in
+    later (starts_with nat_eq mark octets) (starts_with nat_eq mark all) (λ e.
+    let split : mark ≡ all ++ past = (starts_is Decides-eqb mark all (starts_with nat_eq mark all) refl).0 e in
+    (starts_is Decides-eqb mark octets (starts_with nat_eq mark octets) refl).1 (more ++ past) (split ∙ append_assoc octets more past))
+
+-- no mark is lacking where there are no octets
+lacks_some : (mark octets : List ℕ) → lacks mark octets ≡ true → 0 < length octets
+lacks_some mark [] e = absurd cc
+lacks_some mark (x ∷ xs) e = omega arith
+
+-- of the first n octets none goes
+take_more : (n : ℕ) (octets more : List ℕ) → (further : List ℕ) × (take n (octets ++ more) ≡ take n octets ++ further)
+take_more zero octets more = ([], refl)
+take_more (suc n) [] more = (take (suc n) more, refl)
+take_more (suc n) (x ∷ xs) more = let t = take_more n xs more in (t.0, ap (λ (y : List ℕ). x ∷ y) t.1)
+
+-- a mark that the first n octets lack is lacking with more octets too
+lacks_first : (mark : List ℕ) (n : ℕ) (octets more : List ℕ) → lacks mark (take n octets) ≡ true → lacks mark (take n (octets ++ more)) ≡ true
+lacks_first mark n octets more e =
+    let t = take_more n octets more in
+    rw t.1 (lacks_more mark (take n octets) t.0 e)
+
+-- an octet that isn't 0 is there
+octet_there : (octets : List ℕ) (i n : ℕ) → n < slice_index octets i → i < length octets
+octet_there octets i n lt = ⊎_elim {A = i < length octets} {B = length octets ≤ i} (λ h. h) (λ h. let none : get_or octets i 0 ≡ 0 = get_or_past octets i 0 h in absurd (omega (arith, lt, none))) (cases_lt i (length octets))
+
+-- ---- a header that stands in front, and its faults
+
+-- octets up to the n-th stand from the i-th on, whatever follows
+slice_same : (i n : ℕ) (octets more : List ℕ) → i + n ≤ length octets → take n (drop i (octets ++ more)) ≡ take n (drop i octets)
+slice_same i n octets more long = ap (take n) (drop-append-le i octets more (omega arith)) ∙ take-append-le n (drop i octets) more (omega (arith, length-drop i octets))
+
+-- twelve octets tell the header
+header_same : (octets more : List ℕ) → 12 ≤ length octets → header_at (octets ++ more) ≡ header_at octets
+unfolding header_at
+header_same octets more long =
+    let first : take 4 (octets ++ more) ≡ take 4 octets = take-append-le 4 octets more (omega arith) in
+    let second : take 2 (drop 4 (octets ++ more)) ≡ take 2 (drop 4 octets) = slice_same 4 2 octets more (omega arith) in
+    let flags : slice_index (octets ++ more) 6 ≡ slice_index octets 6 = get_or_append_left octets more 0 6 (omega arith) in
+    let kind : slice_index (octets ++ more) 7 ≡ slice_index octets 7 = get_or_append_left octets more 0 7 (omega arith) in
+    let size : take 4 (drop 8 (octets ++ more)) ≡ take 4 (drop 8 octets) = slice_same 8 4 octets more (omega arith) in
+    let all : ltb (length (octets ++ more)) 12 ≡ false = le-ltb _ _ (omega (arith, long, length-append octets more)) in
+    rw (first, second, flags, kind, size, all, le-ltb (length octets) 12 long) refl
+
+-- a header that is found has twelve octets
+header_long : (octets : List ℕ) (h : Header) → header_at octets ≡ Ok h → 12 ≤ length octets
+unfolding header_at
+header_long octets h e =
+    let a = guard_ok (lacks magic (take 4 octets)) BadMagic _ h e in
+    let b = guard_ok (lacks version (take 2 (drop 4 octets))) BadVersion _ h a.1 in
+    let c = guard_ok (ltb 7 (slice_index octets 7)) BadType _ h b.1 in
+    let d = guard_ok (ltb (length octets) 12) Short _ h c.1 in
+    ltb-false _ _ d.0
+
+-- a bad magic is found before the rest
+bad_magic : (octets more : List ℕ) → lacks magic (take 4 octets) ≡ true → header_at (octets ++ more) ≡ Err BadMagic
+unfolding header_at
+bad_magic octets more m = rw (lacks_first magic 4 octets more m) refl
+
+-- a bad version stands behind a whole magic
+bad_version : (octets more : List ℕ) → lacks magic (take 4 octets) ≡ false → lacks version (take 2 (drop 4 octets)) ≡ true → header_at (octets ++ more) ≡ Err BadVersion
+unfolding header_at
+bad_version octets more m v =
+    let some : 0 < length (take 2 (drop 4 octets)) = lacks_some version (take 2 (drop 4 octets)) v in
+    let long : 4 ≤ length octets = omega (arith, some, length-take 2 (drop 4 octets), length-drop 4 octets) in
+    let lacking : lacks version (take 2 (drop 4 (octets ++ more))) ≡ true = rw (drop-append-le 4 octets more long) (lacks_first version 2 (drop 4 octets) more v) in
+    rw (take-append-le 4 octets more long, m, lacking) refl
+
+-- a bad type stands behind a whole version
+bad_type : (octets more : List ℕ) → lacks magic (take 4 octets) ≡ false → lacks version (take 2 (drop 4 octets)) ≡ false → ltb 7 (slice_index octets 7) ≡ true → header_at (octets ++ more) ≡ Err BadType
+unfolding header_at
+bad_type octets more m v t =
+    let long : 7 < length octets = octet_there octets 7 7 (ltb-true _ _ t) in
+    let kind : slice_index (octets ++ more) 7 ≡ slice_index octets 7 = get_or_append_left octets more 0 7 long in
+    rw (take-append-le 4 octets more (omega arith), m, slice_same 4 2 octets more (omega arith), v, kind, t) refl
+
+-- a header's fault that is found stays found
+header_stays : (octets more : List ℕ) (fault : FrameFault) → header_at octets ≡ Err fault → fault ≢ Short → header_at (octets ++ more) ≡ Err fault
+unfolding header_at
+header_stays octets more fault e other =
+    elim (guard_err (lacks magic (take 4 octets)) BadMagic _ fault e) [
+      | inl a ↦ bad_magic octets more a.0 ∙ ap (failed {A = Header}) a.1
+      | inr a ↦ elim (guard_err (lacks version (take 2 (drop 4 octets))) BadVersion _ fault a.1) [
+        | inl b ↦ bad_version octets more a.0 b.0 ∙ ap (failed {A = Header}) b.1
+        | inr b ↦ elim (guard_err (ltb 7 (slice_index octets 7)) BadType _ fault b.1) [
+          | inl c ↦ bad_type octets more a.0 b.0 c.0 ∙ ap (failed {A = Header}) c.1
+          | inr c ↦ elim (guard_err (ltb (length octets) 12) Short _ fault c.1) [
+            | inl d ↦ absurd (other (sym d.1))
+            | inr d ↦ header_same octets more (ltb-false _ _ d.0) ∙ e
+          ]
+        ]
+      ]
+    ]
+
+-- a fault of a part's header stays
+part_header_stays : (octets more : List ℕ) (fault : FrameFault) → part_header_at octets ≡ Err fault → fault ≢ Short → part_header_at (octets ++ more) ≡ Err fault
+unfolding part_header_at
+part_header_stays octets more fault e other =
+    elim (bind_err (header_at octets) (λ h. cond (h.more && not (may_go_on h)) (Err BadFragment) (Ok h)) fault e) [
+      | inl a ↦ rw (header_stays octets more fault a other) refl
+      | inr a ↦ rw (header_same octets more (header_long octets a.0 a.1), a.1) a.2
+    ]
+
+-- a fault of a part stays
+pub fault_stays : (octets more : List ℕ) (fault : FrameFault) → part_at octets ≡ Err fault → fault ≢ Short → part_at (octets ++ more) ≡ Err fault
+unfolding part_at
+fault_stays octets more fault e other =
+    elim (bind_err (part_header_at octets) _ fault e) [
+      | inl a ↦ rw (part_header_stays octets more fault a other) refl
+      | inr a ↦ elim (guard_err (ltb (length octets) (12 + a.0.size)) Short _ fault a.2) [
+        | inl b ↦ absurd (other (sym b.1))
+        | inr b ↦ absurd (let no = b.1 in cc)
+      ]
+    ]

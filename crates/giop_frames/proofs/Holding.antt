@@ -1,0 +1,166 @@
+-- What a stream holds back, as its parts come.
+use Rattle.std.proofs.Common.{◌≡◌, ℕ, ◌+◌, ◌-◌, ◌^◌, ◌<◌, ◌≤◌, min, Bool, true, false, cond, ltb, List, ◌∷◌, ◌++◌, length, take, drop, Option, None, Result, Ok, Err, refl, sym, ap, subst, ◌∙◌, ◌⊎◌, inl, inr, append_assoc, arith}
+use Rattle.std.specs.Prelude.{◌&&◌, not}
+use Rattle.std.proofs.lemmas.Bool.{ltb-false}
+use Rattle.std.proofs.lemmas.List.{append-nil, length-append, take-append-drop}
+use Rattle.cdr_values.specs.Reading.{◌>>=◌}
+use Rattle.giop_frames.specs.declared.fault.FrameFault.{FrameFault}
+use Rattle.giop_frames.specs.declared.fault.FrameFault.TheVariants as faults
+use Rattle.giop_frames.specs.declared.framed.Framed.{Framed}
+use Rattle.giop_frames.specs.declared.header.Header.{Header}
+use Rattle.giop_frames.specs.Header.{header_at, magic, type_octet, version}
+use Rattle.giop_frames.specs.Stream.{Part, Unfinished, IsInFront, IsStreamPart, IsRefused, IsStream, Refuses, after, given, judged, may_go_on, part_at, part_header_at, says}
+use Rattle.giop_frames.specs.Held.{Held, Holds, RefusesHeld, Takes, Took, remembering}
+use Rattle.giop_frames.proofs.Headers.{header_found}
+
+-- the value of a step that did not fail
+bind_ok : {A B : Type 0} (r : Result A FrameFault) (f : A → Result B FrameFault) (y : B) → (r >>= f) ≡ Ok y → (x : A) × (r ≡ Ok x) × (f x ≡ Ok y)
+bind_ok (Ok x) f y e = (x, refl, e)
+bind_ok (Err d) f y e = absurd cc
+
+-- a test that did not fail
+guard_ok : {A : Type 0} (b : Bool) (d : FrameFault) (r : Result A FrameFault) (y : A) → cond b (Err d) r ≡ Ok y → (b ≡ false) × (r ≡ Ok y)
+guard_ok true d r y e = absurd cc
+guard_ok false d r y e = (refl, e)
+
+abbrev done : {A : Type 0} → A → Result A FrameFault
+done x = Ok x
+
+ok_is : {A : Type 0} (x y : A) → done x ≡ done y → x ≡ y
+ok_is x y e = cc
+
+goes_on_from : (more may : Bool) → (more && not may) ≡ false → more ≡ true → may ≡ true
+goes_on_from true true e h = refl
+goes_on_from true false e h = absurd cc
+goes_on_from false may e h = absurd cc
+
+-- the part that stands in front, and its octets
+pub record Front (p : Part) (octets rest : List ℕ) : Type 0 where
+  pub front : List ℕ
+  pub parts : octets ≡ front ++ rest
+  pub is_part : IsStreamPart p front
+
+-- what reading finds is a part
+pub part_found : (octets : List ℕ) (p : Part) (rest : List ℕ) → part_at octets ≡ Ok (p, rest) → Front p octets rest
+unfolding part_at part_header_at
+part_found octets p rest e =
+    let a = bind_ok (part_header_at octets) (λ h. cond (ltb (length octets) (12 + h.size)) (Err faults.Short) (Ok (record { header = h; content = take h.size (drop 12 octets) }, drop (12 + h.size) octets))) (p, rest) e in
+    let h : Header = a.0 in
+    let b = bind_ok (header_at octets) (λ h. cond (h.more && not (may_go_on h)) (Err faults.BadFragment) (Ok h)) h a.1 in
+    let c = guard_ok (b.0.more && not (may_go_on b.0)) faults.BadFragment (Ok b.0) h b.2 in
+    let same : b.0 ≡ h = ok_is b.0 h c.1 in
+    let d = guard_ok (ltb (length octets) (12 + h.size)) faults.Short (Ok (record { header = h; content = take h.size (drop 12 octets) }, drop (12 + h.size) octets)) (p, rest) a.2 in
+    let is : (record { header = h; content = take h.size (drop 12 octets) }, drop (12 + h.size) octets) ≡ (p, rest) = ok_is _ (p, rest) d.1 in
+    let long : 12 + h.size ≤ length octets = ltb-false _ _ d.0 in
+    let header : header_at octets ≡ Ok h = b.1 ∙ ap (λ (x : Header). Ok x) same in
+    let goes : h.more ≡ true → may_go_on h ≡ true = goes_on_from h.more (may_go_on h) (ap (λ (x : Header). x.more && not (may_go_on x)) (sym same) ∙ c.0) in
+    let made : Front (record { header = h; content = take h.size (drop 12 octets) }) octets (drop (12 + h.size) octets) = record {
+      front = take (12 + h.size) octets;
+      parts = sym (take-append-drop (12 + h.size) octets);
+      is_part = record { part = header_found octets h header long; goes_on = goes };
+    } in
+    subst (λ (x : Part × List ℕ). Front x.0 octets x.1) is made
+
+-- the parts with one more
+abbrev with_part : (octets : List ℕ) (messages : List Framed) (old new : Held) (answer : Option Framed) → Took old answer new → Holds octets messages old → List Part
+with_part octets messages old new answer t h = t.part ∷ h.parts
+
+says_is : (octets : List ℕ) (messages : List Framed) (old : Held) (p : Part) (h : Holds octets messages old) → says h.parts p ≡ judged old.unfinished old.place p
+says_is octets messages old p h = rw (h.unfinished_are, h.place_is) refl
+
+-- one more part
+pub holds_part : (octets : List ℕ) (messages : List Framed) (old new : Held) (answer : Option Framed) → Took old answer new → old.refused ≡ None → Holds octets messages old → Holds octets (messages ++ given (Ok answer)) new
+holds_part octets messages old new answer t none h =
+    let f = part_found old.rest t.part new.rest t.stands in
+    let said : says h.parts t.part ≡ Ok answer = says_is octets messages old t.part h ∙ t.says in
+    record {
+      parts = t.part ∷ h.parts;
+      splits = record {
+        front = h.splits.front ++ f.front;
+        whole = h.splits.whole ∙ ap (λ (x : List ℕ). h.splits.front ++ x) f.parts ∙ sym (append_assoc h.splits.front f.front new.rest);
+        are_parts = (h.splits.front, f.front, refl, f.is_part, h.splits.are_parts);
+        taken = (answer, said, h.splits.taken);
+        messages_are = rw (said, h.splits.messages_are) refl;
+      };
+      unfinished_are = t.unfinished_are ∙ rw (h.unfinished_are, h.place_is) refl;
+      place_is = t.place_is ∙ rw h.place_is refl;
+      refused = rw (t.refused, none) tt;
+    }
+
+-- a part that ends no message
+pub holds_piece : (octets : List ℕ) (messages : List Framed) (old new : Held) → Took old None new → old.refused ≡ None → Holds octets messages old → Holds octets messages new
+holds_piece octets messages old new t none h = subst (λ (ms : List Framed). Holds octets ms new) (append-nil messages) (holds_part octets messages old new None t none h)
+
+-- more octets
+pub holds_fed : (octets piece : List ℕ) (messages : List Framed) (old : Held) → old.refused ≡ None → Holds octets messages old → Holds (octets ++ piece) messages (record old { rest = old.rest ++ piece })
+holds_fed octets piece messages old none h = record {
+  parts = h.parts;
+  splits = record {
+    front = h.splits.front;
+    whole = ap (λ (x : List ℕ). x ++ piece) h.splits.whole ∙ append_assoc h.splits.front old.rest piece;
+    are_parts = h.splits.are_parts;
+    taken = h.splits.taken;
+    messages_are = h.splits.messages_are;
+  };
+  unfinished_are = h.unfinished_are;
+  place_is = h.place_is;
+  refused = rw none tt;
+}
+
+-- no whole part is left
+pub holds_stream : (octets : List ℕ) (messages : List Framed) (old : Held) → part_at old.rest ≡ Err faults.Short → Holds octets messages old → IsStream messages old.rest octets
+holds_stream octets messages old e h = record { parts = h.parts; splits = h.splits; partial = e }
+
+-- a part that is refused, by what is held and by the parts so far
+pub refuses_parts : (octets : List ℕ) (messages : List Framed) (old : Held) (fault : FrameFault) (h : Holds octets messages old) → RefusesHeld old fault → Refuses h.parts old.rest fault
+refuses_parts octets messages old fault h (inl by_octets) = inl by_octets
+refuses_parts octets messages old fault h (inr by_parts) = inr (by_parts.0, by_parts.1, by_parts.2, says_is octets messages old by_parts.0 h ∙ by_parts.3)
+
+pub holds_refused : (octets : List ℕ) (messages : List Framed) (old : Held) (fault : FrameFault) → RefusesHeld old fault → Holds octets messages old → IsRefused messages old.place fault octets
+holds_refused octets messages old fault r h = record { parts = h.parts; rest = old.rest; splits = h.splits; place_is = h.place_is; refused = refuses_parts octets messages old fault h r }
+
+-- a stream takes the part in front of what it holds
+pub took : (messages : List Unfinished) (place : ℕ) (rest : List ℕ) (refused : Option FrameFault) (header : Header) (content : List ℕ) (answer : Option Framed) (new : Held) (old : Held)
+    → record { unfinished = messages; place = place; rest = rest; refused = refused } ≡ old → IsInFront header rest → content ≡ take header.size (drop 12 rest)
+    → judged messages place (record { header = header; content = content }) ≡ Ok answer → new.unfinished ≡ after place (record { header = header; content = content }) messages
+    → new.place ≡ min (place + (12 + header.size)) (2 ^ 64 - 1) → new.rest ≡ drop (12 + header.size) rest → new.refused ≡ refused → Took old answer new
+took messages place rest refused header content answer new old view front is said messages_are place_is rest_is refused_is =
+    let part : Part = record { header = header; content = content } in
+    let stands : part_at rest ≡ Ok (part, new.rest) = front.part ∙ ap (λ (x : List ℕ). Ok (record { header = header; content = x }, drop (12 + header.size) rest)) (sym is) ∙ ap (λ (x : List ℕ). Ok (part, x)) (sym rest_is) in
+    let held : Held = record { unfinished = messages; place = place; rest = rest; refused = refused } in
+    let made : Took held answer new = record { part = part; stands = stands; says = said; unfinished_are = messages_are; place_is = place_is; refused = refused_is } in
+    subst (λ (h : Held). Took h answer new) view made
+
+-- what a refusal leaves is held as before
+pub takes_refusal : (old : Held) (fault : FrameFault) → RefusesHeld old fault → Takes old (Err fault) old
+takes_refusal old faults.BadMagic r = (refl, r)
+takes_refusal old faults.BadVersion r = (refl, r)
+takes_refusal old faults.BadType r = (refl, r)
+takes_refusal old (faults.TooLarge n) r = (refl, r)
+takes_refusal old faults.BadFragment r = (refl, r)
+takes_refusal old (faults.Body place cdr) r = (refl, r)
+takes_refusal old faults.Short r = (refl, r)
+takes_refusal old faults.NotWritten r = (refl, r)
+takes_refusal old faults.Memory r = refl
+
+placed : (octets : List ℕ) (messages : List Framed) (old new now : Held) (fault : FrameFault) → new ≡ old → now.place ≡ new.place → IsRefused messages old.place fault octets → IsRefused messages now.place fault octets
+placed octets messages old new now fault e is r = rw (is, e) r
+
+-- what a part that is refused shows: want of memory, or a fault that is remembered
+pub refused_by : (old new now : Held) (fault : FrameFault) → Takes old (Err fault) new → now ≡ remembering new fault → ((fault ≡ faults.Memory) ⊎ ((octets : List ℕ) (messages : List Framed) → Holds octets messages old → IsRefused messages now.place fault octets))
+refused_by old new now faults.BadMagic t is = inr (λ octets messages h. placed octets messages old new now faults.BadMagic t.0 (ap (λ (x : Held). x.place) is) (holds_refused octets messages old faults.BadMagic t.1 h))
+refused_by old new now faults.BadVersion t is = inr (λ octets messages h. placed octets messages old new now faults.BadVersion t.0 (ap (λ (x : Held). x.place) is) (holds_refused octets messages old faults.BadVersion t.1 h))
+refused_by old new now faults.BadType t is = inr (λ octets messages h. placed octets messages old new now faults.BadType t.0 (ap (λ (x : Held). x.place) is) (holds_refused octets messages old faults.BadType t.1 h))
+refused_by old new now (faults.TooLarge n) t is = inr (λ octets messages h. placed octets messages old new now (faults.TooLarge n) t.0 (ap (λ (x : Held). x.place) is) (holds_refused octets messages old (faults.TooLarge n) t.1 h))
+refused_by old new now faults.BadFragment t is = inr (λ octets messages h. placed octets messages old new now faults.BadFragment t.0 (ap (λ (x : Held). x.place) is) (holds_refused octets messages old faults.BadFragment t.1 h))
+refused_by old new now (faults.Body place cdr) t is = inr (λ octets messages h. placed octets messages old new now (faults.Body place cdr) t.0 (ap (λ (x : Held). x.place) is) (holds_refused octets messages old (faults.Body place cdr) t.1 h))
+refused_by old new now faults.Short t is = inr (λ octets messages h. placed octets messages old new now faults.Short t.0 (ap (λ (x : Held). x.place) is) (holds_refused octets messages old faults.Short t.1 h))
+refused_by old new now faults.NotWritten t is = inr (λ octets messages h. placed octets messages old new now faults.NotWritten t.0 (ap (λ (x : Held). x.place) is) (holds_refused octets messages old faults.NotWritten t.1 h))
+refused_by old new now faults.Memory t is = inl refl
+
+-- less is left behind a part
+pub shorter : (old new : Held) (answer : Option Framed) → Took old answer new → length new.rest < length old.rest
+shorter old new answer t =
+    let f = part_found old.rest t.part new.rest t.stands in
+    let p = f.is_part.part in
+    omega (arith, ap length f.parts, length-append f.front new.rest, ap length p.parts, length-append magic (version ++ (p.flags ∷ type_octet t.part.header.kind ∷ (p.size ++ t.part.content))))

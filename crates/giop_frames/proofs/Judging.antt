@@ -1,0 +1,74 @@
+-- What a part says, case by case.
+use Rattle.std.proofs.Common.{◌≡◌, ℕ, ◌<◌, ◌≤◌, Bool, true, false, cond, ltb, List, [], ◌++◌, length, get_or, drop, set, Some, None, Result, Ok, Err, refl, sym, ap, ◌∙◌}
+use Rattle.std.proofs.lemmas.Bool.{lt-ltb, le-ltb, le-leb, lt-leb, ltb-true}
+use Rattle.cdr_values.specs.declared.order.Order.{Order}
+use Rattle.cdr_values.specs.declared.fault.CdrFault.{CdrFault}
+use Rattle.cdr_values.specs.declared.fault.CdrFault.TheVariants as cdr
+use Rattle.cdr_values.specs.Value.{number_in}
+use Rattle.cdr_values.specs.Reading.{Reading, ◌>>=◌, number_at, sized_at}
+use Rattle.giop_frames.specs.Fault.{fault_of}
+use Rattle.std.specs.Prelude.{remove}
+use Rattle.giop_frames.specs.declared.fault.FrameFault.TheVariants.{BadFragment}
+use Rattle.giop_frames.specs.Header.{is_fragment}
+use Rattle.giop_frames.specs.Content.{message_of}
+use Rattle.giop_frames.specs.Stream.{Part, Unfinished, IsAt, after, id_of, joined, judged, numbered, opening, so_far, without_id}
+use Rattle.giop_frames.proofs.Numbered.{numbered_at, extended_at, without_at}
+
+abbrev failing : {X E : Type 0} → E → Result X E
+failing e = Err e
+
+err_is : {X E : Type 0} {x y : E} → failing {X = X} x ≡ failing y → x ≡ y
+err_is e = cc
+
+-- ---- a first part that goes on
+
+pub opening_short : (messages : List Unfinished) (p : Part) → length p.content < 4 → opening messages p ≡ Err without_id
+opening_short messages p h = rw (lt-ltb (length p.content) 4 h) refl
+
+pub opening_taken : (messages : List Unfinished) (p : Part) (u : Unfinished) → 4 ≤ length p.content → numbered (id_of p) messages ≡ Some u → opening messages p ≡ Err BadFragment
+opening_taken messages p u long e = rw (le-ltb (length p.content) 4 long, e) refl
+
+-- the same, by the message's place in the list
+pub opening_at : (messages : List Unfinished) (p : Part) (i : ℕ) → 4 ≤ length p.content → IsAt (id_of p) messages i → opening messages p ≡ Err BadFragment
+opening_at messages p i long at = opening_taken messages p _ long (numbered_at (id_of p) messages i (record { id = 0; place = 0; header = p.header; content = [] }) at)
+
+pub opening_full : (messages : List Unfinished) (p : Part) → 4 ≤ length p.content → numbered (id_of p) messages ≡ None → 8 ≤ length messages → opening messages p ≡ Err BadFragment
+opening_full messages p long e full = rw (le-ltb (length p.content) 4 long, e, le-leb 8 (length messages) full) refl
+
+pub opening_free : (messages : List Unfinished) (p : Part) → 4 ≤ length p.content → numbered (id_of p) messages ≡ None → length messages < 8 → opening messages p ≡ so_far (message_of p.header.order p.header.kind p.content)
+opening_free messages p long e room = rw (le-ltb (length p.content) 4 long, e, lt-leb 8 (length messages) room) refl
+
+-- ---- a Fragment
+
+pub fragment_short : (messages : List Unfinished) (place : ℕ) (p : Part) → is_fragment p.header.kind ≡ true → length p.content < 4 → judged messages place p ≡ Err without_id
+unfolding judged
+fragment_short messages place p f h = rw (f, lt-ltb (length p.content) 4 h) refl
+
+pub fragment_alone : (messages : List Unfinished) (place : ℕ) (p : Part) → is_fragment p.header.kind ≡ true → 4 ≤ length p.content → numbered (id_of p) messages ≡ None → judged messages place p ≡ Err BadFragment
+unfolding judged
+fragment_alone messages place p f long e = rw (f, le-ltb (length p.content) 4 long, e) refl
+
+pub fragment_joins : (messages : List Unfinished) (place : ℕ) (p : Part) (i : ℕ) (d : Unfinished) → is_fragment p.header.kind ≡ true → 4 ≤ length p.content → IsAt (id_of p) messages i
+    → judged messages place p ≡ joined p.header.more (drop 4 p.content) (get_or messages i d)
+unfolding judged
+fragment_joins messages place p i d f long at = rw (f, le-ltb (length p.content) 4 long, numbered_at (id_of p) messages i d at) refl
+
+pub after_more : (messages : List Unfinished) (place : ℕ) (p : Part) (i : ℕ) (d : Unfinished) → is_fragment p.header.kind ≡ true → p.header.more ≡ true → IsAt (id_of p) messages i
+    → after place p messages ≡ set messages i (record (get_or messages i d) { content = (get_or messages i d).content ++ drop 4 p.content })
+after_more messages place p i d f m at = rw (f, m) (extended_at (id_of p) (drop 4 p.content) messages i d at)
+
+pub after_last : (messages : List Unfinished) (place : ℕ) (p : Part) (i : ℕ) → is_fragment p.header.kind ≡ true → p.header.more ≡ false → IsAt (id_of p) messages i → after place p messages ≡ remove messages i
+after_last messages place p i f m at = rw (f, m) (without_at (id_of p) messages i at)
+
+-- ---- the request_id
+
+short_of : (b : Bool) (fault : CdrFault) (x : List ℕ × Reading) (f : List ℕ × Reading → ℕ × Reading) → (cond b (Err (cdr.Short 12)) (Ok x) >>= λ y. Ok (f y)) ≡ Err fault → (b ≡ true) × (fault_of fault ≡ without_id)
+short_of true fault x f e = (refl, ap fault_of (err_is (sym e)))
+short_of false fault x f e = absurd cc
+
+-- too few octets are the only fault
+pub id_fault : (r : Reading) (order : Order) (content : List ℕ) (fault : CdrFault) → r ≡ record { order = order; place = 12; rest = content } → number_at 4 r ≡ Err fault → (fault_of fault ≡ without_id) × (length content < 4)
+unfolding number_at sized_at
+id_fault r order content fault is e =
+    let s = short_of (ltb (length content) 4) fault _ (λ octets. (number_in order 4 octets.0, octets.1)) (ap (number_at 4) (sym is) ∙ e) in
+    (s.1, ltb-true _ _ s.0)

@@ -1,0 +1,16 @@
+pub mod Given
+pub mod Loops
+pub mod Spelled
+pub mod FieldsRead
+pub mod Contents
+pub mod Headers
+pub mod Whole
+pub mod Ends
+pub mod Written
+pub mod Refused
+pub mod Canonical
+pub mod Numbered
+pub mod Judging
+pub mod Holding
+pub mod Further
+pub mod Cuts

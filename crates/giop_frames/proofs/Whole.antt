@@ -1,0 +1,144 @@
+-- What the whole gives where its steps give what they do, and what they give where the whole gives a message.
+use Rattle.std.proofs.Common.{◌≡◌, ℕ, ◌+◌, ◌≤◌, ◌||◌, false, ltb, List, ◌∷◌, ◌++◌, length, take, drop, Result, Ok, Err, refl, sym, ap, subst, ◌∙◌, append_assoc, arith}
+use Rattle.std.specs.Prelude.{IfOk, IfErr}
+use Rattle.std.proofs.lemmas.Bool.{le-ltb, ltb-false, or_parts}
+use Rattle.std.proofs.lemmas.List.{take_at, drop_at, length-append}
+use Rattle.cdr_values.specs.Laws.{ReadingLaws}
+use Rattle.giop_frames.specs.declared.fault.FrameFault.{FrameFault}
+use Rattle.giop_frames.specs.declared.fault.FrameFault.TheVariants as faults
+use Rattle.giop_frames.specs.declared.fault.FrameFault.TheVariants.{BadFragment, Short}
+use Rattle.giop_frames.specs.declared.header.Header.{Header}
+use Rattle.giop_frames.specs.declared.message.Message.{Message}
+use Rattle.giop_frames.specs.declared.message.Message.TheVariants as messages
+use Rattle.giop_frames.specs.Fault.{Fails, Finds}
+use Rattle.giop_frames.specs.Header.{magic, version, type_octet, is_fragment, header_at}
+use Rattle.giop_frames.specs.Message.{IsMessage, kind_of}
+use Rattle.giop_frames.specs.Content.{message_of}
+use Rattle.giop_frames.specs.Decode.{decoded}
+use Rattle.giop_frames.proofs.Given.{ok_is, bind_ok, guard_ok}
+use Rattle.giop_frames.proofs.Headers.{header_found, header_only}
+use Rattle.giop_frames.proofs.Contents.{content_found, content_only}
+
+-- a fault of the content is the fault of the whole
+pub decoded_fault : (octets : List ℕ) (h : Header) (fault : FrameFault) → header_at octets ≡ Ok h → (h.more || is_fragment h.kind) ≡ false → 12 + h.size ≤ length octets
+    → message_of h.order h.kind (take h.size (drop 12 octets)) ≡ Err fault → decoded octets ≡ Err fault
+unfolding decoded
+decoded_fault octets h fault e whole long bad = rw (e, whole, le-ltb (length octets) (12 + h.size) long, bad) refl
+
+-- a message in the content is the message of the whole
+pub decoded_message : (octets : List ℕ) (h : Header) (m : Message) → header_at octets ≡ Ok h → (h.more || is_fragment h.kind) ≡ false → 12 + h.size ≤ length octets
+    → message_of h.order h.kind (take h.size (drop 12 octets)) ≡ Ok m → decoded octets ≡ Ok (m, 12 + h.size)
+unfolding decoded
+decoded_message octets h m e whole long good = rw (e, whole, le-ltb (length octets) (12 + h.size) long, good) refl
+
+-- the steps of a whole that gives a message
+record Steps (octets : List ℕ) (m : Message) (used : ℕ) : Type 0 where
+  header : Header
+  read : header_at octets ≡ Ok header
+  whole : (header.more || is_fragment header.kind) ≡ false
+  long : 12 + header.size ≤ length octets
+  content : message_of header.order header.kind (take header.size (drop 12 octets)) ≡ Ok m
+  all : 12 + header.size ≡ used
+
+-- a whole that gives a message has gone through them
+steps : (octets : List ℕ) (m : Message) (used : ℕ) → decoded octets ≡ Ok (m, used) → Steps octets m used
+unfolding decoded
+steps octets m used e =
+    let a = bind_ok (header_at octets) _ (m, used) e in
+    let h = a.0 in
+    let b = guard_ok (h.more || is_fragment h.kind) BadFragment _ (m, used) a.2 in
+    let c = guard_ok (ltb (length octets) (12 + h.size)) Short _ (m, used) b.1 in
+    let d = bind_ok (message_of h.order h.kind (take h.size (drop 12 octets))) _ (m, used) c.1 in
+    let same = ok_is {A = Message × ℕ} (d.0, 12 + h.size) (m, used) d.2 in
+    record {
+      header = h;
+      read = a.1;
+      whole = b.0;
+      long = ltb-false _ _ c.0;
+      content = d.1 ∙ ap (λ (x : Message × ℕ). Ok x.0) same;
+      all = ap (λ (x : Message × ℕ). x.1) same;
+    }
+
+-- where the whole gives a message, the octets that it used are that message
+pub is_message : ReadingLaws → (octets : List ℕ) (m : Message) (used : ℕ) → decoded octets ≡ Ok (m, used) → (used ≤ length octets) × IsMessage m (take used octets)
+is_message laws octets m used e =
+    let s = steps octets m used e in
+    let h = s.header in
+    let content = take h.size (drop 12 octets) in
+    let c = content_found laws h.order h.kind content m s.content in
+    let message : IsMessage m (take (12 + h.size) octets) = record {
+      header = h;
+      content = content;
+      part = header_found octets h s.read s.long;
+      whole = (or_parts h.more (is_fragment h.kind) s.whole).0;
+      kind = c.0;
+      is_content = c.1;
+    } in
+    (omega (arith, s.all, s.long), subst (λ (n : ℕ). IsMessage m (take n octets)) s.all message)
+
+-- no message is a fragment
+no_fragment : (m : Message) → is_fragment (kind_of m) ≡ false
+no_fragment (messages.Request r) = refl
+no_fragment (messages.Reply r) = refl
+no_fragment (messages.Cancel id) = refl
+no_fragment (messages.Locate l) = refl
+no_fragment (messages.LocateReply l) = refl
+no_fragment messages.Close = refl
+no_fragment messages.Error = refl
+
+-- a message is given by the whole, whatever follows it
+pub is_decoded : ReadingLaws → (m : Message) (octets rest : List ℕ) → IsMessage m octets → decoded (octets ++ rest) ≡ Ok (m, length octets)
+is_decoded laws m octets rest is =
+    let h = is.header in
+    let p = is.part in
+    let front : List ℕ = magic ++ (version ++ (p.flags ∷ type_octet h.kind ∷ p.size)) in
+    let size : length front ≡ 12 = omega (arith, p.sized.size) in
+    let parts : octets ≡ front ++ is.content = p.parts in
+    let used : 12 + h.size ≡ length octets = omega (arith, ap length parts, length-append front is.content, size, p.counted) in
+    let behind : octets ++ rest ≡ front ++ (is.content ++ rest) = ap (λ (x : List ℕ). x ++ rest) parts ∙ append_assoc front is.content rest in
+    let content : take h.size (drop 12 (octets ++ rest)) ≡ is.content = ap (λ (x : List ℕ). take h.size (drop 12 x)) behind ∙ ap (take h.size) (drop_at front (is.content ++ rest) 12 size) ∙ take_at is.content rest h.size p.counted in
+    let whole : (h.more || is_fragment h.kind) ≡ false = rw (is.whole, is.kind) (no_fragment m) in
+    let long : 12 + h.size ≤ length (octets ++ rest) = omega (arith, used, length-append octets rest) in
+    let read : message_of h.order h.kind (take h.size (drop 12 (octets ++ rest))) ≡ Ok m = rw (content, is.kind) (content_only laws h.order m is.content is.is_content) in
+    subst (λ (n : ℕ). decoded (octets ++ rest) ≡ Ok (m, n)) used (decoded_message (octets ++ rest) h m (header_only h is.content octets rest p) whole long read)
+
+-- ---- from what a call found to what holds of its answer
+
+-- a call used no more octets than there are
+pub within_from : {X : Type 0} (laws : ReadingLaws) (view : X → Message × ℕ) (octets : List ℕ) (result : Result X FrameFault) → Finds view result (decoded octets) → IfOk result (λ x. (view x).1 ≤ length octets)
+within_from laws view octets (Ok x) given = (is_message laws octets (view x).0 (view x).1 given).0
+within_from laws view octets (Err fault) given = tt
+
+-- the octets that a call used are its message
+pub found_from : {X : Type 0} (laws : ReadingLaws) (view : X → Message × ℕ) (octets : List ℕ) (result : Result X FrameFault) → Finds view result (decoded octets) → IfOk result (λ x. IsMessage (view x).0 (take (view x).1 octets))
+found_from laws view octets (Ok x) given = (is_message laws octets (view x).0 (view x).1 given).1
+found_from laws view octets (Err fault) given = tt
+
+-- only memory fails where reading gives a value
+only_memory : {Y : Type 0} (fault : FrameFault) (read : Result Y FrameFault) (y : Y) → read ≡ Ok y → Fails fault read → fault ≡ faults.Memory
+only_memory faults.BadMagic read y e h = absurd cc
+only_memory faults.BadVersion read y e h = absurd cc
+only_memory faults.BadType read y e h = absurd cc
+only_memory (faults.TooLarge n) read y e h = absurd cc
+only_memory faults.BadFragment read y e h = absurd cc
+only_memory (faults.Body place cdr) read y e h = absurd cc
+only_memory faults.Short read y e h = absurd cc
+only_memory faults.NotWritten read y e h = absurd cc
+only_memory faults.Memory read y e h = refl
+
+-- a call finds the message that stands in front, unless memory fails
+pub only_from : {X : Type 0} (laws : ReadingLaws) (view : X → Message × ℕ) (bytes : List ℕ) (result : Result X FrameFault) → Finds view result (decoded bytes) → (m : Message) (octets rest : List ℕ) → IsMessage m octets → bytes ≡ octets ++ rest
+    → IfOk result (λ x. ((view x).0 ≡ m) × ((view x).1 ≡ length octets)) × IfErr result (λ fault. fault ≡ faults.Memory)
+only_from laws view bytes (Ok x) given m octets rest is e =
+    let same = ok_is (view x) (m, length octets) (sym given ∙ ap decoded e ∙ is_decoded laws m octets rest is) in
+    ((ap (λ (p : Message × ℕ). p.0) same, ap (λ (p : Message × ℕ). p.1) same), tt)
+only_from laws view bytes (Err fault) given m octets rest is e = (tt, only_memory fault (decoded bytes) (m, length octets) (ap decoded e ∙ is_decoded laws m octets rest is) given)
+
+-- ---- no message begins another
+
+-- two messages in front of the same octets are one
+pub one_message : ReadingLaws → (m n : Message) (a b x y : List ℕ) → IsMessage m a → IsMessage n b → a ++ x ≡ b ++ y → (a ≡ b) × (m ≡ n)
+one_message laws m n a b x y p q e =
+    let same = ok_is {A = Message × ℕ} (m, length a) (n, length b) (sym (is_decoded laws m a x p) ∙ ap decoded e ∙ is_decoded laws n b y q) in
+    let size : length b ≡ length a = ap (λ (z : Message × ℕ). z.1) (sym same) in
+    (sym (take_at a x (length a) refl) ∙ ap (take (length a)) e ∙ take_at b y (length a) size, ap (λ (z : Message × ℕ). z.0) same)

@@ -1,0 +1,14 @@
+use Rattle.std.proofs.Common.{◌≡◌, ◌≤◌, ℕ, List, length, None}
+use Rattle.giop_frames.specs.declared.framed.Framed.{Framed}
+use Rattle.giop_frames.specs.Held.{Holds}
+use Rattle.giop_frames.proofs.stream.Stream.next_framed.Given as goal
+
+abbrev pub invariant-loop-framed : goal.invariant-loop-framed
+invariant-loop-framed l = record {
+  accepts : l.self.refused ≡ None;
+  goes_on : (octets : List ℕ) (messages : List Framed) → Holds octets messages l.fn.self → Holds octets messages l.self;
+  shorter : length l.self.rest ≤ length l.fn.self.rest;
+}
+
+abbrev pub decreases-loop-framed : goal.decreases-loop-framed
+decreases-loop-framed l = length l.self.rest

@@ -1,0 +1,81 @@
+-- The header in front of each part of a message (GIOP 1.2, message header).
+use Rattle.std.specs.Prelude.{◌≡◌, ℕ, ◌/◌, ◌%◌, ◌≤◌, ◌==◌, nat_eq, nat_lt, Bool, true, false, not, List, [], ◌∷◌, ◌++◌, length, take, drop, slice_index, Result, Ok, Err, if◌then◌else◌, codes}
+use Rattle.std.specs.List.{starts_with}
+use Rattle.cdr_values.specs.declared.order.Order.{Order}
+use Rattle.cdr_values.specs.declared.order.Order.TheVariants.{Big, Little}
+use Rattle.cdr_values.specs.Value.{IsNumber, number_in, octets_of}
+use Rattle.giop_frames.specs.declared.fault.FrameFault.{FrameFault}
+use Rattle.giop_frames.specs.declared.fault.FrameFault.TheVariants.{BadMagic, BadVersion, BadType, TooLarge, Short}
+use Rattle.giop_frames.specs.declared.header.Kind.{Kind}
+use Rattle.giop_frames.specs.declared.header.Kind.TheVariants as kinds
+use Rattle.giop_frames.specs.declared.header.Header.{Header}
+
+abbrev pub magic : List ℕ
+magic = codes "GIOP"
+
+abbrev pub version : List ℕ
+version = 1 ∷ 2 ∷ []
+
+-- the octet that stands for a type
+abbrev pub type_octet : Kind → ℕ
+type_octet kinds.Request = 0
+type_octet kinds.Reply = 1
+type_octet kinds.CancelRequest = 2
+type_octet kinds.LocateRequest = 3
+type_octet kinds.LocateReply = 4
+type_octet kinds.CloseConnection = 5
+type_octet kinds.MessageError = 6
+type_octet kinds.Fragment = 7
+
+-- the type that an octet of at most 7 stands for
+abbrev pub kind_at : ℕ → Kind
+kind_at octet =
+    if octet == 0 then kinds.Request else (if octet == 1 then kinds.Reply else (if octet == 2 then kinds.CancelRequest else (if octet == 3 then kinds.LocateRequest else
+    (if octet == 4 then kinds.LocateReply else (if octet == 5 then kinds.CloseConnection else (if octet == 6 then kinds.MessageError else kinds.Fragment))))))
+
+-- a part of this type goes on with a message
+abbrev pub is_fragment : Kind → Bool
+is_fragment kinds.Fragment = true
+is_fragment _ = false
+
+-- bit 0 of the flags tells the byte order
+abbrev pub order_of_flags : ℕ → Order
+order_of_flags flags = if flags % 2 == 1 then Little else Big
+
+-- bit 1 of the flags tells that more fragments follow. The other bits are ignored (our profile).
+abbrev pub more_of_flags : ℕ → Bool
+more_of_flags flags = flags / 2 % 2 == 1
+
+-- the octets are a part: a header, and the content whose length it tells, at most 65,536 (our profile)
+pub record IsPart (header : Header) (content octets : List ℕ) : Type 0 where
+  pub flags : ℕ
+  pub size : List ℕ
+  pub parts : octets ≡ magic ++ (version ++ (flags ∷ type_octet header.kind ∷ (size ++ content)))
+  pub order_bit : order_of_flags flags ≡ header.order
+  pub more_bit : more_of_flags flags ≡ header.more
+  pub sized : IsNumber header.order 4 header.size size
+  pub counted : length content ≡ header.size
+  pub few : header.size ≤ 65536
+
+-- the size that a header tells
+abbrev pub size_at : List ℕ → ℕ
+size_at octets = number_in (order_of_flags (slice_index octets 6)) 4 (take 4 (drop 8 octets))
+
+-- the header in front, or the first fault as its octets come
+unfoldable pub header_at : List ℕ → Result Header FrameFault
+header_at octets =
+    if not (starts_with nat_eq magic (take 4 octets)) then Err BadMagic else (
+    if not (starts_with nat_eq version (take 2 (drop 4 octets))) then Err BadVersion else (
+    if nat_lt 7 (slice_index octets 7) then Err BadType else (
+    if nat_lt (length octets) 12 then Err Short else (
+    if nat_lt 65536 (size_at octets) then Err (TooLarge (size_at octets)) else
+    Ok (record { order = order_of_flags (slice_index octets 6); more = more_of_flags (slice_index octets 6); kind = kind_at (slice_index octets 7); size = size_at octets })))))
+
+-- the flags of a message that isn't fragmented
+abbrev pub flags_of : Order → ℕ
+flags_of Big = 0
+flags_of Little = 1
+
+-- the header of a message that isn't fragmented
+abbrev pub header_octets : Order → Kind → ℕ → List ℕ
+header_octets order kind size = magic ++ (version ++ (flags_of order ∷ type_octet kind ∷ octets_of order 4 size))

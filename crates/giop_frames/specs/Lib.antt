@@ -1,0 +1,11 @@
+pub mod Fault
+pub mod Header
+pub mod Message
+pub mod Content
+pub mod Decode
+pub mod Stream
+pub mod Skim
+pub mod Held
+pub mod Encode
+pub mod Sizes
+pub mod Write

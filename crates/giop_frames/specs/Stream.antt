@@ -1,0 +1,220 @@
+-- Streams of messages (GIOP 1.2, Fragment): parts one after another, each judged by the parts before it. Where parts are
+-- in a list, the newest stands first.
+use Rattle.std.specs.Prelude.{◌≡◌, ◌≢◌, ◌⊎◌, ℕ, ◌+◌, ◌-◌, ◌^◌, ◌%◌, ◌≤◌, ◌<◌, ◌==◌, nat_le, nat_lt, min, Bool, true, false, ◌||◌, ◌&&◌, not, List, [], ◌∷◌, ◌++◌, length, take, drop, find, Option, Some, None, is_some, Result, Ok, Err, if◌then◌else◌}
+use Rattle.std.specs.List.{position_or_len}
+use Rattle.cdr_values.specs.declared.fault.CdrFault.TheVariants as cdr
+use Rattle.cdr_values.specs.Value.{number_in}
+use Rattle.cdr_values.specs.Reading.{◌>>=◌}
+use Rattle.giop_frames.specs.declared.fault.FrameFault.{FrameFault}
+use Rattle.giop_frames.specs.declared.fault.FrameFault.TheVariants.{BadFragment, Body, Short, TooLarge}
+use Rattle.giop_frames.specs.declared.header.Kind.{Kind}
+use Rattle.giop_frames.specs.declared.header.Kind.TheVariants as kinds
+use Rattle.giop_frames.specs.declared.header.Header.{Header}
+use Rattle.giop_frames.specs.declared.message.Message.{Message}
+use Rattle.giop_frames.specs.declared.framed.Framed.{Framed}
+use Rattle.giop_frames.specs.Header.{IsPart, is_fragment, header_at}
+use Rattle.giop_frames.specs.Content.{message_of}
+
+-- a part of a stream: what its header says, and its content
+pub record Part : Type 0 where
+  pub header : Header
+  pub content : List ℕ
+
+-- a message whose last part hasn't come: its request_id, the place and the header of its first part, and its octets so
+-- far, joined without the request_ids of the Fragments
+pub record Unfinished : Type 0 where
+  pub id : ℕ
+  pub place : ℕ
+  pub header : Header
+  pub content : List ℕ
+
+-- messages of these types come in several parts
+abbrev pub may_be_fragmented : Kind → Bool
+may_be_fragmented kinds.CancelRequest = false
+may_be_fragmented kinds.CloseConnection = false
+may_be_fragmented kinds.MessageError = false
+may_be_fragmented _ = true
+
+-- the "more fragments" bit stands where it can: on such a type, and where the part's length is a multiple of 8 (our profile)
+abbrev pub may_go_on : Header → Bool
+may_go_on header = may_be_fragmented header.kind && ((12 + header.size) % 8 == 0)
+
+-- the octets are this part
+pub record IsStreamPart (p : Part) (octets : List ℕ) : Type 0 where
+  pub part : IsPart p.header p.content octets
+  pub goes_on : p.header.more ≡ true → may_go_on p.header ≡ true
+
+-- the octets are these parts
+abbrev pub AreParts : List Part → List ℕ → Type 0
+AreParts [] octets = octets ≡ []
+AreParts (p ∷ older) octets = (before : List ℕ) × (part : List ℕ) × (octets ≡ before ++ part) × IsStreamPart p part × AreParts older before
+
+-- the header of a part in front, or its first fault as its octets come
+unfoldable pub part_header_at : List ℕ → Result Header FrameFault
+part_header_at octets = do
+  header ← header_at octets
+  if header.more && not (may_go_on header) then Err BadFragment else Ok header
+
+-- the part in front and what follows it, or the first fault; Short, where there is less than a whole part
+unfoldable pub part_at : List ℕ → Result (Part × List ℕ) FrameFault
+part_at octets = do
+  header ← part_header_at octets
+  if nat_lt (length octets) (12 + header.size) then Err Short else Ok (record { header = header; content = take header.size (drop 12 octets) }, drop (12 + header.size) octets)
+
+-- a whole part with this header stands in front
+pub record IsInFront (header : Header) (octets : List ℕ) : Type 0 where
+  pub part : part_at octets ≡ Ok (record { header = header; content = take header.size (drop 12 octets) }, drop (12 + header.size) octets)
+  pub whole : 12 + header.size ≤ length octets
+  pub few : header.size ≤ 65536
+
+-- the offset behind parts; it stands still at its type's end
+abbrev pub offset : List Part → ℕ
+offset [] = 0
+offset (p ∷ older) = min (offset older + (12 + p.header.size)) (2 ^ 64 - 1)
+
+-- the request_id with which the content of a Fragment, and of each first part, begins
+abbrev pub id_of : Part → ℕ
+id_of p = number_in p.header.order 4 (take 4 p.content)
+
+-- the unfinished message of this number
+abbrev pub numbered : ℕ → List Unfinished → Option Unfinished
+numbered id messages = find (λ u. u.id == id) messages
+
+-- the unfinished message of this number is at this index, the first one of that number
+pub record IsAt (id : ℕ) (messages : List Unfinished) (index : ℕ) : Type 0 where
+  pub within : index < length messages
+  pub first : position_or_len (λ u. u.id == id) messages ≡ index
+
+-- with more octets
+abbrev pub extended : ℕ → List ℕ → List Unfinished → List Unfinished
+extended id octets [] = []
+extended id octets (u ∷ others) = if u.id == id then (record u { content = u.content ++ octets }) ∷ others else u ∷ extended id octets others
+
+abbrev pub without : ℕ → List Unfinished → List Unfinished
+without id [] = []
+without id (u ∷ others) = if u.id == id then others else u ∷ without id others
+
+-- the unfinished messages after a part at this place
+abbrev pub after : ℕ → Part → List Unfinished → List Unfinished
+after place p messages =
+    if is_fragment p.header.kind then (if p.header.more then extended (id_of p) (drop 4 p.content) messages else without (id_of p) messages)
+    else (if p.header.more then messages ++ (record { id = id_of p; place = place; header = p.header; content = p.content }) ∷ [] else messages)
+
+abbrev pub unfinished : List Part → List Unfinished
+unfinished [] = []
+unfinished (p ∷ older) = after (offset older) p (unfinished older)
+
+-- what a part says of messages: nothing that is whole yet, or a whole message; or it is refused
+abbrev pub Judgement : Type 0
+Judgement = Result (Option Framed) FrameFault
+
+-- a whole message, whose first part has this place and header
+abbrev pub whole : ℕ → Header → Result Message FrameFault → Judgement
+whole place header (Ok message) = Ok (Some (record { place = place; order = header.order; size = header.size; message = message }))
+whole place header (Err fault) = Err fault
+
+-- a message isn't whole yet: want of octets is no fault, and each field that stands there is judged
+abbrev pub so_far : Result Message FrameFault → Judgement
+so_far (Ok message) = Ok None
+so_far (Err (Body place (cdr.Short at))) = Ok None
+so_far (Err fault) = Err fault
+
+-- checking a message so far answers this
+abbrev pub Checks : Result (Unit {0}) FrameFault → Result Message FrameFault → Type 0
+Checks (Ok nothing) read = so_far read ≡ Ok None
+Checks (Err fault) read = so_far read ≡ Err fault
+
+-- there is no request_id
+abbrev pub without_id : FrameFault
+without_id = Body 12 (cdr.Short 12)
+
+-- a first part whose message goes on: its number must be free, and at most 8 messages are unfinished (our profile)
+abbrev pub opening : List Unfinished → Part → Judgement
+opening messages p = if nat_lt (length p.content) 4 then Err without_id else (if is_some (numbered (id_of p) messages) || nat_le 8 (length messages) then Err BadFragment else so_far (message_of p.header.order p.header.kind p.content))
+
+-- more octets of a message, whose joined octets are at most 65,536 (our profile)
+abbrev pub joined : Bool → List ℕ → Unfinished → Judgement
+joined more octets first =
+    let content = first.content ++ octets in
+    if nat_lt 65536 (length content) then Err (TooLarge (length content)) else (if more then so_far (message_of first.header.order first.header.kind content) else whole first.place first.header (message_of first.header.order first.header.kind content))
+
+-- a Fragment goes on with a message
+abbrev pub continuing : Part → Option Unfinished → Judgement
+continuing p None = Err BadFragment
+continuing p (Some first) = joined p.header.more (drop 4 p.content) first
+
+-- what the part at this place says, by the messages that are unfinished before it
+unfoldable pub judged : List Unfinished → ℕ → Part → Judgement
+judged messages place p =
+    if is_fragment p.header.kind then (if nat_lt (length p.content) 4 then Err without_id else continuing p (numbered (id_of p) messages))
+    else (if p.header.more then opening messages p else whole place p.header (message_of p.header.order p.header.kind p.content))
+
+-- what the newest part says
+abbrev pub says : List Part → Part → Judgement
+says older p = judged (unfinished older) (offset older) p
+
+abbrev pub given : Judgement → List Framed
+given (Ok (Some framed)) = framed ∷ []
+given _ = []
+
+-- the messages of parts, in the order of their last parts
+abbrev pub messages_of : List Part → List Framed
+messages_of [] = []
+messages_of (p ∷ older) = messages_of older ++ given (says older p)
+
+-- no part is refused
+abbrev pub AreTaken : List Part → Type 0
+AreTaken [] = Unit {0}
+AreTaken (p ∷ older) = (answer : Option Framed) × (says older p ≡ Ok answer) × AreTaken older
+
+-- The octets are whole parts, of which none is refused, and then a rest. These are the messages of the parts.
+pub record Splits (octets : List ℕ) (parts : List Part) (messages : List Framed) (rest : List ℕ) : Type 0 where
+  pub front : List ℕ
+  pub whole : octets ≡ front ++ rest
+  pub are_parts : AreParts parts front
+  pub taken : AreTaken parts
+  pub messages_are : messages ≡ messages_of parts
+
+-- the octets are a stream of these messages, in the order of their last parts, and a rest that is no whole part
+pub record IsStream (messages : List Framed) (rest octets : List ℕ) : Type 0 where
+  pub parts : List Part
+  pub splits : Splits octets parts messages rest
+  pub partial : part_at rest ≡ Err Short
+
+-- the part in front of the rest is refused: by its octets, or by the parts before it
+abbrev pub Refuses : List Part → List ℕ → FrameFault → Type 0
+Refuses older rest fault = ((part_at rest ≡ Err fault) × (fault ≢ Short)) ⊎ ((p : Part) × (behind : List ℕ) × (part_at rest ≡ Ok (p, behind)) × (says older p ≡ Err fault))
+
+-- behind these messages the octets have a part that is refused: it stands at this place
+pub record IsRefused (messages : List Framed) (place : ℕ) (fault : FrameFault) (octets : List ℕ) : Type 0 where
+  pub parts : List Part
+  pub rest : List ℕ
+  pub splits : Splits octets parts messages rest
+  pub place_is : place ≡ offset parts
+  pub refused : Refuses parts rest fault
+
+-- the octets are whole parts, of which these are the messages, and no message is unfinished
+pub record IsWhole (messages : List Framed) (octets : List ℕ) : Type 0 where
+  pub parts : List Part
+  pub splits : Splits octets parts messages []
+  pub finished : unfinished parts ≡ []
+
+-- the offset of the earliest message that isn't whole: an unfinished one, or that of the part which is cut off
+abbrev pub earliest : ℕ → List Unfinished → ℕ
+earliest place [] = place
+earliest place (u ∷ others) = u.place
+
+-- behind these messages the octets end inside a message, which begins at this place
+pub record IsCut (messages : List Framed) (place : ℕ) (octets : List ℕ) : Type 0 where
+  pub parts : List Part
+  pub rest : List ℕ
+  pub splits : Splits octets parts messages rest
+  pub partial : part_at rest ≡ Err Short
+  pub inside : (unfinished parts ≢ []) ⊎ (rest ≢ [])
+  pub place_is : place ≡ earliest (offset parts) (unfinished parts)
+
+-- these messages come first in the octets
+pub record IsBegun (messages : List Framed) (octets : List ℕ) : Type 0 where
+  pub parts : List Part
+  pub rest : List ℕ
+  pub splits : Splits octets parts messages rest

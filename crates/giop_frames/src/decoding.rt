@@ -1,0 +1,53 @@
+ghost use Rattle.std.specs.Prelude.{◌≡◌, ◌≤◌, ◌^◌, ◌<◌, ◌++◌, ℕ, List, length, take, IfOk, IfErr};
+ghost use Rattle.giop_frames.specs.Fault.{Finds};
+ghost use Rattle.giop_frames.specs.Message.{IsMessage};
+ghost use Rattle.giop_frames.specs.Decode.{decoded};
+ghost use Rattle.giop_frames.specs.declared.message.Message.{Message as AnyMessage};
+
+use crate::content::read_message;
+use crate::fault::FrameFault;
+use crate::header::{HEADER_LENGTH, read_header};
+use crate::message::Message;
+use cdr_values::reading_is_exact;
+use std::alloc::Global;
+
+/// A message, and how many octets spell it.
+#[derive(Debug, Drop)]
+pub struct Decoded {
+    pub message: Message,
+    pub used: u32,
+}
+
+/// The message in front of the octets, of one part, whatever follows it. A part with the "more fragments" bit and a
+/// Fragment are BadFragment.
+pub fn decode(alloc: Global, bytes: &[u8]) -> Result<Decoded, FrameFault>
+    requires { length bytes.now < 2 ^ 31 }
+    ensures within { IfOk result (λ d. d.used ≤ length bytes.now) }
+    ensures found { IfOk result (λ d. IsMessage d.message (take d.used bytes.now)) }
+    ensures only { (m : AnyMessage) (octets rest : List ℕ) → IsMessage m octets → bytes.now ≡ octets ++ rest → IfOk result (λ d. (d.message ≡ m) × (d.used ≡ length octets)) × IfErr result (λ fault. fault ≡ FrameFault.Memory) }
+    ensures exact { Finds (λ d. (d.message, d.used)) result (decoded bytes.now) }
+{
+    reading_is_exact();
+    decode_front(alloc, bytes)
+}
+
+#[tactic(auto, unfolding(crate::specs::Decode::decoded))]
+fn decode_front(alloc: Global, bytes: &[u8]) -> Result<Decoded, FrameFault>
+    requires { length bytes.now < 2 ^ 31 }
+    ensures { Finds (λ d. (d.message, d.used)) result (decoded bytes.now) }
+{
+    let header = read_header(bytes)?;
+    if header.is_fragment() {
+        return Err(FrameFault::BadFragment);
+    }
+    let used = HEADER_LENGTH + header.size as usize;
+    if bytes.len() < used {
+        return Err(FrameFault::Short);
+    }
+    let content = &bytes[HEADER_LENGTH..used];
+    let message = read_message(alloc, header.order, header.kind, content)?;
+    Ok(Decoded {
+        message,
+        used: used as u32,
+    })
+}

@@ -1,0 +1,70 @@
+ghost use Rattle.std.specs.Prelude.{◌≡◌};
+ghost use Rattle.giop_frames.specs.Fault.{fault_of};
+ghost use Rattle.giop_frames.specs.declared.fault.FrameFault.TheVariants.{Memory};
+
+use cdr_values::CdrFault;
+use std::alloc::{AllocError, AllocFailed};
+
+/// How many octets stand behind a header at most, and in a message's joined fragments (our profile).
+pub const SIZE_LIMIT: usize = 65_536;
+
+/// How many service contexts a message has at most (our profile).
+pub const CONTEXT_LIMIT: u32 = 16;
+
+/// How many octets an object key has at most (our profile).
+pub const KEY_LIMIT: usize = 256;
+
+/// Why octets are no message, or why a message isn't written.
+#[derive(Clone, Copy, Debug, PartialEq, Eq)]
+pub enum FrameFault {
+    /// The first four octets are not "GIOP".
+    BadMagic,
+    /// The version is not 1.2.
+    BadVersion,
+    /// A message type above 7, or a target other than KeyAddr, ProfileAddr and ReferenceAddr.
+    BadType,
+    /// So many octets stand behind the header, or in the joined fragments: more than 65,536.
+    TooLarge(u32),
+    /// A fragment where none can be: see the call that answers it.
+    BadFragment,
+    /// A field is not spelled. The place is its offset from the header's first octet, fragments being joined. More than
+    /// 16 contexts and a key above 256 octets are TooLong.
+    Body { place: u32, cdr: CdrFault },
+    /// The octets end before the message does.
+    Short,
+    /// A target that is written by no message of this service: ProfileAddr or ReferenceAddr.
+    NotWritten,
+    /// Memory ran out.
+    Memory,
+}
+
+impl From<CdrFault> for FrameFault {
+    ghost from_gives = { λ cdr fault. fault ≡ fault_of cdr };
+
+    fn from(cdr: CdrFault) -> FrameFault {
+        match cdr {
+            CdrFault::Short(place)
+            | CdrFault::BadBoolean(place)
+            | CdrFault::BadString(place)
+            | CdrFault::BadOrder(place)
+            | CdrFault::TooLong { place, .. } => FrameFault::Body { place, cdr },
+            CdrFault::Memory => FrameFault::Memory,
+        }
+    }
+}
+
+impl From<AllocError> for FrameFault {
+    ghost from_gives = { λ _ fault. fault ≡ Memory };
+
+    fn from(_error: AllocError) -> FrameFault {
+        FrameFault::Memory
+    }
+}
+
+impl<T: Drop> From<AllocFailed<T>> for FrameFault {
+    ghost from_gives = { λ _ fault. fault ≡ Memory };
+
+    fn from(_error: AllocFailed<T>) -> FrameFault {
+        FrameFault::Memory
+    }
+}

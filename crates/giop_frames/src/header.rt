@@ -1,0 +1,152 @@
+ghost use Rattle.std.specs.Prelude.{◌≡◌, ◌||◌, ◌≤◌, length, take, drop, IfOk};
+ghost use Rattle.cdr_values.specs.Value.{number_in};
+ghost use Rattle.giop_frames.specs.Header.{kind_at, type_octet, order_of_flags, is_fragment, header_at};
+
+use crate::fault::{FrameFault, SIZE_LIMIT};
+use byteorder::{BigEndian, ByteOrder, LittleEndian};
+use cdr_values::Order;
+
+/// How many octets a header has.
+pub const HEADER_LENGTH: usize = 12;
+
+pub const MAGIC: [u8; 4] = *b"GIOP";
+
+pub const VERSION: [u8; 2] = [1, 2];
+
+/// The types of messages (GIOP 1.2, message_type).
+#[derive(Clone, Copy, Debug, PartialEq, Eq)]
+pub enum Kind {
+    Request,
+    Reply,
+    CancelRequest,
+    LocateRequest,
+    LocateReply,
+    CloseConnection,
+    MessageError,
+    Fragment,
+}
+
+impl Kind {
+    /// The type that the octet stands for.
+    fn from_octet(octet: u8) -> Kind
+        requires { octet ≤ 7 }
+        ensures { result ≡ kind_at octet }
+    {
+        match octet {
+            0 => Kind::Request,
+            1 => Kind::Reply,
+            2 => Kind::CancelRequest,
+            3 => Kind::LocateRequest,
+            4 => Kind::LocateReply,
+            5 => Kind::CloseConnection,
+            6 => Kind::MessageError,
+            _ => Kind::Fragment,
+        }
+    }
+
+    /// The octet that stands for the type.
+    pub fn octet(self) -> u8
+        ensures { result ≡ type_octet self }
+    {
+        match self {
+            Kind::Request => 0,
+            Kind::Reply => 1,
+            Kind::CancelRequest => 2,
+            Kind::LocateRequest => 3,
+            Kind::LocateReply => 4,
+            Kind::CloseConnection => 5,
+            Kind::MessageError => 6,
+            Kind::Fragment => 7,
+        }
+    }
+}
+
+/// What the header of a part says.
+#[derive(Clone, Copy, Debug, PartialEq, Eq)]
+pub struct Header {
+    /// The byte order of the part's numbers.
+    pub order: Order,
+    /// Whether more fragments follow.
+    pub more: bool,
+    pub kind: Kind,
+    /// How many octets stand behind the header.
+    pub size: u32,
+}
+
+impl Header {
+    /// Whether the part is only a piece of a message.
+    pub fn is_fragment(&self) -> bool
+        ensures { result ≡ (self.now.more || is_fragment self.now.kind) }
+    {
+        self.more || matches!(self.kind, Kind::Fragment)
+    }
+}
+
+/// The header in front of the octets, or its first fault, as its octets come.
+#[tactic(auto, unfolding(crate::specs::Header::header_at))]
+pub fn read_header(octets: &[u8]) -> Result<Header, FrameFault>
+    ensures header { result ≡ header_at octets.now }
+    ensures small { IfOk result (λ header. header.size ≤ 65536) }
+{
+    if !MAGIC.starts_with(front(octets, 4)) {
+        return Err(FrameFault::BadMagic);
+    }
+    if !VERSION.starts_with(front(behind(octets, 4), 2)) {
+        return Err(FrameFault::BadVersion);
+    }
+    if octets.len() > 7 && octets[7] > 7 {
+        return Err(FrameFault::BadType);
+    }
+    if octets.len() < HEADER_LENGTH {
+        return Err(FrameFault::Short);
+    }
+    let order = order_of(octets[6]);
+    let size = size_in(order, &octets[8..12]);
+    if size as usize > SIZE_LIMIT {
+        return Err(FrameFault::TooLarge(size));
+    }
+    Ok(Header {
+        order,
+        more: octets[6] / 2 % 2 == 1,
+        kind: Kind::from_octet(octets[7]),
+        size,
+    })
+}
+
+/// The first n octets, or all of them where there are fewer.
+pub fn front(octets: &[u8], n: usize) -> &[u8]
+    ensures { result.now ≡ take n octets.now }
+{
+    if octets.len() < n {
+        octets
+    } else {
+        &octets[..n]
+    }
+}
+
+/// The octets behind the first n.
+pub fn behind(octets: &[u8], n: usize) -> &[u8]
+    ensures { result.now ≡ drop n octets.now }
+{
+    if octets.len() < n { &[] } else { &octets[n..] }
+}
+
+fn order_of(flags: u8) -> Order
+    ensures { result ≡ order_of_flags flags }
+{
+    if flags % 2 == 1 {
+        Order::Little
+    } else {
+        Order::Big
+    }
+}
+
+fn size_in(order: Order, octets: &[u8]) -> u32
+    requires { 4 ≤ length octets.now }
+    ensures { result ≡ number_in order 4 octets.now }
+{
+    match order {
+        Order::Big => BigEndian::read_u32(octets),
+        Order::Little => LittleEndian::read_u32(octets),
+    }
+}

@@ -1,0 +1,35 @@
+ghost use Rattle.std.specs.Prelude.{◌≡◌, ℕ, List, ◌++◌};
+ghost use Rattle.giop_frames.specs.Message.{IsMessage};
+ghost use Rattle.giop_frames.specs.Stream.{IsCut, IsRefused, IsStream, IsWhole};
+ghost use Rattle.giop_frames.specs.declared.fault.FrameFault.{FrameFault};
+ghost use Rattle.giop_frames.specs.declared.framed.Framed.{Framed};
+ghost use Rattle.giop_frames.specs.declared.message.Message.{Message};
+
+use cdr_values::reading_is_exact;
+
+/// A law: no octets that are a message begin others that are one, and no octets are two messages. So a stream of
+/// messages, one after another, is cut into them in one way.
+pub fn no_message_begins_another()
+    ensures { (m n : Message) (a b x y : List ℕ) → IsMessage m a → IsMessage n b → a ++ x ≡ b ++ y → (a ≡ b) × (m ≡ n) }
+{
+    reading_is_exact();
+}
+
+/// A law: octets are a stream of messages in one way. So it doesn't matter in which pieces they came.
+pub fn a_stream_is_cut_in_one_way()
+    ensures { (messages others : List Framed) (rest more octets : List ℕ) → IsStream messages rest octets → IsStream others more octets → (messages ≡ others) × (rest ≡ more) }
+{}
+
+/// A law: what is refused stays refused however the octets go on, at the same place, behind the same messages and for
+/// the same reason. So it doesn't matter either in which pieces they came.
+pub fn a_refusal_stays()
+    ensures refused { (messages others : List Framed) (place elsewhere : ℕ) (fault another : FrameFault) (octets more : List ℕ) → IsRefused messages place fault octets → IsRefused others elsewhere another (octets ++ more) → (messages ≡ others) × (place ≡ elsewhere) × (fault ≡ another) }
+    ensures goes_on { (messages : List Framed) (place : ℕ) (fault : FrameFault) (octets more : List ℕ) → IsRefused messages place fault octets → IsRefused messages place fault (octets ++ more) }
+    ensures no_stream { (messages others : List Framed) (place : ℕ) (fault : FrameFault) (rest octets more : List ℕ) → IsRefused messages place fault octets → IsStream others rest (octets ++ more) → ⊥ }
+{}
+
+/// A law: octets end between messages or inside one, and not both; and inside one message at one place.
+pub fn octets_end_in_one_way()
+    ensures not_both { (messages others : List Framed) (place : ℕ) (octets : List ℕ) → IsWhole messages octets → IsCut others place octets → ⊥ }
+    ensures one_end { (messages others : List Framed) (place elsewhere : ℕ) (octets : List ℕ) → IsCut messages place octets → IsCut others elsewhere octets → (messages ≡ others) × (place ≡ elsewhere) }
+{}

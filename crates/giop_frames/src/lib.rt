@@ -1,0 +1,30 @@
+//! Messages of the General Inter-ORB Protocol, version 1.2: what octets spell them, and how they are written and read.
+#![tactic(auto)]
+
+pub use decoding::{Decoded, decode};
+pub use encoding::encode;
+pub use fault::{CONTEXT_LIMIT, FrameFault, KEY_LIMIT, SIZE_LIMIT};
+pub use framed::Framed;
+pub use header::{HEADER_LENGTH, Kind};
+pub use laws::{
+    a_refusal_stays, a_stream_is_cut_in_one_way, no_message_begins_another, octets_end_in_one_way,
+};
+pub use message::{Contexts, Locate, Located, Message, Reply, Request, ServiceContext, Target};
+pub use stream::Stream;
+
+mod content;
+mod decoding;
+mod encoding;
+mod fault;
+mod fields;
+mod framed;
+mod header;
+mod laws;
+mod message;
+mod parts;
+mod sizes;
+mod skim;
+mod stream;
+#[cfg(test)]
+mod tests;
+mod unfinished;

@@ -1,0 +1,238 @@
+ghost use Rattle.std.specs.Prelude.{◌≡◌, ◌≢◌, ◌↔◌, ◌==◌, ◌<◌, ◌≤◌, ◌^◌, ◌++◌, ◌+◌, [], ◌∷◌, length, take, drop, MatchOption, MatchResult, None, Err, IsTrue, IfNone, IfSome, Ok, IfErr, IfOk, OnErr, OnOk};
+ghost use Rattle.std.specs.List.{position as position_of};
+ghost use Rattle.giop_frames.specs.Fault.{Fails, Finds};
+ghost use Rattle.cdr_values.specs.Value.{number_in};
+ghost use Rattle.giop_frames.specs.Content.{message_of};
+ghost use Rattle.giop_frames.specs.Held.{AreShort};
+ghost use Rattle.giop_frames.specs.Stream.{IsAt, IsInFront, after, joined, judged, may_go_on, opening, numbered, part_at, part_header_at, so_far, whole, without_id};
+
+use crate::content::read_message;
+use crate::fault::{FrameFault, SIZE_LIMIT};
+use crate::framed::Framed;
+use crate::header::{HEADER_LENGTH, Header, Kind, behind, front, read_header};
+use crate::skim::check_message;
+use crate::unfinished::Unfinished;
+use cdr_values::{CdrFault, Order, Reader};
+use std::alloc::Global;
+
+/// How many messages of a stream are unfinished at once (our profile).
+pub const UNFINISHED_LIMIT: usize = 8;
+
+/// The header of the part in front of the octets, where the part is whole.
+#[tactic(auto, unfolding(crate::specs::Stream::part_at))]
+pub fn whole_part(octets: &[u8]) -> Result<Option<Header>, FrameFault>
+    ensures part { IfOk result (λ found. MatchOption found (part_at octets.now ≡ Err FrameFault.Short) (λ header. IsInFront header octets.now)) }
+    ensures refused { IfErr result (λ fault. (part_at octets.now ≡ Err fault) × (fault ≢ FrameFault.Short)) }
+{
+    match read_part_header(octets) {
+        Err(fault) if is_short(fault) => Ok(None),
+        Err(fault) => Err(fault),
+        Ok(header) if octets.len() < HEADER_LENGTH + header.size as usize => Ok(None),
+        Ok(header) => Ok(Some(header)),
+    }
+}
+
+/// The content of the whole part with this header in front of the octets.
+pub fn content_of(header: Header, octets: &[u8]) -> &[u8]
+    requires { 12 + header.size ≤ length octets.now }
+    ensures { result.now ≡ take header.size (drop 12 octets.now) }
+{
+    front(behind(octets, HEADER_LENGTH), header.size as usize)
+}
+
+fn is_short(fault: FrameFault) -> bool
+    ensures { IsTrue result ↔ (fault ≡ FrameFault.Short) }
+{
+    matches!(fault, FrameFault::Short)
+}
+
+/// The header of the part in front of the octets, or its first fault, as its octets come.
+#[tactic(auto, unfolding(crate::specs::Stream::part_header_at))]
+fn read_part_header(octets: &[u8]) -> Result<Header, FrameFault>
+    ensures header { result ≡ part_header_at octets.now }
+    ensures small { IfOk result (λ header. header.size ≤ 65536) }
+{
+    let header = read_header(octets)?;
+    if header.more && !can_go_on(header) {
+        return Err(FrameFault::BadFragment);
+    }
+    Ok(header)
+}
+
+fn can_go_on(header: Header) -> bool
+    requires { header.size ≤ 65536 }
+    ensures { result ≡ may_go_on header }
+{
+    let length = HEADER_LENGTH as u32 + header.size;
+    !matches!(
+        header.kind,
+        Kind::CancelRequest | Kind::CloseConnection | Kind::MessageError
+    ) && length % 8 == 0
+}
+
+/// What the part at this place says, by the messages that are unfinished before it.
+#[tactic(auto, unfolding(crate::specs::Stream::judged))]
+pub fn judge(
+    alloc: Global,
+    open: &mut Vec<Unfinished>,
+    place: u64,
+    header: Header,
+    content: &[u8],
+) -> Result<Option<Framed>, FrameFault>
+    requires open { AreShort open.old.items }
+    requires content { length content.now ≤ 65536 }
+    ensures says { IfOk result (λ framed. judged open.old.items place (record { header = header; content = content.now }) ≡ Ok framed) }
+    ensures after { OnOk result (open.new.items ≡ after place (record { header = header; content = content.now }) open.old.items) }
+    ensures refused { IfErr result (λ fault. Fails fault (judged open.old.items place (record { header = header; content = content.now }))) }
+    ensures err { OnErr result (open.new.items ≡ open.old.items) }
+    ensures short { AreShort open.new.items }
+{
+    if matches!(header.kind, Kind::Fragment) {
+        return go_on(alloc, open, header, content);
+    }
+    if header.more {
+        begin(alloc, open, place, header, content)?;
+        return Ok(None);
+    }
+    let message = read_message(alloc, header.order, header.kind, content)?;
+    Ok(Some(Framed {
+        place,
+        order: header.order,
+        size: header.size,
+        message,
+    }))
+}
+
+/// A first part whose message goes on.
+fn begin(
+    alloc: Global,
+    open: &mut Vec<Unfinished>,
+    place: u64,
+    header: Header,
+    content: &[u8],
+) -> Result<(), FrameFault>
+    requires content { length content.now ≤ 65536 }
+    ensures says { OnOk result (opening open.old.items (record { header = header; content = content.now }) ≡ Ok None) }
+    ensures after { OnOk result (open.new.items ≡ open.old.items ++ (record { id = number_in header.order 4 (take 4 content.now); place = place; header = header; content = content.now }) ∷ []) }
+    ensures room { OnOk result (length open.old.items < 8) }
+    ensures refused { IfErr result (λ fault. Fails fault (opening open.old.items (record { header = header; content = content.now }))) }
+    ensures err { OnErr result (open.new.items ≡ open.old.items) }
+{
+    let id = read_id(header.order, content)?;
+    if let Some(_) = position(open, id) {
+        return Err(FrameFault::BadFragment);
+    }
+    if open.len() >= UNFINISHED_LIMIT {
+        return Err(FrameFault::BadFragment);
+    }
+    check_message(header.order, header.kind, content)?;
+    let begun = Unfinished::new(alloc, id, place, header, content)?;
+    open.push(begun)?;
+    Ok(())
+}
+
+/// A Fragment, which goes on with a message.
+fn go_on(
+    alloc: Global,
+    open: &mut Vec<Unfinished>,
+    header: Header,
+    content: &[u8],
+) -> Result<Option<Framed>, FrameFault>
+    requires open { AreShort open.old.items }
+    requires content { length content.now ≤ 65536 }
+    requires fragment { header.kind ≡ Kind.Fragment }
+    ensures says { IfOk result (λ framed. judged open.old.items 0 (record { header = header; content = content.now }) ≡ Ok framed) }
+    ensures after { OnOk result (open.new.items ≡ after 0 (record { header = header; content = content.now }) open.old.items) }
+    ensures refused { IfErr result (λ fault. Fails fault (judged open.old.items 0 (record { header = header; content = content.now }))) }
+    ensures err { OnErr result (open.new.items ≡ open.old.items) }
+    ensures short { AreShort open.new.items }
+{
+    let id = read_id(header.order, content)?;
+    let Some(index) = position(open, id) else {
+        return Err(FrameFault::BadFragment);
+    };
+    let first = &mut open[index];
+    let framed = join(alloc, first, header, behind(content, 4))?;
+    if header.more {
+        return Ok(framed);
+    }
+    let _ = open.remove(index);
+    Ok(framed)
+}
+
+/// Joins the octets of a Fragment to its message.
+fn join(
+    alloc: Global,
+    first: &mut Unfinished,
+    header: Header,
+    octets: &[u8],
+) -> Result<Option<Framed>, FrameFault>
+    requires first { length first.old.content ≤ 65536 }
+    requires octets { length octets.now ≤ 65536 }
+    ensures says { IfOk result (λ framed. joined header.more octets.now first.old ≡ Ok framed) }
+    ensures after { OnOk result (first.new ≡ record first.old { content = first.old.content ++ octets.now }) }
+    ensures short { length first.new.content ≤ 65536 }
+    ensures refused { IfErr result (λ fault. Fails fault (joined header.more octets.now first.old)) }
+    ensures err { OnErr result (first.new ≡ first.old) }
+{
+    let before = first.content().len();
+    let joined = before + octets.len();
+    if joined > SIZE_LIMIT {
+        return Err(FrameFault::TooLarge(joined as u32));
+    }
+    first.extend(octets)?;
+    let framed = if header.more {
+        check_unfinished(first)
+    } else {
+        read_unfinished(alloc, first)
+    };
+    if framed.is_err() {
+        first.truncate(before);
+    }
+    framed
+}
+
+fn check_unfinished(first: &Unfinished) -> Result<Option<Framed>, FrameFault>
+    requires { length first.now.content ≤ 65536 }
+    ensures { result ≡ so_far (message_of first.now.header.order first.now.header.kind first.now.content) }
+{
+    let header = first.header();
+    check_message(header.order, header.kind, first.content())?;
+    Ok(None)
+}
+
+fn read_unfinished(alloc: Global, first: &Unfinished) -> Result<Option<Framed>, FrameFault>
+    requires { length first.now.content ≤ 65536 }
+    ensures { Finds (λ framed. framed) result (whole first.now.place first.now.header (message_of first.now.header.order first.now.header.kind first.now.content)) }
+{
+    let header = first.header();
+    let message = read_message(alloc, header.order, header.kind, first.content())?;
+    Ok(Some(Framed {
+        place: first.place(),
+        order: header.order,
+        size: header.size,
+        message,
+    }))
+}
+
+/// Where the unfinished message of this number is.
+fn position(open: &[Unfinished], id: u32) -> Option<usize>
+    ensures found { IfSome result (IsAt id open.now) }
+    ensures none { IfNone result (numbered id open.now ≡ None) }
+{
+    first_of(open, id)
+}
+
+fn first_of(open: &[Unfinished], id: u32) -> Option<usize>
+    ensures { result ≡ position_of (λ u. u.id == id) open.now }
+{
+    open.iter().position(|message| message.id() == id)
+}
+
+/// The request_id in front of a part's content.
+fn read_id(order: Order, content: &[u8]) -> Result<u32, FrameFault>
+    requires { length content.now ≤ 65536 }
+    ensures { MatchResult result (λ id. (4 ≤ length content.now) × (id ≡ number_in order 4 (take 4 content.now))) (λ fault. (fault ≡ without_id) × (length content.now < 4)) }
+{
+    Ok(Reader::new(content, order, HEADER_LENGTH as u32).ulong()?)
+}

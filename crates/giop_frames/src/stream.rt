@@ -1,0 +1,182 @@
+ghost use Rattle.std.specs.Prelude.{◌≡◌, ◌↔◌, ◌⊎◌, ◌+◌, ◌<◌, ◌≤◌, ◌^◌, ◌++◌, ℕ, List, [], ◌∷◌, length, drop, min, Option, None, Some, Ok, Err, IfErr, IfOk, IfSome, IsSome, IsTrue, OnErr, OnOk};
+ghost use Rattle.giop_frames.specs.Stream.{Splits, IsStream, IsRefused, part_at};
+ghost use Rattle.giop_frames.specs.Held.{Held, Holds, Takes, place_of, remembering, IsUnfinished};
+ghost use Rattle.giop_frames.specs.declared.framed.Framed.{Framed as Given};
+
+use crate::fault::FrameFault;
+use crate::framed::Framed;
+use crate::header::{HEADER_LENGTH, behind};
+use crate::message::Message;
+use crate::parts::{content_of, judge, whole_part};
+use crate::unfinished::Unfinished;
+use std::alloc::Global;
+use std::marker::Model;
+
+/// Messages of a stream of octets that comes in pieces, with fragments of up to 8 unfinished messages. Contracts see
+/// what it holds back: the unfinished messages, the octets of no whole part yet and their offset, and the refusal that it
+/// answers for good.
+#[derive(Drop)]
+pub struct Stream {
+    alloc: Global,
+    open: Vec<Unfinished>,
+    buffer: Vec<u8>,
+    start: usize,
+    place: u64,
+    refused: Option<FrameFault>,
+}
+
+impl Model for Stream {
+    ghost use Rattle.std.specs.Prelude.{◌≤◌, length, drop};
+    ghost use Rattle.giop_frames.specs.Held.{Held, AreShort};
+
+    ghost Value = { Held };
+
+    ghost view = { λ s. record { unfinished = s.open.items; place = s.place; rest = drop s.start s.buffer.items; refused = s.refused } };
+
+    ghost invariant = { λ s. (s.start ≤ length s.buffer.items) × AreShort s.open.items };
+}
+
+/// What a stream found at its place.
+enum Taken {
+    /// No whole part.
+    Nothing,
+    /// A part of a message that isn't whole yet.
+    Piece,
+    /// The last part of a message.
+    Whole(Framed),
+}
+
+impl Stream {
+    /// A stream of which nothing has come.
+    pub fn new(alloc: Global) -> Stream
+        ensures holds { Holds [] [] result }
+        ensures nothing { result ≡ record { unfinished = []; place = 0; rest = []; refused = None } }
+    {
+        Stream {
+            alloc,
+            open: Vec::new(alloc),
+            buffer: Vec::new(alloc),
+            start: 0,
+            place: 0,
+            refused: None,
+        }
+    }
+
+    /// These octets have come.
+    pub fn feed(&mut self, piece: &[u8]) -> Result<(), FrameFault>
+        ensures ok { OnOk result ((octets : List ℕ) (messages : List Given) → Holds octets messages self.old → Holds (octets ++ piece.now) messages self.new) }
+        ensures err { OnErr result (self.new ≡ self.old) }
+        ensures refused { IfErr result (λ fault. (fault ≡ FrameFault.Memory) ⊎ (self.old.refused ≡ Some fault)) }
+        ensures again { IfSome self.old.refused (λ fault. result ≡ Err fault) }
+        ensures accepts { OnOk result (self.new.refused ≡ None) }
+    {
+        if let Some(fault) = self.refused {
+            return Err(fault);
+        }
+        self.compact();
+        self.buffer.extend_from_slice(piece)?;
+        Ok(())
+    }
+
+    /// The next message that is whole, in the order of last parts.
+    pub fn next(&mut self) -> Result<Option<Message>, FrameFault>
+        ensures message { IfOk result (λ found. IfSome found (λ m. (octets : List ℕ) (messages : List Given) → Holds octets messages self.old → (framed : Given) × (framed.message ≡ m) × Holds octets (messages ++ framed ∷ []) self.new)) }
+        ensures nothing { result ≡ Ok None → (octets : List ℕ) (messages : List Given) → Holds octets messages self.old → Holds octets messages self.new × IsStream messages self.new.rest octets }
+        ensures refused { IfErr result (λ fault. (fault ≡ FrameFault.Memory) ⊎ ((octets : List ℕ) (messages : List Given) → Holds octets messages self.old → IsRefused messages self.new.place fault octets)) }
+        ensures memory { result ≡ Err FrameFault.Memory → (octets : List ℕ) (messages : List Given) → Holds octets messages self.old → Holds octets messages self.new }
+        ensures remembered { IfErr result (λ fault. (fault ≡ FrameFault.Memory) ⊎ (self.new.refused ≡ Some fault)) }
+        ensures again { IfSome self.old.refused (λ fault. (result ≡ Err fault) × (self.new ≡ self.old)) }
+    {
+        let Some(framed) = self.next_framed()? else {
+            return Ok(None);
+        };
+        Ok(Some(framed.message))
+    }
+
+    /// The next message that is whole, in the order of last parts, with what the header of its first part says. A
+    /// refusal other than want of memory is answered for good.
+    pub fn next_framed(&mut self) -> Result<Option<Framed>, FrameFault>
+        ensures message { IfOk result (λ found. IfSome found (λ m. (octets : List ℕ) (messages : List Given) → Holds octets messages self.old → Holds octets (messages ++ m ∷ []) self.new)) }
+        ensures nothing { result ≡ Ok None → (octets : List ℕ) (messages : List Given) → Holds octets messages self.old → Holds octets messages self.new × IsStream messages self.new.rest octets }
+        ensures refused { IfErr result (λ fault. (fault ≡ FrameFault.Memory) ⊎ ((octets : List ℕ) (messages : List Given) → Holds octets messages self.old → IsRefused messages self.new.place fault octets)) }
+        ensures memory { result ≡ Err FrameFault.Memory → (octets : List ℕ) (messages : List Given) → Holds octets messages self.old → Holds octets messages self.new }
+        ensures remembered { IfErr result (λ fault. (fault ≡ FrameFault.Memory) ⊎ (self.new.refused ≡ Some fault)) }
+        ensures again { IfSome self.old.refused (λ fault. (result ≡ Err fault) × (self.new ≡ self.old)) }
+        ensures accepts { OnOk result (self.new.refused ≡ None) }
+        ensures partial { result ≡ Ok None → part_at self.new.rest ≡ Err FrameFault.Short }
+        ensures shorter { IfOk result (λ found. IsSome found → length self.new.rest < length self.old.rest) }
+    {
+        if let Some(fault) = self.refused {
+            return Err(fault);
+        }
+        loop {
+            match self.take_part() {
+                Ok(Taken::Nothing) => return Ok(None),
+                Ok(Taken::Piece) => {}
+                Ok(Taken::Whole(framed)) => return Ok(Some(framed)),
+                Err(fault) => {
+                    self.remember(fault);
+                    return Err(fault);
+                }
+            }
+        }
+    }
+
+    /// The offset of the first part of the earliest message that isn't given; after a refusal, that of the part that is
+    /// refused. At most 2^64 - 1.
+    pub fn place(&self) -> u64
+        ensures { result ≡ place_of self.now }
+    {
+        match (self.refused, self.open.first()) {
+            (None, Some(first)) => first.place(),
+            _ => self.place,
+        }
+    }
+
+    /// Whether octets of a message are held that isn't whole.
+    pub fn unfinished(&self) -> bool
+        ensures { IsTrue result ↔ IsUnfinished self.now }
+    {
+        !self.open.is_empty() || !behind(&self.buffer, self.start).is_empty()
+    }
+
+    /// Gives back the room of what was taken, where it is the larger part.
+    fn compact(&mut self)
+        ensures { self.new ≡ self.old }
+    {
+        if self.start > self.buffer.len() / 2 {
+            self.buffer.rotate_left(self.start);
+            self.buffer.truncate(self.buffer.len() - self.start);
+            self.start = 0;
+        }
+    }
+
+    /// A refusal other than want of memory is answered for good.
+    fn remember(&mut self, fault: FrameFault)
+        ensures { self.new ≡ remembering self.old fault }
+    {
+        if fault != FrameFault::Memory {
+            self.refused = Some(fault);
+        }
+    }
+
+    /// Takes the part at its place, where it is whole.
+    fn take_part(&mut self) -> Result<Taken, FrameFault>
+        requires { self.old.refused ≡ None }
+        ensures { Takes self.old result self.new }
+    {
+        let rest = behind(&self.buffer, self.start);
+        let Some(header) = whole_part(rest)? else {
+            return Ok(Taken::Nothing);
+        };
+        let content = content_of(header, rest);
+        let framed = judge(self.alloc, &mut self.open, self.place, header, content)?;
+        let length = HEADER_LENGTH + header.size as usize;
+        self.start += length;
+        self.place = self.place.saturating_add(length as u64);
+        let Some(framed) = framed else {
+            return Ok(Taken::Piece);
+        };
+        Ok(Taken::Whole(framed))
+    }
+}

@@ -1,0 +1,61 @@
+ghost use Rattle.std.specs.Prelude.{◌≤◌, ◌+◌, IfOk, length};
+
+use crate::{HEADER_LENGTH, Kind};
+use cdr_values::Order;
+use std::alloc::Global;
+use std::process::Abort;
+use std::test::Fail;
+
+mod reading;
+mod refused_messages;
+mod refused_parts;
+mod streaming;
+mod vectors;
+mod writing;
+
+/// The octets of hexadecimal words.
+fn octets(rt: &impl Abort, alloc: Global, words: &str) -> Result<Vec<u8>, Fail>
+    ensures { IfOk result (λ octets. length octets.items ≤ 1000) }
+{
+    let mut octets = Vec::new(alloc);
+    for word in words.split_whitespace() {
+        octets.extend_from_slice(&hex::decode(alloc, word)?)?;
+    }
+    assert!(rt; octets.len() <= 1000);
+    Ok(octets)
+}
+
+fn number(order: Order, number: u32) -> [u8; 4] {
+    match order {
+        Order::Big => number.to_be_bytes(),
+        Order::Little => number.to_le_bytes(),
+    }
+}
+
+/// A part of a stream.
+#[derive(Clone, Copy)]
+struct Part<'a> {
+    more: bool,
+    kind: Kind,
+    /// What its content begins with.
+    numbers: &'a [u32],
+    /// What follows them.
+    rest: &'a [u8],
+}
+
+/// Appends a part.
+fn append(into: &mut Vec<u8>, order: Order, part: &Part) -> Result<(), Fail>
+    requires numbers { length part.now.numbers.now ≤ 8 }
+    requires rest { length part.now.rest.now ≤ 65536 }
+{
+    let flags = u8::from(order == Order::Little) + 2 * u8::from(part.more);
+    let size = 4 * part.numbers.len() + part.rest.len();
+    into.extend_from_slice(b"GIOP\x01\x02")?;
+    into.extend_from_slice(&[flags, part.kind.octet()])?;
+    into.extend_from_slice(&number(order, size as u32))?;
+    for &each in part.numbers {
+        into.extend_from_slice(&number(order, each))?;
+    }
+    into.extend_from_slice(part.rest)?;
+    Ok(())
+}
