@@ -14,6 +14,8 @@ pub enum Fault {
     Write,
     #[error("limit {limit} at line {line}")]
     Limit { line: u64, limit: u64 },
+    #[error("bad message at {0}")]
+    BadMessage(u64),
     #[error("out of memory")]
     Memory,
 }
@@ -28,6 +30,7 @@ impl Fault {
             Status::ReadFault => Some(Fault::Read),
             Status::WriteFault => Some(Fault::Write),
             Status::Limit(line, limit) => Some(Fault::Limit { line, limit }),
+            Status::BadMessage(place, _) => Some(Fault::BadMessage(place)),
             Status::Memory => Some(Fault::Memory),
         }
     }
@@ -36,6 +39,7 @@ impl Fault {
 #[cfg(test)]
 mod tests {
     use super::Fault;
+    use giop_frames::FrameFault;
     use ots_program::Status;
     use std::test::Fail;
 
@@ -49,6 +53,10 @@ mod tests {
             (
                 Status::Limit(100_001, 100_000),
                 "ots: limit 100000 at line 100001",
+            ),
+            (
+                Status::BadMessage(12, FrameFault::Short),
+                "ots: bad message at 12",
             ),
             (Status::Memory, "ots: out of memory"),
         ] {

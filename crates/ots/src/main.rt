@@ -1,4 +1,5 @@
-//! `ots replay` replays the script on standard input, and tells on standard output what happened.
+//! `ots replay` replays the script on standard input, and tells on standard output what happened. `ots show` writes a
+//! line for each message of the octets on standard input.
 #![tactic(auto)]
 
 mod fault;
@@ -17,7 +18,7 @@ fn main(rt: HostRuntime) -> ExitCode {
                 source: StdSource::new(rt.stdin()),
                 sink: StdSink::new(rt.stdout()),
             };
-            run(rt.alloc(), words.as_slice(), &mut devices)
+            run(&rt, rt.alloc(), words.as_slice(), &mut devices)
         }
         Err(error) if error.kind() == ErrorKind::OutOfMemory => Status::Memory,
         Err(_) => Status::Usage,

@@ -7,3 +7,5 @@ pub mod Carried
 pub mod Runs
 pub mod Seen
 pub mod Safely
+pub mod Showing
+pub mod SightLines

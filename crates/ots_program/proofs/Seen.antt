@@ -47,6 +47,7 @@ TakesFront-halted (statuses.Script line) r taken after h = TakesFront-lines r.li
 TakesFront-halted (statuses.Limit line number) r taken after h = TakesFront-limit h.writes.0 r.lines r.further taken after h.writes.1
 TakesFront-halted statuses.ReadFault r taken after h = h.writes
 TakesFront-halted statuses.WriteFault r taken after h = h.writes
+TakesFront-halted (statuses.BadMessage place fault) r taken after h = absurd h.early
 TakesFront-halted statuses.Memory r taken after h = h.writes
 
 -- where the sink tells what it has taken, that is a front of what a replay tells

@@ -15,11 +15,11 @@ use Rattle.ots_program.specs.Playing.{Passes, StopsAt, Ends, left}
 use Rattle.ots_program.specs.Replay.{Replay, ahead_of}
 use Rattle.ots_program.proofs.Told.{IsFront, IsFront-ahead, IsFront-passed, IsFront-stopped, IsFront-ended, take-shorter, text_of-append}
 
-Takes-none : (taken : Option (List ℕ)) → Takes taken [] taken
+pub Takes-none : (taken : Option (List ℕ)) → Takes taken [] taken
 Takes-none None = tt
 Takes-none (Some taken) = grind (arith, common_steps)
 
-Takes-trans : (xs ys : List ℕ) (before mid after : Option (List ℕ)) → Takes before xs mid → Takes mid ys after → Takes before (xs ++ ys) after
+pub Takes-trans : (xs ys : List ℕ) (before mid after : Option (List ℕ)) → Takes before xs mid → Takes mid ys after → Takes before (xs ++ ys) after
 Takes-trans xs ys None mid after h k = tt
 Takes-trans xs ys (Some taken) None after h k = absurd (cc (h))
 Takes-trans xs ys (Some taken) (Some more) after h k =
@@ -93,6 +93,7 @@ Writes-ahead statuses.Usage lines r taken more after early e h = absurd early
 Writes-ahead (statuses.Script line) lines r taken more after early e h = rw (h, e, text_of-append lines r.lines, append_assoc) refl
 Writes-ahead (statuses.Limit line number) lines r taken more after early e h =
     (h.0, rw (h.1, e, append_assoc lines r.lines (take h.0 r.further), text_of-append lines (r.lines ++ take h.0 r.further), append_assoc) refl)
+Writes-ahead (statuses.BadMessage place fault) lines r taken more after early e h = absurd early
 Writes-ahead statuses.ReadFault lines r taken more after early e h = TakesFront-ahead lines r taken more after e h
 Writes-ahead statuses.WriteFault lines r taken more after early e h = TakesFront-ahead lines r taken more after e h
 Writes-ahead statuses.Memory lines r taken more after early e h = TakesFront-ahead lines r taken more after e h

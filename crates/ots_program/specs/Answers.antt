@@ -15,6 +15,7 @@ abbrev pub Tells : Status → Ending → Type 0
 Tells statuses.Done ending = ending ≡ Completed
 Tells (statuses.Script line) ending = ending ≡ Refused line
 Tells (statuses.Limit line number) ending = ending ≡ Limited line number
+Tells (statuses.BadMessage place fault) ending = ⊥
 Tells _ ending = Unit {0}
 
 -- the sink has taken these lines, whole, and nothing else
@@ -34,6 +35,11 @@ Writes (statuses.Limit line number) r before after = (k : ℕ) × TakesLines (r.
 Writes statuses.Usage r before after = after ≡ Some before
 Writes _ r before after = TakesFront (r.lines ++ r.further) before after
 
+-- a status of a replay
+abbrev pub OfReplay : Status → Type 0
+OfReplay (statuses.BadMessage place fault) = ⊥
+OfReplay _ = Unit {0}
+
 -- where the source tells its octets and the sink what it has taken
 abbrev pub WhereTold : Option (List ℕ) → Option (List ℕ) → (List ℕ → List ℕ → Type 0) → Type 0
 WhereTold left taken P = IfSome left (λ octets. IfSome taken (λ before. P octets before))
@@ -48,6 +54,7 @@ status_of stops.Memory = statuses.Memory
 abbrev pub BreaksOff : Status → Type 0
 BreaksOff statuses.Done = ⊥
 BreaksOff statuses.Usage = ⊥
+BreaksOff (statuses.BadMessage place fault) = ⊥
 BreaksOff _ = Unit {0}
 
 -- a replay went on to what is left of it, and the sink has taken its lines so far

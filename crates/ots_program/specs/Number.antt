@@ -10,4 +10,5 @@ number_of (statuses.Script line) = 3
 number_of statuses.ReadFault = 4
 number_of statuses.WriteFault = 5
 number_of (statuses.Limit line number) = 6
+number_of (statuses.BadMessage place fault) = 7
 number_of statuses.Memory = 11

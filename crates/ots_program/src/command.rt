@@ -1,34 +1,50 @@
 ghost use Rattle.std.specs.Prelude.{◌≡◌, ◌≢◌, ◌↔◌, ℕ, ◌<◌, ◌≤◌, List, [], ◌∷◌, ◌++◌, length, Some, IfSome, IfErr, OnErr, OnOk, IsTrue, codes};
 ghost use Rattle.ots_outside.specs.Sink.{Takes, TakesPart};
 ghost use Rattle.ots_outside.specs.Source.{HasRisen};
-ghost use Rattle.ots_program.specs.Answers.{Advances, BreaksOff, Completes, Halts, TakesReplay, TakesSafely, Tells, WhereTold, Writes};
+ghost use Rattle.ots_program.specs.Answers.{Advances, BreaksOff, Completes, Halts, OfReplay, TakesReplay, TakesSafely, Tells, WhereTold, Writes};
 ghost use Rattle.ots_program.specs.Playing.{Plays, left};
 ghost use Rattle.ots_program.specs.Replay.{replay};
+ghost use Rattle.ots_program.specs.Show.{OfShow, Shows};
+ghost use Rattle.ots_program.specs.Words.{IsCommand, IsReplay, IsShow};
 
 use crate::devices::{Devices, Word};
 use crate::player::Player;
+use crate::show::show;
 use crate::status::Status;
 use ots_outside::{Sink, Source};
 use ots_world::lines_agree;
 use std::alloc::Global;
+use std::sync::Wait;
 
 /// How many octets are read at once.
 const PIECE: usize = 16_384;
 
 /// Carries out the command line on its devices. The words are exactly `replay`: the script on the source is replayed,
-/// and its lines go to the sink.
-pub fn run<S: Source, K: Sink>(alloc: Global, words: &[Word], devices: &mut Devices<S, K>) -> Status
+/// and its lines go to the sink; or `show`: a line for each message of the source goes to the sink. A show ends when its
+/// source does.
+pub fn run<R: Wait, S: Source, K: Sink>(
+    rt: &R,
+    alloc: Global,
+    words: &[Word],
+    devices: &mut Devices<S, K>,
+) -> Status
     // Usage comes exactly where the words are no command line, and then nothing was done.
-    ensures usage { (result ≡ Status.Usage) ↔ (words.now ≢ codes "replay" ∷ []) }
+    ensures usage { (result ≡ Status.Usage) ↔ ¬ (IsCommand words.now) }
     ensures idle { result ≡ Status.Usage → (S.remaining devices.new.source ≡ S.remaining devices.old.source) × (K.taken devices.new.sink ≡ K.taken devices.old.sink) }
 
-    // The status tells how the replay of the source's octets ends, and the sink has taken its lines.
-    ensures tells { IfSome (S.remaining devices.old.source) (λ octets. Tells result (replay octets).ending) }
-    ensures writes { WhereTold (S.remaining devices.old.source) (K.taken devices.old.sink) (λ octets before.
+    // A replay: the status tells how the replay of the source's octets ends, and the sink has taken its lines.
+    ensures tells { IsReplay words.now → IfSome (S.remaining devices.old.source) (λ octets. Tells result (replay octets).ending) }
+    ensures writes { IsReplay words.now → WhereTold (S.remaining devices.old.source) (K.taken devices.old.sink) (λ octets before.
         Writes result (replay octets) before (K.taken devices.new.sink)) }
+    ensures of_replay { IsReplay words.now → OfReplay result }
 
-    // Whatever the source and the status, the whole lines that were written are safe.
-    ensures safe { IfSome (K.taken devices.old.sink) (λ before. TakesSafely before (K.taken devices.new.sink)) }
+    // Whatever the source and the status, the whole lines that a replay wrote are safe.
+    ensures safe { IsReplay words.now → IfSome (K.taken devices.old.sink) (λ before. TakesSafely before (K.taken devices.new.sink)) }
+
+    // A show: the sink has taken the lines of the source's messages, up to its end or to the first fault.
+    ensures shows { IsShow words.now → WhereTold (S.remaining devices.old.source) (K.taken devices.old.sink) (λ octets before.
+        Shows result octets before (K.taken devices.new.sink)) }
+    ensures of_show { IsShow words.now → OfShow result }
 
     // Done comes once the source was read to its end.
     ensures end { result ≡ Status.Done → IfSome (S.remaining devices.old.source) (λ octets. S.remaining devices.new.source ≡ Some []) }
@@ -37,24 +53,33 @@ pub fn run<S: Source, K: Sink>(alloc: Global, words: &[Word], devices: &mut Devi
     ensures read_fault { result ≡ Status.ReadFault → HasRisen (S.faults devices.old.source) (S.faults devices.new.source) }
     ensures write_fault { result ≡ Status.WriteFault → HasRisen (K.faults devices.old.sink) (K.faults devices.new.sink) }
 {
-    run_plain(alloc, words, &mut devices.source, &mut devices.sink)
+    if !is_word(words, b"show") {
+        return run_plain(alloc, words, &mut devices.source, &mut devices.sink);
+    }
+    match show(rt, alloc, &mut devices.source, &mut devices.sink) {
+        Ok(()) => Status::Done,
+        Err(status) => status,
+    }
 }
 
-/// Carries out the command line on a source and a sink.
+/// Carries out a command line that is no `show` on a source and a sink. It returns.
 pub fn run_plain<S: Source, K: Sink>(
     alloc: Global,
     words: &[Word],
     source: &mut S,
     sink: &mut K,
 ) -> Status
+    requires plain { ¬ (IsShow words.now) }
+
     // Usage comes exactly where the words are no command line, and then nothing was done.
-    ensures usage { (result ≡ Status.Usage) ↔ (words.now ≢ codes "replay" ∷ []) }
+    ensures usage { (result ≡ Status.Usage) ↔ ¬ (IsReplay words.now) }
     ensures idle { result ≡ Status.Usage → (S.remaining source.new ≡ S.remaining source.old) × (K.taken sink.new ≡ K.taken sink.old) }
 
     // The status tells how the replay of the source's octets ends, and the sink has taken its lines.
     ensures tells { IfSome (S.remaining source.old) (λ octets. Tells result (replay octets).ending) }
     ensures writes { WhereTold (S.remaining source.old) (K.taken sink.old) (λ octets before.
         Writes result (replay octets) before (K.taken sink.new)) }
+    ensures of_replay { OfReplay result }
 
     // Whatever the source and the status, the whole lines that were written are safe.
     ensures safe { IfSome (K.taken sink.old) (λ before. TakesSafely before (K.taken sink.new)) }
@@ -68,7 +93,7 @@ pub fn run_plain<S: Source, K: Sink>(
 {
     // The law by which the lines are safe.
     lines_agree();
-    if !is_replay(words) {
+    if !is_word(words, b"replay") {
         return Status::Usage;
     }
     match play(alloc, source, sink) {
@@ -77,12 +102,12 @@ pub fn run_plain<S: Source, K: Sink>(
     }
 }
 
-/// Whether the words are the command line.
-fn is_replay(words: &[Word]) -> bool
-    ensures { IsTrue result ↔ (words.now ≡ codes "replay" ∷ []) }
+/// Whether this word is all of the command line.
+fn is_word(words: &[Word], word: &[u8]) -> bool
+    ensures { IsTrue result ↔ (words.now ≡ word.now ∷ []) }
 {
     match words {
-        [word] => word.bytes() == b"replay".as_slice(),
+        [only] => only.bytes() == word,
         _ => false,
     }
 }
@@ -171,7 +196,7 @@ fn play_end<K: Sink>(player: Player, sink: &mut K) -> Result<(), Status>
 }
 
 /// Writes the output, where there is any, and empties it.
-fn write_out<K: Sink>(output: &mut Vec<u8>, sink: &mut K) -> Result<(), Status>
+pub fn write_out<K: Sink>(output: &mut Vec<u8>, sink: &mut K) -> Result<(), Status>
     ensures whole { OnOk result (Takes (K.taken sink.old) output.old.items (K.taken sink.new)) }
     ensures part { OnErr result (TakesPart (K.taken sink.old) output.old.items (K.taken sink.new)) }
     ensures emptied { output.new.items ≡ [] }

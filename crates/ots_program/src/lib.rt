@@ -8,4 +8,6 @@ pub use status::{LINES_LIMIT, OCTETS_LIMIT, Status};
 mod command;
 mod devices;
 mod player;
+mod show;
+mod sight;
 mod status;

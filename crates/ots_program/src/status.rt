@@ -1,6 +1,7 @@
 ghost use Rattle.std.specs.Prelude.{◌≡◌};
 
 use crate::player::Stop;
+use giop_frames::FrameFault;
 use std::alloc::AllocError;
 
 /// How many lines a script has at most.
@@ -24,6 +25,9 @@ pub enum Status {
     WriteFault,
     /// At this line a count would pass its limit, which is the second number.
     Limit(u64, u64),
+    /// The part of the stream at this offset is refused for this reason; or the input ends inside the message that
+    /// begins there, which is `Short`.
+    BadMessage(u64, FrameFault),
     /// Memory ran out.
     Memory,
 }
@@ -42,6 +46,7 @@ impl Status {
             Status::ReadFault => 4,
             Status::WriteFault => 5,
             Status::Limit(..) => 6,
+            Status::BadMessage(..) => 7,
             Status::Memory => 11,
         }
     }

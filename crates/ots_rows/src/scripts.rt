@@ -2,6 +2,7 @@ use crate::texts;
 use ots_outside::{Failure, MemSink, MemSource};
 use ots_program::{Devices, Status, Word, run, run_plain};
 use std::alloc::{AllocError, Global};
+use std::sync::Wait;
 use std::test::Fail;
 
 /// The command line `replay`.
@@ -16,12 +17,16 @@ fn vec_of(word: Word, alloc: Global) -> Result<Vec<Word>, AllocError> {
 }
 
 /// Replays a script without faults of the devices.
-fn replayed(alloc: Global, script: &[u8]) -> Result<(Status, MemSink), AllocError> {
-    let mut source = MemSource::new(script.to_vec(alloc)?, Vec::new(alloc));
-    let mut sink = MemSink::new(alloc, Vec::new(alloc));
-    let words = replay_words(alloc)?;
-    let status = run_plain(alloc, &words, &mut source, &mut sink);
-    Ok((status, sink))
+fn replayed<R: Wait>(
+    rt: &R,
+    alloc: Global,
+    script: &[u8],
+) -> Result<(Status, MemSink), AllocError> {
+    let source = MemSource::new(script.to_vec(alloc)?, Vec::new(alloc));
+    let sink = MemSink::new(alloc, Vec::new(alloc));
+    let mut devices = Devices { source, sink };
+    let status = run(rt, alloc, &replay_words(alloc)?, &mut devices);
+    Ok((status, devices.sink))
 }
 
 #[test]
@@ -33,7 +38,7 @@ fn scripts_print_their_lines(rt: HostRuntime) -> Result<(), Fail> {
         (texts::NOT_ASKED, texts::NOT_ASKED_LINES),
         (texts::TWO_AT_ONCE, texts::TWO_AT_ONCE_LINES),
     ] {
-        let (status, sink) = replayed(rt.alloc(), script)?;
+        let (status, sink) = replayed(&rt, rt.alloc(), script)?;
         assert_eq!(rt; status, Status::Done);
         assert_eq!(rt; sink.octets(), lines);
     }
@@ -69,7 +74,7 @@ fn a_refused_line_is_named_and_those_before_it_are_written(rt: HostRuntime) -> R
         (b"node abcdefghijklm\n", 1, b""),
         (b"node N1", 1, b""),
     ] {
-        let (status, sink) = replayed(rt.alloc(), script)?;
+        let (status, sink) = replayed(&rt, rt.alloc(), script)?;
         assert_eq!(rt; status, Status::Script(line));
         assert_eq!(rt; sink.octets(), lines);
     }
@@ -102,7 +107,7 @@ fn puts_and_refuses_are_accepted_once(rt: HostRuntime) -> Result<(), Fail> {
     ] {
         let mut script = start.to_vec(rt.alloc())?;
         script.extend_from_slice(rest)?;
-        assert_eq!(rt; replayed(rt.alloc(), &script)?.0, status);
+        assert_eq!(rt; replayed(&rt, rt.alloc(), &script)?.0, status);
     }
     Ok(())
 }
@@ -110,13 +115,15 @@ fn puts_and_refuses_are_accepted_once(rt: HostRuntime) -> Result<(), Fail> {
 #[test]
 fn other_words_are_no_command(rt: HostRuntime) -> Result<(), Fail> {
     let alloc = rt.alloc();
-    let mut source = MemSource::new(texts::COMMIT.to_vec(alloc)?, Vec::new(alloc));
-    let mut sink = MemSink::new(alloc, Vec::new(alloc));
+    let source = MemSource::new(texts::COMMIT.to_vec(alloc)?, Vec::new(alloc));
+    let sink = MemSink::new(alloc, Vec::new(alloc));
+    let mut devices = Devices { source, sink };
     let words = vec_of(Word::new(b"--help".to_vec(alloc)?), alloc)?;
-    assert_eq!(rt;
-        run_plain(alloc, &words, &mut source, &mut sink),
-        Status::Usage
-    );
+    assert_eq!(rt; run(&rt, alloc, &words, &mut devices), Status::Usage);
+    let Devices {
+        mut source,
+        mut sink,
+    } = devices;
     assert_eq!(rt;
         run_plain(alloc, &[], &mut source, &mut sink),
         Status::Usage
@@ -133,14 +140,14 @@ fn faults_of_the_devices_stop_the_replay(rt: HostRuntime) -> Result<(), Fail> {
     let source = MemSource::new(texts::COMMIT.to_vec(alloc)?, failing);
     let sink = MemSink::new(alloc, Vec::new(alloc));
     let mut devices = Devices { source, sink };
-    assert_eq!(rt; run(alloc, &words, &mut devices), Status::ReadFault);
+    assert_eq!(rt; run(&rt, alloc, &words, &mut devices), Status::ReadFault);
     assert_eq!(rt; devices.sink.octets(), texts::COMMIT_LINES);
 
     let failing = vec![in alloc; Failure { call: 0, taken: 11 }]?;
     let source = MemSource::new(texts::COMMIT.to_vec(alloc)?, Vec::new(alloc));
     let sink = MemSink::new(alloc, failing);
     let mut devices = Devices { source, sink };
-    assert_eq!(rt; run(alloc, &words, &mut devices), Status::WriteFault);
+    assert_eq!(rt; run(&rt, alloc, &words, &mut devices), Status::WriteFault);
     assert_eq!(rt; devices.sink.octets(), b"up n1 1\nup ".as_slice());
     Ok(())
 }

@@ -1,0 +1,93 @@
+#!/usr/bin/env bash
+# Shows streams of about 1 MB and 32 MB of requests and replies, and prints octets per second and how the time per octet
+# grows. Run it anywhere; it builds the program first. Sizes in octets may be given as arguments.
+set -euo pipefail
+here=$(cd "$(dirname "$0")/.." && pwd)
+sizes=("${@:-}")
+[ -n "${sizes[0]}" ] || sizes=(1000000 32000000)
+work=$(mktemp -d)
+trap 'rm -rf "$work"' EXIT
+
+(cd "$here/crates/ots" && rt run -- show </dev/null >/dev/null 2>&1)
+ots=$here/crates/ots/out/ots
+
+# A stream of about that many octets: again and again the recorded messages without the CloseConnection at their end,
+# requests and replies with small and large bodies in both byte orders, and a reply in three parts.
+stream() {
+  python3 - "$1" "$here/examples/recorded.giop" <<'PY'
+import struct, sys
+size = int(sys.argv[1])
+recorded = open(sys.argv[2], "rb").read()
+
+def part(order, more, kind, content):
+    flags = (order == "<") + 2 * more
+    return b"GIOP\1\2" + bytes([flags, kind]) + struct.pack(order + "I", len(content)) + content
+
+def aligned(n, content):
+    return content + bytes(-(12 + len(content)) % n)
+
+def counted(order, content, octets):
+    return aligned(4, content) + struct.pack(order + "I", len(octets)) + octets
+
+def with_contexts(order, content, contexts):
+    content = aligned(4, content) + struct.pack(order + "I", len(contexts))
+    for id, octets in contexts:
+        content = counted(order, aligned(4, content) + struct.pack(order + "I", id), octets)
+    return content
+
+def with_body(content, body):
+    return aligned(8, content) + body if body else content
+
+def request(order, id, key, operation, contexts, body):
+    content = struct.pack(order + "IB3xH", id, 3, 0)
+    content = counted(order, counted(order, content, key), operation + b"\0")
+    return part(order, False, 0, with_body(with_contexts(order, content, contexts), body))
+
+def reply(order, id, contexts, body):
+    content = with_contexts(order, struct.pack(order + "II", id, 0), contexts)
+    return part(order, False, 1, with_body(content, body))
+
+def reply_in_parts(order, id, body):
+    half = len(body) // 2
+    first = with_contexts(order, struct.pack(order + "II", id, 0), [])
+    number = struct.pack(order + "I", id)
+    return part(order, True, 1, first) + part(order, True, 7, number + body[:half]) + part(order, False, 7, number + body[half:])
+
+messages = [recorded[:-12]]
+id = 100
+for order in "<", ">":
+    for length in 0, 4, 100, 4000:
+        id += 1
+        context = (1, bytes(12))
+        messages.append(request(order, id, bytes(range(32)), b"register_resource", [context], bytes(length)))
+        messages.append(reply(order, id, [context] if length else [], bytes(length)))
+    messages.append(reply_in_parts(order, id, bytes(800)))
+round = b"".join(messages)
+for _ in range(max(1, size // len(round))):
+    sys.stdout.buffer.write(round)
+PY
+}
+
+for size in "${sizes[@]}"; do
+  stream "$size" >"$work/$size.giop"
+  "$ots" show <"$work/$size.giop" >"$work/$size.lines"
+  best=
+  for _ in 1 2 3; do
+    start=$(date +%s%N)
+    "$ots" show <"$work/$size.giop" >/dev/null
+    end=$(date +%s%N)
+    took=$((end - start))
+    if [ -z "$best" ] || [ "$took" -lt "$best" ]; then best=$took; fi
+  done
+  octets=$(wc -c <"$work/$size.giop")
+  shown=$(wc -l <"$work/$size.lines")
+  echo "$octets $best $shown"
+done | python3 -c '
+import sys
+rows = [tuple(map(int, line.split())) for line in sys.stdin]
+for octets, took, shown in rows:
+    print(f"{octets:>10} octets, {shown:>7} messages: {took / 1e6:8.1f} ms, {octets / took * 1e9:14,.0f} octets per second")
+first, last = rows[0], rows[-1]
+if len(rows) > 1:
+    print(f"ratio of the time per octet, {last[0]:,} octets to {first[0]:,}: {(last[1] / last[0]) / (first[1] / first[0]):.2f}")
+'

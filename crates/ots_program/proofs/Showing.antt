@@ -1,0 +1,412 @@
+-- A show under way.
+use Rattle.std.proofs.Common.{◌≡◌, ℕ, ◌+◌, ◌<◌, ◌≤◌, Bool, List, [], ◌∷◌, ◌++◌, length, take, drop, Option, Some, None, Result, Ok, Err, refl, sym, ap, subst, ◌∙◌, ◌⊎◌, inl, inr, append_assoc, arith}
+use Rattle.std.specs.Prelude.{◌≢◌, IfErr, IfSome, OnOk}
+use Rattle.std.proofs.lemmas.List.{append-nil, take_all, take-append-drop}
+use Rattle.std.proofs.lemmas.List.Concat.{flat_map-append}
+use Rattle.std.proofs.Math.Seq.{take-append-add}
+use Rattle.giop_frames.specs.declared.fault.FrameFault.{FrameFault}
+use Rattle.giop_frames.specs.declared.fault.FrameFault.TheVariants as faults
+use Rattle.giop_frames.specs.declared.framed.Framed.{Framed}
+use Rattle.giop_frames.specs.Stream.{IsBegun, IsCut, IsRefused, IsWhole, Splits, Unfinished, part_at, part_header_at, unfinished}
+use Rattle.giop_frames.specs.Header.{header_at}
+use Rattle.giop_frames.specs.Held.{Held, Holds, IsUnfinished, place_by, place_of}
+use Rattle.ots_outside.specs.Sink.{Takes, TakesPart}
+use Rattle.ots_outside.specs.Source.{Gives}
+use Rattle.ots_program.specs.declared.status.Status.{Status}
+use Rattle.ots_program.specs.declared.status.Status.TheVariants as statuses
+use Rattle.ots_program.specs.Show.{Breaks, BrokeOff, EndsBadly, EndsCut, EndsWhole, Ends, OfPiece, Shows, StopsShow, TellsBreak, TellsPiece, TookPiece, WritesSights, status_by}
+use Rattle.ots_program.specs.Sight.{sight, sights}
+use Rattle.ots_program.proofs.Taken.{Takes-none, Takes-trans}
+
+-- these messages come first where octets are held so
+pub held_begun : (octets : List ℕ) (messages : List Framed) (h : Held) → Holds octets messages h → IsBegun messages octets
+held_begun octets messages h holds = record { parts = holds.parts; rest = h.rest; splits = holds.splits }
+
+-- messages that come first do so with more octets too
+pub begun_on : (octets more : List ℕ) (messages : List Framed) → IsBegun messages octets → IsBegun messages (octets ++ more)
+begun_on octets more messages b = record {
+  parts = b.parts;
+  rest = b.rest ++ more;
+  splits = record {
+    front = b.splits.front;
+    whole = ap (λ (x : List ℕ). x ++ more) b.splits.whole ∙ append_assoc b.splits.front b.rest more;
+    are_parts = b.splits.are_parts;
+    taken = b.splits.taken;
+    messages_are = b.splits.messages_are;
+  };
+}
+
+-- ---- a piece
+
+-- so far in a piece: these messages are whole, and their lines were told
+pub record Telling (old now : Held) (piece told : List ℕ) : Type 0 where
+  pub messages : List Framed
+  pub holds : (octets : List ℕ) (given : List Framed) → Holds octets given old → Holds (octets ++ piece) (given ++ messages) now
+  pub told_is : told ≡ sights messages
+  pub accepts : now.refused ≡ None
+
+pub telling_start : (old now : Held) (piece told : List ℕ) → ((octets : List ℕ) (given : List Framed) → Holds octets given old → Holds (octets ++ piece) given now) → told ≡ [] → now.refused ≡ None → Telling old now piece told
+telling_start old now piece told fed none accepts = record {
+  messages = [];
+  holds = λ octets given h. subst (λ (ms : List Framed). Holds (octets ++ piece) ms now) (sym (append-nil given)) (fed octets given h);
+  told_is = none;
+  accepts = accepts;
+}
+
+sights-push : (messages : List Framed) (m : Framed) → sights (messages ++ m ∷ []) ≡ sights messages ++ sight m
+sights-push messages m = flat_map-append sight messages (m ∷ []) ∙ ap (λ (x : List ℕ). sights messages ++ x) (append-nil (sight m))
+
+pub telling_more : (old now next : Held) (piece told more : List ℕ) (m : Framed) → Telling old now piece told → ((octets : List ℕ) (given : List Framed) → Holds octets given now → Holds octets (given ++ m ∷ []) next)
+    → more ≡ told ++ sight m → next.refused ≡ None → Telling old next piece more
+telling_more old now next piece told more m t gives written accepts = record {
+  messages = t.messages ++ m ∷ [];
+  holds = λ octets given h. subst (λ (ms : List Framed). Holds (octets ++ piece) ms next) (append_assoc given t.messages (m ∷ [])) (gives (octets ++ piece) (given ++ t.messages) (t.holds octets given h));
+  told_is = written ∙ ap (λ (x : List ℕ). x ++ sight m) t.told_is ∙ sym (sights-push t.messages m);
+  accepts = accepts;
+}
+
+pub telling_end : (old now next : Held) (piece told : List ℕ) → Telling old now piece told → ((octets : List ℕ) (given : List Framed) → Holds octets given now → Holds octets given next) → part_at next.rest ≡ Err faults.Short → next.refused ≡ None → TellsPiece old next piece told
+telling_end old now next piece told t keeps partial accepts = record {
+  messages = t.messages;
+  holds = λ octets given h. keeps (octets ++ piece) (given ++ t.messages) (t.holds octets given h);
+  told_is = t.told_is;
+  partial = partial;
+  accepts = accepts;
+}
+
+-- memory ran out
+pub telling_memory : (old now : Held) (piece told : List ℕ) → Telling old now piece told → TellsBreak statuses.Memory old piece told
+telling_memory old now piece told t = record {
+  messages = t.messages;
+  stops = tt;
+  ends = λ octets given h. held_begun (octets ++ piece) (given ++ t.messages) now (t.holds octets given h);
+  told_is = t.told_is;
+}
+
+-- nothing was taken of the piece
+pub telling_none : (old : Held) (piece told : List ℕ) → told ≡ [] → TellsBreak statuses.Memory old piece told
+telling_none old piece told none = record {
+  messages = [];
+  stops = tt;
+  ends = λ octets given h. subst (λ (ms : List Framed). IsBegun ms (octets ++ piece)) (sym (append-nil given)) (begun_on octets piece given (held_begun octets given old h));
+  told_is = none;
+}
+
+placed : (h : Held) (fault : FrameFault) → h.refused ≡ Some fault → place_of h ≡ h.place
+placed h fault e = ap (λ (r : Option FrameFault). place_by h.place r h.unfinished) e
+
+bad : (old now next : Held) (piece told : List ℕ) (fault : FrameFault) → Telling old now piece told → (fault ≢ faults.Memory)
+    → ((fault ≡ faults.Memory) ⊎ ((octets : List ℕ) (messages : List Framed) → Holds octets messages now → IsRefused messages next.place fault octets))
+    → ((fault ≡ faults.Memory) ⊎ (next.refused ≡ Some fault)) → TellsBreak (statuses.BadMessage (place_of next) fault) old piece told
+bad old now next piece told fault t not refused (inl memory) = absurd (not memory)
+bad old now next piece told fault t not (inl memory) remembered = absurd (not memory)
+bad old now next piece told fault t not (inr refused) (inr remembered) = record {
+  messages = t.messages;
+  stops = tt;
+  ends = λ octets given h. subst (λ (n : ℕ). IsRefused (given ++ t.messages) n fault (octets ++ piece)) (sym (placed next fault remembered)) (refused (octets ++ piece) (given ++ t.messages) (t.holds octets given h));
+  told_is = t.told_is;
+}
+
+-- a part was refused
+pub telling_refused : (old now next : Held) (piece told : List ℕ) (fault : FrameFault) → Telling old now piece told
+    → ((fault ≡ faults.Memory) ⊎ ((octets : List ℕ) (messages : List Framed) → Holds octets messages now → IsRefused messages next.place fault octets))
+    → ((fault ≡ faults.Memory) ⊎ (next.refused ≡ Some fault)) → TellsBreak (status_by (place_of next) fault) old piece told
+telling_refused old now next piece told faults.BadMagic t r m = bad old now next piece told faults.BadMagic t (λ e. cc) r m
+telling_refused old now next piece told faults.BadVersion t r m = bad old now next piece told faults.BadVersion t (λ e. cc) r m
+telling_refused old now next piece told faults.BadType t r m = bad old now next piece told faults.BadType t (λ e. cc) r m
+telling_refused old now next piece told (faults.TooLarge n) t r m = bad old now next piece told (faults.TooLarge n) t (λ e. cc) r m
+telling_refused old now next piece told faults.BadFragment t r m = bad old now next piece told faults.BadFragment t (λ e. cc) r m
+telling_refused old now next piece told (faults.Body place cdr) t r m = bad old now next piece told (faults.Body place cdr) t (λ e. cc) r m
+telling_refused old now next piece told faults.Short t r m = bad old now next piece told faults.Short t (λ e. cc) r m
+telling_refused old now next piece told faults.NotWritten t r m = bad old now next piece told faults.NotWritten t (λ e. cc) r m
+telling_refused old now next piece told faults.Memory t r m = telling_memory old now piece told t
+
+-- ---- a piece and the sink
+
+pub piece_shown : (old new : Held) (piece told : List ℕ) (before after : Option (List ℕ)) → TellsPiece old new piece told → Takes before told after → TookPiece old new piece before after
+piece_shown old new piece told before after t taken = record { messages = t.messages; holds = t.holds; taken = subst (λ (x : List ℕ). Takes before x after) t.told_is taken; partial = t.partial; accepts = t.accepts }
+
+whole_front : (taken told : List ℕ) (after : Option (List ℕ)) → after ≡ Some (taken ++ told) → (n : ℕ) × (after ≡ Some (taken ++ take n told))
+whole_front taken told after e = (length told, e ∙ ap (λ (x : List ℕ). Some (taken ++ x)) (sym (take_all (length told) told (omega arith))))
+
+-- all lines went out
+pub writes_whole : (status : Status) (messages : List Framed) (taken : List ℕ) (after : Option (List ℕ)) → after ≡ Some (taken ++ sights messages) → WritesSights status messages taken after
+writes_whole statuses.Done messages taken after e = e
+writes_whole (statuses.BadMessage place fault) messages taken after e = e
+writes_whole statuses.Usage messages taken after e = whole_front taken (sights messages) after e
+writes_whole (statuses.Script line) messages taken after e = whole_front taken (sights messages) after e
+writes_whole statuses.ReadFault messages taken after e = whole_front taken (sights messages) after e
+writes_whole statuses.WriteFault messages taken after e = whole_front taken (sights messages) after e
+writes_whole (statuses.Limit line number) messages taken after e = whole_front taken (sights messages) after e
+writes_whole statuses.Memory messages taken after e = whole_front taken (sights messages) after e
+
+written : (status : Status) (messages : List Framed) (told : List ℕ) (before after : Option (List ℕ)) → told ≡ sights messages → Takes before told after → IfSome before (λ taken. WritesSights status messages taken after)
+written status messages told None after e t = tt
+written status messages told (Some taken) after e t = writes_whole status messages taken after (t ∙ ap (λ (x : List ℕ). Some (taken ++ x)) e)
+
+pub break_shown : (status : Status) (old : Held) (piece told : List ℕ) (before after : Option (List ℕ)) → TellsBreak status old piece told → Takes before told after → BrokeOff status old piece before after
+break_shown status old piece told before after t taken = record { messages = t.messages; stops = t.stops; ends = t.ends; writes = written status t.messages told before after t.told_is taken }
+
+refused_begun : (messages : List Framed) (place : ℕ) (fault : FrameFault) (octets : List ℕ) → IsRefused messages place fault octets → IsBegun messages octets
+refused_begun messages place fault octets r = record { parts = r.parts; rest = r.rest; splits = r.splits }
+
+breaks_begun : (status : Status) (messages : List Framed) (octets : List ℕ) → Breaks status messages octets → IsBegun messages octets
+breaks_begun statuses.Done messages octets b = b
+breaks_begun (statuses.BadMessage place fault) messages octets b = refused_begun messages place fault octets b
+breaks_begun statuses.Usage messages octets b = b
+breaks_begun (statuses.Script line) messages octets b = b
+breaks_begun statuses.ReadFault messages octets b = b
+breaks_begun statuses.WriteFault messages octets b = b
+breaks_begun (statuses.Limit line number) messages octets b = b
+breaks_begun statuses.Memory messages octets b = b
+
+front_written : (messages : List Framed) (told : List ℕ) (before after : Option (List ℕ)) → told ≡ sights messages → TakesPart before told after → IfSome before (λ taken. WritesSights statuses.WriteFault messages taken after)
+front_written messages told None after e t = tt
+front_written messages told (Some taken) after e t = (t.0, t.1 ∙ ap (λ (x : List ℕ). Some (taken ++ take t.0 x)) e)
+
+-- the sink failed
+pub write_broke : (result : Result (Unit {0}) Status) (old new : Held) (piece told : List ℕ) (before after : Option (List ℕ))
+    → OnOk result (TellsPiece old new piece told) → IfErr result (λ status. TellsBreak status old piece told) → TakesPart before told after → BrokeOff statuses.WriteFault old piece before after
+write_broke (Ok x) old new piece told before after t b part = record {
+  messages = t.messages;
+  stops = tt;
+  ends = λ octets given h. held_begun (octets ++ piece) (given ++ t.messages) new (t.holds octets given h);
+  writes = front_written t.messages told before after t.told_is part;
+}
+write_broke (Err status) old new piece told before after t b part = record {
+  messages = b.messages;
+  stops = tt;
+  ends = λ octets given h. breaks_begun status (given ++ b.messages) (octets ++ piece) (b.ends octets given h);
+  writes = front_written b.messages told before after b.told_is part;
+}
+
+-- ---- the whole source
+
+-- so far: these octets were read, these messages were whole, and their lines went out
+pub record Showing (octets : List ℕ) (left before now : Option (List ℕ)) (h : Held) : Type 0 where
+  pub read : List ℕ
+  pub rest : List ℕ
+  pub left_is : left ≡ Some rest
+  pub whole : octets ≡ read ++ rest
+  pub messages : List Framed
+  pub holds : Holds read messages h
+  pub taken : Takes before (sights messages) now
+
+pub showing_start : (left before : Option (List ℕ)) (h : Held) → Holds [] [] h → IfSome left (λ octets. Showing octets left before before h)
+showing_start None before h holds = tt
+showing_start (Some octets) before h holds = record { read = []; rest = octets; left_is = refl; whole = refl; messages = []; holds = holds; taken = Takes-none before }
+
+more : (octets : List ℕ) (left next before now after : Option (List ℕ)) (h new : Held) (places n : ℕ) (room : List ℕ) → Showing octets left before now h → IfSome left (λ l. Gives l places n room next) → TookPiece h new (take n room) now after → Showing octets next before after new
+more octets left next before now after h new places n room s gives t =
+    let g : Gives s.rest places n room next = rw s.left_is at gives in
+    record {
+      read = s.read ++ take n room;
+      rest = drop n s.rest;
+      left_is = g.rest;
+      whole = s.whole ∙ ap (λ (x : List ℕ). s.read ++ x) (sym (take-append-drop n s.rest) ∙ ap (λ (x : List ℕ). x ++ drop n s.rest) (sym g.octets)) ∙ sym (append_assoc s.read (take n room) (drop n s.rest));
+      messages = s.messages ++ t.messages;
+      holds = t.holds s.read s.messages s.holds;
+      taken = subst (λ (x : List ℕ). Takes before x after) (sym (flat_map-append sight s.messages t.messages)) (Takes-trans (sights s.messages) (sights t.messages) before now after s.taken t.taken);
+    }
+
+pub showing_more : (script left next before now after : Option (List ℕ)) (h new : Held) (places n : ℕ) (room : List ℕ) → IfSome script (λ octets. Showing octets left before now h) → IfSome left (λ l. Gives l places n room next) → TookPiece h new (take n room) now after
+    → IfSome script (λ octets. Showing octets next before after new)
+showing_more None left next before now after h new places n room s gives t = tt
+showing_more (Some octets) left next before now after h new places n room s gives t = more octets left next before now after h new places n room s gives t
+
+-- what a show of these octets wrote, where the sink tells it
+abbrev pub ShowsTold : Status → List ℕ → Option (List ℕ) → Option (List ℕ) → Type 0
+ShowsTold status octets before after = IfSome before (λ taken. Shows status octets taken after)
+
+told : (status : Status) (octets : List ℕ) (messages : List Framed) (before after : Option (List ℕ)) → Ends status messages octets → IfSome before (λ taken. WritesSights status messages taken after) → ShowsTold status octets before after
+told status octets messages None after ends writes = tt
+told status octets messages (Some taken) after ends writes = record { messages = messages; ends = ends; writes = writes }
+
+-- a status that comes without a further octet
+begun_shows : (status : Status) (octets : List ℕ) (left before now : Option (List ℕ)) (h : Held) → ((messages : List Framed) → IsBegun messages octets → Ends status messages octets) → Showing octets left before now h → ShowsTold status octets before now
+begun_shows status octets left before now h ends s =
+    let begun : IsBegun s.messages octets = subst (λ (x : List ℕ). IsBegun s.messages x) (sym s.whole) (begun_on s.read s.rest s.messages (held_begun s.read s.messages h s.holds)) in
+    told status octets s.messages before now (ends s.messages begun) (written status s.messages (sights s.messages) before now refl s.taken)
+
+-- reading failed
+pub read_failed : (script left before now : Option (List ℕ)) (h : Held) → IfSome script (λ octets. Showing octets left before now h) → IfSome script (λ octets. ShowsTold statuses.ReadFault octets before now)
+read_failed None left before now h s = tt
+read_failed (Some octets) left before now h s = begun_shows statuses.ReadFault octets left before now h (λ messages b. b) s
+
+nothing_begun : (octets : List ℕ) → IsBegun [] octets
+nothing_begun octets = record { parts = []; rest = octets; splits = record { front = []; whole = refl; are_parts = refl; taken = tt; messages_are = refl } }
+
+-- nothing was read for want of memory
+pub memory_first : (script before : Option (List ℕ)) → IfSome script (λ octets. ShowsTold statuses.Memory octets before before)
+memory_first None before = tt
+memory_first (Some octets) before = told statuses.Memory octets [] before before (nothing_begun octets) (written statuses.Memory [] [] before before refl (Takes-none before))
+
+abbrev no_octets : List ℕ
+no_octets = []
+
+nothing_left : (octets : List ℕ) (left next before now : Option (List ℕ)) (h : Held) (places n : ℕ) (room : List ℕ) (s : Showing octets left before now h) → IfSome left (λ l. Gives l places n room next) → n ≡ 0 → 0 < places → (octets ≡ s.read) × (next ≡ Some [])
+nothing_left octets left next before now h places n room s gives none place =
+    let g : Gives s.rest places n room next = rw s.left_is at gives in
+    let empty : s.rest ≡ [] = g.end none place in
+    (s.whole ∙ ap (λ (x : List ℕ). s.read ++ x) empty ∙ append-nil s.read, g.rest ∙ ap (λ (x : List ℕ). Some (drop n x)) empty ∙ ap (λ (k : ℕ). Some (drop k (no_octets))) none)
+
+-- the source ended between messages
+pub ended_whole : (script left next before now : Option (List ℕ)) (h : Held) (places n : ℕ) (room : List ℕ) → IfSome script (λ octets. Showing octets left before now h) → IfSome left (λ l. Gives l places n room next) → n ≡ 0 → 0 < places → EndsWhole h
+    → IfSome script (λ octets. ShowsTold statuses.Done octets before now)
+ended_whole None left next before now h places n room s gives none place ends = tt
+ended_whole (Some octets) left next before now h places n room s gives none place ends =
+    let all = nothing_left octets left next before now h places n room s gives none place in
+    let whole : IsWhole s.messages octets = subst (λ (x : List ℕ). IsWhole s.messages x) (sym all.0) (ends s.read s.messages s.holds) in
+    told statuses.Done octets s.messages before now whole (written statuses.Done s.messages (sights s.messages) before now refl s.taken)
+
+-- the source was read to its end
+pub ended_read : (script left next before now : Option (List ℕ)) (h : Held) (places n : ℕ) (room : List ℕ) → IfSome script (λ octets. Showing octets left before now h) → IfSome left (λ l. Gives l places n room next) → n ≡ 0 → 0 < places
+    → IfSome script (λ octets. next ≡ Some [])
+ended_read None left next before now h places n room s gives none place = tt
+ended_read (Some octets) left next before now h places n room s gives none place = (nothing_left octets left next before now h places n room s gives none place).1
+
+-- the source ended inside a message
+pub ended_cut : (status : Status) (script left next before now : Option (List ℕ)) (h : Held) (places n : ℕ) (room : List ℕ) → IfSome script (λ octets. Showing octets left before now h) → IfSome left (λ l. Gives l places n room next) → n ≡ 0 → 0 < places → EndsCut h status
+    → IfSome script (λ octets. ShowsTold status octets before now)
+ended_cut status None left next before now h places n room s gives none place ends = tt
+ended_cut statuses.Done (Some octets) left next before now h places n room s gives none place ends = absurd ends
+ended_cut statuses.Usage (Some octets) left next before now h places n room s gives none place ends = absurd ends
+ended_cut (statuses.Script line) (Some octets) left next before now h places n room s gives none place ends = absurd ends
+ended_cut statuses.ReadFault (Some octets) left next before now h places n room s gives none place ends = absurd ends
+ended_cut statuses.WriteFault (Some octets) left next before now h places n room s gives none place ends = absurd ends
+ended_cut (statuses.Limit line number) (Some octets) left next before now h places n room s gives none place ends = absurd ends
+ended_cut statuses.Memory (Some octets) left next before now h places n room s gives none place ends = absurd ends
+ended_cut (statuses.BadMessage at fault) (Some octets) left next before now h places n room s gives none place ends =
+    let all = nothing_left octets left next before now h places n room s gives none place in
+    let cut : IsCut s.messages at octets = subst (λ (x : List ℕ). IsCut s.messages at x) (sym all.0) (ends.1 s.read s.messages s.holds) in
+    told (statuses.BadMessage at fault) octets s.messages before now (inr (ends.0, cut)) (written (statuses.BadMessage at fault) s.messages (sights s.messages) before now refl s.taken)
+
+pub cut_stops : (h : Held) (status : Status) → EndsCut h status → StopsShow status
+cut_stops h statuses.Done ends = absurd ends
+cut_stops h statuses.Usage ends = absurd ends
+cut_stops h (statuses.Script line) ends = absurd ends
+cut_stops h statuses.ReadFault ends = tt
+cut_stops h statuses.WriteFault ends = tt
+cut_stops h (statuses.Limit line number) ends = absurd ends
+cut_stops h statuses.Memory ends = tt
+cut_stops h (statuses.BadMessage at fault) ends = tt
+
+-- a law: octets that are refused are refused with more of them too
+abbrev pub RefusalGoesOn : Type 0
+RefusalGoesOn = (messages : List Framed) (place : ℕ) (fault : FrameFault) (octets more : List ℕ) → IsRefused messages place fault octets → IsRefused messages place fault (octets ++ more)
+
+breaks_end : RefusalGoesOn → (status : Status) (messages : List Framed) (octets more : List ℕ) → StopsShow status → Breaks status messages octets → Ends status messages (octets ++ more)
+breaks_end law statuses.Done messages octets more stops b = absurd stops
+breaks_end law statuses.Usage messages octets more stops b = absurd stops
+breaks_end law (statuses.Script line) messages octets more stops b = absurd stops
+breaks_end law (statuses.Limit line number) messages octets more stops b = absurd stops
+breaks_end law statuses.ReadFault messages octets more stops b = begun_on octets more messages b
+breaks_end law statuses.WriteFault messages octets more stops b = begun_on octets more messages b
+breaks_end law statuses.Memory messages octets more stops b = begun_on octets more messages b
+breaks_end law (statuses.BadMessage place fault) messages octets more stops b = inl (law messages place fault octets more b)
+
+ahead_front : (messages more : List Framed) (taken : List ℕ) (after : Option (List ℕ)) → ((n : ℕ) × (after ≡ Some ((taken ++ sights messages) ++ take n (sights more)))) → (n : ℕ) × (after ≡ Some (taken ++ take n (sights (messages ++ more))))
+ahead_front messages more taken after h =
+    (length (sights messages) + h.0, h.1 ∙ ap (λ (x : List ℕ). Some x) (append_assoc taken (sights messages) (take h.0 (sights more)) ∙ ap (λ (x : List ℕ). taken ++ x) (sym (ap (take (length (sights messages) + h.0)) (flat_map-append sight messages more) ∙ take-append-add (sights messages) (sights more) h.0))))
+
+-- lines, and then what a piece wrote
+ahead : (status : Status) (messages more : List Framed) (taken : List ℕ) (now after : Option (List ℕ)) → now ≡ Some (taken ++ sights messages) → IfSome now (λ t. WritesSights status more t after) → StopsShow status → WritesSights status (messages ++ more) taken after
+ahead statuses.Done messages more taken now after e w stops = absurd stops
+ahead statuses.Usage messages more taken now after e w stops = absurd stops
+ahead (statuses.Script line) messages more taken now after e w stops = absurd stops
+ahead (statuses.Limit line number) messages more taken now after e w stops = absurd stops
+ahead statuses.ReadFault messages more taken now after e w stops = ahead_front messages more taken after (rw e at w)
+ahead statuses.WriteFault messages more taken now after e w stops = ahead_front messages more taken after (rw e at w)
+ahead statuses.Memory messages more taken now after e w stops = ahead_front messages more taken after (rw e at w)
+ahead (statuses.BadMessage place fault) messages more taken now after e w stops =
+    let w' : after ≡ Some ((taken ++ sights messages) ++ sights more) = rw e at w in
+    w' ∙ ap (λ (x : List ℕ). Some x) (append_assoc taken (sights messages) (sights more) ∙ ap (λ (x : List ℕ). taken ++ x) (sym (flat_map-append sight messages more)))
+
+broke_writes : (status : Status) (messages more : List Framed) (before now after : Option (List ℕ)) → Takes before (sights messages) now → IfSome now (λ t. WritesSights status more t after) → StopsShow status → IfSome before (λ taken. WritesSights status (messages ++ more) taken after)
+broke_writes status messages more None now after t w stops = tt
+broke_writes status messages more (Some taken) now after t w stops = ahead status messages more taken now after t w stops
+
+broke : RefusalGoesOn → (status : Status) (octets : List ℕ) (left next before now after : Option (List ℕ)) (h : Held) (places n : ℕ) (room : List ℕ) → Showing octets left before now h → IfSome left (λ l. Gives l places n room next) → BrokeOff status h (take n room) now after → ShowsTold status octets before after
+broke law status octets left next before now after h places n room s gives b =
+    let g : Gives s.rest places n room next = rw s.left_is at gives in
+    let whole : octets ≡ (s.read ++ take n room) ++ drop n s.rest = s.whole ∙ ap (λ (x : List ℕ). s.read ++ x) (sym (take-append-drop n s.rest) ∙ ap (λ (x : List ℕ). x ++ drop n s.rest) (sym g.octets)) ∙ sym (append_assoc s.read (take n room) (drop n s.rest)) in
+    let ends : Ends status (s.messages ++ b.messages) octets = subst (λ (x : List ℕ). Ends status (s.messages ++ b.messages) x) (sym whole) (breaks_end law status (s.messages ++ b.messages) (s.read ++ take n room) (drop n s.rest) b.stops (b.ends s.read s.messages s.holds)) in
+    told status octets (s.messages ++ b.messages) before after ends (broke_writes status s.messages b.messages before now after s.taken b.writes b.stops)
+
+-- a show broke off at a piece
+pub showing_broke : RefusalGoesOn → (status : Status) (script left next before now after : Option (List ℕ)) (h : Held) (places n : ℕ) (room : List ℕ) → IfSome script (λ octets. Showing octets left before now h) → IfSome left (λ l. Gives l places n room next) → BrokeOff status h (take n room) now after
+    → IfSome script (λ octets. ShowsTold status octets before after)
+showing_broke law status None left next before now after h places n room s gives b = tt
+showing_broke law status (Some octets) left next before now after h places n room s gives b = broke law status octets left next before now after h places n room s gives b
+
+-- ---- the end of the stream
+
+pub ends_whole : (h : Held) → h.unfinished ≡ [] → h.rest ≡ [] → EndsWhole h
+ends_whole h none empty octets messages holds = record {
+  parts = holds.parts;
+  splits = subst (λ (rest : List ℕ). Splits octets holds.parts messages rest) empty holds.splits;
+  finished = sym holds.unfinished_are ∙ none;
+}
+
+no_items : {X : Type 0} (xs : List X) → ((xs ≢ []) → ⊥) → xs ≡ []
+no_items [] h = refl
+no_items (x ∷ xs) h = absurd (h (λ e. cc))
+
+-- the stream ends with no message unfinished
+pub ends_finished : (h : Held) → (IsUnfinished h → ⊥) → EndsWhole h
+ends_finished h not = ends_whole h (no_items h.unfinished (λ some. not (inl some))) (no_items h.rest (λ some. not (inr some)))
+
+inside_parts : (h : Held) (messages : List Unfinished) → h.unfinished ≡ messages → IsUnfinished h → (messages ≢ []) ⊎ (h.rest ≢ [])
+inside_parts h messages e (inl some) = inl (λ none. some (e ∙ none))
+inside_parts h messages e (inr rest) = inr rest
+
+pub ends_cut : (h : Held) (place : ℕ) → IsUnfinished h → h.refused ≡ None → part_at h.rest ≡ Err faults.Short → place ≡ place_of h → EndsCut h (statuses.BadMessage place faults.Short)
+ends_cut h place inside accepts partial is = (
+  refl,
+  λ octets messages holds. record {
+    parts = holds.parts;
+    rest = h.rest;
+    splits = holds.splits;
+    partial = partial;
+    inside = inside_parts h (unfinished holds.parts) holds.unfinished_are inside;
+    place_is = is ∙ ap (λ (r : Option FrameFault). place_by h.place r h.unfinished) accepts ∙ rw (holds.unfinished_are, holds.place_is) refl;
+  },
+)
+
+-- ---- statuses
+
+pub own_status : (place : ℕ) (fault : FrameFault) → OfPiece (status_by place fault)
+own_status place faults.BadMagic = tt
+own_status place faults.BadVersion = tt
+own_status place faults.BadType = tt
+own_status place (faults.TooLarge n) = tt
+own_status place faults.BadFragment = tt
+own_status place (faults.Body at cdr) = tt
+own_status place faults.Short = tt
+own_status place faults.NotWritten = tt
+own_status place faults.Memory = tt
+
+pub not_read : (status : Status) → OfPiece status → status ≢ statuses.ReadFault
+not_read statuses.Memory own e = cc
+not_read (statuses.BadMessage place fault) own e = cc
+not_read statuses.Done own e = own
+not_read statuses.Usage own e = own
+not_read (statuses.Script line) own e = own
+not_read statuses.ReadFault own e = own
+not_read statuses.WriteFault own e = own
+not_read (statuses.Limit line number) own e = own
+
+pub not_write : (status : Status) → OfPiece status → status ≢ statuses.WriteFault
+not_write statuses.Memory own e = cc
+not_write (statuses.BadMessage place fault) own e = cc
+not_write statuses.Done own e = own
+not_write statuses.Usage own e = own
+not_write (statuses.Script line) own e = own
+not_write statuses.ReadFault own e = own
+not_write statuses.WriteFault own e = own
+not_write (statuses.Limit line number) own e = own
+
+-- nothing is less than a whole part
+pub nothing_partial : part_at [] ≡ Err faults.Short
+unfolding part_at part_header_at header_at
+nothing_partial = refl

@@ -1,0 +1,7 @@
+use Rattle.std.proofs.Common.{sym, ◌∙◌}
+use Rattle.std.proofs.lemmas.Bool.{false≢true}
+use Rattle.ots_program.proofs.Showing.{ends_finished}
+use Rattle.ots_program.proofs.show.end.Goals as goal
+
+pub returns-clause-whole : goal.returns-clause-whole
+returns-clause-whole c = ends_finished c.args.stream.now (λ inside. false≢true (sym c.if-unfinished.false ∙ c.unfinished.ensures.1 inside))

@@ -1,0 +1,188 @@
+ghost use Rattle.std.specs.Prelude.{◌≡◌, ◌∷◌, ◌++◌, length, take, map, codes, OnErr, OnOk};
+ghost use Rattle.std.specs.List.{flat_map};
+ghost use Rattle.std.specs.Fmt.{decimal};
+ghost use Rattle.ots_program.specs.Sight.{sight, shown, sized, behind_fields, contexts_word, key_word, visible, order_word};
+
+use cdr_values::Order;
+use giop_frames::{Framed, Message, Reply, Request, ServiceContext, Target};
+use itoa::Buffer;
+use std::alloc::{AllocError, Global};
+
+/// Writes the line of a message at the end. Want of memory leaves what stood there.
+pub fn write_sight(alloc: Global, lines: &mut Vec<u8>, framed: &Framed) -> Result<(), AllocError>
+    ensures ok { OnOk result (lines.new.items ≡ lines.old.items ++ sight framed.now) }
+    ensures err { OnErr result (lines.new.items ≡ lines.old.items) }
+{
+    let start = lines.len();
+    let written = write_line(alloc, lines, framed);
+    if written.is_err() {
+        lines.truncate(start);
+    }
+    written
+}
+
+#[tactic(auto, unfolding(crate::specs::Sight::sight))]
+fn write_line(alloc: Global, lines: &mut Vec<u8>, framed: &Framed) -> Result<(), AllocError>
+    ensures ok { OnOk result (lines.new.items ≡ lines.old.items ++ sight framed.now) }
+    ensures front { OnErr result (take (length lines.old.items) lines.new.items ≡ lines.old.items) }
+{
+    write_number(lines, framed.place)?;
+    write_message(alloc, lines, framed)
+}
+
+fn write_message(alloc: Global, lines: &mut Vec<u8>, framed: &Framed) -> Result<(), AllocError>
+    ensures ok { OnOk result (lines.new.items ≡ lines.old.items ++ shown framed.now.order framed.now.size framed.now.message) }
+    ensures front { OnErr result (take (length lines.old.items) lines.new.items ≡ lines.old.items) }
+{
+    match &framed.message {
+        Message::Request(request) => write_request(alloc, lines, framed.order, request),
+        Message::Reply(reply) => write_reply(lines, framed.order, reply),
+        Message::Cancel(_) => write_sized(lines, b" cancel ", framed.order, framed.size),
+        Message::Locate(_) => write_sized(lines, b" locate ", framed.order, framed.size),
+        Message::LocateReply(_) => write_sized(lines, b" located ", framed.order, framed.size),
+        Message::Close => write_sized(lines, b" close ", framed.order, framed.size),
+        Message::Error => write_sized(lines, b" error ", framed.order, framed.size),
+    }
+}
+
+fn write_request(
+    alloc: Global,
+    lines: &mut Vec<u8>,
+    order: Order,
+    request: &Request,
+) -> Result<(), AllocError>
+    ensures ok { let r = request.now in OnOk result (lines.new.items ≡ lines.old.items ++ (codes " request " ++ (order_word order ++ (codes " id " ++ (decimal r.id ++ (codes " op " ++ (map visible r.operation ++ (codes " key " ++ (key_word r.target ++ behind_fields r.contexts r.body))))))))) }
+    ensures front { OnErr result (take (length lines.old.items) lines.new.items ≡ lines.old.items) }
+{
+    write_order(lines, b" request ", order)?;
+    write_field(lines, b" id ", u64::from(request.id))?;
+    write_operation(lines, request.operation.bytes())?;
+    write_key(alloc, lines, &request.target)?;
+    write_behind_fields(lines, request.contexts.items(), request.body.bytes())
+}
+
+fn write_reply(lines: &mut Vec<u8>, order: Order, reply: &Reply) -> Result<(), AllocError>
+    ensures ok { let r = reply.now in OnOk result (lines.new.items ≡ lines.old.items ++ (codes " reply " ++ (order_word order ++ (codes " id " ++ (decimal r.id ++ (codes " status " ++ (decimal r.status ++ behind_fields r.contexts r.body))))))) }
+    ensures front { OnErr result (take (length lines.old.items) lines.new.items ≡ lines.old.items) }
+{
+    write_order(lines, b" reply ", order)?;
+    write_field(lines, b" id ", u64::from(reply.id))?;
+    write_field(lines, b" status ", u64::from(reply.status))?;
+    write_behind_fields(lines, reply.contexts.items(), reply.body.bytes())
+}
+
+/// Writes the name, the order and the size of a message of which no more is shown.
+fn write_sized(lines: &mut Vec<u8>, name: &[u8], order: Order, size: u32) -> Result<(), AllocError>
+    ensures ok { OnOk result (lines.new.items ≡ lines.old.items ++ sized name.now order size) }
+    ensures front { OnErr result (take (length lines.old.items) lines.new.items ≡ lines.old.items) }
+{
+    write_order(lines, name, order)?;
+    write_field(lines, b" size ", u64::from(size))?;
+    lines.push(b'\n')?;
+    Ok(())
+}
+
+fn write_order(lines: &mut Vec<u8>, name: &[u8], order: Order) -> Result<(), AllocError>
+    ensures ok { OnOk result (lines.new.items ≡ lines.old.items ++ (name.now ++ order_word order)) }
+    ensures front { OnErr result (take (length lines.old.items) lines.new.items ≡ lines.old.items) }
+{
+    lines.extend_from_slice(name)?;
+    match order {
+        Order::Big => lines.extend_from_slice(b"big"),
+        Order::Little => lines.extend_from_slice(b"little"),
+    }
+}
+
+fn write_operation(lines: &mut Vec<u8>, operation: &[u8]) -> Result<(), AllocError>
+    ensures ok { OnOk result (lines.new.items ≡ lines.old.items ++ (codes " op " ++ map visible operation.now)) }
+    ensures front { OnErr result (take (length lines.old.items) lines.new.items ≡ lines.old.items) }
+{
+    lines.extend_from_slice(b" op ")?;
+    for octet in operation {
+        lines.push(visible_octet(*octet))?;
+    }
+    Ok(())
+}
+
+/// The octet where it is a visible character of ASCII, else a question mark.
+fn visible_octet(octet: u8) -> u8
+    ensures { result ≡ visible octet }
+{
+    match octet {
+        b'!'..=b'~' => octet,
+        _ => b'?',
+    }
+}
+
+fn write_key(alloc: Global, lines: &mut Vec<u8>, target: &Target) -> Result<(), AllocError>
+    ensures ok { OnOk result (lines.new.items ≡ lines.old.items ++ (codes " key " ++ key_word target.now)) }
+    ensures front { OnErr result (take (length lines.old.items) lines.new.items ≡ lines.old.items) }
+{
+    lines.extend_from_slice(b" key ")?;
+    match target {
+        Target::Key(key) => {
+            let digits = hex::encode(alloc, key.bytes())?;
+            lines.extend_from_slice(digits.as_bytes())
+        }
+        Target::Profile | Target::Reference => lines.extend_from_slice(b"-"),
+    }
+}
+
+/// Writes the end of a line: the contexts and the length of the body.
+fn write_behind_fields(
+    lines: &mut Vec<u8>,
+    contexts: &[ServiceContext],
+    body: &[u8],
+) -> Result<(), AllocError>
+    ensures ok { OnOk result (lines.new.items ≡ lines.old.items ++ behind_fields contexts.now body.now) }
+    ensures front { OnErr result (take (length lines.old.items) lines.new.items ≡ lines.old.items) }
+{
+    write_contexts(lines, contexts)?;
+    write_field(lines, b" body ", body.len() as u64)?;
+    lines.push(b'\n')?;
+    Ok(())
+}
+
+fn write_contexts(lines: &mut Vec<u8>, contexts: &[ServiceContext]) -> Result<(), AllocError>
+    ensures ok { OnOk result (lines.new.items ≡ lines.old.items ++ (codes " contexts " ++ contexts_word contexts.now)) }
+    ensures front { OnErr result (take (length lines.old.items) lines.new.items ≡ lines.old.items) }
+{
+    match contexts {
+        [] => lines.extend_from_slice(b" contexts -"),
+        [first, others @ ..] => {
+            write_field(lines, b" contexts ", u64::from(first.id))?;
+            write_others(lines, others)
+        }
+    }
+}
+
+/// Writes the ids of the contexts that stand behind the first, with a comma before each.
+fn write_others(lines: &mut Vec<u8>, contexts: &[ServiceContext]) -> Result<(), AllocError>
+    ensures ok { OnOk result (lines.new.items ≡ lines.old.items ++ flat_map (λ c. 44 ∷ decimal c.id) contexts.now) }
+    ensures front { OnErr result (take (length lines.old.items) lines.new.items ≡ lines.old.items) }
+{
+    for context in contexts {
+        write_field(lines, b",", u64::from(context.id))?;
+    }
+    Ok(())
+}
+
+/// Writes a name and a number.
+fn write_field(lines: &mut Vec<u8>, name: &[u8], value: u64) -> Result<(), AllocError>
+    ensures ok { OnOk result (lines.new.items ≡ lines.old.items ++ (name.now ++ decimal value)) }
+    ensures front { OnErr result (take (length lines.old.items) lines.new.items ≡ lines.old.items) }
+{
+    lines.extend_from_slice(name)?;
+    write_number(lines, value)
+}
+
+fn write_number(lines: &mut Vec<u8>, value: u64) -> Result<(), AllocError>
+    ensures ok { OnOk result (lines.new.items ≡ lines.old.items ++ decimal value) }
+    ensures same { OnErr result (lines.new.items ≡ lines.old.items) }
+{
+    let mut buffer = Buffer::new();
+    lines.extend_from_slice(buffer.format(value).as_bytes())
+}
+
+#[cfg(test)]
+mod tests;

@@ -1,0 +1,120 @@
+use giop_frames::FrameFault;
+use hex::decode;
+use ots_outside::{MemSink, MemSource};
+use ots_program::{Devices, Status, Word, run};
+use std::alloc::{AllocError, Global};
+use std::sync::Wait;
+use std::test::Fail;
+
+/// A Request of register_resource, little endian, with two contexts and a reference as its body.
+const REGISTER_RESOURCE: &str =
+    "47494f500102010090010000050000000300000000000000200000004f54534b00000000000000010000000100000000\
+    0000000000000001000000001200000072656769737465725f7265736f7572636500000002000000010000000c000000\
+    01000000010001000901010000000000b8000000010000001e0000002c00000049444c3a6f6d672e6f72672f436f7354\
+    72616e73616374696f6e732f436f6f7264696e61746f723a312e300001000000000000003c0000000101020009000000\
+    31302e302e302e370000f90a200000004f54534b00000000000000010000000100000000000000000000000100000000\
+    000000000100000000000000000000003153544f04000000180000000000000000000001000000010000000000000001\
+    000000000000000000000000000000002900000049444c3a6f6d672e6f72672f436f735472616e73616374696f6e732f\
+    5265736f757263653a312e3000000000010000000000000030000000010102000900000031302e302e302e390000f92a\
+    040000007230303101000000000000000800000001000000004f4154";
+
+const REGISTER_LINE: &[u8] = b"0 request little id 5 op register_resource key \
+    4f54534b00000000000000010000000100000000000000000000000100000000 \
+    contexts 1,0 body 108\n";
+
+/// What omniORB's `nameclt list` sent to its naming service, as it was recorded.
+const RECORDED: &str =
+    "47494f5001020100580000000200000003000000000005000b0000004e616d655365727669636500060000005f69735f\
+    61000000000000002800000049444c3a6f6d672e6f72672f436f734e616d696e672f4e616d696e67436f6e746578743a\
+    312e300047494f5001020100300000000400000003000000000005000b0000004e616d65536572766963650005000000\
+    6c69737400000000000000000000000047494f50010201031a00000006000000000000000e000000ff00120d096b0100\
+    48e00000000247494f5001020100480000000800000003000000000000000e000000ff00120d096b010048e000000002\
+    0000090000006e6578745f6f6e650000000001000000010000000c00000001000000010001000901010047494f500102\
+    0100340000000a00000003000000000000000e000000ff00120d096b010048e0000000020000090000006e6578745f6f\
+    6e65000000000000000047494f5001020100300000000c00000003000000000000000e000000ff00120d096b010048e0\
+    0000000200000800000064657374726f79000000000047494f500102010500000000";
+
+const RECORDED_LINES: &[u8] =
+    b"0 request little id 2 op _is_a key 4e616d6553657276696365 contexts - body 44\n\
+    100 request little id 4 op list key 4e616d6553657276696365 contexts - body 4\n\
+    160 locate little size 26\n\
+    198 request little id 8 op next_one key ff00120d096b010048e000000002 contexts 1 body 0\n\
+    282 request little id 10 op next_one key ff00120d096b010048e000000002 contexts - body 0\n\
+    346 request little id 12 op destroy key ff00120d096b010048e000000002 contexts - body 0\n\
+    406 close little size 0\n";
+
+/// A show of these octets, which are read without faults.
+fn shown<R: Wait>(rt: &R, alloc: Global, octets: Vec<u8>) -> Result<(Status, MemSink), AllocError> {
+    show_from(rt, alloc, MemSource::new(octets, Vec::new(alloc)))
+}
+
+fn show_from<R: Wait>(
+    rt: &R,
+    alloc: Global,
+    source: MemSource,
+) -> Result<(Status, MemSink), AllocError> {
+    let sink = MemSink::new(alloc, Vec::new(alloc));
+    let mut devices = Devices { source, sink };
+    let mut words = Vec::new(alloc);
+    words.push(Word::new(b"show".to_vec(alloc)?))?;
+    let status = run(rt, alloc, &words, &mut devices);
+    Ok((status, devices.sink))
+}
+
+#[test]
+fn a_message_is_shown(rt: HostRuntime) -> Result<(), Fail> {
+    let octets = decode(rt.alloc(), REGISTER_RESOURCE).ok().ok_or("hex")?;
+    let (status, sink) = shown(&rt, rt.alloc(), octets)?;
+    assert_eq!(rt; status, Status::Done);
+    assert_eq!(rt; sink.octets(), REGISTER_LINE);
+    Ok(())
+}
+
+#[test]
+fn a_recording_is_shown(rt: HostRuntime) -> Result<(), Fail> {
+    let octets = decode(rt.alloc(), RECORDED).ok().ok_or("hex")?;
+    let (status, sink) = shown(&rt, rt.alloc(), octets)?;
+    assert_eq!(rt; status, Status::Done);
+    assert_eq!(rt; sink.octets(), RECORDED_LINES);
+    Ok(())
+}
+
+#[test]
+fn nothing_is_shown_of_nothing(rt: HostRuntime) -> Result<(), Fail> {
+    let (status, sink) = shown(&rt, rt.alloc(), Vec::new(rt.alloc()))?;
+    assert_eq!(rt; status, Status::Done);
+    assert_eq!(rt; sink.octets(), b"".as_slice());
+    Ok(())
+}
+
+#[test]
+fn a_message_that_is_cut_off_is_not_shown(rt: HostRuntime) -> Result<(), Fail> {
+    let mut octets = decode(rt.alloc(), REGISTER_RESOURCE).ok().ok_or("hex")?;
+    octets.truncate(411);
+    let (status, sink) = shown(&rt, rt.alloc(), octets)?;
+    assert_eq!(rt; status, Status::BadMessage(0, FrameFault::Short));
+    assert_eq!(rt; status.number(), 7);
+    assert_eq!(rt; sink.octets(), b"".as_slice());
+    Ok(())
+}
+
+#[test]
+fn what_is_no_message_is_named_and_those_before_it_are_shown(rt: HostRuntime) -> Result<(), Fail> {
+    let mut octets = decode(rt.alloc(), REGISTER_RESOURCE).ok().ok_or("hex")?;
+    octets.extend_from_slice(b"GIOQ")?;
+    let (status, sink) = shown(&rt, rt.alloc(), octets)?;
+    assert_eq!(rt; status, Status::BadMessage(412, FrameFault::BadMagic));
+    assert_eq!(rt; sink.octets(), REGISTER_LINE);
+    Ok(())
+}
+
+#[test]
+fn faults_of_the_source_stop_a_show(rt: HostRuntime) -> Result<(), Fail> {
+    let alloc = rt.alloc();
+    let octets = decode(alloc, REGISTER_RESOURCE).ok().ok_or("hex")?;
+    let failing = vec![in alloc; 1]?;
+    let (status, sink) = show_from(&rt, alloc, MemSource::new(octets, failing))?;
+    assert_eq!(rt; status, Status::ReadFault);
+    assert_eq!(rt; sink.octets(), REGISTER_LINE);
+    Ok(())
+}
