@@ -53,6 +53,12 @@ pub fragment_joins : (messages : List Unfinished) (place : ℕ) (p : Part) (i : 
 unfolding judged
 fragment_joins messages place p i d f long at = rw (f, le-ltb (length p.content) 4 long, numbered_at (id_of p) messages i d at) refl
 
+-- the same, by what the code has at hand: the message at the index, and the octets behind the number
+pub fragment_says : (messages : List Unfinished) (place : ℕ) (p : Part) (i : ℕ) (first : Unfinished) (octets : List ℕ) (more : Bool) → is_fragment p.header.kind ≡ true → 4 ≤ length p.content → IsAt (id_of p) messages i
+    → first ≡ get_or messages i first → octets ≡ drop 4 p.content → p.header.more ≡ more → judged messages place p ≡ joined more octets first
+fragment_says messages place p i first octets more f long at is behind m =
+    fragment_joins messages place p i first f long at ∙ ap (joined p.header.more (drop 4 p.content)) (sym is) ∙ ap (λ (o : List ℕ). joined p.header.more o first) (sym behind) ∙ ap (λ (b : Bool). joined b octets first) m
+
 pub after_more : (messages : List Unfinished) (place : ℕ) (p : Part) (i : ℕ) (d : Unfinished) → is_fragment p.header.kind ≡ true → p.header.more ≡ true → IsAt (id_of p) messages i
     → after place p messages ≡ set messages i (record (get_or messages i d) { content = (get_or messages i d).content ++ drop 4 p.content })
 after_more messages place p i d f m at = rw (f, m) (extended_at (id_of p) (drop 4 p.content) messages i d at)

@@ -10,6 +10,8 @@ pub mod Written
 pub mod Refused
 pub mod Canonical
 pub mod Numbered
+pub mod Followed
+pub mod Passing
 pub mod Judging
 pub mod Holding
 pub mod Further

@@ -119,11 +119,6 @@ so_far (Ok message) = Ok None
 so_far (Err (Body place (cdr.Short at))) = Ok None
 so_far (Err fault) = Err fault
 
--- checking a message so far answers this
-abbrev pub Checks : Result (Unit {0}) FrameFault → Result Message FrameFault → Type 0
-Checks (Ok nothing) read = so_far read ≡ Ok None
-Checks (Err fault) read = so_far read ≡ Err fault
-
 -- there is no request_id
 abbrev pub without_id : FrameFault
 without_id = Body 12 (cdr.Short 12)

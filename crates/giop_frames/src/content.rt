@@ -132,7 +132,7 @@ fn read_key(alloc: Global, reader: &mut Reader) -> Result<Target, FrameFault>
 
 /// Passes over a tagged profile.
 #[tactic(auto, unfolding(crate::specs::Content::profile_at))]
-pub fn skip_profile(reader: &mut Reader) -> Result<Target, FrameFault>
+fn skip_profile(reader: &mut Reader) -> Result<Target, FrameFault>
     ensures { Passes result reader.new (profile_at reader.old) }
 {
     reader.ulong()?;
@@ -142,7 +142,7 @@ pub fn skip_profile(reader: &mut Reader) -> Result<Target, FrameFault>
 
 /// Passes over an index and a reference.
 #[tactic(auto, unfolding(crate::specs::Content::reference_at))]
-pub fn skip_reference(reader: &mut Reader) -> Result<Target, FrameFault>
+fn skip_reference(reader: &mut Reader) -> Result<Target, FrameFault>
     ensures { Passes result reader.new (reference_at reader.old) }
 {
     reader.ulong()?;

@@ -1,4 +1,4 @@
-ghost use Rattle.std.specs.Prelude.{◌≡◌, ◌≢◌, ◌↔◌, ◌==◌, ◌<◌, ◌≤◌, ◌^◌, ◌++◌, ◌+◌, [], ◌∷◌, length, take, drop, MatchOption, MatchResult, None, Err, IsTrue, IfNone, IfSome, Ok, IfErr, IfOk, OnErr, OnOk};
+ghost use Rattle.std.specs.Prelude.{◌≡◌, ℕ, ◌≢◌, ◌↔◌, ◌==◌, ◌<◌, ◌≤◌, ◌^◌, ◌++◌, ◌+◌, [], ◌∷◌, length, take, drop, MatchOption, MatchResult, None, Err, IsTrue, IfNone, IfSome, Ok, IfErr, IfOk, OnErr, OnOk};
 ghost use Rattle.std.specs.List.{position as position_of};
 ghost use Rattle.giop_frames.specs.Fault.{Fails, Finds};
 ghost use Rattle.cdr_values.specs.Value.{number_in};
@@ -10,7 +10,6 @@ use crate::content::read_message;
 use crate::fault::{FrameFault, SIZE_LIMIT};
 use crate::framed::Framed;
 use crate::header::{HEADER_LENGTH, Header, Kind, behind, front, read_header};
-use crate::skim::check_message;
 use crate::unfinished::Unfinished;
 use cdr_values::{CdrFault, Order, Reader};
 use std::alloc::Global;
@@ -74,24 +73,24 @@ fn can_go_on(header: Header) -> bool
 #[tactic(auto, unfolding(crate::specs::Stream::judged))]
 pub fn judge(
     alloc: Global,
-    open: &mut Vec<Unfinished>,
+    unfinished: &mut Vec<Unfinished>,
     place: u64,
     header: Header,
     content: &[u8],
 ) -> Result<Option<Framed>, FrameFault>
-    requires open { AreShort open.old.items }
+    requires unfinished { AreShort unfinished.old.items }
     requires content { length content.now ≤ 65536 }
-    ensures says { IfOk result (λ framed. judged open.old.items place (record { header = header; content = content.now }) ≡ Ok framed) }
-    ensures after { OnOk result (open.new.items ≡ after place (record { header = header; content = content.now }) open.old.items) }
-    ensures refused { IfErr result (λ fault. Fails fault (judged open.old.items place (record { header = header; content = content.now }))) }
-    ensures err { OnErr result (open.new.items ≡ open.old.items) }
-    ensures short { AreShort open.new.items }
+    ensures says { IfOk result (λ framed. judged unfinished.old.items place (record { header = header; content = content.now }) ≡ Ok framed) }
+    ensures after { OnOk result (unfinished.new.items ≡ after place (record { header = header; content = content.now }) unfinished.old.items) }
+    ensures refused { IfErr result (λ fault. Fails fault (judged unfinished.old.items place (record { header = header; content = content.now }))) }
+    ensures err { OnErr result (unfinished.new.items ≡ unfinished.old.items) }
+    ensures short { AreShort unfinished.new.items }
 {
     if matches!(header.kind, Kind::Fragment) {
-        return go_on(alloc, open, header, content);
+        return go_on(alloc, unfinished, header, content);
     }
     if header.more {
-        begin(alloc, open, place, header, content)?;
+        begin(alloc, unfinished, place, header, content)?;
         return Ok(None);
     }
     let message = read_message(alloc, header.order, header.kind, content)?;
@@ -106,127 +105,73 @@ pub fn judge(
 /// A first part whose message goes on.
 fn begin(
     alloc: Global,
-    open: &mut Vec<Unfinished>,
+    unfinished: &mut Vec<Unfinished>,
     place: u64,
     header: Header,
     content: &[u8],
 ) -> Result<(), FrameFault>
     requires content { length content.now ≤ 65536 }
-    ensures says { OnOk result (opening open.old.items (record { header = header; content = content.now }) ≡ Ok None) }
-    ensures after { OnOk result (open.new.items ≡ open.old.items ++ (record { id = number_in header.order 4 (take 4 content.now); place = place; header = header; content = content.now }) ∷ []) }
-    ensures room { OnOk result (length open.old.items < 8) }
-    ensures refused { IfErr result (λ fault. Fails fault (opening open.old.items (record { header = header; content = content.now }))) }
-    ensures err { OnErr result (open.new.items ≡ open.old.items) }
+    ensures says { OnOk result (opening unfinished.old.items (record { header = header; content = content.now }) ≡ Ok None) }
+    ensures after { OnOk result (unfinished.new.items ≡ unfinished.old.items ++ (record { id = number_in header.order 4 (take 4 content.now); place = place; header = header; content = content.now }) ∷ []) }
+    ensures room { OnOk result (length unfinished.old.items < 8) }
+    ensures refused { IfErr result (λ fault. Fails fault (opening unfinished.old.items (record { header = header; content = content.now }))) }
+    ensures err { OnErr result (unfinished.new.items ≡ unfinished.old.items) }
 {
     let id = read_id(header.order, content)?;
-    if let Some(_) = position(open, id) {
+    if let Some(_) = position(unfinished, id) {
         return Err(FrameFault::BadFragment);
     }
-    if open.len() >= UNFINISHED_LIMIT {
+    if unfinished.len() >= UNFINISHED_LIMIT {
         return Err(FrameFault::BadFragment);
     }
-    check_message(header.order, header.kind, content)?;
     let begun = Unfinished::new(alloc, id, place, header, content)?;
-    open.push(begun)?;
+    unfinished.push(begun)?;
     Ok(())
 }
 
 /// A Fragment, which goes on with a message.
 fn go_on(
     alloc: Global,
-    open: &mut Vec<Unfinished>,
+    unfinished: &mut Vec<Unfinished>,
     header: Header,
     content: &[u8],
 ) -> Result<Option<Framed>, FrameFault>
-    requires open { AreShort open.old.items }
+    requires unfinished { AreShort unfinished.old.items }
     requires content { length content.now ≤ 65536 }
     requires fragment { header.kind ≡ Kind.Fragment }
-    ensures says { IfOk result (λ framed. judged open.old.items 0 (record { header = header; content = content.now }) ≡ Ok framed) }
-    ensures after { OnOk result (open.new.items ≡ after 0 (record { header = header; content = content.now }) open.old.items) }
-    ensures refused { IfErr result (λ fault. Fails fault (judged open.old.items 0 (record { header = header; content = content.now }))) }
-    ensures err { OnErr result (open.new.items ≡ open.old.items) }
-    ensures short { AreShort open.new.items }
+    ensures says { IfOk result (λ framed. (place : ℕ) → judged unfinished.old.items place (record { header = header; content = content.now }) ≡ Ok framed) }
+    ensures after { OnOk result ((place : ℕ) → unfinished.new.items ≡ after place (record { header = header; content = content.now }) unfinished.old.items) }
+    ensures refused { IfErr result (λ fault. (place : ℕ) → Fails fault (judged unfinished.old.items place (record { header = header; content = content.now }))) }
+    ensures err { OnErr result (unfinished.new.items ≡ unfinished.old.items) }
+    ensures short { AreShort unfinished.new.items }
 {
     let id = read_id(header.order, content)?;
-    let Some(index) = position(open, id) else {
+    let Some(index) = position(unfinished, id) else {
         return Err(FrameFault::BadFragment);
     };
-    let first = &mut open[index];
-    let framed = join(alloc, first, header, behind(content, 4))?;
+    let first = &mut unfinished[index];
+    let octets = behind(content, 4);
     if header.more {
-        return Ok(framed);
+        first.go_on(octets)?;
+        return Ok(None);
     }
-    let _ = open.remove(index);
-    Ok(framed)
-}
-
-/// Joins the octets of a Fragment to its message.
-fn join(
-    alloc: Global,
-    first: &mut Unfinished,
-    header: Header,
-    octets: &[u8],
-) -> Result<Option<Framed>, FrameFault>
-    requires first { length first.old.content ≤ 65536 }
-    requires octets { length octets.now ≤ 65536 }
-    ensures says { IfOk result (λ framed. joined header.more octets.now first.old ≡ Ok framed) }
-    ensures after { OnOk result (first.new ≡ record first.old { content = first.old.content ++ octets.now }) }
-    ensures short { length first.new.content ≤ 65536 }
-    ensures refused { IfErr result (λ fault. Fails fault (joined header.more octets.now first.old)) }
-    ensures err { OnErr result (first.new ≡ first.old) }
-{
-    let before = first.content().len();
-    let joined = before + octets.len();
-    if joined > SIZE_LIMIT {
-        return Err(FrameFault::TooLarge(joined as u32));
-    }
-    first.extend(octets)?;
-    let framed = if header.more {
-        check_unfinished(first)
-    } else {
-        read_unfinished(alloc, first)
-    };
-    if framed.is_err() {
-        first.truncate(before);
-    }
-    framed
-}
-
-fn check_unfinished(first: &Unfinished) -> Result<Option<Framed>, FrameFault>
-    requires { length first.now.content ≤ 65536 }
-    ensures { result ≡ so_far (message_of first.now.header.order first.now.header.kind first.now.content) }
-{
-    let header = first.header();
-    check_message(header.order, header.kind, first.content())?;
-    Ok(None)
-}
-
-fn read_unfinished(alloc: Global, first: &Unfinished) -> Result<Option<Framed>, FrameFault>
-    requires { length first.now.content ≤ 65536 }
-    ensures { Finds (λ framed. framed) result (whole first.now.place first.now.header (message_of first.now.header.order first.now.header.kind first.now.content)) }
-{
-    let header = first.header();
-    let message = read_message(alloc, header.order, header.kind, first.content())?;
-    Ok(Some(Framed {
-        place: first.place(),
-        order: header.order,
-        size: header.size,
-        message,
-    }))
+    let framed = first.finish(alloc, octets)?;
+    let _ = unfinished.remove(index);
+    Ok(Some(framed))
 }
 
 /// Where the unfinished message of this number is.
-fn position(open: &[Unfinished], id: u32) -> Option<usize>
-    ensures found { IfSome result (IsAt id open.now) }
-    ensures none { IfNone result (numbered id open.now ≡ None) }
+fn position(unfinished: &[Unfinished], id: u32) -> Option<usize>
+    ensures found { IfSome result (IsAt id unfinished.now) }
+    ensures none { IfNone result (numbered id unfinished.now ≡ None) }
 {
-    first_of(open, id)
+    first_of(unfinished, id)
 }
 
-fn first_of(open: &[Unfinished], id: u32) -> Option<usize>
-    ensures { result ≡ position_of (λ u. u.id == id) open.now }
+fn first_of(unfinished: &[Unfinished], id: u32) -> Option<usize>
+    ensures { result ≡ position_of (λ u. u.id == id) unfinished.now }
 {
-    open.iter().position(|message| message.id() == id)
+    unfinished.iter().position(|message| message.id() == id)
 }
 
 /// The request_id in front of a part's content.

@@ -18,7 +18,7 @@ use std::marker::Model;
 #[derive(Drop)]
 pub struct Stream {
     alloc: Global,
-    open: Vec<Unfinished>,
+    messages: Vec<Unfinished>,
     buffer: Vec<u8>,
     start: usize,
     place: u64,
@@ -31,9 +31,9 @@ impl Model for Stream {
 
     ghost Value = { Held };
 
-    ghost view = { λ s. record { unfinished = s.open.items; place = s.place; rest = drop s.start s.buffer.items; refused = s.refused } };
+    ghost view = { λ s. record { unfinished = s.messages.items; place = s.place; rest = drop s.start s.buffer.items; refused = s.refused } };
 
-    ghost invariant = { λ s. (s.start ≤ length s.buffer.items) × AreShort s.open.items };
+    ghost invariant = { λ s. (s.start ≤ length s.buffer.items) × AreShort s.messages.items };
 }
 
 /// What a stream found at its place.
@@ -54,7 +54,7 @@ impl Stream {
     {
         Stream {
             alloc,
-            open: Vec::new(alloc),
+            messages: Vec::new(alloc),
             buffer: Vec::new(alloc),
             start: 0,
             place: 0,
@@ -127,7 +127,7 @@ impl Stream {
     pub fn place(&self) -> u64
         ensures { result ≡ place_of self.now }
     {
-        match (self.refused, self.open.first()) {
+        match (self.refused, self.messages.first()) {
             (None, Some(first)) => first.place(),
             _ => self.place,
         }
@@ -137,7 +137,7 @@ impl Stream {
     pub fn unfinished(&self) -> bool
         ensures { IsTrue result ↔ IsUnfinished self.now }
     {
-        !self.open.is_empty() || !behind(&self.buffer, self.start).is_empty()
+        !self.messages.is_empty() || !behind(&self.buffer, self.start).is_empty()
     }
 
     /// Gives back the room of what was taken, where it is the larger part.
@@ -170,7 +170,7 @@ impl Stream {
             return Ok(Taken::Nothing);
         };
         let content = content_of(header, rest);
-        let framed = judge(self.alloc, &mut self.open, self.place, header, content)?;
+        let framed = judge(self.alloc, &mut self.messages, self.place, header, content)?;
         let length = HEADER_LENGTH + header.size as usize;
         self.start += length;
         self.place = self.place.saturating_add(length as u64);

@@ -1,7 +1,14 @@
-ghost use Rattle.std.specs.Prelude.{◌≡◌, ◌++◌, take, OnErr, OnOk, IfOk};
+ghost use Rattle.std.specs.Prelude.{◌≡◌, ◌⊎◌, ◌<◌, ◌≤◌, ◌++◌, true, false, IfErr, IfOk, OnErr, OnOk, Ok, None, Some, length};
+ghost use Rattle.giop_frames.specs.Fault.{Fails};
+ghost use Rattle.giop_frames.specs.Content.{message_of};
+ghost use Rattle.giop_frames.specs.Stream.{joined, so_far};
 
+use crate::content::read_message;
+use crate::fault::{FrameFault, SIZE_LIMIT};
+use crate::framed::Framed;
 use crate::header::Header;
-use std::alloc::{AllocError, Global};
+use crate::skim::{Passed, pass_over};
+use std::alloc::Global;
 use std::marker::Model;
 
 /// A message whose last part hasn't come. Contracts see its request_id, the place and the header of its first part, and
@@ -12,14 +19,19 @@ pub struct Unfinished {
     place: u64,
     header: Header,
     content: Vec<u8>,
+    /// How far its fields were judged.
+    passed: Passed,
 }
 
 impl Model for Unfinished {
     ghost use Rattle.giop_frames.specs.Stream.{Unfinished as Message};
+    ghost use Rattle.giop_frames.specs.Skim.{IsPassed};
 
     ghost Value = { Message };
 
     ghost view = { λ u. record { id = u.id; place = u.place; header = u.header; content = u.content.items } };
+
+    ghost invariant = { λ u. IsPassed u.header.order u.header.kind u.content.items u.passed };
 }
 
 impl Unfinished {
@@ -30,14 +42,19 @@ impl Unfinished {
         place: u64,
         header: Header,
         content: &[u8],
-    ) -> Result<Unfinished, AllocError>
+    ) -> Result<Unfinished, FrameFault>
+        requires content { length content.now ≤ 65536 }
         ensures begun { IfOk result (λ begun. begun ≡ record { id = id; place = place; header = header; content = content.now }) }
+        ensures sound { OnOk result (so_far (message_of header.order header.kind content.now) ≡ Ok None) }
+        ensures refused { IfErr result (λ fault. Fails fault (so_far (message_of header.order header.kind content.now))) }
     {
+        let passed = pass_over(header.order, header.kind, content, Passed::nothing())?;
         Ok(Unfinished {
             id,
             place,
             header,
             content: content.to_vec(alloc)?,
+            passed,
         })
     }
 
@@ -55,32 +72,75 @@ impl Unfinished {
         self.place
     }
 
-    /// The header of its first part.
-    pub fn header(&self) -> Header
-        ensures { result ≡ self.now.header }
-    {
-        self.header
-    }
-
-    /// Its octets so far.
-    pub fn content(&self) -> &[u8]
-        ensures { result.now ≡ self.now.content }
-    {
-        self.content.as_slice()
-    }
-
-    /// More octets of it have come.
-    pub fn extend(&mut self, octets: &[u8]) -> Result<(), AllocError>
-        ensures ok { OnOk result (self.new ≡ record self.old { content = self.old.content ++ octets.now }) }
+    /// More octets of it have come, and not the last ones.
+    pub fn go_on(&mut self, octets: &[u8]) -> Result<(), FrameFault>
+        requires content { length self.old.content ≤ 65536 }
+        requires octets { length octets.now ≤ 65536 }
+        ensures says { OnOk result (joined true octets.now self.old ≡ Ok None) }
+        ensures after { OnOk result (self.new ≡ record self.old { content = self.old.content ++ octets.now }) }
+        ensures short { length self.new.content ≤ 65536 }
+        ensures refused { IfErr result (λ fault. Fails fault (joined true octets.now self.old)) }
         ensures err { OnErr result (self.new ≡ self.old) }
     {
-        self.content.extend_from_slice(octets)
+        let before = self.content.len();
+        append(&mut self.content, octets)?;
+        let Header { order, kind, .. } = self.header;
+        match pass_over(order, kind, &self.content, self.passed) {
+            Ok(passed) => {
+                self.passed = passed;
+                Ok(())
+            }
+            Err(fault) => {
+                self.content.truncate(before);
+                Err(fault)
+            }
+        }
     }
 
-    /// Only the first octets are kept.
-    pub fn truncate(&mut self, length: usize)
-        ensures { self.new ≡ record self.old { content = take length self.old.content } }
+    /// Its last octets have come.
+    pub fn finish(&mut self, alloc: Global, octets: &[u8]) -> Result<Framed, FrameFault>
+        requires content { length self.old.content ≤ 65536 }
+        requires octets { length octets.now ≤ 65536 }
+        ensures says { IfOk result (λ framed. joined false octets.now self.old ≡ Ok (Some framed)) }
+        ensures refused { IfErr result (λ fault. Fails fault (joined false octets.now self.old)) }
+        ensures err { OnErr result (self.new ≡ self.old) }
     {
-        self.content.truncate(length);
+        let before = self.content.len();
+        append(&mut self.content, octets)?;
+        let Header {
+            order,
+            kind,
+            size,
+            ..
+        } = self.header;
+        match read_message(alloc, order, kind, &self.content) {
+            Ok(message) => Ok(Framed {
+                place: self.place,
+                order,
+                size,
+                message,
+            }),
+            Err(fault) => {
+                self.content.truncate(before);
+                Err(fault)
+            }
+        }
     }
+}
+
+/// Appends octets of a message, which is 65,536 octets long at most (our profile).
+fn append(content: &mut Vec<u8>, octets: &[u8]) -> Result<(), FrameFault>
+    requires content { length content.old.items ≤ 65536 }
+    requires octets { length octets.now ≤ 65536 }
+    ensures ok { OnOk result (content.new.items ≡ content.old.items ++ octets.now) }
+    ensures short { length content.new.items ≤ 65536 }
+    ensures refused { IfErr result (λ fault. (fault ≡ FrameFault.Memory) ⊎ ((fault ≡ FrameFault.TooLarge (length (content.old.items ++ octets.now))) × (65536 < length (content.old.items ++ octets.now)))) }
+    ensures err { OnErr result (content.new.items ≡ content.old.items) }
+{
+    let joined = content.len() + octets.len();
+    if joined > SIZE_LIMIT {
+        return Err(FrameFault::TooLarge(joined as u32));
+    }
+    content.extend_from_slice(octets)?;
+    Ok(())
 }

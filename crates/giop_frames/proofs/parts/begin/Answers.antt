@@ -1,7 +1,7 @@
 use Rattle.std.proofs.Common.{◌≡◌, ◌<◌, ◌∙◌, arith, length, None}
 use Rattle.std.proofs.lemmas.Result.{err_from_is_err_and}
-use Rattle.giop_frames.specs.Stream.{Part, IsAt, id_of, numbered}
-use Rattle.giop_frames.proofs.Loops.{fails_from}
+use Rattle.giop_frames.specs.Stream.{Part, IsAt, id_of, numbered, opening}
+use Rattle.giop_frames.proofs.Loops.{fails_from, fails_on}
 use Rattle.giop_frames.proofs.Judging.{opening_short, opening_at, opening_free}
 use Rattle.giop_frames.proofs.parts.begin.Goals as goal
 
@@ -9,25 +9,27 @@ pub returns-in_err-id-clause-refused : goal.returns-in_err-id-clause-refused
 returns-in_err-id-clause-refused c =
     let part : Part = record { header = c.args.header; content = c.args.content.now } in
     let p = err_from_is_err_and c.from_residual.result c.from_residual.ensures.1 in
-    rw (p.1, p.2) (fails_from c.in_err-id.field-0.0 _ (rw c.in_err-id.ensures.0 (opening_short c.args.open.now.items part c.in_err-id.ensures.1)))
+    rw (p.1, p.2) (fails_from c.in_err-id.field-0.0 _ (rw c.in_err-id.ensures.0 (opening_short c.args.unfinished.now.items part c.in_err-id.ensures.1)))
 
 pub returns-in-Some-clause-refused : goal.returns-in-Some-clause-refused
 returns-in-Some-clause-refused c =
     let part : Part = record { header = c.args.header; content = c.args.content.now } in
-    let at : IsAt (id_of part) c.args.open.now.items c.in-Some.field-0 = rw (← c.in_ok-id.ensures.1, ← c.deref.ensures.value) c.in-Some.ensures.found in
-    opening_at c.args.open.now.items part c.in-Some.field-0 c.in_ok-id.ensures.0 at
+    let at : IsAt (id_of part) c.args.unfinished.now.items c.in-Some.field-0 = rw (← c.in_ok-id.ensures.1, ← c.deref.ensures.value) c.in-Some.ensures.found in
+    opening_at c.args.unfinished.now.items part c.in-Some.field-0 c.in_ok-id.ensures.0 at
 
-pub returns-in_err-check_message-clause-refused : goal.returns-in_err-check_message-clause-refused
-returns-in_err-check_message-clause-refused c =
+pub returns-in_err-begun-clause-refused : goal.returns-in_err-begun-clause-refused
+returns-in_err-begun-clause-refused c =
     let part : Part = record { header = c.args.header; content = c.args.content.now } in
-    let free : numbered (id_of part) c.args.open.now.items ≡ None = rw (← c.in_ok-id.ensures.1, ← c.deref.ensures.value) c.in_default.ensures.none in
-    let room : length c.args.open.now.items < 8 = omega arith in
-    let p = err_from_is_err_and c.from_residual-in_err-check_message.result c.from_residual-in_err-check_message.ensures.1 in
-    rw (p.1, p.2) (fails_from c.in_err-check_message.field-0.0 _ (opening_free c.args.open.now.items part c.in_ok-id.ensures.0 free room ∙ c.in_err-check_message.ensures))
+    let messages = c.args.unfinished.now.items in
+    let free : numbered (id_of part) messages ≡ None = rw (← c.in_ok-id.ensures.1, ← c.deref.ensures.value) c.in_default.ensures.none in
+    let room : length messages < 8 = omega arith in
+    let judged = opening_free messages part c.in_ok-id.ensures.0 free room in
+    let p = err_from_is_err_and c.from_residual-in_err-begun.result c.from_residual-in_err-begun.ensures.1 in
+    rw (p.1, p.2) (fails_on c.in_err-begun.field-0.0 _ (opening messages part) (λ e. judged ∙ e) c.in_err-begun.ensures.refused)
 
 pub returns-clause-says : goal.returns-clause-says
 returns-clause-says c =
     let part : Part = record { header = c.args.header; content = c.args.content.now } in
-    let free : numbered (id_of part) c.args.open.now.items ≡ None = rw (← c.in_ok-id.ensures.1, ← c.deref.ensures.value) c.in_default.ensures.none in
-    let room : length c.args.open.now.items < 8 = omega arith in
-    opening_free c.args.open.now.items part c.in_ok-id.ensures.0 free room ∙ c.in_ok-check_message.ensures
+    let free : numbered (id_of part) c.args.unfinished.now.items ≡ None = rw (← c.in_ok-id.ensures.1, ← c.deref.ensures.value) c.in_default.ensures.none in
+    let room : length c.args.unfinished.now.items < 8 = omega arith in
+    opening_free c.args.unfinished.now.items part c.in_ok-id.ensures.0 free room ∙ c.in_ok-begun.ensures.sound
