@@ -2,14 +2,9 @@
 # Shows streams of about 1 MB and 32 MB of requests and replies, and prints octets per second and how the time per octet
 # grows. Run it anywhere; it builds the program first. Sizes in octets may be given as arguments.
 set -euo pipefail
-here=$(cd "$(dirname "$0")/.." && pwd)
-sizes=("${@:-}")
-[ -n "${sizes[0]}" ] || sizes=(1000000 32000000)
-work=$(mktemp -d)
-trap 'rm -rf "$work"' EXIT
-
-(cd "$here/crates/ots" && rt run -- show </dev/null >/dev/null 2>&1)
-ots=$here/crates/ots/out/ots
+. "$(dirname "$0")/timing.sh"
+[ $# -gt 0 ] || set -- 1000000 32000000
+build show
 
 # A stream of about that many octets: again and again the recorded messages without the CloseConnection at their end,
 # requests and replies with small and large bodies in both byte orders, and a reply in three parts.
@@ -68,26 +63,12 @@ for _ in range(max(1, size // len(round))):
 PY
 }
 
-for size in "${sizes[@]}"; do
-  stream "$size" >"$work/$size.giop"
-  "$ots" show <"$work/$size.giop" >"$work/$size.lines"
-  best=
-  for _ in 1 2 3; do
-    start=$(date +%s%N)
-    "$ots" show <"$work/$size.giop" >/dev/null
-    end=$(date +%s%N)
-    took=$((end - start))
-    if [ -z "$best" ] || [ "$took" -lt "$best" ]; then best=$took; fi
-  done
-  octets=$(wc -c <"$work/$size.giop")
-  shown=$(wc -l <"$work/$size.lines")
-  echo "$octets $best $shown"
-done | python3 -c '
+rows show stream "$@" | python3 -c '
 import sys
 rows = [tuple(map(int, line.split())) for line in sys.stdin]
-for octets, took, shown in rows:
+for _, octets, took, shown in rows:
     print(f"{octets:>10} octets, {shown:>7} messages: {took / 1e6:8.1f} ms, {octets / took * 1e9:14,.0f} octets per second")
-first, last = rows[0], rows[-1]
+(_, first, first_took, _), (_, last, last_took, _) = rows[0], rows[-1]
 if len(rows) > 1:
-    print(f"ratio of the time per octet, {last[0]:,} octets to {first[0]:,}: {(last[1] / last[0]) / (first[1] / first[0]):.2f}")
+    print(f"ratio of the time per octet, {last:,} octets to {first:,}: {(last_took / last) / (first_took / first):.2f}")
 '
