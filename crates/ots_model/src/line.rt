@@ -1,13 +1,12 @@
-ghost use Rattle.std.specs.Prelude.{◌≡◌, [], ◌∷◌, ◌++◌, codes, OnOk, OnErr};
-ghost use Rattle.std.specs.List.{join_with_byte};
-ghost use Rattle.std.specs.Fmt.{decimal};
+ghost use Rattle.std.specs.Prelude.{◌≡◌, ◌++◌, length, take, drop, slice_get, OnOk, OnErr};
 ghost use Rattle.ots_model.specs.LineLaws.{DifferentLinesDiffer, TextReadsBack};
-ghost use Rattle.ots_model.specs.Line.{spelling, vote_word, operation_word, said_word, state_word, decision_word, ending_word};
+ghost use Rattle.ots_model.specs.Line.{line_words, spelling, vote_word, operation_word, said_word, state_word, decision_word, cause_words, decided_words, ending_word};
+ghost use Rattle.ots_model.specs.Piece.{piece_word, spaced};
 
 use crate::completion::Vote;
 use crate::name::Name;
-use crate::piece::Piece::{Named, Number, Text};
-use crate::piece::write_line;
+use crate::piece::Piece::{self, Named, Number, Text};
+use crate::piece::write_words;
 use std::alloc::AllocError;
 
 /// An operation of the interfaces of module CosTransactions.
@@ -129,6 +128,34 @@ pub enum Cause {
     JournalFull(u64, u64),
 }
 
+impl Cause {
+    /// Writes the words, each behind a space. Want of memory leaves what stood there in front.
+    fn write_words(self, lines: &mut Vec<u8>) -> Result<(), AllocError>
+        ensures ok { OnOk result (lines.new.items ≡ lines.old.items ++ spaced (cause_words self)) }
+        ensures err { OnErr result (take (length lines.old.items) lines.new.items ≡ lines.old.items) }
+    {
+        match self {
+            Cause::Vote(resource) => write_words(lines, &[Text(b"Vote"), Named(resource)]),
+            Cause::PrepareLost(resource) => write_words(
+                lines,
+                &[Text(b"PrepareLost"), Named(resource)],
+            ),
+            Cause::PrepareStarved(resource) => write_words(
+                lines,
+                &[Text(b"PrepareStarved"), Named(resource)],
+            ),
+            Cause::PrepareFault(resource) => write_words(
+                lines,
+                &[Text(b"PrepareFault"), Named(resource)],
+            ),
+            Cause::JournalFull(used, need) => write_words(
+                lines,
+                &[Text(b"JournalFull"), Number(used), Number(need)],
+            ),
+        }
+    }
+}
+
 /// The outcome of a transaction, as a line tells it.
 #[derive(Clone, Copy, Debug)]
 pub enum Decided {
@@ -138,6 +165,23 @@ pub enum Decided {
     CommitNone,
     /// Rollback.
     Rollback(Cause),
+}
+
+impl Decided {
+    /// Writes the words, each behind a space. Want of memory leaves what stood there in front.
+    fn write_words(self, lines: &mut Vec<u8>) -> Result<(), AllocError>
+        ensures ok { OnOk result (lines.new.items ≡ lines.old.items ++ spaced (decided_words self)) }
+        ensures err { OnErr result (take (length lines.old.items) lines.new.items ≡ lines.old.items) }
+    {
+        match self {
+            Decided::CommitRecord => write_words(lines, &[Text(b"commit"), Text(b"record")]),
+            Decided::CommitNone => write_words(lines, &[Text(b"commit"), Text(b"none")]),
+            Decided::Rollback(cause) => {
+                write_words(lines, &[Text(b"rollback")])?;
+                cause.write_words(lines)
+            }
+        }
+    }
 }
 
 /// One thing that happened, which is told by one line of output.
@@ -230,112 +274,118 @@ pub enum Line {
 
 impl Line {
     /// Writes the line at the end. Want of memory leaves what stood there.
-    #[tactic(auto, unfolding(crate::specs::Line::line_words, crate::specs::Line::spelling))]
     pub fn write(&self, lines: &mut Vec<u8>) -> Result<(), AllocError>
         ensures ok { OnOk result (lines.new.items ≡ lines.old.items ++ spelling self.now) }
         ensures err { OnErr result (lines.new.items ≡ lines.old.items) }
     {
+        let start = lines.len();
+        let written = self.spell(lines);
+        if written.is_err() {
+            lines.truncate(start);
+        }
+        written
+    }
+
+    /// Writes the line at the end. Want of memory leaves what stood there in front.
+    #[tactic(auto, using(crate::proofs::PieceLemmas::line_ended), unfolding(crate::specs::Line::spelling))]
+    fn spell(&self, lines: &mut Vec<u8>) -> Result<(), AllocError>
+        ensures ok { OnOk result (lines.new.items ≡ lines.old.items ++ spelling self.now) }
+        ensures err { OnErr result (take (length lines.old.items) lines.new.items ≡ lines.old.items) }
+    {
+        lines.extend_from_slice(self.kind())?;
+        write_words(lines, &[self.subject()])?;
+        self.write_details(lines)?;
+        lines.push(b'\n')?;
+        Ok(())
+    }
+
+    /// The first word, which tells what happened.
+    #[tactic(auto, unfolding(crate::specs::Line::line_words))]
+    fn kind(&self) -> &'static [u8]
+        ensures { slice_get (line_words self.now) 0 ≡ Some result.now }
+    {
+        match self {
+            Line::Up { .. } => b"up",
+            Line::Top { .. } => b"top",
+            Line::Sub { .. } => b"sub",
+            Line::Imp { .. } => b"imp",
+            Line::Reg { .. } => b"reg",
+            Line::Call { .. } => b"call",
+            Line::Answered { .. } => b"ans",
+            Line::Send { .. } => b"send",
+            Line::Back { .. } => b"back",
+            Line::Recv { .. } => b"recv",
+            Line::Voted { .. } => b"vote",
+            Line::Decide { .. } => b"decide",
+            Line::SubDone { .. } => b"subdone",
+            Line::State { .. } => b"state",
+            Line::Learn { .. } => b"learn",
+            Line::Done { .. } => b"done",
+        }
+    }
+
+    /// The second word, which names what the line is about.
+    #[tactic(auto, unfolding(crate::specs::Line::line_words))]
+    fn subject(&self) -> Piece
+        ensures { slice_get (line_words self.now) 1 ≡ Some (piece_word result) }
+    {
         match *self {
-            Line::Up { server, life } => {
-                write_line(lines, b"up", &[Named(server), Number(u64::from(life))])
+            Line::Up { server, .. } => Named(server),
+            Line::Top { transaction, .. }
+            | Line::Sub { transaction, .. }
+            | Line::Decide { transaction, .. }
+            | Line::SubDone { transaction, .. }
+            | Line::Done { transaction } => Named(transaction),
+            Line::Imp { subordinate, .. } => Named(subordinate),
+            Line::Reg { resource, .. } | Line::State { resource, .. } => Named(resource),
+            Line::Voted { registration, .. } | Line::Learn { registration, .. } => {
+                Named(registration)
             }
-            Line::Top { transaction, node } => {
-                write_line(lines, b"top", &[Named(transaction), Named(node)])
-            }
-            Line::Sub {
-                transaction,
-                parent,
-            } => { write_line(lines, b"sub", &[Named(transaction), Named(parent)]) }
-            Line::Imp {
-                subordinate,
-                superior,
-                node,
-            } => {
-                write_line(
-                    lines,
-                    b"imp",
-                    &[Named(subordinate), Named(superior), Named(node)],
-                )
-            }
+            Line::Call { message, .. }
+            | Line::Answered { message, .. }
+            | Line::Send { message, .. }
+            | Line::Back { message, .. }
+            | Line::Recv { message } => Number(u64::from(message)),
+        }
+    }
+
+    /// Writes the other words, each behind a space. Want of memory leaves what stood there in front.
+    #[tactic(auto, unfolding(crate::specs::Line::line_words))]
+    fn write_details(&self, lines: &mut Vec<u8>) -> Result<(), AllocError>
+        ensures ok { OnOk result (lines.new.items ≡ lines.old.items ++ spaced (drop 2 (line_words self.now))) }
+        ensures err { OnErr result (take (length lines.old.items) lines.new.items ≡ lines.old.items) }
+    {
+        match *self {
+            Line::Up { life, .. } => write_words(lines, &[Number(u64::from(life))]),
+            Line::Top { node, .. } => write_words(lines, &[Named(node)]),
+            Line::Sub { parent, .. } => write_words(lines, &[Named(parent)]),
+            Line::Imp { superior, node, .. } => write_words(lines, &[Named(superior), Named(node)]),
             Line::Reg {
-                resource,
                 transaction,
                 end,
-            } => {
-                write_line(
-                    lines,
-                    b"reg",
-                    &[Named(resource), Named(transaction), Named(end)],
-                )
-            }
+                ..
+            } => write_words(lines, &[Named(transaction), Named(end)]),
             Line::Call {
-                message,
                 operation,
                 transaction,
-            } => { write_request(lines, b"call", message, operation, transaction) }
-            Line::Answered { message, said } => {
-                write_line(
-                    lines,
-                    b"ans",
-                    &[Number(u64::from(message)), Text(said.text())],
-                )
-            }
+                ..
+            } => write_words(lines, &[Text(operation.text()), Named(transaction)]),
+            Line::Answered { said, .. } => write_words(lines, &[Text(said.text())]),
             Line::Send {
-                message,
                 operation,
                 registration,
-            } => { write_request(lines, b"send", message, operation, registration) }
-            Line::Back {
-                message,
-                request,
-                said,
-            } => {
-                write_line(
-                    lines,
-                    b"back",
-                    &[
-                        Number(u64::from(message)),
-                        Number(u64::from(request)),
-                        Text(said.text()),
-                    ],
-                )
-            }
-            Line::Recv { message } => write_line(lines, b"recv", &[Number(u64::from(message))]),
-            Line::Voted { registration, vote } => {
-                write_line(
-                    lines,
-                    b"vote",
-                    &[Named(registration), Text(vote_text(vote))],
-                )
-            }
-            Line::Decide {
-                transaction,
-                decided,
-            } => write_decided(lines, transaction, decided),
-            Line::SubDone {
-                transaction,
-                committed,
-            } => {
-                write_line(
-                    lines,
-                    b"subdone",
-                    &[Named(transaction), Text(ending_text(committed))],
-                )
-            }
-            Line::State { resource, state } => {
-                write_line(lines, b"state", &[Named(resource), Text(state.text())])
-            }
-            Line::Learn {
-                registration,
-                decision,
-            } => {
-                write_line(
-                    lines,
-                    b"learn",
-                    &[Named(registration), Text(decision.text())],
-                )
-            }
-            Line::Done { transaction } => write_line(lines, b"done", &[Named(transaction)]),
+                ..
+            } => write_words(lines, &[Text(operation.text()), Named(registration)]),
+            Line::Back { request, said, .. } => write_words(
+                lines,
+                &[Number(u64::from(request)), Text(said.text())],
+            ),
+            Line::Recv { .. } | Line::Done { .. } => Ok(()),
+            Line::Voted { vote, .. } => write_words(lines, &[Text(vote_text(vote))]),
+            Line::Decide { decided, .. } => decided.write_words(lines),
+            Line::SubDone { committed, .. } => write_words(lines, &[Text(ending_text(committed))]),
+            Line::State { state, .. } => write_words(lines, &[Text(state.text())]),
+            Line::Learn { decision, .. } => write_words(lines, &[Text(decision.text())]),
         }
     }
 }
@@ -354,103 +404,6 @@ pub fn different_lines_differ()
 pub fn text_reads_back()
     ensures { TextReadsBack }
 {}
-
-fn write_request(
-    lines: &mut Vec<u8>,
-    kind: &[u8],
-    message: u32,
-    operation: Operation,
-    target: Name,
-) -> Result<(), AllocError>
-    ensures ok { OnOk result (lines.new.items ≡ lines.old.items ++ (join_with_byte 32 (kind.now ∷ decimal message ∷ operation_word operation ∷ target ∷ []) ++ 10 ∷ [])) }
-    ensures err { OnErr result (lines.new.items ≡ lines.old.items) }
-{
-    write_line(
-        lines,
-        kind,
-        &[
-            Number(u64::from(message)),
-            Text(operation.text()),
-            Named(target),
-        ],
-    )
-}
-
-#[tactic(auto, unfolding(crate::specs::Line::line_words, crate::specs::Line::spelling))]
-fn write_decided(lines: &mut Vec<u8>, transaction: Name, decided: Decided) -> Result<(), AllocError>
-    ensures ok { OnOk result (lines.new.items ≡ lines.old.items ++ spelling (Line.Decide transaction decided)) }
-    ensures err { OnErr result (lines.new.items ≡ lines.old.items) }
-{
-    match decided {
-        Decided::CommitRecord => {
-            write_line(
-                lines,
-                b"decide",
-                &[Named(transaction), Text(b"commit"), Text(b"record")],
-            )
-        }
-        Decided::CommitNone => {
-            write_line(
-                lines,
-                b"decide",
-                &[Named(transaction), Text(b"commit"), Text(b"none")],
-            )
-        }
-        Decided::Rollback(cause) => write_rollback(lines, transaction, cause),
-    }
-}
-
-#[tactic(auto, unfolding(crate::specs::Line::line_words, crate::specs::Line::spelling))]
-fn write_rollback(lines: &mut Vec<u8>, transaction: Name, cause: Cause) -> Result<(), AllocError>
-    ensures ok { OnOk result (lines.new.items ≡ lines.old.items ++ spelling (Line.Decide transaction (Decided.Rollback cause))) }
-    ensures err { OnErr result (lines.new.items ≡ lines.old.items) }
-{
-    match cause {
-        Cause::Vote(resource) => write_blame(lines, transaction, b"Vote", resource),
-        Cause::PrepareLost(resource) => write_blame(lines, transaction, b"PrepareLost", resource),
-        Cause::PrepareStarved(resource) => write_blame(
-            lines,
-            transaction,
-            b"PrepareStarved",
-            resource,
-        ),
-        Cause::PrepareFault(resource) => write_blame(lines, transaction, b"PrepareFault", resource),
-        Cause::JournalFull(used, need) => {
-            write_line(
-                lines,
-                b"decide",
-                &[
-                    Named(transaction),
-                    Text(b"rollback"),
-                    Text(b"JournalFull"),
-                    Number(used),
-                    Number(need),
-                ],
-            )
-        }
-    }
-}
-
-fn write_blame(
-    lines: &mut Vec<u8>,
-    transaction: Name,
-    fault: &'static [u8],
-    resource: Name,
-) -> Result<(), AllocError>
-    ensures ok { OnOk result (lines.new.items ≡ lines.old.items ++ (join_with_byte 32 (codes "decide" ∷ transaction ∷ codes "rollback" ∷ fault.now ∷ resource ∷ []) ++ 10 ∷ [])) }
-    ensures err { OnErr result (lines.new.items ≡ lines.old.items) }
-{
-    write_line(
-        lines,
-        b"decide",
-        &[
-            Named(transaction),
-            Text(b"rollback"),
-            Text(fault),
-            Named(resource),
-        ],
-    )
-}
 
 fn vote_text(vote: Vote) -> &'static [u8]
     ensures { result.now ≡ vote_word vote }

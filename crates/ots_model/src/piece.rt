@@ -1,7 +1,6 @@
-ghost use Rattle.std.specs.Prelude.{◌≡◌, List, [], ◌∷◌, ◌++◌, length, take, map, OnOk, OnErr};
-ghost use Rattle.std.specs.List.{join_with_byte};
+ghost use Rattle.std.specs.Prelude.{◌≡◌, ◌++◌, length, take, map, OnOk, OnErr};
 ghost use Rattle.std.specs.Fmt.{decimal};
-ghost use Rattle.ots_model.specs.Piece.{piece_word};
+ghost use Rattle.ots_model.specs.Piece.{piece_word, spaced};
 
 use crate::name::Name;
 use std::alloc::AllocError;
@@ -31,29 +30,15 @@ impl Piece {
     }
 }
 
-/// Writes a line of these words at the end. Want of memory leaves what stood there.
-pub fn write_line(lines: &mut Vec<u8>, first: &[u8], others: &[Piece]) -> Result<(), AllocError>
-    ensures ok { OnOk result (lines.new.items ≡ lines.old.items ++ (join_with_byte 32 (first.now ∷ map piece_word others.now) ++ 10 ∷ [])) }
-    ensures err { OnErr result (lines.new.items ≡ lines.old.items) }
-{
-    let start = lines.len();
-    let written = write_words(lines, first, others);
-    if written.is_err() {
-        lines.truncate(start);
-    }
-    written
-}
-
-fn write_words(lines: &mut Vec<u8>, first: &[u8], others: &[Piece]) -> Result<(), AllocError>
-    ensures ok { OnOk result (lines.new.items ≡ lines.old.items ++ (join_with_byte 32 (first.now ∷ map piece_word others.now) ++ 10 ∷ [])) }
+/// Writes these words at the end, each behind a space. Want of memory leaves what stood there in front.
+pub fn write_words(lines: &mut Vec<u8>, words: &[Piece]) -> Result<(), AllocError>
+    ensures ok { OnOk result (lines.new.items ≡ lines.old.items ++ spaced (map piece_word words.now)) }
     ensures err { OnErr result (take (length lines.old.items) lines.new.items ≡ lines.old.items) }
 {
-    lines.extend_from_slice(first)?;
-    for piece in others {
+    for word in words {
         lines.push(b' ')?;
-        piece.write(lines)?;
+        word.write(lines)?;
     }
-    lines.push(b'\n')?;
     Ok(())
 }
 
