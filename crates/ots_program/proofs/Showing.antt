@@ -1,5 +1,5 @@
 -- A show under way.
-use Rattle.std.proofs.Common.{◌≡◌, ℕ, ◌+◌, ◌<◌, ◌≤◌, Bool, List, [], ◌∷◌, ◌++◌, length, take, drop, Option, Some, None, Result, Ok, Err, refl, sym, ap, subst, ◌∙◌, ◌⊎◌, inl, inr, append_assoc, arith}
+use Rattle.std.proofs.Common.{◌≡◌, ℕ, ◌+◌, ◌<◌, List, [], ◌∷◌, ◌++◌, length, take, drop, Option, Some, None, Result, Ok, Err, refl, sym, ap, subst, ◌∙◌, ◌⊎◌, inl, inr, append_assoc, arith}
 use Rattle.std.specs.Prelude.{◌≢◌, IfErr, IfSome, OnOk}
 use Rattle.std.proofs.lemmas.List.{append-nil, take_all, take-append-drop}
 use Rattle.std.proofs.lemmas.List.Concat.{flat_map-append}
@@ -14,7 +14,7 @@ use Rattle.ots_outside.specs.Sink.{Takes, TakesPart}
 use Rattle.ots_outside.specs.Source.{Gives}
 use Rattle.ots_program.specs.declared.status.Status.{Status}
 use Rattle.ots_program.specs.declared.status.Status.TheVariants as statuses
-use Rattle.ots_program.specs.Show.{Breaks, BrokeOff, EndsBadly, EndsCut, EndsWhole, Ends, OfPiece, Shows, StopsShow, TellsBreak, TellsPiece, TookPiece, WritesSights, status_by}
+use Rattle.ots_program.specs.Show.{Breaks, BrokeOff, EndsCut, EndsWhole, Ends, OfPiece, Shows, StopsShow, TellsBreak, TellsPiece, TookPiece, WritesSights, status_by}
 use Rattle.ots_program.specs.Sight.{sight, sights}
 use Rattle.ots_program.proofs.Taken.{Takes-none, Takes-trans}
 

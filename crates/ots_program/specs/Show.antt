@@ -1,11 +1,11 @@
 -- What `ots show` writes, and how it ends.
-use Rattle.std.specs.Prelude.{◌≡◌, ◌⊎◌, ℕ, List, [], ◌++◌, take, Option, Some, None, IfSome, Result, Ok, Err}
+use Rattle.std.specs.Prelude.{◌≡◌, ◌⊎◌, ℕ, List, ◌++◌, take, Option, Some, None, IfSome, Err}
 use Rattle.giop_frames.specs.declared.fault.FrameFault.{FrameFault}
 use Rattle.giop_frames.specs.declared.fault.FrameFault.TheVariants.{Short, Memory}
 use Rattle.giop_frames.specs.declared.framed.Framed.{Framed}
 use Rattle.giop_frames.specs.Stream.{IsBegun, IsCut, IsRefused, IsWhole, part_at}
 use Rattle.giop_frames.specs.Held.{Held, Holds}
-use Rattle.ots_outside.specs.Sink.{Takes, TakesPart}
+use Rattle.ots_outside.specs.Sink.{Takes}
 use Rattle.ots_program.specs.declared.status.Status.{Status}
 use Rattle.ots_program.specs.declared.status.Status.TheVariants as statuses
 use Rattle.ots_program.specs.Sight.{sights}

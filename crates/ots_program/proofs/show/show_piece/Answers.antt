@@ -1,6 +1,6 @@
 use Rattle.std.proofs.Common.{refl}
 use Rattle.std.proofs.lemmas.Result.{IfErr-at_err, err_from_is_err_and}
-use Rattle.ots_program.proofs.Showing.{break_shown, not_read, not_write, piece_shown, write_broke}
+use Rattle.ots_program.proofs.Showing.{not_read, not_write, write_broke}
 use Rattle.ots_program.proofs.show.show_piece.Goals as goal
 
 pub returns-in_err-write_out-clause-broken : goal.returns-in_err-write_out-clause-broken
