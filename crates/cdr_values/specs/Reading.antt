@@ -1,4 +1,4 @@
--- Reading from the front, and the fault of what no value spells.
+-- Reading values from the front (CORBA, CDR Transfer Syntax), and the fault of what no value spells (our profile).
 use Rattle.std.specs.Prelude.{◌≡◌, ℕ, ◌+◌, ◌-◌, ◌==◌, Bool, ◌&&◌, not, nat_lt, List, ◌++◌, length, take, drop, slice_index, Result, Ok, Err, if◌then◌else◌}
 use Rattle.cdr_values.specs.declared.order.Order.{Order}
 use Rattle.cdr_values.specs.declared.fault.CdrFault.{CdrFault}

@@ -1,4 +1,4 @@
--- Which octets spell a value (CORBA, CDR Transfer Syntax).
+-- Which octets spell a value (CORBA, General Inter-ORB Protocol, CDR Transfer Syntax).
 use Rattle.std.specs.Prelude.{◌≡◌, ℕ, ◌+◌, ◌-◌, ◌%◌, ◌^◌, ◌<◌, ◌≤◌, ◌⊎◌, ◌==◌, Bool, false, List, [], ◌∷◌, ◌++◌, length, replicate, if◌then◌else◌}
 use Rattle.std.specs.List.{list_any}
 use Rattle.byteorder.specs.Endian.{big_number, little_number, big_bytes, little_bytes}
@@ -46,7 +46,7 @@ pub record IsNumber (order : Order) (n number : ℕ) (octets : List ℕ) : Type 
   pub size : length octets ≡ n
   pub value : number_in order n octets ≡ number
 
--- the count of the items, in four octets, and the items
+-- the count of the items, in four octets, and the items, of which there are at most 65,536 (our profile)
 pub record IsCounted (order : Order) (items octets : List ℕ) : Type 0 where
   pub count : List ℕ
   pub parts : octets ≡ count ++ items

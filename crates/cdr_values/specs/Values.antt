@@ -1,4 +1,4 @@
--- Values one after another.
+-- Values one after another (CORBA, CDR Transfer Syntax: Alignment).
 use Rattle.std.specs.Prelude.{◌≡◌, ℕ, ◌+◌, List, [], ◌∷◌, ◌++◌, length}
 use Rattle.cdr_values.specs.declared.order.Order.{Order}
 use Rattle.cdr_values.specs.Value.{Value, Spells, canonical}

@@ -18,7 +18,12 @@ pub enum CdrFault {
     /// The octets of a string are not a text and one NUL behind it; or a text to be written holds a NUL.
     BadString(u32),
     /// A length is above 65,536 octets.
-    TooLong { place: u32, length: u32 },
+    TooLong {
+        /// Where the reader or the writer stood.
+        place: u32,
+        /// The length.
+        length: u32,
+    },
     /// The octet that tells an encapsulation's byte order is neither 0 nor 1.
     BadOrder(u32),
     /// Memory ran out.

@@ -1,5 +1,5 @@
 -- What a stream holds back, as its parts come.
-use Rattle.std.proofs.Common.{◌≡◌, ℕ, ◌+◌, ◌-◌, ◌^◌, ◌<◌, ◌≤◌, min, Bool, true, false, cond, ltb, List, ◌∷◌, ◌++◌, length, take, drop, Option, None, Result, Ok, Err, refl, sym, ap, subst, ◌∙◌, ◌⊎◌, inl, inr, append_assoc, arith}
+use Rattle.std.proofs.Common.{Some, ◌≡◌, ℕ, ◌+◌, ◌-◌, ◌^◌, ◌<◌, ◌≤◌, min, Bool, true, false, cond, ltb, List, ◌∷◌, ◌++◌, length, take, drop, Option, None, Result, Ok, Err, refl, sym, ap, subst, ◌∙◌, ◌⊎◌, inl, inr, append_assoc, arith}
 use Rattle.std.specs.Prelude.{◌&&◌, not}
 use Rattle.std.proofs.lemmas.Bool.{ltb-false}
 use Rattle.std.proofs.lemmas.List.{append-nil, length-append, take-append-drop}
@@ -61,10 +61,6 @@ part_found octets p rest e =
     } in
     subst (λ (x : Part × List ℕ). Front x.0 octets x.1) is made
 
--- the parts with one more
-abbrev with_part : (octets : List ℕ) (messages : List Framed) (old new : Held) (answer : Option Framed) → Took old answer new → Holds octets messages old → List Part
-with_part octets messages old new answer t h = t.part ∷ h.parts
-
 says_is : (octets : List ℕ) (messages : List Framed) (old : Held) (p : Part) (h : Holds octets messages old) → says h.parts p ≡ judged old.unfinished old.place p
 says_is octets messages old p h = rw (h.unfinished_are, h.place_is) refl
 
@@ -91,22 +87,6 @@ holds_part octets messages old new answer t none h =
 pub holds_piece : (octets : List ℕ) (messages : List Framed) (old new : Held) → Took old None new → old.refused ≡ None → Holds octets messages old → Holds octets messages new
 holds_piece octets messages old new t none h = subst (λ (ms : List Framed). Holds octets ms new) (append-nil messages) (holds_part octets messages old new None t none h)
 
--- more octets
-pub holds_fed : (octets piece : List ℕ) (messages : List Framed) (old : Held) → old.refused ≡ None → Holds octets messages old → Holds (octets ++ piece) messages (record old { rest = old.rest ++ piece })
-holds_fed octets piece messages old none h = record {
-  parts = h.parts;
-  splits = record {
-    front = h.splits.front;
-    whole = ap (λ (x : List ℕ). x ++ piece) h.splits.whole ∙ append_assoc h.splits.front old.rest piece;
-    are_parts = h.splits.are_parts;
-    taken = h.splits.taken;
-    messages_are = h.splits.messages_are;
-  };
-  unfinished_are = h.unfinished_are;
-  place_is = h.place_is;
-  refused = rw none tt;
-}
-
 -- no whole part is left
 pub holds_stream : (octets : List ℕ) (messages : List Framed) (old : Held) → part_at old.rest ≡ Err faults.Short → Holds octets messages old → IsStream messages old.rest octets
 holds_stream octets messages old e h = record { parts = h.parts; splits = h.splits; partial = e }
@@ -131,18 +111,6 @@ took messages place rest refused header content answer new old view front is sai
     let made : Took held answer new = record { part = part; stands = stands; says = said; unfinished_are = messages_are; place_is = place_is; refused = refused_is } in
     subst (λ (h : Held). Took h answer new) view made
 
--- what a refusal leaves is held as before
-pub takes_refusal : (old : Held) (fault : FrameFault) → RefusesHeld old fault → Takes old (Err fault) old
-takes_refusal old faults.BadMagic r = (refl, r)
-takes_refusal old faults.BadVersion r = (refl, r)
-takes_refusal old faults.BadType r = (refl, r)
-takes_refusal old (faults.TooLarge n) r = (refl, r)
-takes_refusal old faults.BadFragment r = (refl, r)
-takes_refusal old (faults.Body place cdr) r = (refl, r)
-takes_refusal old faults.Short r = (refl, r)
-takes_refusal old faults.NotWritten r = (refl, r)
-takes_refusal old faults.Memory r = refl
-
 placed : (octets : List ℕ) (messages : List Framed) (old new now : Held) (fault : FrameFault) → new ≡ old → now.place ≡ new.place → IsRefused messages old.place fault octets → IsRefused messages now.place fault octets
 placed octets messages old new now fault e is r = rw (is, e) r
 
@@ -157,6 +125,26 @@ refused_by old new now (faults.Body place cdr) t is = inr (λ octets messages h.
 refused_by old new now faults.Short t is = inr (λ octets messages h. placed octets messages old new now faults.Short t.0 (ap (λ (x : Held). x.place) is) (holds_refused octets messages old faults.Short t.1 h))
 refused_by old new now faults.NotWritten t is = inr (λ octets messages h. placed octets messages old new now faults.NotWritten t.0 (ap (λ (x : Held). x.place) is) (holds_refused octets messages old faults.NotWritten t.1 h))
 refused_by old new now faults.Memory t is = inl refl
+
+-- what is held when a refusal is remembered
+remembers : (octets : List ℕ) (messages : List Framed) (old : Held) (fault : FrameFault) → RefusesHeld old fault → Holds octets messages old → Holds octets messages (record old { refused = Some fault })
+remembers octets messages old fault r h = record { parts = h.parts; splits = h.splits; unfinished_are = h.unfinished_are; place_is = h.place_is; refused = refuses_parts octets messages old fault h r }
+
+-- the same, where it is remembered of what a call left
+remembers_of : (octets : List ℕ) (messages : List Framed) (old new now : Held) (fault : FrameFault) → new ≡ old → now ≡ record new { refused = Some fault } → RefusesHeld old fault → Holds octets messages old → Holds octets messages now
+remembers_of octets messages old new now fault e is r h = rw (is, e) (remembers octets messages old fault r h)
+
+-- a refusal, also want of memory, loses nothing
+pub kept_by : (octets : List ℕ) (messages : List Framed) (old new now : Held) (fault : FrameFault) → Takes old (Err fault) new → now ≡ remembering new fault → Holds octets messages old → Holds octets messages now
+kept_by octets messages old new now faults.BadMagic t is h = remembers_of octets messages old new now faults.BadMagic t.0 is t.1 h
+kept_by octets messages old new now faults.BadVersion t is h = remembers_of octets messages old new now faults.BadVersion t.0 is t.1 h
+kept_by octets messages old new now faults.BadType t is h = remembers_of octets messages old new now faults.BadType t.0 is t.1 h
+kept_by octets messages old new now (faults.TooLarge n) t is h = remembers_of octets messages old new now (faults.TooLarge n) t.0 is t.1 h
+kept_by octets messages old new now faults.BadFragment t is h = remembers_of octets messages old new now faults.BadFragment t.0 is t.1 h
+kept_by octets messages old new now (faults.Body place cdr) t is h = remembers_of octets messages old new now (faults.Body place cdr) t.0 is t.1 h
+kept_by octets messages old new now faults.Short t is h = remembers_of octets messages old new now faults.Short t.0 is t.1 h
+kept_by octets messages old new now faults.NotWritten t is h = remembers_of octets messages old new now faults.NotWritten t.0 is t.1 h
+kept_by octets messages old new now faults.Memory t is h = rw (is, t) h
 
 -- less is left behind a part
 pub shorter : (old new : Held) (answer : Option Framed) → Took old answer new → length new.rest < length old.rest

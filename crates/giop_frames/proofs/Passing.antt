@@ -152,10 +152,6 @@ profiles_begun laws r a b c kind index count type_id one two three few = record 
       (pass_on (profiles_at count (followed c more)) Reference (behind_target kind));
 }
 
-pub profiles_passed : (r : Reading) (kind : Kind) → GoesOn kind (fields.Profiles 0) r (Some fields.Operation) r
-unfolding fields_at profiles_at
-profiles_passed r kind = record { behind = here r; same = λ more. refl }
-
 pub profile_passed : ReadingLaws → (r a b : Reading) (kind : Kind) (count tag : ℕ) (octets : List ℕ) → 0 < count → ulong_at r ≡ Ok (tag, a) → octets_at a ≡ Ok (octets, b) → GoesOn kind (fields.Profiles count) r (Some (fields.Profiles (count - 1))) b
 unfolding fields_at profiles_at profile_at
 profile_passed laws r a b kind zero tag octets some one two = absurd (omega (arith, some))
@@ -173,28 +169,12 @@ operation_passed laws r a operation one = record {
   same = λ more. rw (kept string_at Text laws.string r operation a one more) refl;
 }
 
--- no other message has an operation
-pub no_operation : (r : Reading) (kind : Kind) → kind ≢ kinds.Request → GoesOn kind fields.Operation r None r
-unfolding fields_at
-no_operation r kinds.Request other = absurd (other refl)
-no_operation r kinds.Reply other = record { behind = here r; same = λ more. refl }
-no_operation r kinds.CancelRequest other = record { behind = here r; same = λ more. refl }
-no_operation r kinds.LocateRequest other = record { behind = here r; same = λ more. refl }
-no_operation r kinds.LocateReply other = record { behind = here r; same = λ more. refl }
-no_operation r kinds.CloseConnection other = record { behind = here r; same = λ more. refl }
-no_operation r kinds.MessageError other = record { behind = here r; same = λ more. refl }
-no_operation r kinds.Fragment other = record { behind = here r; same = λ more. refl }
-
 pub count_passed : ReadingLaws → (r a : Reading) (kind : Kind) (count : ℕ) → ulong_at r ≡ Ok (count, a) → count ≤ 16 → GoesOn kind fields.Contexts r (Some (fields.EachContext count)) a
 unfolding fields_at contexts_at
 count_passed laws r a kind count one few = record {
   behind = passed ulong_at ULong laws.ulong r count a one;
   same = λ more. rw (kept ulong_at ULong laws.ulong r count a one more, le-ltb 16 count few) refl;
 }
-
-pub contexts_passed : (r : Reading) (kind : Kind) → GoesOn kind (fields.EachContext 0) r None r
-unfolding fields_at each_context_at
-contexts_passed r kind = record { behind = here r; same = λ more. refl }
 
 pub context_passed : ReadingLaws → (r a b : Reading) (kind : Kind) (count id : ℕ) (octets : List ℕ) → 0 < count → ulong_at r ≡ Ok (id, a) → octets_at a ≡ Ok (octets, b) → GoesOn kind (fields.EachContext count) r (Some (fields.EachContext (count - 1))) b
 unfolding fields_at each_context_at context_at
@@ -207,11 +187,6 @@ context_passed laws r a b kind (suc count) id octets some one two = record {
 }
 
 -- ---- from one step to the next
-
--- before the first step
-pub nothing_passed : (order : Order) (kind : Kind) (content : List ℕ) → IsPassed order kind content (record { next = Some fields.First; place = 12 })
-unfolding fields_at
-nothing_passed order kind content = record { behind_header = omega arith; within = omega arith; same = λ more. refl }
 
 -- the reader stands where it is said to stand
 pub stands : (order : Order) (content : List ℕ) (place : ℕ) (old new : Reading) → old ≡ standing order content place → IsBehind old new → 12 ≤ place → new ≡ standing order content new.place
@@ -239,17 +214,6 @@ step_passed order kind content p next old new later is at stood g =
           is.same more ∙ ap (λ (n : Option Field). rest_at kind n (followed (standing order content p.place) more)) at ∙ ap (λ (r : Reading). fields_at kind next (followed r more)) (sym stood) ∙ g.same more
           ∙ ap (λ (r : Reading). rest_at kind later (followed r more)) (stands order content p.place old new stood b is.behind_header);
     }
-
--- what is passed stays so with more octets
-pub passed_stays : (order : Order) (kind : Kind) (content octets : List ℕ) (p : Passed) → IsPassed order kind content p → IsPassed order kind (content ++ octets) p
-passed_stays order kind content octets p is = record {
-  behind_header = is.behind_header;
-  within = omega (arith, is.within, length-append content octets);
-  same = λ more.
-      let rest : drop (p.place - 12) (content ++ octets) ≡ drop (p.place - 12) content ++ octets = drop-append-le (p.place - 12) content octets (omega (arith, is.behind_header, is.within)) in
-      ap (λ (x : List ℕ). passing (message_of order kind x)) (append_assoc content octets more) ∙ is.same (octets ++ more)
-      ∙ ap (λ (x : List ℕ). rest_at kind p.next (record { order = order; place = p.place; rest = x })) (sym (append_assoc (drop (p.place - 12) content) octets more) ∙ ap (λ (x : List ℕ). x ++ more) (sym rest));
-}
 
 -- ---- the judgement
 

@@ -1,4 +1,4 @@
--- Reading the content of a message from its front, and its first fault.
+-- Reading the content of a message from its front (CORBA, GIOP Message Formats), and its first fault (our profile).
 use Rattle.std.specs.Prelude.{ℕ, zero, suc, ◌==◌, nat_lt, List, [], ◌∷◌, length, drop, Result, Ok, Err, if◌then◌else◌}
 use Rattle.cdr_values.specs.declared.order.Order.{Order}
 use Rattle.cdr_values.specs.Value.{gap}

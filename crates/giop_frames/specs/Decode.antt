@@ -1,4 +1,5 @@
--- Reading one message without fragments from the front of octets.
+-- Reading one message without fragments from the front of octets (CORBA, GIOP Message Formats), and its first fault (our
+-- profile).
 use Rattle.std.specs.Prelude.{ℕ, ◌+◌, ◌||◌, nat_lt, List, length, take, drop, Result, Ok, Err, if◌then◌else◌}
 use Rattle.cdr_values.specs.Reading.{◌>>=◌}
 use Rattle.giop_frames.specs.declared.fault.FrameFault.{FrameFault}

@@ -1,4 +1,4 @@
--- The octets that are written for a message.
+-- The octets that are written for a message (CORBA, GIOP Message Formats), and what refuses it first (our profile).
 use Rattle.std.specs.Prelude.{ℕ, ◌+◌, nat_lt, List, [], ◌∷◌, ◌++◌, length, replicate, sum_by, Option, Some, None, if◌then◌else◌}
 use Rattle.cdr_values.specs.declared.order.Order.{Order}
 use Rattle.cdr_values.specs.declared.order.Order.TheVariants.{Big}
@@ -48,7 +48,7 @@ values_of (messages.LocateReply l) = ULong l.id ∷ ULong l.status ∷ []
 values_of messages.Close = []
 values_of messages.Error = []
 
--- a message is written in the byte order of its body; one that has none is written big endian (our profile)
+-- a Request or a Reply is written in its own byte order, a message of another type big endian (our profile)
 abbrev pub order_of : Message → Order
 order_of (messages.Request r) = r.order
 order_of (messages.Reply r) = r.order
@@ -77,7 +77,7 @@ content_of m = fields_of m ++ tail_of m
 unfoldable pub spelling : Message → List ℕ
 spelling m = header_octets (order_of m) (kind_of m) (length (content_of m)) ++ content_of m
 
--- the offset behind these values, the first of them standing at offset 12
+-- the offset behind these values, the first of them standing at offset 12; the lengths are the same in both byte orders
 abbrev pub behind : List Value → ℕ
 behind values = 12 + length (canonical_all Big 12 values)
 

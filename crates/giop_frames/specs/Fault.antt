@@ -1,4 +1,4 @@
--- Faults of fields as faults of messages.
+-- Faults of fields as faults of messages (our profile).
 use Rattle.std.specs.Prelude.{◌≡◌, ℕ, Result, Ok, Err}
 use Rattle.cdr_values.specs.declared.fault.CdrFault.{CdrFault}
 use Rattle.cdr_values.specs.Reading.{Reading}

@@ -1,4 +1,4 @@
--- The header in front of each part of a message (GIOP 1.2, message header).
+-- The header in front of each part of a message (CORBA, GIOP Message Formats, MessageHeader_1_1 with version 1.2).
 use Rattle.std.specs.Prelude.{◌≡◌, ℕ, ◌/◌, ◌%◌, ◌≤◌, ◌==◌, nat_eq, nat_lt, Bool, true, false, not, List, [], ◌∷◌, ◌++◌, length, take, drop, slice_index, Result, Ok, Err, if◌then◌else◌, codes}
 use Rattle.std.specs.List.{starts_with}
 use Rattle.cdr_values.specs.declared.order.Order.{Order}

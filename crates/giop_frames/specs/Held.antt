@@ -1,4 +1,4 @@
--- What a stream holds back between two calls.
+-- What a stream holds back between two calls, of a stream of messages (CORBA, GIOP Message Formats, Fragment Message).
 use Rattle.std.specs.Prelude.{◌≡◌, ◌≢◌, ◌⊎◌, ℕ, ◌+◌, ◌-◌, ◌^◌, ◌≤◌, min, List, [], length, Option, Some, None, IfSome, Result, Ok, Err}
 use Rattle.std.specs.List.{AllByRecursion}
 use Rattle.giop_frames.specs.declared.fault.FrameFault.{FrameFault}
@@ -32,7 +32,7 @@ place_by place None messages = earliest place messages
 abbrev pub place_of : Held → ℕ
 place_of h = place_by h.place h.refused h.unfinished
 
--- octets of a message are held that isn't whole
+-- octets are held that were not given as a message yet
 abbrev pub IsUnfinished : Held → Type 0
 IsUnfinished h = (h.unfinished ≢ []) ⊎ (h.rest ≢ [])
 

@@ -1,5 +1,5 @@
--- Which octets are a message (GIOP 1.2, message formats). The fields of a message are values of CDR, from offset 12 on;
--- what a message doesn't keep, as the reserved octets, may be anything.
+-- Which octets are a message (CORBA, General Inter-ORB Protocol, GIOP Message Formats, version 1.2). The fields of a
+-- message are values of CDR, from offset 12 on; what a message doesn't keep, as the reserved octets, may be anything.
 use Rattle.std.specs.Prelude.{◌≡◌, ℕ, ◌+◌, ◌≤◌, false, List, [], ◌∷◌, ◌++◌, length, drop}
 use Rattle.std.specs.List.{flat_map}
 use Rattle.cdr_values.specs.declared.order.Order.{Order}
@@ -18,11 +18,13 @@ use Rattle.giop_frames.specs.declared.message.Target.TheVariants.{Key, Profile, 
 use Rattle.giop_frames.specs.declared.message.ServiceContext.{ServiceContext}
 use Rattle.giop_frames.specs.Header.{IsPart}
 
--- a tagged profile of a reference: its tag, and its octets
+-- a tagged profile of a reference (Interoperable Object References, TaggedProfile): its tag, and its octets
 abbrev pub profile_values : ℕ × List ℕ → List Value
 profile_values profile = ULong profile.0 ∷ OctetSequence profile.1 ∷ []
 
--- the values of a target: KeyAddr and the key; ProfileAddr and a profile; or ReferenceAddr, an index and a reference
+-- the values of a target (TargetAddress): KeyAddr and the key, of at most 256 octets (our profile); ProfileAddr and a
+-- profile; or ReferenceAddr, an index and a reference, of at most 65,536 profiles (our profile). CORBA's discriminator is a
+-- short, of which 0, 1 and 2 are used.
 abbrev pub IsTarget : Target → List Value → Type 0
 IsTarget (Key key) values = (values ≡ UShort 0 ∷ OctetSequence key ∷ []) × (length key ≤ 256)
 IsTarget Profile values = (profile : ℕ × List ℕ) × (values ≡ UShort 1 ∷ profile_values profile)
@@ -30,6 +32,7 @@ IsTarget Reference values =
     (index : ℕ) × (type_id : List ℕ) × (profiles : List (ℕ × List ℕ)) × (length profiles ≤ 65536)
     × (values ≡ UShort 2 ∷ ULong index ∷ Text type_id ∷ ULong (length profiles) ∷ flat_map profile_values profiles)
 
+-- a service context (ORB Interoperability Architecture, ServiceContext)
 abbrev pub context_values : ServiceContext → List Value
 context_values context = ULong context.id ∷ OctetSequence context.bytes ∷ []
 
@@ -37,15 +40,18 @@ context_values context = ULong context.id ∷ OctetSequence context.bytes ∷ []
 abbrev pub contexts_values : List ServiceContext → List Value
 contexts_values contexts = ULong (length contexts) ∷ flat_map context_values contexts
 
--- the values of a Request: behind the flags there are three reserved octets
+-- the values of a Request (RequestHeader_1_2): behind the flags there are three reserved octets, and there are at most 16
+-- contexts (our profile)
 abbrev pub IsRequest : Request → List Value → Type 0
 IsRequest r values =
     (one : ℕ) × (two : ℕ) × (three : ℕ) × (target : List Value) × IsTarget r.target target × (length r.contexts ≤ 16)
     × (values ≡ ULong r.id ∷ Octet r.flags ∷ Octet one ∷ Octet two ∷ Octet three ∷ (target ++ (Text r.operation ∷ contexts_values r.contexts)))
 
+-- the values of a Reply (ReplyHeader_1_2), with at most 16 contexts (our profile)
 abbrev pub IsReply : Reply → List Value → Type 0
 IsReply r values = (length r.contexts ≤ 16) × (values ≡ ULong r.id ∷ ULong r.status ∷ contexts_values r.contexts)
 
+-- the values of a LocateRequest (LocateRequestHeader_1_2)
 abbrev pub IsLocate : Locate → List Value → Type 0
 IsLocate l values = (target : List Value) × IsTarget l.target target × (values ≡ ULong l.id ∷ target)
 
@@ -61,8 +67,8 @@ pub record HasBody (order : Order) (values : List Value) (body content : List �
   pub begins : Begins order values content tail
   pub body_is : body ≡ drop (gap 8 (12 + length begins.fields)) tail
 
--- the content of a message in this byte order. Octets behind the fields of CancelRequest, LocateRequest, CloseConnection
--- and MessageError belong to the message and are passed over.
+-- the content of a message in this byte order; CancelRequestHeader and LocateReplyHeader_1_2 are numbers alone. Octets behind the fields of CancelRequest, LocateRequest, CloseConnection
+-- and MessageError belong to the message and are passed over (our profile).
 abbrev pub IsContent : Order → Message → List ℕ → Type 0
 IsContent order (messages.Request r) content = (values : List Value) × IsRequest r values × HasBody order values r.body content × (r.order ≡ order)
 IsContent order (messages.Reply r) content = (values : List Value) × IsReply r values × HasBody order values r.body content × (r.order ≡ order)

@@ -1,4 +1,6 @@
--- How many octets a message has behind its header, by the sizes of its values alone, and what refuses it first.
+-- How many octets a message has behind its header, by the sizes of its values alone, and what refuses it first (our
+-- profile). The fields in front of a Request's key end at offset 22, those of a LocateRequest's at 18; two numbers behind the
+-- header end at 20, and one at 16.
 use Rattle.std.specs.Prelude.{ℕ, ◌+◌, ◌-◌, nat_lt, List, [], ◌∷◌, length, Result, Ok, Err, if◌then◌else◌}
 use Rattle.cdr_values.specs.declared.fault.CdrFault.TheVariants as cdr
 use Rattle.cdr_values.specs.Value.{Value, Octet, Boolean, UShort, ULong, ULongLong, OctetSequence, Text, Aligned, alignment, gap, has_nul}

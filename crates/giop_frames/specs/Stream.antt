@@ -1,5 +1,5 @@
--- Streams of messages (GIOP 1.2, Fragment): parts one after another, each judged by the parts before it. Where parts are
--- in a list, the newest stands first.
+-- Streams of messages (CORBA, GIOP Message Formats, Fragment Message): parts one after another, each judged by the parts
+-- before it. Where parts are in a list, the newest stands first.
 use Rattle.std.specs.Prelude.{◌≡◌, ◌≢◌, ◌⊎◌, ℕ, ◌+◌, ◌-◌, ◌^◌, ◌%◌, ◌≤◌, ◌<◌, ◌==◌, nat_le, nat_lt, min, Bool, true, false, ◌||◌, ◌&&◌, not, List, [], ◌∷◌, ◌++◌, length, take, drop, find, Option, Some, None, is_some, Result, Ok, Err, if◌then◌else◌}
 use Rattle.std.specs.List.{position_or_len}
 use Rattle.cdr_values.specs.declared.fault.CdrFault.TheVariants as cdr
@@ -35,7 +35,8 @@ may_be_fragmented kinds.CloseConnection = false
 may_be_fragmented kinds.MessageError = false
 may_be_fragmented _ = true
 
--- the "more fragments" bit stands where it can: on such a type, and where the part's length is a multiple of 8 (our profile)
+-- the "more fragments" bit stands where it can: on such a type, and where the part's length is a multiple of 8, as it has
+-- to be but for a message's last part; that another length is refused is our profile
 abbrev pub may_go_on : Header → Bool
 may_go_on header = may_be_fragmented header.kind && ((12 + header.size) % 8 == 0)
 
@@ -72,7 +73,7 @@ abbrev pub offset : List Part → ℕ
 offset [] = 0
 offset (p ∷ older) = min (offset older + (12 + p.header.size)) (2 ^ 64 - 1)
 
--- the request_id with which the content of a Fragment, and of each first part, begins
+-- the request_id with which the content of a Fragment (FragmentHeader_1_2), and of each first part, begins
 abbrev pub id_of : Part → ℕ
 id_of p = number_in p.header.order 4 (take 4 p.content)
 

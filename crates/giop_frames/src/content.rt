@@ -5,8 +5,9 @@ ghost use Rattle.giop_frames.specs.Skim.{Passes};
 ghost use Rattle.giop_frames.specs.Content.{key_at, profile_at, profiles_at, reference_at, target_at, context_at, each_context_at, contexts_at, body_at, reserved_at, request_at, reply_at, locate_at, located_at, message_of};
 
 use crate::fault::{CONTEXT_LIMIT, FrameFault, KEY_LIMIT, SIZE_LIMIT};
-use crate::header::{HEADER_LENGTH, Kind};
+use crate::header::{HEADER_LENGTH, Kind, behind};
 use crate::message::{Contexts, Locate, Located, Message, Reply, Request, ServiceContext, Target};
+use crate::sizes::gap_before;
 use cdr_values::{CdrFault, Order, Reader};
 use ots_model::Octets;
 use std::alloc::Global;
@@ -199,15 +200,8 @@ fn read_contexts(alloc: Global, reader: &mut Reader) -> Result<Contexts, FrameFa
 fn read_body(alloc: Global, reader: &Reader) -> Result<Octets, FrameFault>
     ensures { Finds (λ body. body) result (Ok (body_at reader.now)) }
 {
-    let octets = reader.rest();
-    let gap = (8 - reader.place() % 8) % 8;
-    let gap = gap as usize;
-    let body: &[u8] = if octets.len() <= gap {
-        &[]
-    } else {
-        &octets[gap..]
-    };
-    Ok(Octets::new(alloc, body)?)
+    let gap = gap_before(8, reader.place() as usize);
+    Ok(Octets::new(alloc, behind(reader.rest(), gap))?)
 }
 
 /// A limit of this profile is passed at the place.

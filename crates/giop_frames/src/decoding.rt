@@ -14,7 +14,9 @@ use std::alloc::Global;
 /// A message, and how many octets spell it.
 #[derive(Debug, Drop)]
 pub struct Decoded {
+    /// The message.
     pub message: Message,
+    /// How many octets it has, with its header.
     pub used: u32,
 }
 
@@ -37,7 +39,7 @@ fn decode_front(alloc: Global, bytes: &[u8]) -> Result<Decoded, FrameFault>
     ensures { Finds (λ d. (d.message, d.used)) result (decoded bytes.now) }
 {
     let header = read_header(bytes)?;
-    if header.is_fragment() {
+    if header.is_fragmented() {
         return Err(FrameFault::BadFragment);
     }
     let used = HEADER_LENGTH + header.size as usize;

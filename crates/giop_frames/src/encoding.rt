@@ -15,8 +15,8 @@ use std::alloc::{AllocError, Global};
 
 const PADDING: [u8; 8] = [0; 8];
 
-/// Appends the octets of the message to `into`, with padding 0, in the byte order of its body; a message without a body
-/// is written big endian. The fields are tried from the left: a target other than a key is NotWritten, a key of more
+/// Appends the octets of the message to `into`, with padding 0: a Request or a Reply in its own byte order, a message of
+/// another type big endian. The fields are tried from the left: a target other than a key is NotWritten, a key of more
 /// than 256 octets is TooLong, an operation that holds a NUL BadString, and more than 16 contexts are TooLong, each in a
 /// Body at the field's place. Where more than 65,536 octets would stand behind the header, it is TooLarge. After a
 /// refusal `into` is as it was.

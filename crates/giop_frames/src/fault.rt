@@ -29,10 +29,15 @@ pub enum FrameFault {
     BadFragment,
     /// A field is not spelled. The place is its offset from the header's first octet, fragments being joined. More than
     /// 16 contexts and a key above 256 octets are TooLong.
-    Body { place: u32, cdr: CdrFault },
-    /// The octets end before the message does.
+    Body {
+        /// The offset of the field.
+        place: u32,
+        /// The fault of the field.
+        cdr: CdrFault,
+    },
+    /// The octets end before the message does. `decode` alone answers it; a stream waits.
     Short,
-    /// A target that is written by no message of this service: ProfileAddr or ReferenceAddr.
+    /// A ProfileAddr or a ReferenceAddr, which `encode` doesn't write.
     NotWritten,
     /// Memory ran out.
     Memory,

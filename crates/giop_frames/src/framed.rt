@@ -10,5 +10,6 @@ pub struct Framed {
     pub order: Order,
     /// How many octets stand behind the header in the first part.
     pub size: u32,
+    /// The message itself.
     pub message: Message,
 }

@@ -74,8 +74,8 @@ pub struct Header {
 }
 
 impl Header {
-    /// Whether the part is only a piece of a message.
-    pub fn is_fragment(&self) -> bool
+    /// Whether a message has other parts beside this one.
+    pub fn is_fragmented(&self) -> bool
         ensures { result ≡ (self.now.more || is_fragment self.now.kind) }
     {
         self.more || matches!(self.kind, Kind::Fragment)
@@ -100,7 +100,7 @@ pub fn read_header(octets: &[u8]) -> Result<Header, FrameFault>
     if octets.len() < HEADER_LENGTH {
         return Err(FrameFault::Short);
     }
-    let order = order_of(octets[6]);
+    let order = order_of_flags(octets[6]);
     let size = size_in(order, &octets[8..12]);
     if size as usize > SIZE_LIMIT {
         return Err(FrameFault::TooLarge(size));
@@ -131,7 +131,7 @@ pub fn behind(octets: &[u8], n: usize) -> &[u8]
     if octets.len() < n { &[] } else { &octets[n..] }
 }
 
-fn order_of(flags: u8) -> Order
+fn order_of_flags(flags: u8) -> Order
     ensures { result ≡ order_of_flags flags }
 {
     if flags % 2 == 1 {

@@ -2,16 +2,19 @@ use cdr_values::Order;
 use ots_model::Octets;
 use std::marker::Model;
 
-/// A message (GIOP 1.2, message formats). A field that isn't here, as the reserved octets of a Request, is passed over
+/// A message (CORBA, GIOP Message Formats, version 1.2). A field that isn't here, as the reserved octets of a Request, is passed over
 /// when a message is read.
 #[derive(Debug, Drop)]
 pub enum Message {
+    /// Request: an operation of an object is asked for.
     Request(Request),
+    /// Reply: the answer to a Request.
     Reply(Reply),
-    /// CancelRequest, with the number of the request.
+    /// CancelRequest, with the request_id.
     Cancel(u32),
-    /// LocateRequest.
+    /// LocateRequest: an object is looked for.
     Locate(Locate),
+    /// LocateReply: the answer to a LocateRequest.
     LocateReply(Located),
     /// CloseConnection.
     Close,
@@ -65,7 +68,8 @@ pub struct Located {
     pub id: u32,
     /// The locate_status, any number.
     pub status: u32,
-    /// What stands behind the status.
+    /// What stands behind the status, as it stands. The byte order isn't kept: whoever reads values in it has it from
+    /// elsewhere.
     pub rest: Octets,
 }
 
@@ -80,10 +84,12 @@ pub enum Target {
     Reference,
 }
 
-/// A service context: who it is for, and its octets.
+/// A service context (ServiceContext of IOP).
 #[derive(Debug, Drop)]
 pub struct ServiceContext {
+    /// The context_id: which service it is for.
     pub id: u32,
+    /// The context_data, not looked at.
     pub bytes: Octets,
 }
 

@@ -83,9 +83,12 @@ impl Stream {
         ensures message { IfOk result (λ found. IfSome found (λ m. (octets : List ℕ) (messages : List Given) → Holds octets messages self.old → (framed : Given) × (framed.message ≡ m) × Holds octets (messages ++ framed ∷ []) self.new)) }
         ensures nothing { result ≡ Ok None → (octets : List ℕ) (messages : List Given) → Holds octets messages self.old → Holds octets messages self.new × IsStream messages self.new.rest octets }
         ensures refused { IfErr result (λ fault. (fault ≡ FrameFault.Memory) ⊎ ((octets : List ℕ) (messages : List Given) → Holds octets messages self.old → IsRefused messages self.new.place fault octets)) }
-        ensures memory { result ≡ Err FrameFault.Memory → (octets : List ℕ) (messages : List Given) → Holds octets messages self.old → Holds octets messages self.new }
+        ensures keeps { OnErr result ((octets : List ℕ) (messages : List Given) → Holds octets messages self.old → Holds octets messages self.new) }
         ensures remembered { IfErr result (λ fault. (fault ≡ FrameFault.Memory) ⊎ (self.new.refused ≡ Some fault)) }
         ensures again { IfSome self.old.refused (λ fault. (result ≡ Err fault) × (self.new ≡ self.old)) }
+        ensures accepts { OnOk result (self.new.refused ≡ None) }
+        ensures partial { result ≡ Ok None → part_at self.new.rest ≡ Err FrameFault.Short }
+        ensures shorter { IfOk result (λ found. IsSome found → length self.new.rest < length self.old.rest) }
     {
         let Some(framed) = self.next_framed()? else {
             return Ok(None);
@@ -99,7 +102,7 @@ impl Stream {
         ensures message { IfOk result (λ found. IfSome found (λ m. (octets : List ℕ) (messages : List Given) → Holds octets messages self.old → Holds octets (messages ++ m ∷ []) self.new)) }
         ensures nothing { result ≡ Ok None → (octets : List ℕ) (messages : List Given) → Holds octets messages self.old → Holds octets messages self.new × IsStream messages self.new.rest octets }
         ensures refused { IfErr result (λ fault. (fault ≡ FrameFault.Memory) ⊎ ((octets : List ℕ) (messages : List Given) → Holds octets messages self.old → IsRefused messages self.new.place fault octets)) }
-        ensures memory { result ≡ Err FrameFault.Memory → (octets : List ℕ) (messages : List Given) → Holds octets messages self.old → Holds octets messages self.new }
+        ensures keeps { OnErr result ((octets : List ℕ) (messages : List Given) → Holds octets messages self.old → Holds octets messages self.new) }
         ensures remembered { IfErr result (λ fault. (fault ≡ FrameFault.Memory) ⊎ (self.new.refused ≡ Some fault)) }
         ensures again { IfSome self.old.refused (λ fault. (result ≡ Err fault) × (self.new ≡ self.old)) }
         ensures accepts { OnOk result (self.new.refused ≡ None) }
@@ -133,7 +136,8 @@ impl Stream {
         }
     }
 
-    /// Whether octets of a message are held that isn't whole.
+    /// Whether octets are held that were not given as a message. Once `next` has given nothing, these are octets of messages
+    /// that aren't whole.
     pub fn unfinished(&self) -> bool
         ensures { IsTrue result ↔ IsUnfinished self.now }
     {

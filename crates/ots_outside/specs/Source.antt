@@ -15,7 +15,3 @@ pub record Gives (left : List ℕ) (places n : ℕ) (piece : List ℕ) (after : 
   pub rest : after ≡ Some (drop n left)
   -- nothing comes only at the end, or where there is no place
   pub end : n ≡ 0 → 0 < places → left ≡ []
-
--- what a source tells of itself is as it was
-abbrev pub IsUntouched : Option (List ℕ) → Option (List ℕ) → Type 0
-IsUntouched before after = after ≡ before

@@ -14,12 +14,6 @@ use Rattle.ots_program.specs.Playing.{Turns, GoesOn, StopsWithin, stop_by, lines
 use Rattle.ots_program.specs.Replay.{Place, Goes, Stops, Ending, Limited, turn_by}
 use Rattle.ots_program.proofs.Told.{Tells-none}
 
--- the world moved on
-pub GoesOn-moved : (p : Place) (event : ScriptEvent) (old now : Standing) (before after : List ℕ) → old ≡ Ok p.world → stands.Moved old event now before after → GoesOn (turn_by p (step event p.world)) now before after
-GoesOn-moved p event old now before after is h =
-    let e : step event p.world ≡ Moves h.to = cc (h.moves, h.was, is) in
-    record { world = h.to.world; lines = h.to.lines; goes = rw (e, le-ltb MESSAGE_LIMIT (length h.to.world.board.messages) h.within) refl; stands = h.now; told = h.told }
-
 lines_of-either : (b : Bool) (to : Step) (ending : Ending) → lines_of (cond b (Stops ending to.lines) (Goes to.world to.lines)) ≡ to.lines
 lines_of-either true to ending = refl
 lines_of-either false to ending = refl

@@ -102,10 +102,6 @@ pub Runs-memory : (script : Option (List ℕ)) (player : Player) (now before aft
 Runs-memory None player now before after h = tt
 Runs-memory (Some all) player now before after h = Halts-memory _ _ before after h.advances
 
-pub Halts-start : (script taken : Option (List ℕ)) → IfSome script (λ all. Halts statuses.Memory (replay all) taken taken)
-Halts-start None taken = tt
-Halts-start (Some all) taken = Halts-memory _ _ taken taken (Advances-none (replay all) taken)
-
 -- counts of faults never fall
 pub HasRisen-later : (before mid after : ℕ) → before ≤ mid → mid ≤ after → HasRisen mid after → HasRisen before after
 HasRisen-later before mid after early late (inl h) = inl (omega arith)

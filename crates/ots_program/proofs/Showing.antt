@@ -65,15 +65,6 @@ telling_more old now next piece told more m t gives written accepts = record {
   accepts = accepts;
 }
 
-pub telling_end : (old now next : Held) (piece told : List ℕ) → Telling old now piece told → ((octets : List ℕ) (given : List Framed) → Holds octets given now → Holds octets given next) → part_at next.rest ≡ Err faults.Short → next.refused ≡ None → TellsPiece old next piece told
-telling_end old now next piece told t keeps partial accepts = record {
-  messages = t.messages;
-  holds = λ octets given h. keeps (octets ++ piece) (given ++ t.messages) (t.holds octets given h);
-  told_is = t.told_is;
-  partial = partial;
-  accepts = accepts;
-}
-
 -- memory ran out
 pub telling_memory : (old now : Held) (piece told : List ℕ) → Telling old now piece told → TellsBreak statuses.Memory old piece told
 telling_memory old now piece told t = record {
@@ -123,9 +114,6 @@ telling_refused old now next piece told faults.Memory t r m = telling_memory old
 
 -- ---- a piece and the sink
 
-pub piece_shown : (old new : Held) (piece told : List ℕ) (before after : Option (List ℕ)) → TellsPiece old new piece told → Takes before told after → TookPiece old new piece before after
-piece_shown old new piece told before after t taken = record { messages = t.messages; holds = t.holds; taken = subst (λ (x : List ℕ). Takes before x after) t.told_is taken; partial = t.partial; accepts = t.accepts }
-
 whole_front : (taken told : List ℕ) (after : Option (List ℕ)) → after ≡ Some (taken ++ told) → (n : ℕ) × (after ≡ Some (taken ++ take n told))
 whole_front taken told after e = (length told, e ∙ ap (λ (x : List ℕ). Some (taken ++ x)) (sym (take_all (length told) told (omega arith))))
 
@@ -143,9 +131,6 @@ writes_whole statuses.Memory messages taken after e = whole_front taken (sights 
 written : (status : Status) (messages : List Framed) (told : List ℕ) (before after : Option (List ℕ)) → told ≡ sights messages → Takes before told after → IfSome before (λ taken. WritesSights status messages taken after)
 written status messages told None after e t = tt
 written status messages told (Some taken) after e t = writes_whole status messages taken after (t ∙ ap (λ (x : List ℕ). Some (taken ++ x)) e)
-
-pub break_shown : (status : Status) (old : Held) (piece told : List ℕ) (before after : Option (List ℕ)) → TellsBreak status old piece told → Takes before told after → BrokeOff status old piece before after
-break_shown status old piece told before after t taken = record { messages = t.messages; stops = t.stops; ends = t.ends; writes = written status t.messages told before after t.told_is taken }
 
 refused_begun : (messages : List Framed) (place : ℕ) (fault : FrameFault) (octets : List ℕ) → IsRefused messages place fault octets → IsBegun messages octets
 refused_begun messages place fault octets r = record { parts = r.parts; rest = r.rest; splits = r.splits }
@@ -259,12 +244,6 @@ ended_whole (Some octets) left next before now h places n room s gives none plac
     let whole : IsWhole s.messages octets = subst (λ (x : List ℕ). IsWhole s.messages x) (sym all.0) (ends s.read s.messages s.holds) in
     told statuses.Done octets s.messages before now whole (written statuses.Done s.messages (sights s.messages) before now refl s.taken)
 
--- the source was read to its end
-pub ended_read : (script left next before now : Option (List ℕ)) (h : Held) (places n : ℕ) (room : List ℕ) → IfSome script (λ octets. Showing octets left before now h) → IfSome left (λ l. Gives l places n room next) → n ≡ 0 → 0 < places
-    → IfSome script (λ octets. next ≡ Some [])
-ended_read None left next before now h places n room s gives none place = tt
-ended_read (Some octets) left next before now h places n room s gives none place = (nothing_left octets left next before now h places n room s gives none place).1
-
 -- the source ended inside a message
 pub ended_cut : (status : Status) (script left next before now : Option (List ℕ)) (h : Held) (places n : ℕ) (room : List ℕ) → IfSome script (λ octets. Showing octets left before now h) → IfSome left (λ l. Gives l places n room next) → n ≡ 0 → 0 < places → EndsCut h status
     → IfSome script (λ octets. ShowsTold status octets before now)
@@ -280,16 +259,6 @@ ended_cut (statuses.BadMessage at fault) (Some octets) left next before now h pl
     let all = nothing_left octets left next before now h places n room s gives none place in
     let cut : IsCut s.messages at octets = subst (λ (x : List ℕ). IsCut s.messages at x) (sym all.0) (ends.1 s.read s.messages s.holds) in
     told (statuses.BadMessage at fault) octets s.messages before now (inr (ends.0, cut)) (written (statuses.BadMessage at fault) s.messages (sights s.messages) before now refl s.taken)
-
-pub cut_stops : (h : Held) (status : Status) → EndsCut h status → StopsShow status
-cut_stops h statuses.Done ends = absurd ends
-cut_stops h statuses.Usage ends = absurd ends
-cut_stops h (statuses.Script line) ends = absurd ends
-cut_stops h statuses.ReadFault ends = tt
-cut_stops h statuses.WriteFault ends = tt
-cut_stops h (statuses.Limit line number) ends = absurd ends
-cut_stops h statuses.Memory ends = tt
-cut_stops h (statuses.BadMessage at fault) ends = tt
 
 -- a law: octets that are refused are refused with more of them too
 abbrev pub RefusalGoesOn : Type 0
@@ -360,31 +329,7 @@ inside_parts : (h : Held) (messages : List Unfinished) → h.unfinished ≡ mess
 inside_parts h messages e (inl some) = inl (λ none. some (e ∙ none))
 inside_parts h messages e (inr rest) = inr rest
 
-pub ends_cut : (h : Held) (place : ℕ) → IsUnfinished h → h.refused ≡ None → part_at h.rest ≡ Err faults.Short → place ≡ place_of h → EndsCut h (statuses.BadMessage place faults.Short)
-ends_cut h place inside accepts partial is = (
-  refl,
-  λ octets messages holds. record {
-    parts = holds.parts;
-    rest = h.rest;
-    splits = holds.splits;
-    partial = partial;
-    inside = inside_parts h (unfinished holds.parts) holds.unfinished_are inside;
-    place_is = is ∙ ap (λ (r : Option FrameFault). place_by h.place r h.unfinished) accepts ∙ rw (holds.unfinished_are, holds.place_is) refl;
-  },
-)
-
 -- ---- statuses
-
-pub own_status : (place : ℕ) (fault : FrameFault) → OfPiece (status_by place fault)
-own_status place faults.BadMagic = tt
-own_status place faults.BadVersion = tt
-own_status place faults.BadType = tt
-own_status place (faults.TooLarge n) = tt
-own_status place faults.BadFragment = tt
-own_status place (faults.Body at cdr) = tt
-own_status place faults.Short = tt
-own_status place faults.NotWritten = tt
-own_status place faults.Memory = tt
 
 pub not_read : (status : Status) → OfPiece status → status ≢ statuses.ReadFault
 not_read statuses.Memory own e = cc

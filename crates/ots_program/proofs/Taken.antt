@@ -42,10 +42,6 @@ pub Advances-trans : (r s t : Replay) (before mid after : Option (List ℕ)) →
 Advances-trans r s t before mid after h k =
     record { lines = h.lines ++ k.lines; whole = rw (h.whole, k.whole, append_assoc) refl; taken = rw (text_of-append h.lines k.lines) (Takes-trans (text_of h.lines) (text_of k.lines) before mid after h.taken k.taken) }
 
--- the output was written
-pub Advances-written : (r s : Replay) (told : List ℕ) (before after : Option (List ℕ)) → Passes r s [] told → Takes before told after → Advances r s before after
-Advances-written r s told before after h k = record { lines = h.lines; whole = h.whole; taken = rw h.told at k }
-
 -- the output was written in part
 pub Halts-write : (r : Replay) (told : List ℕ) (before after : Option (List ℕ)) → IsFront told r → TakesPart before told after → Halts statuses.WriteFault r before after
 Halts-write r told before after front h = record { early = tt; tells = tt; writes = TakesFront-part told r before after front h }
@@ -112,9 +108,6 @@ Halts-advanced status r s before mid after h k =
 pub Completes-advanced : (r s : Replay) (before mid after : Option (List ℕ)) → Advances r s before mid → Completes s mid after → Completes r before after
 Completes-advanced r s before mid after h k =
     rw h.whole (record { ending = k.ending; taken = rw (text_of-append h.lines s.lines) (Takes-trans (text_of h.lines) (text_of s.lines) before mid after h.taken k.taken) })
-
-pub Completes-ended : (r : Replay) (told : List ℕ) (before after : Option (List ℕ)) → Ends r [] told → Takes before told after → Completes r before after
-Completes-ended r told before after h k = record { ending = h.ending; taken = rw h.told at k }
 
 -- the output of a piece was written in part
 pub Halts-fed : (result : Result (Unit {0}) Stop) (player next : Player) (piece output told rest : List ℕ) (before after : Option (List ℕ)) → output ≡ []

@@ -13,4 +13,4 @@ returns-in_err-message c =
     let bytes = c.args.bytes.now in
     let same : 12 + h.size - 12 ≡ h.size = omega arith in
     rw (p.1, p.2) (fails_on c.in_err-message.field-0.0 (message_of h.order h.kind (take (12 + h.size - 12) (drop 12 bytes))) (decoded bytes)
-    (λ e. decoded_fault bytes h _ (sym c.in_ok-header.ensures.header) (sym c.is_fragment.ensures ∙ c.if-is_fragment.false) (omega arith) (rw same at e)) c.in_err-message.ensures)
+    (λ e. decoded_fault bytes h _ (sym c.in_ok-header.ensures.header) (sym c.is_fragmented.ensures ∙ c.if-is_fragmented.false) (omega arith) (rw same at e)) c.in_err-message.ensures)

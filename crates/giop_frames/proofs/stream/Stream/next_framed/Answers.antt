@@ -1,5 +1,5 @@
 use Rattle.std.proofs.Common.{◌∙◌, inl, inr, arith}
-use Rattle.giop_frames.proofs.Holding.{holds_part, holds_piece, holds_stream, refused_by, shorter}
+use Rattle.giop_frames.proofs.Holding.{holds_part, holds_piece, holds_stream, kept_by, refused_by, shorter}
 use Rattle.giop_frames.proofs.stream.Stream.next_framed.Goals as goal
 
 pub returns-in-Ok-Nothing-clause-nothing : goal.returns-in-Ok-Nothing-clause-nothing
@@ -39,3 +39,7 @@ pub returns-in-Ok-Nothing-clause-partial : goal.returns-in-Ok-Nothing-clause-par
 returns-in-Ok-Nothing-clause-partial c e =
     let t = rw c.in-Ok-Nothing.field-0-is at c.in-Ok-Nothing.ensures in
     rw t.0 t.1
+
+pub returns-in-Err-clause-keeps : goal.returns-in-Err-clause-keeps
+returns-in-Err-clause-keeps c octets messages h =
+    kept_by octets messages c.loop-framed.self c.take_part.new.self c.remember.new.self c.in-Err.fault c.in-Err.ensures c.remember.ensures (c.loop-framed.invariant.goes_on octets messages h)
