@@ -16,3 +16,4 @@ pub mod Judging
 pub mod Holding
 pub mod Further
 pub mod Cuts
+pub mod Joining

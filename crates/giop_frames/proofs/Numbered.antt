@@ -49,16 +49,16 @@ numbered_at id messages i d at = find_at (λ u. u.id == id) messages ∙ ap (sli
 
 -- ---- one step of a list
 
-extended_here : (id : ℕ) (octets : List ℕ) (u : Unfinished) (others : List Unfinished) → (u.id == id) ≡ true → extended id octets (u ∷ others) ≡ (record u { content = u.content ++ octets }) ∷ others
+pub extended_here : (id : ℕ) (octets : List ℕ) (u : Unfinished) (others : List Unfinished) → (u.id == id) ≡ true → extended id octets (u ∷ others) ≡ (record u { content = u.content ++ octets }) ∷ others
 extended_here id octets u others e = rw e refl
 
-extended_on : (id : ℕ) (octets : List ℕ) (u : Unfinished) (others : List Unfinished) → (u.id == id) ≡ false → extended id octets (u ∷ others) ≡ u ∷ extended id octets others
+pub extended_on : (id : ℕ) (octets : List ℕ) (u : Unfinished) (others : List Unfinished) → (u.id == id) ≡ false → extended id octets (u ∷ others) ≡ u ∷ extended id octets others
 extended_on id octets u others e = rw e refl
 
-without_here : (id : ℕ) (u : Unfinished) (others : List Unfinished) → (u.id == id) ≡ true → without id (u ∷ others) ≡ others
+pub without_here : (id : ℕ) (u : Unfinished) (others : List Unfinished) → (u.id == id) ≡ true → without id (u ∷ others) ≡ others
 without_here id u others e = rw e refl
 
-without_on : (id : ℕ) (u : Unfinished) (others : List Unfinished) → (u.id == id) ≡ false → without id (u ∷ others) ≡ u ∷ without id others
+pub without_on : (id : ℕ) (u : Unfinished) (others : List Unfinished) → (u.id == id) ≡ false → without id (u ∷ others) ≡ u ∷ without id others
 without_on id u others e = rw e refl
 
 place_here : (id : ℕ) (u : Unfinished) (others : List Unfinished) → (u.id == id) ≡ true → position_or_len (λ u. u.id == id) (u ∷ others) ≡ 0

@@ -105,6 +105,27 @@ abbrev pub unfinished : List Part → List Unfinished
 unfinished [] = []
 unfinished (p ∷ older) = after (offset older) p (unfinished older)
 
+-- a message with more octets, where there is one
+abbrev pub with_octets : List ℕ → Option Unfinished → Option Unfinished
+with_octets octets None = None
+with_octets octets (Some u) = Some (record u { content = u.content ++ octets })
+
+-- the message that goes on behind this Fragment of it, by how far it came before: the last Fragment ends it
+abbrev pub continued : Part → Option Unfinished → Option Unfinished
+continued p before = if p.header.more then with_octets (drop 4 p.content) before else None
+
+-- the message that goes on behind this part, which is no Fragment: the part begins it, or is a whole message and changes nothing
+abbrev pub begun : ℕ → Part → Option Unfinished → Option Unfinished
+begun place p before = if p.header.more then Some (record { id = id_of p; place = place; header = p.header; content = p.content }) else before
+
+-- the message of this request_id that goes on behind these parts: its newest first part, and the octets of each Fragment
+-- of that request_id since. Parts of other request_ids are passed over.
+abbrev pub going_on : ℕ → List Part → Option Unfinished
+going_on id [] = None
+going_on id (p ∷ older) =
+    if not (id_of p == id) then going_on id older else (
+    if is_fragment p.header.kind then continued p (going_on id older) else begun (offset older) p (going_on id older))
+
 -- what a part says of messages: nothing that is whole yet, or a whole message; or it is refused
 abbrev pub Judgement : Type 0
 Judgement = Result (Option Framed) FrameFault

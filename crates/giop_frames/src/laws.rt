@@ -1,8 +1,11 @@
-ghost use Rattle.std.specs.Prelude.{◌≡◌, ℕ, List, ◌++◌};
-ghost use Rattle.giop_frames.specs.Message.{IsMessage};
-ghost use Rattle.giop_frames.specs.Stream.{IsCut, IsRefused, IsStream, IsWhole};
+ghost use Rattle.std.specs.Prelude.{◌≡◌, ℕ, List, ◌++◌, Ok};
+ghost use Rattle.cdr_values.specs.declared.order.Order.{Order};
+ghost use Rattle.giop_frames.specs.Content.{message_of};
+ghost use Rattle.giop_frames.specs.Message.{IsContent, IsMessage, kind_of};
+ghost use Rattle.giop_frames.specs.Stream.{Part, Splits, IsCut, IsRefused, IsStream, IsWhole, going_on, numbered, unfinished};
 ghost use Rattle.giop_frames.specs.declared.fault.FrameFault.{FrameFault};
 ghost use Rattle.giop_frames.specs.declared.framed.Framed.{Framed};
+ghost use Rattle.giop_frames.specs.declared.header.Kind.{Kind};
 ghost use Rattle.giop_frames.specs.declared.message.Message.{Message};
 
 use cdr_values::reading_is_exact;
@@ -32,4 +35,18 @@ pub fn a_refusal_stays()
 pub fn octets_end_in_one_way()
     ensures not_both { (messages others : List Framed) (place : ℕ) (octets : List ℕ) → IsWhole messages octets → IsCut others place octets → ⊥ }
     ensures one_end { (messages others : List Framed) (place elsewhere : ℕ) (octets : List ℕ) → IsCut messages place octets → IsCut others elsewhere octets → (messages ≡ others) × (place ≡ elsewhere) }
+{}
+
+/// A law: reading a content gives a message exactly where the octets are that message's content.
+pub fn a_message_is_its_content()
+    ensures found { (order : Order) (kind : Kind) (content : List ℕ) (m : Message) → message_of order kind content ≡ Ok m → (kind ≡ kind_of m) × IsContent order m content }
+    ensures only { (order : Order) (kind : Kind) (content : List ℕ) (m : Message) → kind ≡ kind_of m → IsContent order m content → message_of order kind content ≡ Ok m }
+{
+    reading_is_exact();
+}
+
+/// A law: the unfinished message of a request_id is told by the parts of that request_id alone, whatever parts stand
+/// between them.
+pub fn fragments_join_by_number()
+    ensures { (octets : List ℕ) (parts : List Part) (messages : List Framed) (rest : List ℕ) → Splits octets parts messages rest → (id : ℕ) → numbered id (unfinished parts) ≡ going_on id parts }
 {}
