@@ -1,18 +1,15 @@
 #!/usr/bin/env bash
-# Shows streams of about 1 MB and 32 MB of requests and replies, and prints octets per second and how the time per octet
-# grows. Run it anywhere; it builds the program first. Sizes in octets may be given as arguments.
+# Shows streams of about 1 MB and 32 MB of requests and replies, and streams of about 8 MB whose messages, of 2,000 up to
+# 64,000 octets, come in Fragments of 8 octets. Prints octets per second and how the time per octet grows. Run it
+# anywhere; it builds the program first. Sizes of the first streams in octets may be given as arguments.
 set -euo pipefail
 . "$(dirname "$0")/timing.sh"
 [ $# -gt 0 ] || set -- 1000000 32000000
 build show
 
-# A stream of about that many octets: again and again the recorded messages without the CloseConnection at their end,
-# requests and replies with small and large bodies in both byte orders, and a reply in three parts.
-stream() {
-  python3 - "$1" "$here/examples/recorded.giop" <<'PY'
+# What both kinds of streams are made of.
+parts=$(cat <<'PY'
 import struct, sys
-size = int(sys.argv[1])
-recorded = open(sys.argv[2], "rb").read()
 
 def part(order, more, kind, content):
     flags = (order == "<") + 2 * more
@@ -47,7 +44,15 @@ def reply_in_parts(order, id, body):
     first = with_contexts(order, struct.pack(order + "II", id, 0), [])
     number = struct.pack(order + "I", id)
     return part(order, True, 1, first) + part(order, True, 7, number + body[:half]) + part(order, False, 7, number + body[half:])
+PY
+)
 
+# A stream of about that many octets: again and again the recorded messages without the CloseConnection at their end,
+# requests and replies with small and large bodies in both byte orders, and a reply in three parts.
+mixed() {
+  python3 -c "$parts"'
+size = int(sys.argv[1])
+recorded = open(sys.argv[2], "rb").read()
 messages = [recorded[:-12]]
 id = 100
 for order in "<", ">":
@@ -60,15 +65,54 @@ for order in "<", ">":
 round = b"".join(messages)
 for _ in range(max(1, size // len(round))):
     sys.stdout.buffer.write(round)
-PY
+' "$1" "$here/examples/recorded.giop"
 }
 
-rows show stream "$@" | python3 -c '
+# A stream of about 8 MB of requests of about that many octets, each in Fragments of 8 octets: a long operation, a long
+# context and a body; and a target with many profiles.
+fragments() {
+  python3 -c "$parts"'
+size = int(sys.argv[1])
+
+def in_parts(content):
+    number = content[:4]
+    first, rest = content[:28], content[28:]
+    pieces = [rest[i:i + 8] for i in range(0, len(rest), 8)]
+    yield part("<", True, 0, first)
+    for piece in pieces[:-1]:
+        yield part("<", True, 7, number + piece)
+    yield part("<", False, 7, number + pieces[-1])
+
+def profiles(count):
+    content = struct.pack("<IB3xH", 1, 3, 2)
+    content = aligned(4, content) + struct.pack("<I", 0)
+    content = counted("<", content, b"IDL:x:1.0\0")
+    content = aligned(4, content) + struct.pack("<I", count)
+    return content + struct.pack("<II", 9, 0) * count
+
+third = size // 3
+long = counted("<", counted("<", struct.pack("<IB3xH", 1, 3, 0), b"key"), bytes([97]) * third + b"\0")
+long = with_body(with_contexts("<", long, [(1, bytes(third))]), bytes(third))
+many = with_contexts("<", counted("<", profiles(size // 8), b"op\0"), [])
+round = b"".join(b"".join(in_parts(content)) for content in (long, many))
+for _ in range(max(1, 8000000 // len(round))):
+    sys.stdout.buffer.write(round)
+' "$1"
+}
+
+report() {
+  python3 -c '
 import sys
 rows = [tuple(map(int, line.split())) for line in sys.stdin]
-for _, octets, took, shown in rows:
-    print(f"{octets:>10} octets, {shown:>7} messages: {took / 1e6:8.1f} ms, {octets / took * 1e9:14,.0f} octets per second")
-(_, first, first_took, _), (_, last, last_took, _) = rows[0], rows[-1]
+for size, octets, took, shown in rows:
+    print(f"{size:>10} {octets:>10} octets, {shown:>7} messages: {took / 1e6:8.1f} ms, {octets / took * 1e9:14,.0f} octets per second")
+(first_size, first, first_took, _), (last_size, last, last_took, _) = rows[0], rows[-1]
 if len(rows) > 1:
-    print(f"ratio of the time per octet, {last:,} octets to {first:,}: {(last_took / last) / (first_took / first):.2f}")
+    print(f"ratio of the time per octet, {last_size:,} to {first_size:,}: {(last_took / last) / (first_took / first):.2f}")
 '
+}
+
+echo "Requests and replies, by the size of the stream:"
+rows show mixed "$@" | report
+echo "Messages in Fragments of 8 octets, by the size of a message:"
+rows show fragments 2000 16000 64000 | report
