@@ -1,13 +1,11 @@
-ghost use Rattle.std.specs.Prelude.{◌<◌, ◌^◌, ◌≡◌, []};
-ghost use Rattle.giop_frames.specs.Encode.{octets_in};
+ghost use Rattle.std.specs.Prelude.{◌<◌, ◌≤◌, ◌^◌, ◌+◌, ◌≡◌, [], IfOk, length};
+ghost use Rattle.giop_frames.specs.Encode.{octets_in, octets_in_contexts};
 
-use super::writing::{reply, request};
-use crate::{
-    Contexts, FrameFault, Locate, Message, Request, ServiceContext, Target, decode, encode,
-};
+use super::writing::{reply, request, with_contexts, write};
+use crate::{Contexts, FrameFault, Locate, Message, ServiceContext, Target, decode};
 use cdr_values::CdrFault;
 use ots_model::Octets;
-use std::alloc::Global;
+use std::alloc::{AllocError, Global};
 use std::process::Abort;
 use std::test::Fail;
 
@@ -102,38 +100,77 @@ fn not_written(
     requires { octets_in message.now < 2 ^ 31 }
 {
     let mut into = b"before".to_vec(alloc)?;
-    assert_eq!(rt; encode(alloc, message, &mut into).err(), Some(fault));
+    assert_eq!(rt; write(alloc, message, &mut into).err(), Some(fault));
     assert_eq!(rt; into.as_slice(), b"before".as_slice());
     Ok(())
 }
 
+/// A Request with this key and this operation isn't written.
+fn request_not_written(
+    rt: &impl Abort,
+    alloc: Global,
+    key: &[u8],
+    operation: &[u8],
+    fault: FrameFault,
+) -> Result<(), Fail>
+    requires { length key.now + length operation.now < 2 ^ 31 }
+{
+    let message = Message::Request(request(alloc, 4, key, operation, b"")?);
+    not_written(rt, alloc, &message, fault)
+}
+
 #[test]
-fn targets_and_operations_are_not_written(rt: HostRuntime) -> Result<(), Fail> {
+fn profiles_are_not_written(rt: HostRuntime) -> Result<(), Fail> {
     let target = Target::Profile;
     let profile = Message::Locate(Locate { id: 4, target });
-    not_written(&rt, rt.alloc(), &profile, FrameFault::NotWritten)?;
-    let longer = Message::Request(request(rt.alloc(), 4, &[7; 257], b"commit", b"")?);
-    not_written(&rt, rt.alloc(), &longer, too_long(22, 257))?;
-    let operation = Message::Request(request(rt.alloc(), 4, b"", b"com\0mit", b"")?);
-    not_written(
-        &rt,
-        rt.alloc(),
-        &operation,
-        field(28, CdrFault::BadString(28)),
-    )
+    not_written(&rt, rt.alloc(), &profile, FrameFault::NotWritten)
+}
+
+#[test]
+fn longer_keys_and_operations_with_nul_are_not_written(rt: HostRuntime) -> Result<(), Fail> {
+    let a = rt.alloc();
+    request_not_written(&rt, a, &[7; 257], b"commit", too_long(22, 257))?;
+    request_not_written(&rt, a, b"", b"com\0mit", field(28, CdrFault::BadString(28)))
+}
+
+/// A Reply with this body isn't written.
+fn reply_not_written(
+    rt: &impl Abort,
+    alloc: Global,
+    body: &[u8],
+    fault: FrameFault,
+) -> Result<(), Fail>
+    requires { length body.now < 2 ^ 31 }
+{
+    let message = reply(alloc, body)?;
+    not_written(rt, alloc, &message, fault)
+}
+
+/// The octets of a Reply with this body.
+fn reply_octets(alloc: Global, body: &[u8]) -> Result<Vec<u8>, Fail>
+    requires { length body.now < 2 ^ 31 }
+{
+    let message = reply(alloc, body)?;
+    let mut into = Vec::new(alloc);
+    write(alloc, &message, &mut into)?;
+    Ok(into)
+}
+
+/// A Reply with this body is written: 65,536 octets stand behind its header.
+fn check_largest(rt: &impl Abort, alloc: Global, body: &[u8]) -> Result<(), Fail>
+    requires { length body.now < 2 ^ 31 }
+{
+    let octets = reply_octets(alloc, body)?;
+    assert_eq!(rt; octets.len(), 65_548);
+    assert!(rt; octets.starts_with(b"GIOP\x01\x02\0\x01\0\x01\0\0"));
+    Ok(())
 }
 
 #[test]
 fn larger_messages_are_not_written(rt: HostRuntime) -> Result<(), Fail> {
     let body = vec![in rt.alloc(); 0; 65_525]?;
-    let large = reply(rt.alloc(), &body)?;
-    not_written(&rt, rt.alloc(), &large, FrameFault::TooLarge(65_537))?;
-    let largest = reply(rt.alloc(), &body[1..])?;
-    let mut into = Vec::new(rt.alloc());
-    encode(rt.alloc(), &largest, &mut into)?;
-    assert_eq!(rt; into.len(), 65_548);
-    assert!(rt; into.starts_with(b"GIOP\x01\x02\0\x01\0\x01\0\0"));
-    Ok(())
+    reply_not_written(&rt, rt.alloc(), &body, FrameFault::TooLarge(65_537))?;
+    check_largest(&rt, rt.alloc(), &body[1..])
 }
 
 /// A context of no octets.
@@ -146,9 +183,10 @@ fn empty(alloc: Global) -> ServiceContext
     }
 }
 
-#[test]
-fn more_contexts_are_not_written(rt: HostRuntime) -> Result<(), Fail> {
-    let a = rt.alloc();
+/// 17 contexts of no octets.
+fn contexts(a: Global) -> Result<Contexts, AllocError>
+    ensures { IfOk result (λ contexts. length contexts + octets_in_contexts contexts ≤ 1000) }
+{
     let contexts = vec![in a;
         empty(a),
         empty(a),
@@ -168,11 +206,13 @@ fn more_contexts_are_not_written(rt: HostRuntime) -> Result<(), Fail> {
         empty(a),
         empty(a),
     ]?;
-    let contexts = Contexts::from_vec(contexts);
-    let without = request(a, 4, b"", b"commit", b"")?;
-    let message = Message::Request(Request {
-        contexts,
-        ..without
-    });
-    not_written(&rt, a, &message, too_long(39, 17))
+    Ok(Contexts::from_vec(contexts))
+}
+
+#[test]
+fn more_contexts_are_not_written(rt: HostRuntime) -> Result<(), Fail> {
+    let contexts = contexts(rt.alloc())?;
+    let without = request(rt.alloc(), 4, b"", b"commit", b"")?;
+    let message = with_contexts(without, contexts);
+    not_written(&rt, rt.alloc(), &message, too_long(39, 17))
 }

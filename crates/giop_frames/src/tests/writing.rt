@@ -1,11 +1,11 @@
-ghost use Rattle.std.specs.Prelude.{◌≡◌, ◌+◌, ◌<◌, ◌^◌, IfOk, length};
-ghost use Rattle.giop_frames.specs.Encode.{octets_in};
+ghost use Rattle.std.specs.Prelude.{◌≡◌, ◌+◌, ◌<◌, ◌≤◌, ◌^◌, IfOk, length};
+ghost use Rattle.giop_frames.specs.Encode.{octets_in, octets_in_contexts};
 
 use super::octets;
 use super::vectors::{
     COMMIT_CONTEXT, COMMIT_KEY, COMMIT_REQUEST, PREPARE_KEY, PREPARE_REQUEST, ZERO_REPLY,
 };
-use crate::{Contexts, Message, Reply, Request, ServiceContext, Target, encode};
+use crate::{Contexts, FrameFault, Message, Reply, Request, ServiceContext, Target, encode};
 use cdr_values::Order;
 use ots_model::Octets;
 use std::alloc::{AllocError, Global};
@@ -46,43 +46,98 @@ pub fn reply(alloc: Global, body: &[u8]) -> Result<Message, AllocError>
     }))
 }
 
+/// The Request with these contexts.
+pub fn with_contexts(request: Request, contexts: Contexts) -> Message
+    ensures { octets_in result ≤ octets_in (Message.Request request) + length contexts + octets_in_contexts contexts }
+{
+    Message::Request(Request {
+        contexts,
+        ..request
+    })
+}
+
+/// Writes the message, without what the contract says of it: no test needs it.
+pub fn write(alloc: Global, message: &Message, into: &mut Vec<u8>) -> Result<(), FrameFault>
+    requires { octets_in message.now < 2 ^ 31 }
+{
+    encode(alloc, message, into)
+}
+
+/// What stands in a vector behind which the message was written.
+fn written(alloc: Global, message: &Message) -> Result<Vec<u8>, Fail>
+    requires { octets_in message.now < 2 ^ 31 }
+{
+    let mut into = b"before".to_vec(alloc)?;
+    write(alloc, message, &mut into)?;
+    Ok(into)
+}
+
+/// The octets that stood there, and what these words spell.
+fn wanted(rt: &impl Abort, alloc: Global, words: &str) -> Result<Vec<u8>, Fail> {
+    let mut wanted = b"before".to_vec(alloc)?;
+    wanted.extend_from_slice(&octets(rt, alloc, words)?)?;
+    Ok(wanted)
+}
+
 /// The message is written as these words, behind what stands there.
 fn check(rt: &impl Abort, alloc: Global, message: &Message, words: &str) -> Result<(), Fail>
     requires { octets_in message.now < 2 ^ 31 }
 {
-    let mut into = b"before".to_vec(alloc)?;
-    encode(alloc, message, &mut into)?;
-    let mut wanted = b"before".to_vec(alloc)?;
-    wanted.extend_from_slice(&octets(rt, alloc, words)?)?;
+    let into = written(alloc, message)?;
+    let wanted = wanted(rt, alloc, words)?;
     assert_eq!(rt; into, wanted);
     Ok(())
 }
 
+/// A Request of which these words spell the key.
+fn request_of(
+    rt: &impl Abort,
+    alloc: Global,
+    id: u32,
+    key: &str,
+    operation: &[u8],
+    body: &[u8],
+) -> Result<Request, Fail>
+    ensures { IfOk result (λ r. octets_in (Message.Request r) ≤ 1000 + length operation.now + length body.now) }
+{
+    let key = octets(rt, alloc, key)?;
+    Ok(request(alloc, id, &key, operation, body)?)
+}
+
 #[test]
 fn prepare_request_is_written(rt: HostRuntime) -> Result<(), Fail> {
-    let key = octets(&rt, rt.alloc(), PREPARE_KEY)?;
-    let message = Message::Request(request(rt.alloc(), 4, &key, b"prepare", b"")?);
-    check(&rt, rt.alloc(), &message, PREPARE_REQUEST)
+    let found = request_of(&rt, rt.alloc(), 4, PREPARE_KEY, b"prepare", b"")?;
+    check(&rt, rt.alloc(), &Message::Request(found), PREPARE_REQUEST)
 }
 
 #[test]
 fn zero_reply_is_written(rt: HostRuntime) -> Result<(), Fail> {
-    check(&rt, rt.alloc(), &reply(rt.alloc(), &[0; 4])?, ZERO_REPLY)
+    let found = reply(rt.alloc(), &[0; 4])?;
+    check(&rt, rt.alloc(), &found, ZERO_REPLY)
+}
+
+/// One context, which holds what these words spell.
+fn one_context(rt: &impl Abort, alloc: Global, id: u32, words: &str) -> Result<Contexts, Fail>
+    ensures { IfOk result (λ contexts. length contexts + octets_in_contexts contexts ≤ 1001) }
+{
+    let held = octets(rt, alloc, words)?;
+    let context = ServiceContext {
+        id,
+        bytes: Octets::new(alloc, &held)?,
+    };
+    Ok(Contexts::from_vec(vec![in alloc; context]?))
+}
+
+fn commit_request(rt: &impl Abort, alloc: Global) -> Result<Message, Fail>
+    ensures { IfOk result (λ m. octets_in m ≤ 3000) }
+{
+    let without = request_of(rt, alloc, 3, COMMIT_KEY, b"commit", &[0])?;
+    let contexts = one_context(rt, alloc, 0x4f54_5200, COMMIT_CONTEXT)?;
+    Ok(with_contexts(without, contexts))
 }
 
 #[test]
 fn commit_request_is_written(rt: HostRuntime) -> Result<(), Fail> {
-    let key = octets(&rt, rt.alloc(), COMMIT_KEY)?;
-    let held = octets(&rt, rt.alloc(), COMMIT_CONTEXT)?;
-    let context = ServiceContext {
-        id: 0x4f54_5200,
-        bytes: Octets::new(rt.alloc(), &held)?,
-    };
-    let contexts = Contexts::from_vec(vec![in rt.alloc(); context]?);
-    let without = request(rt.alloc(), 3, &key, b"commit", &[0])?;
-    let message = Message::Request(Request {
-        contexts,
-        ..without
-    });
-    check(&rt, rt.alloc(), &message, COMMIT_REQUEST)
+    let found = commit_request(&rt, rt.alloc())?;
+    check(&rt, rt.alloc(), &found, COMMIT_REQUEST)
 }
