@@ -1,6 +1,6 @@
 ghost use Rattle.std.specs.Prelude.{◌≤◌, ◌+◌, IfOk, length};
 
-use crate::{HEADER_LENGTH, Kind};
+use crate::{FrameFault, Framed, Kind, Message, Stream};
 use cdr_values::Order;
 use std::alloc::Global;
 use std::process::Abort;
@@ -58,4 +58,30 @@ fn append(into: &mut Vec<u8>, order: Order, part: &Part) -> Result<(), Fail>
     }
     into.extend_from_slice(part.rest)?;
     Ok(())
+}
+
+/// A stream to which these octets have come.
+fn stream_of(alloc: Global, bytes: &[u8]) -> Result<Stream, Fail> {
+    let mut stream = Stream::new(alloc);
+    stream.feed(bytes)?;
+    Ok(stream)
+}
+
+// The calls of a stream, each without what its contract says: no test needs it.
+
+fn feed(stream: &mut Stream, piece: &[u8]) -> Result<(), FrameFault> {
+    stream.feed(piece)
+}
+
+fn next_message(stream: &mut Stream) -> Result<Option<Message>, FrameFault> {
+    stream.next()
+}
+
+fn next_framed(stream: &mut Stream) -> Result<Option<Framed>, FrameFault> {
+    stream.next_framed()
+}
+
+/// The stream's place, and whether a message is unfinished.
+fn standing(stream: &Stream) -> (u64, bool) {
+    (stream.place(), stream.unfinished())
 }

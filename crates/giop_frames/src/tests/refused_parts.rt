@@ -1,4 +1,6 @@
-use super::{Part, append};
+ghost use Rattle.std.specs.Prelude.{◌≤◌, length};
+
+use super::{Part, append, feed, next_framed, next_message, stream_of};
 use crate::{FrameFault, Kind, Message, Stream};
 use cdr_values::{CdrFault, Order};
 use std::alloc::Global;
@@ -20,14 +22,48 @@ const FIRST: Part = Part {
     rest: b"",
 };
 
+/// The next message is refused, whichever call asks for it.
+fn check_refused(rt: &impl Abort, stream: &mut Stream, fault: FrameFault, place: u64) {
+    assert_eq!(rt; next_framed(stream).err(), Some(fault));
+    assert_eq!(rt; next_message(stream).err(), Some(fault));
+    assert_eq!(rt; stream.place(), place);
+}
+
 /// Behind what the stream gives, the octets are refused, and at each later call too.
 fn check(rt: &impl Abort, stream: &mut Stream, fault: FrameFault, place: u64) {
-    assert_eq!(rt; stream.next_framed().err(), Some(fault));
-    assert_eq!(rt; stream.place(), place);
-    assert_eq!(rt; stream.next_framed().err(), Some(fault));
-    assert_eq!(rt; stream.feed(b"GIOP"), Err(fault));
-    assert_eq!(rt; stream.next().err(), Some(fault));
-    assert_eq!(rt; stream.place(), place);
+    check_refused(rt, stream, fault, place);
+    assert_eq!(rt; feed(stream, b"GIOP"), Err(fault));
+    check_refused(rt, stream, fault, place);
+}
+
+/// The octets of a CancelRequest, of the first part, and of this part.
+fn octets_with(alloc: Global, part: &Part) -> Result<Vec<u8>, Fail>
+    requires numbers { length part.now.numbers.now ≤ 8 }
+    requires rest { length part.now.rest.now ≤ 65536 }
+{
+    let mut bytes = Vec::new(alloc);
+    append(&mut bytes, Order::Big, &CANCEL)?;
+    append(&mut bytes, Order::Big, &FIRST)?;
+    append(&mut bytes, Order::Big, part)?;
+    Ok(bytes)
+}
+
+/// The CancelRequest is given, and what is behind it is refused.
+fn check_behind(rt: &impl Abort, stream: &mut Stream, fault: FrameFault) -> Result<(), Fail> {
+    let found = next_message(stream)?;
+    assert!(rt; matches!(found, Some(Message::Cancel(7))));
+    check(rt, stream, fault, 40);
+    Ok(())
+}
+
+/// Behind a CancelRequest and the first part, this part is refused.
+fn check_part(rt: &impl Abort, alloc: Global, part: &Part, fault: FrameFault) -> Result<(), Fail>
+    requires numbers { length part.now.numbers.now ≤ 8 }
+    requires rest { length part.now.rest.now ≤ 65536 }
+{
+    let bytes = octets_with(alloc, part)?;
+    let mut stream = stream_of(alloc, &bytes)?;
+    check_behind(rt, &mut stream, fault)
 }
 
 #[test]
@@ -62,14 +98,7 @@ fn single_parts_are_refused(rt: HostRuntime) -> Result<(), Fail> {
             numbers,
             rest,
         };
-        let mut bytes = Vec::new(rt.alloc());
-        append(&mut bytes, Order::Big, &CANCEL)?;
-        append(&mut bytes, Order::Big, &FIRST)?;
-        append(&mut bytes, Order::Big, &part)?;
-        let mut stream = Stream::new(rt.alloc());
-        stream.feed(&bytes)?;
-        assert!(rt; matches!(stream.next()?, Some(Message::Cancel(7))));
-        check(&rt, &mut stream, fault, 40);
+        check_part(&rt, rt.alloc(), &part, fault)?;
     }
     Ok(())
 }
@@ -85,8 +114,7 @@ fn a_ninth_unfinished_message_is_refused(rt: HostRuntime) -> Result<(), Fail> {
         };
         append(&mut bytes, Order::Little, &part)?;
     }
-    let mut stream = Stream::new(rt.alloc());
-    stream.feed(&bytes)?;
+    let mut stream = stream_of(rt.alloc(), &bytes)?;
     check(&rt, &mut stream, FrameFault::BadFragment, 192);
     Ok(())
 }
@@ -107,8 +135,7 @@ fn larger_joined_octets_are_refused(rt: HostRuntime) -> Result<(), Fail> {
         rest: b"12345",
     };
     append(&mut bytes, Order::Big, &last)?;
-    let mut stream = Stream::new(rt.alloc());
-    stream.feed(&bytes)?;
+    let mut stream = stream_of(rt.alloc(), &bytes)?;
     check(&rt, &mut stream, FrameFault::TooLarge(65_537), 65_544);
     Ok(())
 }

@@ -1,17 +1,63 @@
 use super::vectors::REGISTER_RESOURCE;
-use super::{Part, append, octets};
-use crate::{Framed, Kind, Message, Stream};
+use super::{Part, append, feed, next_framed, next_message, octets, standing, stream_of};
+use crate::{FrameFault, Kind, Message, Stream};
 use cdr_values::Order;
 use std::alloc::Global;
 use std::process::Abort;
 use std::test::Fail;
 
-/// The next message of the stream.
-fn next(rt: &impl Abort, stream: &mut Stream) -> Result<Framed, Fail> {
-    match stream.next_framed()? {
-        Some(framed) => Ok(framed),
-        None => panic!(rt; "no message at {}", stream.place()),
+/// The next message of the stream, which has this place, byte order and size.
+fn next(
+    rt: &impl Abort,
+    stream: &mut Stream,
+    place: u64,
+    order: Order,
+    size: u32,
+) -> Result<Message, Fail> {
+    match next_framed(stream)? {
+        Some(framed) => {
+            assert_eq!(rt;
+                (framed.place, framed.order, framed.size),
+                (place, order, size)
+            );
+            Ok(framed.message)
+        }
+        None => panic!(rt; "no message at {place}"),
     }
+}
+
+/// No message is given, whichever call asks for it.
+fn gives_nothing(stream: &mut Stream) -> Result<bool, FrameFault> {
+    let framed = next_framed(stream)?.is_none();
+    let message = next_message(stream)?.is_none();
+    Ok(framed && message)
+}
+
+/// The stream gives no message, and stands at this place.
+fn check_none(
+    rt: &impl Abort,
+    stream: &mut Stream,
+    place: u64,
+    unfinished: bool,
+) -> Result<(), Fail> {
+    assert!(rt; gives_nothing(stream)?, "at {place}");
+    assert_eq!(rt; standing(stream), (place, unfinished));
+    Ok(())
+}
+
+/// The stream gives REGISTER_RESOURCE, and nothing behind it.
+fn check_whole(rt: &impl Abort, stream: &mut Stream) -> Result<(), Fail> {
+    let found = next(rt, stream, 0, Order::Little, 400)?;
+    assert!(rt; matches!(found, Message::Request(_)));
+    check_none(rt, stream, 412, false)
+}
+
+/// The message is read once its last octets have come, and not before.
+fn check_cut(rt: &impl Abort, alloc: Global, front: &[u8], behind: &[u8]) -> Result<(), Fail> {
+    let mut stream = stream_of(alloc, front)?;
+    check_none(rt, &mut stream, 0, !front.is_empty())?;
+    feed(&mut stream, behind)?;
+    check_whole(rt, &mut stream)
 }
 
 #[test]
@@ -19,19 +65,7 @@ fn a_message_may_be_cut_behind_each_octet(rt: HostRuntime) -> Result<(), Fail> {
     let bytes = octets(&rt, rt.alloc(), REGISTER_RESOURCE)?;
     assert_eq!(rt; bytes.len(), 412);
     for cut in 0..412_usize {
-        let mut stream = Stream::new(rt.alloc());
-        stream.feed(&bytes[..cut])?;
-        assert!(rt; stream.next_framed()?.is_none(), "at {cut}");
-        assert_eq!(rt; (stream.place(), stream.unfinished()), (0, cut > 0));
-        stream.feed(&bytes[cut..])?;
-        let framed = next(&rt, &mut stream)?;
-        assert_eq!(rt;
-            (framed.place, framed.order, framed.size),
-            (0, Order::Little, 400)
-        );
-        assert!(rt; matches!(framed.message, Message::Request(_)), "at {cut}");
-        assert!(rt; stream.next()?.is_none(), "at {cut}");
-        assert_eq!(rt; (stream.place(), stream.unfinished()), (412, false));
+        check_cut(&rt, rt.alloc(), &bytes[..cut], &bytes[cut..])?;
     }
     Ok(())
 }
@@ -59,6 +93,17 @@ fn interleaved(alloc: Global, order: Order) -> Result<Vec<u8>, Fail> {
     Ok(bytes)
 }
 
+/// The message is a Reply with this number, byte order and body.
+fn check_reply(rt: &impl Abort, found: &Message, id: u32, order: Order, body: &[u8]) {
+    match found {
+        Message::Reply(reply) => {
+            assert_eq!(rt; (reply.id, reply.order), (id, order));
+            assert_eq!(rt; reply.body.bytes(), body);
+        }
+        other => panic!(rt; "{other:?}"),
+    }
+}
+
 /// The next message is a Reply with this number, place and body.
 fn check(
     rt: &impl Abort,
@@ -68,32 +113,33 @@ fn check(
     place: u64,
     body: &[u8],
 ) -> Result<(), Fail> {
-    let framed = next(rt, stream)?;
-    assert_eq!(rt;
-        (framed.place, framed.order, framed.size),
-        (place, order, 12)
-    );
-    let Message::Reply(reply) = framed.message else {
-        panic!(rt; "no Reply at {place}");
-    };
-    assert_eq!(rt; (reply.id, reply.order), (id, order));
-    assert_eq!(rt; reply.body.bytes(), body);
+    let found = next(rt, stream, place, order, 12)?;
+    check_reply(rt, &found, id, order, body);
     Ok(())
+}
+
+/// The next message is the CancelRequest, and the earliest message isn't whole.
+fn check_cancel(rt: &impl Abort, stream: &mut Stream, order: Order) -> Result<(), Fail> {
+    let found = next(rt, stream, 48, order, 4)?;
+    assert!(rt; matches!(found, Message::Cancel(3)));
+    assert_eq!(rt; standing(stream), (0, true));
+    Ok(())
+}
+
+/// The messages come in the order of their last parts, each with the place of its first.
+fn check_order(rt: &impl Abort, stream: &mut Stream, order: Order) -> Result<(), Fail> {
+    check_cancel(rt, stream, order)?;
+    check(rt, stream, order, 2, 24, b"second")?;
+    check(rt, stream, order, 1, 0, b"first, and more")?;
+    check_none(rt, stream, 133, false)
 }
 
 #[test]
 fn messages_come_in_the_order_of_last_parts(rt: HostRuntime) -> Result<(), Fail> {
     for order in [Order::Big, Order::Little] {
-        let mut stream = Stream::new(rt.alloc());
-        stream.feed(&interleaved(rt.alloc(), order)?)?;
-        let cancel = next(&rt, &mut stream)?;
-        assert_eq!(rt; (cancel.place, cancel.order, cancel.size), (48, order, 4));
-        assert!(rt; matches!(cancel.message, Message::Cancel(3)));
-        assert_eq!(rt; (stream.place(), stream.unfinished()), (0, true));
-        check(&rt, &mut stream, order, 2, 24, b"second")?;
-        check(&rt, &mut stream, order, 1, 0, b"first, and more")?;
-        assert!(rt; stream.next()?.is_none());
-        assert_eq!(rt; (stream.place(), stream.unfinished()), (133, false));
+        let bytes = interleaved(rt.alloc(), order)?;
+        let mut stream = stream_of(rt.alloc(), &bytes)?;
+        check_order(&rt, &mut stream, order)?;
     }
     Ok(())
 }
