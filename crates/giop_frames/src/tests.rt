@@ -10,6 +10,7 @@ mod reading;
 mod refused_messages;
 mod refused_parts;
 mod streaming;
+mod types;
 mod vectors;
 mod writing;
 

@@ -22,7 +22,7 @@ fn decoded(rt: &impl Abort, alloc: Global, bytes: &[u8], used: usize) -> Result<
 }
 
 /// The message that these words spell, whatever follows it.
-fn message(rt: &impl Abort, alloc: Global, words: &str) -> Result<Message, Fail> {
+pub fn message(rt: &impl Abort, alloc: Global, words: &str) -> Result<Message, Fail> {
     let mut bytes = octets(rt, alloc, words)?;
     let used = bytes.len();
     bytes.extend_from_slice(b"GIOP, and more")?;

@@ -120,10 +120,12 @@ fn request_not_written(
 }
 
 #[test]
-fn profiles_are_not_written(rt: HostRuntime) -> Result<(), Fail> {
-    let target = Target::Profile;
-    let profile = Message::Locate(Locate { id: 4, target });
-    not_written(&rt, rt.alloc(), &profile, FrameFault::NotWritten)
+fn profiles_and_references_are_not_written(rt: HostRuntime) -> Result<(), Fail> {
+    for target in [Target::Profile, Target::Reference] {
+        let locate = Message::Locate(Locate { id: 4, target });
+        not_written(&rt, rt.alloc(), &locate, FrameFault::NotWritten)?;
+    }
+    Ok(())
 }
 
 #[test]

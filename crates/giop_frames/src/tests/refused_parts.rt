@@ -72,6 +72,13 @@ fn single_parts_are_refused(rt: HostRuntime) -> Result<(), Fail> {
         place: 12,
         cdr: CdrFault::Short(12),
     };
+    let contexts = FrameFault::Body {
+        place: 20,
+        cdr: CdrFault::TooLong {
+            place: 20,
+            length: 17,
+        },
+    };
     let cases = [
         (
             false,
@@ -90,6 +97,7 @@ fn single_parts_are_refused(rt: HostRuntime) -> Result<(), Fail> {
         ),
         (true, Kind::Reply, &[2, 0], b"", FrameFault::BadFragment),
         (true, Kind::Reply, &[1, 0, 0], b"", FrameFault::BadFragment),
+        (true, Kind::Reply, &[2, 0, 17], b"", contexts),
     ];
     for (more, kind, numbers, rest, fault) in cases {
         let part = Part {

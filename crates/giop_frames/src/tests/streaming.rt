@@ -1,3 +1,5 @@
+ghost use Rattle.std.specs.Prelude.{◌<◌, ◌≤◌, length};
+
 use super::vectors::REGISTER_RESOURCE;
 use super::{Part, append, feed, next_framed, next_message, octets, standing, stream_of};
 use crate::{FrameFault, Kind, Message, Stream};
@@ -140,6 +142,122 @@ fn messages_come_in_the_order_of_last_parts(rt: HostRuntime) -> Result<(), Fail>
         let bytes = interleaved(rt.alloc(), order)?;
         let mut stream = stream_of(rt.alloc(), &bytes)?;
         check_order(&rt, &mut stream, order)?;
+    }
+    Ok(())
+}
+
+/// The places of the messages, where one octet comes at a time.
+fn places(alloc: Global, bytes: &[u8]) -> Result<Vec<u64>, Fail> {
+    let mut stream = Stream::new(alloc);
+    let mut places = Vec::new(alloc);
+    for &octet in bytes {
+        feed(&mut stream, &[octet])?;
+        if let Some(framed) = next_framed(&mut stream)? {
+            places.push(framed.place)?;
+        }
+    }
+    Ok(places)
+}
+
+#[test]
+fn octets_may_come_one_at_a_time(rt: HostRuntime) -> Result<(), Fail> {
+    let bytes = interleaved(rt.alloc(), Order::Big)?;
+    let places = places(rt.alloc(), &bytes)?;
+    assert_eq!(rt; places.as_slice(), [48, 24, 0].as_slice());
+    Ok(())
+}
+
+/// A Reply in two parts of different byte orders, and between them a whole Reply of the same number.
+fn of_one_number(alloc: Global) -> Result<Vec<u8>, Fail> {
+    let parts = [
+        (
+            Order::Little,
+            true,
+            Kind::Reply,
+            [1, 0, 0].as_slice(),
+            b"".as_slice(),
+        ),
+        (Order::Big, false, Kind::Reply, &[1, 0, 0], b""),
+        (Order::Big, false, Kind::Fragment, &[1], b"body"),
+    ];
+    let mut bytes = Vec::new(alloc);
+    for (order, more, kind, numbers, rest) in parts {
+        let part = Part {
+            more,
+            kind,
+            numbers,
+            rest,
+        };
+        append(&mut bytes, order, &part)?;
+    }
+    Ok(bytes)
+}
+
+#[test]
+fn joined_octets_have_the_order_of_the_first_part(rt: HostRuntime) -> Result<(), Fail> {
+    let bytes = of_one_number(rt.alloc())?;
+    let mut stream = stream_of(rt.alloc(), &bytes)?;
+    check(&rt, &mut stream, Order::Big, 1, 24, b"")?;
+    check(&rt, &mut stream, Order::Little, 1, 0, b"body")?;
+    check_none(&rt, &mut stream, 68, false)
+}
+
+/// A part of a little endian Request.
+fn append_piece(into: &mut Vec<u8>, more: bool, numbers: &[u32], rest: &[u8]) -> Result<(), Fail>
+    requires numbers { length numbers.now ≤ 8 }
+    requires rest { length rest.now ≤ 65536 }
+{
+    let kind = if numbers.is_empty() {
+        Kind::Request
+    } else {
+        Kind::Fragment
+    };
+    let part = Part {
+        more,
+        kind,
+        numbers,
+        rest,
+    };
+    append(into, Order::Little, &part)
+}
+
+/// The Request of number 5 with this content, of which so many octets are in its first part, and the others in
+/// Fragments of 8 octets.
+fn in_parts(alloc: Global, content: &[u8], first: usize) -> Result<Vec<u8>, Fail>
+    requires { (first < length content.now) × (length content.now ≤ 1000) }
+{
+    let mut bytes = Vec::new(alloc);
+    append_piece(&mut bytes, true, &[], &content[..first])?;
+    let rest = &content[first..];
+    let last = (rest.len() - 1) / 8 * 8;
+    for piece in rest[..last].chunks(8) {
+        append_piece(&mut bytes, true, &[5], piece)?;
+    }
+    append_piece(&mut bytes, false, &[5], &rest[last..])?;
+    Ok(bytes)
+}
+
+/// The message is register_resource, with this body.
+fn check_register(rt: &impl Abort, found: &Message, body: &[u8]) {
+    match found {
+        Message::Request(request) => {
+            assert_eq!(rt; request.operation.bytes(), b"register_resource".as_slice());
+            assert_eq!(rt; request.body.bytes(), body);
+        }
+        other => panic!(rt; "{other:?}"),
+    }
+}
+
+#[test]
+fn fields_may_be_cut_into_parts(rt: HostRuntime) -> Result<(), Fail> {
+    let whole = octets(&rt, rt.alloc(), REGISTER_RESOURCE)?;
+    assert_eq!(rt; whole.len(), 412);
+    for count in 0..49_u32 {
+        let first = 4 + 8 * count;
+        let bytes = in_parts(rt.alloc(), &whole[12..], first as usize)?;
+        let mut stream = stream_of(rt.alloc(), &bytes)?;
+        let found = next(&rt, &mut stream, 0, Order::Little, first)?;
+        check_register(&rt, &found, &whole[304..]);
     }
     Ok(())
 }

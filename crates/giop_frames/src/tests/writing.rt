@@ -80,7 +80,7 @@ fn wanted(rt: &impl Abort, alloc: Global, words: &str) -> Result<Vec<u8>, Fail> 
 }
 
 /// The message is written as these words, behind what stands there.
-fn check(rt: &impl Abort, alloc: Global, message: &Message, words: &str) -> Result<(), Fail>
+pub fn check(rt: &impl Abort, alloc: Global, message: &Message, words: &str) -> Result<(), Fail>
     requires { octets_in message.now < 2 ^ 31 }
 {
     let into = written(alloc, message)?;

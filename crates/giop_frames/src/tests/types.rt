@@ -1,0 +1,104 @@
+use super::reading::message;
+use super::writing::check;
+use crate::{Contexts, Locate, Located, Message, ServiceContext, Target};
+use ots_model::Octets;
+use std::alloc::Global;
+use std::process::Abort;
+use std::test::Fail;
+
+const CANCEL: &str = "47494f50 01020002 00000004 00000007";
+
+const LOCATE_KEY: &str = "47494f50 01020003 0000000e 00000007 00000000 00000002 6162";
+
+const LOCATE_PROFILE: &str = "47494f50 01020003 00000012 00000007 00010000 00000009 00000002 6162";
+
+const LOCATE_REFERENCE: &str =
+    "47494f50 01020003 00000020 00000007 00020000 00000000 00000001 00000000 00000001 00000009 00000000";
+
+const LOCATED: &str = "47494f50 01020004 0000000a 00000007 00000001 6869";
+
+const CLOSE: &str = "47494f50 01020005 00000000";
+
+const ERROR: &str = "47494f50 01020006 00000000";
+
+#[test]
+fn messages_of_numbers_alone_are_read(rt: HostRuntime) -> Result<(), Fail> {
+    let a = rt.alloc();
+    assert!(rt; matches!(message(&rt, a, CANCEL)?, Message::Cancel(7)));
+    assert!(rt; matches!(message(&rt, a, CLOSE)?, Message::Close));
+    assert!(rt; matches!(message(&rt, a, ERROR)?, Message::Error));
+    Ok(())
+}
+
+#[test]
+fn locate_reply_is_read(rt: HostRuntime) -> Result<(), Fail> {
+    match message(&rt, rt.alloc(), LOCATED)? {
+        Message::LocateReply(located) => {
+            assert_eq!(rt; (located.id, located.status), (7, 1));
+            assert_eq!(rt; located.rest.bytes(), b"hi".as_slice());
+        }
+        other => panic!(rt; "{other:?}"),
+    }
+    Ok(())
+}
+
+/// The target of the LocateRequest of number 7 that these words spell.
+fn target(rt: &impl Abort, alloc: Global, words: &str) -> Result<Target, Fail> {
+    match message(rt, alloc, words)? {
+        Message::Locate(locate) => {
+            assert_eq!(rt; locate.id, 7);
+            Ok(locate.target)
+        }
+        other => panic!(rt; "{other:?}"),
+    }
+}
+
+#[test]
+fn each_target_is_read(rt: HostRuntime) -> Result<(), Fail> {
+    let a = rt.alloc();
+    match target(&rt, a, LOCATE_KEY)? {
+        Target::Key(key) => assert_eq!(rt; key.bytes(), b"ab".as_slice()),
+        other => panic!(rt; "{other:?}"),
+    }
+    assert!(rt; matches!(target(&rt, a, LOCATE_PROFILE)?, Target::Profile));
+    assert!(rt; matches!(target(&rt, a, LOCATE_REFERENCE)?, Target::Reference));
+    Ok(())
+}
+
+#[test]
+fn messages_of_numbers_alone_are_written(rt: HostRuntime) -> Result<(), Fail> {
+    let a = rt.alloc();
+    check(&rt, a, &Message::Cancel(7), CANCEL)?;
+    check(&rt, a, &Message::Close, CLOSE)?;
+    check(&rt, a, &Message::Error, ERROR)
+}
+
+#[test]
+fn locate_messages_are_written(rt: HostRuntime) -> Result<(), Fail> {
+    let a = rt.alloc();
+    let locate = Locate {
+        id: 7,
+        target: Target::Key(Octets::new(a, b"ab")?),
+    };
+    check(&rt, a, &Message::Locate(locate), LOCATE_KEY)?;
+    let located = Located {
+        id: 7,
+        status: 1,
+        rest: Octets::new(a, b"hi")?,
+    };
+    check(&rt, a, &Message::LocateReply(located), LOCATED)
+}
+
+#[test]
+fn contexts_are_made_of_a_vector_and_give_it_back(rt: HostRuntime) -> Result<(), Fail> {
+    let context = ServiceContext {
+        id: 1,
+        bytes: Octets::new(rt.alloc(), b"ab")?,
+    };
+    let contexts = Contexts::from_vec(vec![in rt.alloc(); context]?);
+    match contexts.into_vec().as_slice() {
+        [only] => assert_eq!(rt; (only.id, only.bytes.bytes()), (1, b"ab".as_slice())),
+        other => panic!(rt; "{other:?}"),
+    }
+    Ok(())
+}
