@@ -1,8 +1,9 @@
 use giop_frames::FrameFault;
 use hex::decode;
-use ots_outside::{MemSink, MemSource};
+use ots_outside::{Failure, MemSink, MemSource};
 use ots_program::{Devices, Status, Word, run};
 use std::alloc::{AllocError, Global};
+use std::process::Abort;
 use std::sync::Wait;
 use std::test::Fail;
 
@@ -53,7 +54,15 @@ fn show_from<R: Wait>(
     alloc: Global,
     source: MemSource,
 ) -> Result<(Status, MemSink), AllocError> {
-    let sink = MemSink::new(alloc, Vec::new(alloc));
+    show_between(rt, alloc, source, MemSink::new(alloc, Vec::new(alloc)))
+}
+
+fn show_between<R: Wait>(
+    rt: &R,
+    alloc: Global,
+    source: MemSource,
+    sink: MemSink,
+) -> Result<(Status, MemSink), AllocError> {
     let mut devices = Devices { source, sink };
     let mut words = Vec::new(alloc);
     words.push(Word::new(b"show".to_vec(alloc)?))?;
@@ -87,15 +96,34 @@ fn nothing_is_shown_of_nothing(rt: HostRuntime) -> Result<(), Fail> {
     Ok(())
 }
 
-#[test]
-fn a_message_that_is_cut_off_is_not_shown(rt: HostRuntime) -> Result<(), Fail> {
-    let mut octets = decode(rt.alloc(), REGISTER_RESOURCE).ok().ok_or("hex")?;
-    octets.truncate(411);
-    let (status, sink) = shown(&rt, rt.alloc(), octets)?;
-    assert_eq!(rt; status, Status::BadMessage(0, FrameFault::Short));
-    assert_eq!(rt; status.number(), 7);
+/// Nothing of these octets is shown, and the show ends so.
+fn check_unshown<R: Wait + Abort>(
+    rt: &R,
+    alloc: Global,
+    octets: &[u8],
+    wanted: Status,
+) -> Result<(), Fail> {
+    let (status, sink) = shown(rt, alloc, octets.to_vec(alloc)?)?;
+    assert_eq!(rt; status, wanted);
     assert_eq!(rt; sink.octets(), b"".as_slice());
     Ok(())
+}
+
+#[test]
+fn a_message_that_is_cut_off_is_not_shown(rt: HostRuntime) -> Result<(), Fail> {
+    let octets = decode(rt.alloc(), REGISTER_RESOURCE).ok().ok_or("hex")?;
+    let short = Status::BadMessage(0, FrameFault::Short);
+    assert_eq!(rt; short.number(), 7);
+    for cut in 1..octets.len() {
+        check_unshown(&rt, rt.alloc(), &octets[..cut], short)?;
+    }
+    Ok(())
+}
+
+#[test]
+fn what_is_no_message_is_not_shown(rt: HostRuntime) -> Result<(), Fail> {
+    let wanted = Status::BadMessage(0, FrameFault::BadMagic);
+    check_unshown(&rt, rt.alloc(), b"GIOQ", wanted)
 }
 
 #[test]
@@ -116,5 +144,53 @@ fn faults_of_the_source_stop_a_show(rt: HostRuntime) -> Result<(), Fail> {
     let (status, sink) = show_from(&rt, alloc, MemSource::new(octets, failing))?;
     assert_eq!(rt; status, Status::ReadFault);
     assert_eq!(rt; sink.octets(), REGISTER_LINE);
+    Ok(())
+}
+
+/// A Reply, a CancelRequest, a LocateReply, the first part of another Reply, a MessageError, and the last part of that
+/// Reply.
+const EACH_KIND: &str = "47494f50010200010000001000000004000000000000000000000000\
+    47494f50010200020000000400000007\
+    47494f5001020004000000080000000700000001\
+    47494f50010203010c000000050000000000000000000000\
+    47494f500102000600000000\
+    47494f50010201070800000005000000626f6479";
+
+const EACH_LINE: &[u8] = b"0 reply big id 4 status 0 contexts - body 4\n\
+    28 cancel big size 4\n\
+    44 located big size 8\n\
+    88 error big size 0\n\
+    64 reply little id 5 status 0 contexts - body 4\n";
+
+#[test]
+fn each_kind_of_message_is_shown_in_the_order_of_last_parts(rt: HostRuntime) -> Result<(), Fail> {
+    let octets = decode(rt.alloc(), EACH_KIND).ok().ok_or("hex")?;
+    let (status, sink) = shown(&rt, rt.alloc(), octets)?;
+    assert_eq!(rt; status, Status::Done);
+    assert_eq!(rt; sink.octets(), EACH_LINE);
+    Ok(())
+}
+
+#[test]
+fn a_message_longer_than_a_read_is_shown(rt: HostRuntime) -> Result<(), Fail> {
+    let front = b"GIOP\x01\x02\0\x01\0\0\x27\x1c\0\0\0\x04\0\0\0\0\0\0\0\0";
+    let mut octets = front.to_vec(rt.alloc())?;
+    octets.extend_from_slice(&[0; 10_000])?;
+    let (status, sink) = shown(&rt, rt.alloc(), octets)?;
+    assert_eq!(rt; status, Status::Done);
+    let line = b"0 reply big id 4 status 0 contexts - body 10000\n".as_slice();
+    assert_eq!(rt; sink.octets(), line);
+    Ok(())
+}
+
+#[test]
+fn faults_of_the_sink_stop_a_show(rt: HostRuntime) -> Result<(), Fail> {
+    let alloc = rt.alloc();
+    let octets = decode(alloc, REGISTER_RESOURCE).ok().ok_or("hex")?;
+    let sink = MemSink::new(alloc, vec![in alloc; Failure { call: 0, taken: 11 }]?);
+    let source = MemSource::new(octets, Vec::new(alloc));
+    let (status, sink) = show_between(&rt, alloc, source, sink)?;
+    assert_eq!(rt; status, Status::WriteFault);
+    assert_eq!(rt; sink.octets(), &REGISTER_LINE[..11]);
     Ok(())
 }
