@@ -26,6 +26,4 @@ mod parts;
 mod sizes;
 mod skim;
 mod stream;
-#[cfg(test)]
-mod tests;
 mod unfinished;

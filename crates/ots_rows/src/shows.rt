@@ -1,5 +1,6 @@
+use crate::frames::octets;
+use crate::frames::vectors::REGISTER_RESOURCE;
 use giop_frames::FrameFault;
-use hex::decode;
 use ots_outside::{Failure, MemSink, MemSource};
 use ots_program::{Devices, Status, Word, run};
 use std::alloc::{AllocError, Global};
@@ -7,18 +8,7 @@ use std::process::Abort;
 use std::sync::Wait;
 use std::test::Fail;
 
-/// A Request of register_resource, little endian, with two contexts and a reference as its body.
-const REGISTER_RESOURCE: &str =
-    "47494f500102010090010000050000000300000000000000200000004f54534b00000000000000010000000100000000\
-    0000000000000001000000001200000072656769737465725f7265736f7572636500000002000000010000000c000000\
-    01000000010001000901010000000000b8000000010000001e0000002c00000049444c3a6f6d672e6f72672f436f7354\
-    72616e73616374696f6e732f436f6f7264696e61746f723a312e300001000000000000003c0000000101020009000000\
-    31302e302e302e370000f90a200000004f54534b00000000000000010000000100000000000000000000000100000000\
-    000000000100000000000000000000003153544f04000000180000000000000000000001000000010000000000000001\
-    000000000000000000000000000000002900000049444c3a6f6d672e6f72672f436f735472616e73616374696f6e732f\
-    5265736f757263653a312e3000000000010000000000000030000000010102000900000031302e302e302e390000f92a\
-    040000007230303101000000000000000800000001000000004f4154";
-
+/// The line of REGISTER_RESOURCE.
 const REGISTER_LINE: &[u8] = b"0 request little id 5 op register_resource key \
     4f54534b00000000000000010000000100000000000000000000000100000000 \
     contexts 1,0 body 108\n";
@@ -72,8 +62,8 @@ fn show_between<R: Wait>(
 
 #[test]
 fn a_message_is_shown(rt: HostRuntime) -> Result<(), Fail> {
-    let octets = decode(rt.alloc(), REGISTER_RESOURCE).ok().ok_or("hex")?;
-    let (status, sink) = shown(&rt, rt.alloc(), octets)?;
+    let bytes = octets(&rt, rt.alloc(), REGISTER_RESOURCE)?;
+    let (status, sink) = shown(&rt, rt.alloc(), bytes)?;
     assert_eq!(rt; status, Status::Done);
     assert_eq!(rt; sink.octets(), REGISTER_LINE);
     Ok(())
@@ -81,8 +71,8 @@ fn a_message_is_shown(rt: HostRuntime) -> Result<(), Fail> {
 
 #[test]
 fn a_recording_is_shown(rt: HostRuntime) -> Result<(), Fail> {
-    let octets = decode(rt.alloc(), RECORDED).ok().ok_or("hex")?;
-    let (status, sink) = shown(&rt, rt.alloc(), octets)?;
+    let bytes = octets(&rt, rt.alloc(), RECORDED)?;
+    let (status, sink) = shown(&rt, rt.alloc(), bytes)?;
     assert_eq!(rt; status, Status::Done);
     assert_eq!(rt; sink.octets(), RECORDED_LINES);
     Ok(())
@@ -111,11 +101,11 @@ fn check_unshown<R: Wait + Abort>(
 
 #[test]
 fn a_message_that_is_cut_off_is_not_shown(rt: HostRuntime) -> Result<(), Fail> {
-    let octets = decode(rt.alloc(), REGISTER_RESOURCE).ok().ok_or("hex")?;
+    let bytes = octets(&rt, rt.alloc(), REGISTER_RESOURCE)?;
     let short = Status::BadMessage(0, FrameFault::Short);
     assert_eq!(rt; short.number(), 7);
-    for cut in 1..octets.len() {
-        check_unshown(&rt, rt.alloc(), &octets[..cut], short)?;
+    for cut in 1..bytes.len() {
+        check_unshown(&rt, rt.alloc(), &bytes[..cut], short)?;
     }
     Ok(())
 }
@@ -128,9 +118,9 @@ fn what_is_no_message_is_not_shown(rt: HostRuntime) -> Result<(), Fail> {
 
 #[test]
 fn what_is_no_message_is_named_and_those_before_it_are_shown(rt: HostRuntime) -> Result<(), Fail> {
-    let mut octets = decode(rt.alloc(), REGISTER_RESOURCE).ok().ok_or("hex")?;
-    octets.extend_from_slice(b"GIOQ")?;
-    let (status, sink) = shown(&rt, rt.alloc(), octets)?;
+    let mut bytes = octets(&rt, rt.alloc(), REGISTER_RESOURCE)?;
+    bytes.extend_from_slice(b"GIOQ")?;
+    let (status, sink) = shown(&rt, rt.alloc(), bytes)?;
     assert_eq!(rt; status, Status::BadMessage(412, FrameFault::BadMagic));
     assert_eq!(rt; sink.octets(), REGISTER_LINE);
     Ok(())
@@ -139,9 +129,9 @@ fn what_is_no_message_is_named_and_those_before_it_are_shown(rt: HostRuntime) ->
 #[test]
 fn faults_of_the_source_stop_a_show(rt: HostRuntime) -> Result<(), Fail> {
     let alloc = rt.alloc();
-    let octets = decode(alloc, REGISTER_RESOURCE).ok().ok_or("hex")?;
+    let bytes = octets(&rt, alloc, REGISTER_RESOURCE)?;
     let failing = vec![in alloc; 1]?;
-    let (status, sink) = show_from(&rt, alloc, MemSource::new(octets, failing))?;
+    let (status, sink) = show_from(&rt, alloc, MemSource::new(bytes, failing))?;
     assert_eq!(rt; status, Status::ReadFault);
     assert_eq!(rt; sink.octets(), REGISTER_LINE);
     Ok(())
@@ -164,8 +154,8 @@ const EACH_LINE: &[u8] = b"0 reply big id 4 status 0 contexts - body 4\n\
 
 #[test]
 fn each_kind_of_message_is_shown_in_the_order_of_last_parts(rt: HostRuntime) -> Result<(), Fail> {
-    let octets = decode(rt.alloc(), EACH_KIND).ok().ok_or("hex")?;
-    let (status, sink) = shown(&rt, rt.alloc(), octets)?;
+    let bytes = octets(&rt, rt.alloc(), EACH_KIND)?;
+    let (status, sink) = shown(&rt, rt.alloc(), bytes)?;
     assert_eq!(rt; status, Status::Done);
     assert_eq!(rt; sink.octets(), EACH_LINE);
     Ok(())
@@ -174,9 +164,9 @@ fn each_kind_of_message_is_shown_in_the_order_of_last_parts(rt: HostRuntime) -> 
 #[test]
 fn a_message_longer_than_a_read_is_shown(rt: HostRuntime) -> Result<(), Fail> {
     let front = b"GIOP\x01\x02\0\x01\0\0\x27\x1c\0\0\0\x04\0\0\0\0\0\0\0\0";
-    let mut octets = front.to_vec(rt.alloc())?;
-    octets.extend_from_slice(&[0; 10_000])?;
-    let (status, sink) = shown(&rt, rt.alloc(), octets)?;
+    let mut bytes = front.to_vec(rt.alloc())?;
+    bytes.extend_from_slice(&[0; 10_000])?;
+    let (status, sink) = shown(&rt, rt.alloc(), bytes)?;
     assert_eq!(rt; status, Status::Done);
     let line = b"0 reply big id 4 status 0 contexts - body 10000\n".as_slice();
     assert_eq!(rt; sink.octets(), line);
@@ -186,9 +176,9 @@ fn a_message_longer_than_a_read_is_shown(rt: HostRuntime) -> Result<(), Fail> {
 #[test]
 fn faults_of_the_sink_stop_a_show(rt: HostRuntime) -> Result<(), Fail> {
     let alloc = rt.alloc();
-    let octets = decode(alloc, REGISTER_RESOURCE).ok().ok_or("hex")?;
+    let bytes = octets(&rt, alloc, REGISTER_RESOURCE)?;
     let sink = MemSink::new(alloc, vec![in alloc; Failure { call: 0, taken: 11 }]?);
-    let source = MemSource::new(octets, Vec::new(alloc));
+    let source = MemSource::new(bytes, Vec::new(alloc));
     let (status, sink) = show_between(&rt, alloc, source, sink)?;
     assert_eq!(rt; status, Status::WriteFault);
     assert_eq!(rt; sink.octets(), &REGISTER_LINE[..11]);

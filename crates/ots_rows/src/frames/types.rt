@@ -1,6 +1,6 @@
 use super::reading::message;
 use super::writing::check;
-use crate::{Contexts, Locate, Located, Message, ServiceContext, Target};
+use giop_frames::{Contexts, Locate, Located, Message, ServiceContext, Target};
 use ots_model::Octets;
 use std::alloc::Global;
 use std::process::Abort;

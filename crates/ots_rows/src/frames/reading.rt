@@ -5,8 +5,8 @@ use super::vectors::{
     COMMIT_CONTEXT, COMMIT_KEY, COMMIT_REQUEST, PREPARE_KEY, PREPARE_REQUEST, RECORDED_KEY,
     RECORDED_REPLY, RECORDED_REQUEST, REGISTER_KEY, REGISTER_RESOURCE, ZERO_REPLY,
 };
-use crate::{Message, Reply, Request, ServiceContext, Target, decode};
 use cdr_values::Order;
+use giop_frames::{Message, Reply, Request, ServiceContext, Target, decode};
 use ots_model::Octets;
 use std::alloc::{AllocError, Global};
 use std::process::Abort;

@@ -1,7 +1,8 @@
+//! Tests of messages and of streams of messages.
 ghost use Rattle.std.specs.Prelude.{◌≤◌, ◌+◌, IfOk, length};
 
-use crate::{FrameFault, Framed, Kind, Message, Stream};
 use cdr_values::Order;
+use giop_frames::{FrameFault, Framed, Kind, Message, Stream};
 use std::alloc::Global;
 use std::process::Abort;
 use std::test::Fail;
@@ -11,11 +12,11 @@ mod refused_messages;
 mod refused_parts;
 mod streaming;
 mod types;
-mod vectors;
+pub mod vectors;
 mod writing;
 
 /// The octets of hexadecimal words.
-fn octets(rt: &impl Abort, alloc: Global, words: &str) -> Result<Vec<u8>, Fail>
+pub fn octets(rt: &impl Abort, alloc: Global, words: &str) -> Result<Vec<u8>, Fail>
     ensures { IfOk result (λ octets. length octets.items ≤ 1000) }
 {
     let mut octets = Vec::new(alloc);

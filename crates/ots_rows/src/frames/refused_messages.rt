@@ -2,8 +2,8 @@ ghost use Rattle.std.specs.Prelude.{◌<◌, ◌≤◌, ◌^◌, ◌+◌, ◌≡
 ghost use Rattle.giop_frames.specs.Encode.{octets_in, octets_in_contexts};
 
 use super::writing::{reply, request, with_contexts, write};
-use crate::{Contexts, FrameFault, Locate, Message, ServiceContext, Target, decode};
 use cdr_values::CdrFault;
+use giop_frames::{Contexts, FrameFault, Locate, Message, ServiceContext, Target, decode};
 use ots_model::Octets;
 use std::alloc::{AllocError, Global};
 use std::process::Abort;

@@ -5,8 +5,8 @@ use super::octets;
 use super::vectors::{
     COMMIT_CONTEXT, COMMIT_KEY, COMMIT_REQUEST, PREPARE_KEY, PREPARE_REQUEST, ZERO_REPLY,
 };
-use crate::{Contexts, FrameFault, Message, Reply, Request, ServiceContext, Target, encode};
 use cdr_values::Order;
+use giop_frames::{Contexts, FrameFault, Message, Reply, Request, ServiceContext, Target, encode};
 use ots_model::Octets;
 use std::alloc::{AllocError, Global};
 use std::process::Abort;

@@ -2,8 +2,8 @@ ghost use Rattle.std.specs.Prelude.{◌<◌, ◌≤◌, length};
 
 use super::vectors::REGISTER_RESOURCE;
 use super::{Part, append, feed, next_framed, next_message, octets, standing, stream_of};
-use crate::{FrameFault, Kind, Message, Stream};
 use cdr_values::Order;
+use giop_frames::{FrameFault, Kind, Message, Stream};
 use std::alloc::Global;
 use std::process::Abort;
 use std::test::Fail;

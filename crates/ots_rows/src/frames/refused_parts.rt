@@ -1,8 +1,8 @@
 ghost use Rattle.std.specs.Prelude.{◌≤◌, length};
 
 use super::{Part, append, feed, next_framed, next_message, stream_of};
-use crate::{FrameFault, Kind, Message, Stream};
 use cdr_values::{CdrFault, Order};
+use giop_frames::{FrameFault, Kind, Message, Stream};
 use std::alloc::Global;
 use std::process::Abort;
 use std::test::Fail;
