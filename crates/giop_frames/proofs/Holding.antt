@@ -9,8 +9,10 @@ use Rattle.giop_frames.specs.declared.fault.FrameFault.TheVariants as faults
 use Rattle.giop_frames.specs.declared.framed.Framed.{Framed}
 use Rattle.giop_frames.specs.declared.header.Header.{Header}
 use Rattle.giop_frames.specs.Header.{header_at, magic, type_octet, version}
-use Rattle.giop_frames.specs.Stream.{Part, Unfinished, IsInFront, IsStreamPart, IsRefused, IsStream, Refuses, after, given, judged, may_go_on, part_at, part_header_at, says}
-use Rattle.giop_frames.specs.Held.{Held, Holds, RefusesHeld, Takes, Took, remembering}
+use Rattle.giop_frames.specs.Stream.{Part, Unfinished, IsStreamPart, IsRefused, IsStream, Refuses, after, given, judged, may_go_on, part_at, part_header_at, says}
+use Rattle.giop_frames.specs.StreamInside.{IsInFront}
+use Rattle.giop_frames.specs.Held.{Held, Holds}
+use Rattle.giop_frames.specs.HeldInside.{RefusesHeld, Takes, Took, remembering}
 use Rattle.giop_frames.proofs.Headers.{header_found}
 
 -- the value of a step that did not fail

@@ -1,6 +1,6 @@
 -- What a part says, case by case.
 use Rattle.std.proofs.Common.{◌≡◌, ℕ, ◌<◌, ◌≤◌, Bool, true, false, cond, ltb, List, [], ◌++◌, length, get_or, drop, set, Some, None, Result, Ok, Err, refl, sym, ap, ◌∙◌}
-use Rattle.std.proofs.lemmas.Bool.{lt-ltb, le-ltb, le-leb, lt-leb, ltb-true}
+use Rattle.std.proofs.lemmas.Bool.{lt-ltb, le-ltb, lt-leb, ltb-true}
 use Rattle.cdr_values.specs.declared.order.Order.{Order}
 use Rattle.cdr_values.specs.declared.fault.CdrFault.{CdrFault}
 use Rattle.cdr_values.specs.declared.fault.CdrFault.TheVariants as cdr
@@ -11,7 +11,8 @@ use Rattle.std.specs.Prelude.{remove}
 use Rattle.giop_frames.specs.declared.fault.FrameFault.TheVariants.{BadFragment}
 use Rattle.giop_frames.specs.Header.{is_fragment}
 use Rattle.giop_frames.specs.Content.{message_of}
-use Rattle.giop_frames.specs.Stream.{Part, Unfinished, IsAt, after, id_of, joined, judged, numbered, opening, so_far, without_id}
+use Rattle.giop_frames.specs.Stream.{Part, Unfinished, after, id_of, joined, judged, numbered, opening, so_far, without_id}
+use Rattle.giop_frames.specs.StreamInside.{IsAt}
 use Rattle.giop_frames.proofs.Numbered.{numbered_at, extended_at, without_at}
 
 abbrev failing : {X E : Type 0} → E → Result X E

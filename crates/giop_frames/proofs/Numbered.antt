@@ -5,7 +5,8 @@ use Rattle.std.specs.List.{position_or_len}
 use Rattle.std.proofs.lemmas.List.Folds.{find_at}
 use Rattle.std.proofs.lemmas.Option.{slice_get-get_or, slice_get_past}
 use Rattle.std.proofs.lemmas.Bool.{cases_lt, lt-ltb, le-ltb}
-use Rattle.giop_frames.specs.Stream.{Unfinished, IsAt, numbered, extended, without}
+use Rattle.giop_frames.specs.Stream.{Unfinished, numbered, extended, without}
+use Rattle.giop_frames.specs.StreamInside.{IsAt}
 
 pub some_is : {X : Type 0} {x y : X} → Some x ≡ Some y → x ≡ y
 some_is e = cc

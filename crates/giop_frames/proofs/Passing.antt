@@ -1,8 +1,7 @@
 -- A step over fields leaves what follows them to the next step.
-use Rattle.std.proofs.Common.{◌≡◌, ℕ, zero, suc, ◌+◌, ◌-◌, ◌<◌, ◌≤◌, arith, true, false, List, [], ◌++◌, append_assoc, length, drop, Option, Some, None, Result, Ok, Err, refl, sym, ap, ◌∙◌}
-use Rattle.std.specs.Prelude.{◌≢◌}
+use Rattle.std.proofs.Common.{◌≡◌, ℕ, zero, suc, ◌+◌, ◌-◌, ◌<◌, ◌≤◌, arith, true, false, List, [], ◌++◌, length, drop, Option, Some, None, Result, Ok, Err, refl, sym, ap, ◌∙◌}
 use Rattle.std.proofs.lemmas.Bool.{le-ltb}
-use Rattle.std.proofs.lemmas.List.{append-nil, drop-append-le, drop-drop, drop_at, length-append, length-drop}
+use Rattle.std.proofs.lemmas.List.{append-nil, drop-drop, drop_at, length-append, length-drop}
 use Rattle.cdr_values.specs.declared.order.Order.{Order}
 use Rattle.cdr_values.specs.Value.{Octet, UShort, ULong, OctetSequence, Text}
 use Rattle.cdr_values.specs.Reading.{Reading, ◌>>=◌, octet_at, ushort_at, ulong_at, octets_at, string_at}

@@ -1,12 +1,8 @@
 -- What a stream holds back between two calls, of a stream of messages (CORBA, GIOP Message Formats, Fragment Message).
-use Rattle.std.specs.Prelude.{◌≡◌, ◌≢◌, ◌⊎◌, ℕ, ◌+◌, ◌-◌, ◌^◌, ◌≤◌, min, List, [], length, Option, Some, None, IfSome, Result, Ok, Err}
-use Rattle.std.specs.List.{AllByRecursion}
+use Rattle.std.specs.Prelude.{◌≡◌, ◌≢◌, ◌⊎◌, ℕ, List, [], Option, Some, None, IfSome}
 use Rattle.giop_frames.specs.declared.fault.FrameFault.{FrameFault}
-use Rattle.giop_frames.specs.declared.fault.FrameFault.TheVariants.{Short, Memory}
 use Rattle.giop_frames.specs.declared.framed.Framed.{Framed}
-use Rattle.giop_frames.specs.declared.stream.Taken.{Taken}
-use Rattle.giop_frames.specs.declared.stream.Taken.TheVariants.{Nothing, Piece, Whole}
-use Rattle.giop_frames.specs.Stream.{Part, Unfinished, Splits, Refuses, after, earliest, judged, offset, part_at, unfinished}
+use Rattle.giop_frames.specs.Stream.{Part, Unfinished, Splits, Refuses, earliest, offset, unfinished}
 
 -- the unfinished messages, the octets of no whole part yet and their offset in the stream, and the refusal that is
 -- answered for good
@@ -35,32 +31,3 @@ place_of h = place_by h.place h.refused h.unfinished
 -- octets are held that were not given as a message yet
 abbrev pub IsUnfinished : Held → Type 0
 IsUnfinished h = (h.unfinished ≢ []) ⊎ (h.rest ≢ [])
-
-abbrev pub remembering : Held → FrameFault → Held
-remembering h Memory = h
-remembering h fault = record h { refused = Some fault }
-
--- no unfinished message is longer than a message may be, and there are at most 8
-pub record AreShort (messages : List Unfinished) : Type 0 where
-  pub few : length messages ≤ 8
-  pub short : AllByRecursion (λ u. length u.content ≤ 65536) messages
-
--- the part at the place was taken, and says this
-pub record Took (old : Held) (answer : Option Framed) (new : Held) : Type 0 where
-  pub part : Part
-  pub stands : part_at old.rest ≡ Ok (part, new.rest)
-  pub says : judged old.unfinished old.place part ≡ Ok answer
-  pub unfinished_are : new.unfinished ≡ after old.place part old.unfinished
-  pub place_is : new.place ≡ min (old.place + (12 + part.header.size)) (2 ^ 64 - 1)
-  pub refused : new.refused ≡ old.refused
-
--- the part at the place is refused
-abbrev pub RefusesHeld : Held → FrameFault → Type 0
-RefusesHeld h fault = ((part_at h.rest ≡ Err fault) × (fault ≢ Short)) ⊎ ((p : Part) × (behind : List ℕ) × (part_at h.rest ≡ Ok (p, behind)) × (judged h.unfinished h.place p ≡ Err fault))
-
-abbrev pub Takes : Held → Result Taken FrameFault → Held → Type 0
-Takes old (Ok Nothing) new = (new ≡ old) × (part_at old.rest ≡ Err Short)
-Takes old (Ok Piece) new = Took old None new
-Takes old (Ok (Whole framed)) new = Took old (Some framed) new
-Takes old (Err Memory) new = new ≡ old
-Takes old (Err fault) new = (new ≡ old) × RefusesHeld old fault

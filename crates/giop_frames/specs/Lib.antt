@@ -4,8 +4,10 @@ pub mod Message
 pub mod Content
 pub mod Decode
 pub mod Stream
+pub mod StreamInside
 pub mod Skim
 pub mod Held
+pub mod HeldInside
 pub mod Encode
 pub mod Sizes
 pub mod Write

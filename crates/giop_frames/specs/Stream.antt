@@ -1,7 +1,6 @@
 -- Streams of messages (CORBA, GIOP Message Formats, Fragment Message): parts one after another, each judged by the parts
 -- before it. Where parts are in a list, the newest stands first.
-use Rattle.std.specs.Prelude.{◌≡◌, ◌≢◌, ◌⊎◌, ℕ, ◌+◌, ◌-◌, ◌^◌, ◌%◌, ◌≤◌, ◌<◌, ◌==◌, nat_le, nat_lt, min, Bool, true, false, ◌||◌, ◌&&◌, not, List, [], ◌∷◌, ◌++◌, length, take, drop, find, Option, Some, None, is_some, Result, Ok, Err, if◌then◌else◌}
-use Rattle.std.specs.List.{position_or_len}
+use Rattle.std.specs.Prelude.{◌≡◌, ◌≢◌, ◌⊎◌, ℕ, ◌+◌, ◌-◌, ◌^◌, ◌%◌, ◌==◌, nat_le, nat_lt, min, Bool, true, false, ◌||◌, ◌&&◌, not, List, [], ◌∷◌, ◌++◌, length, take, drop, find, Option, Some, None, is_some, Result, Ok, Err, if◌then◌else◌}
 use Rattle.cdr_values.specs.declared.fault.CdrFault.TheVariants as cdr
 use Rattle.cdr_values.specs.Value.{number_in}
 use Rattle.cdr_values.specs.Reading.{◌>>=◌}
@@ -62,12 +61,6 @@ part_at octets = do
   header ← part_header_at octets
   if nat_lt (length octets) (12 + header.size) then Err Short else Ok (record { header = header; content = take header.size (drop 12 octets) }, drop (12 + header.size) octets)
 
--- a whole part with this header stands in front
-pub record IsInFront (header : Header) (octets : List ℕ) : Type 0 where
-  pub part : part_at octets ≡ Ok (record { header = header; content = take header.size (drop 12 octets) }, drop (12 + header.size) octets)
-  pub whole : 12 + header.size ≤ length octets
-  pub few : header.size ≤ 65536
-
 -- the offset behind parts; it stands still at its type's end
 abbrev pub offset : List Part → ℕ
 offset [] = 0
@@ -80,11 +73,6 @@ id_of p = number_in p.header.order 4 (take 4 p.content)
 -- the unfinished message of this number
 abbrev pub numbered : ℕ → List Unfinished → Option Unfinished
 numbered id messages = find (λ u. u.id == id) messages
-
--- the unfinished message of this number is at this index, the first one of that number
-pub record IsAt (id : ℕ) (messages : List Unfinished) (index : ℕ) : Type 0 where
-  pub within : index < length messages
-  pub first : position_or_len (λ u. u.id == id) messages ≡ index
 
 -- with more octets
 abbrev pub extended : ℕ → List ℕ → List Unfinished → List Unfinished

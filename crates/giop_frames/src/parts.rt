@@ -3,8 +3,9 @@ ghost use Rattle.std.specs.List.{position as position_of};
 ghost use Rattle.giop_frames.specs.Fault.{Fails, Finds};
 ghost use Rattle.cdr_values.specs.Value.{number_in};
 ghost use Rattle.giop_frames.specs.Content.{message_of};
-ghost use Rattle.giop_frames.specs.Held.{AreShort};
-ghost use Rattle.giop_frames.specs.Stream.{IsAt, IsInFront, after, joined, judged, may_go_on, opening, numbered, part_at, part_header_at, so_far, whole, without_id};
+ghost use Rattle.giop_frames.specs.HeldInside.{AreShort};
+ghost use Rattle.giop_frames.specs.Stream.{after, joined, judged, may_go_on, opening, numbered, part_at, part_header_at, so_far, whole, without_id};
+ghost use Rattle.giop_frames.specs.StreamInside.{IsAt, IsInFront};
 
 use crate::content::read_message;
 use crate::fault::{FrameFault, SIZE_LIMIT};

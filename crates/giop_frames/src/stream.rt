@@ -1,6 +1,7 @@
 ghost use Rattle.std.specs.Prelude.{◌≡◌, ◌↔◌, ◌⊎◌, ◌+◌, ◌<◌, ◌≤◌, ◌^◌, ◌++◌, ℕ, List, [], ◌∷◌, length, drop, min, Option, None, Some, Ok, Err, IfErr, IfOk, IfSome, IsSome, IsTrue, OnErr, OnOk};
 ghost use Rattle.giop_frames.specs.Stream.{Splits, IsStream, IsRefused, part_at};
-ghost use Rattle.giop_frames.specs.Held.{Held, Holds, Takes, place_of, remembering, IsUnfinished};
+ghost use Rattle.giop_frames.specs.Held.{Held, Holds, place_of, IsUnfinished};
+ghost use Rattle.giop_frames.specs.HeldInside.{Takes, remembering};
 ghost use Rattle.giop_frames.specs.declared.framed.Framed.{Framed as Given};
 
 use crate::fault::FrameFault;
@@ -27,7 +28,8 @@ pub struct Stream {
 
 impl Model for Stream {
     ghost use Rattle.std.specs.Prelude.{◌≤◌, length, drop};
-    ghost use Rattle.giop_frames.specs.Held.{Held, AreShort};
+    ghost use Rattle.giop_frames.specs.Held.{Held};
+    ghost use Rattle.giop_frames.specs.HeldInside.{AreShort};
 
     ghost Value = { Held };
 

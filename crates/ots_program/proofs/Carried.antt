@@ -1,6 +1,6 @@
 -- What the world's answer makes of a line's turn.
 use Rattle.std.proofs.Common.{◌≡◌, ℕ, ◌+◌, ◌⊎◌, inl, inr, Bool, true, false, cond, ltb, List, length, Ok, Err, refl}
-use Rattle.std.proofs.lemmas.Bool.{lt-ltb, le-ltb}
+use Rattle.std.proofs.lemmas.Bool.{lt-ltb}
 use Rattle.ots_world.specs.declared.fault.WorldFault.{WorldFault}
 use Rattle.ots_world.specs.declared.fault.WorldFault.TheVariants as faults
 use Rattle.ots_world.specs.declared.fault.TheConstants.{MESSAGE_LIMIT}
@@ -10,7 +10,7 @@ use Rattle.ots_world.specs.Standing.{Standing}
 use Rattle.ots_world.specs.Stands as stands
 use Rattle.ots_world.specs.World.{Step, Stepped, Moves, Names, step}
 use Rattle.ots_program.specs.declared.player.Stop.TheVariants as stops
-use Rattle.ots_program.specs.Playing.{Turns, GoesOn, StopsWithin, stop_by, lines_of}
+use Rattle.ots_program.specs.Playing.{Turns, StopsWithin, stop_by, lines_of}
 use Rattle.ots_program.specs.Replay.{Place, Goes, Stops, Ending, Limited, turn_by}
 use Rattle.ots_program.proofs.Told.{Tells-none}
 

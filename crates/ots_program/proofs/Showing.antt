@@ -7,14 +7,15 @@ use Rattle.std.proofs.Math.Seq.{take-append-add}
 use Rattle.giop_frames.specs.declared.fault.FrameFault.{FrameFault}
 use Rattle.giop_frames.specs.declared.fault.FrameFault.TheVariants as faults
 use Rattle.giop_frames.specs.declared.framed.Framed.{Framed}
-use Rattle.giop_frames.specs.Stream.{IsBegun, IsCut, IsRefused, IsWhole, Splits, Unfinished, part_at, part_header_at, unfinished}
+use Rattle.giop_frames.specs.Stream.{IsBegun, IsCut, IsRefused, IsWhole, Splits, Unfinished, part_at, part_header_at}
 use Rattle.giop_frames.specs.Header.{header_at}
 use Rattle.giop_frames.specs.Held.{Held, Holds, IsUnfinished, place_by, place_of}
 use Rattle.ots_outside.specs.Sink.{Takes, TakesPart}
 use Rattle.ots_outside.specs.Source.{Gives}
 use Rattle.ots_program.specs.declared.status.Status.{Status}
 use Rattle.ots_program.specs.declared.status.Status.TheVariants as statuses
-use Rattle.ots_program.specs.Show.{Breaks, BrokeOff, EndsCut, EndsWhole, Ends, OfPiece, Shows, StopsShow, TellsBreak, TellsPiece, TookPiece, WritesSights, status_by}
+use Rattle.ots_program.specs.Show.{Ends, Shows, StopsShow, WritesSights}
+use Rattle.ots_program.specs.ShowInside.{Breaks, BrokeOff, EndsCut, EndsWhole, OfPiece, TellsBreak, TellsPiece, TookPiece, status_by}
 use Rattle.ots_program.specs.Sight.{sight, sights}
 use Rattle.ots_program.proofs.Taken.{Takes-none, Takes-trans}
 

@@ -5,3 +5,4 @@ pub mod Number
 pub mod Words
 pub mod Sight
 pub mod Show
+pub mod ShowInside

@@ -3,7 +3,8 @@ ghost use Rattle.giop_frames.specs.Stream.{part_at};
 ghost use Rattle.giop_frames.specs.Held.{place_of};
 ghost use Rattle.ots_outside.specs.Source.{HasRisen};
 ghost use Rattle.ots_program.specs.Answers.{WhereTold};
-ghost use Rattle.ots_program.specs.Show.{BrokeOff, EndsCut, EndsWhole, OfPiece, Shows, StopsShow, TellsBreak, TellsPiece, TookPiece, status_by};
+ghost use Rattle.ots_program.specs.Show.{Shows, StopsShow};
+ghost use Rattle.ots_program.specs.ShowInside.{BrokeOff, EndsCut, EndsWhole, OfPiece, TellsBreak, TellsPiece, TookPiece, status_by};
 ghost use Rattle.ots_program.specs.Sight.{sight};
 
 use crate::command::write_out;

@@ -1,6 +1,7 @@
 use Rattle.std.proofs.Common.{◌≡◌, ◌<◌, ◌∙◌, arith, length, None}
 use Rattle.std.proofs.lemmas.Result.{err_from_is_err_and}
-use Rattle.giop_frames.specs.Stream.{Part, IsAt, id_of, numbered, opening}
+use Rattle.giop_frames.specs.Stream.{Part, id_of, numbered, opening}
+use Rattle.giop_frames.specs.StreamInside.{IsAt}
 use Rattle.giop_frames.proofs.Loops.{fails_from, fails_on}
 use Rattle.giop_frames.proofs.Judging.{opening_short, opening_at, opening_free}
 use Rattle.giop_frames.proofs.parts.begin.Goals as goal

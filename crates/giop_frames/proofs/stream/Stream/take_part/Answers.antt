@@ -1,7 +1,7 @@
 use Rattle.std.proofs.Common.{◌≡◌, ℕ, ◌+◌, ◌∙◌, ap, sym, refl, List, drop, take, Option, Ok, None, Some}
 use Rattle.std.proofs.lemmas.List.{drop-drop}
 use Rattle.giop_frames.specs.declared.framed.Framed.{Framed}
-use Rattle.giop_frames.specs.Stream.{IsInFront}
+use Rattle.giop_frames.specs.StreamInside.{IsInFront}
 use Rattle.giop_frames.proofs.Holding.{took}
 use Rattle.giop_frames.proofs.stream.Stream.take_part.Goals as goal
 

@@ -1,0 +1,40 @@
+-- What the calls inside a stream do with what it holds back.
+use Rattle.std.specs.Prelude.{◌≡◌, ◌≢◌, ◌⊎◌, ℕ, ◌+◌, ◌-◌, ◌^◌, ◌≤◌, min, List, length, Option, Some, None, Result, Ok, Err}
+use Rattle.std.specs.List.{AllByRecursion}
+use Rattle.giop_frames.specs.declared.fault.FrameFault.{FrameFault}
+use Rattle.giop_frames.specs.declared.fault.FrameFault.TheVariants.{Short, Memory}
+use Rattle.giop_frames.specs.declared.framed.Framed.{Framed}
+use Rattle.giop_frames.specs.declared.stream.Taken.{Taken}
+use Rattle.giop_frames.specs.declared.stream.Taken.TheVariants.{Nothing, Piece, Whole}
+use Rattle.giop_frames.specs.Stream.{Part, Unfinished, after, judged, part_at}
+use Rattle.giop_frames.specs.Held.{Held}
+
+-- a refusal is answered for good, and want of memory is not
+abbrev pub remembering : Held → FrameFault → Held
+remembering h Memory = h
+remembering h fault = record h { refused = Some fault }
+
+-- no unfinished message is longer than a message may be, and there are at most 8
+pub record AreShort (messages : List Unfinished) : Type 0 where
+  pub few : length messages ≤ 8
+  pub short : AllByRecursion (λ u. length u.content ≤ 65536) messages
+
+-- the part at the place was taken, and says this
+pub record Took (old : Held) (answer : Option Framed) (new : Held) : Type 0 where
+  pub part : Part
+  pub stands : part_at old.rest ≡ Ok (part, new.rest)
+  pub says : judged old.unfinished old.place part ≡ Ok answer
+  pub unfinished_are : new.unfinished ≡ after old.place part old.unfinished
+  pub place_is : new.place ≡ min (old.place + (12 + part.header.size)) (2 ^ 64 - 1)
+  pub refused : new.refused ≡ old.refused
+
+-- the part at the place is refused
+abbrev pub RefusesHeld : Held → FrameFault → Type 0
+RefusesHeld h fault = ((part_at h.rest ≡ Err fault) × (fault ≢ Short)) ⊎ ((p : Part) × (behind : List ℕ) × (part_at h.rest ≡ Ok (p, behind)) × (judged h.unfinished h.place p ≡ Err fault))
+
+abbrev pub Takes : Held → Result Taken FrameFault → Held → Type 0
+Takes old (Ok Nothing) new = (new ≡ old) × (part_at old.rest ≡ Err Short)
+Takes old (Ok Piece) new = Took old None new
+Takes old (Ok (Whole framed)) new = Took old (Some framed) new
+Takes old (Err Memory) new = new ≡ old
+Takes old (Err fault) new = (new ≡ old) × RefusesHeld old fault
