@@ -91,7 +91,7 @@ fn a_longer_key_is_refused(rt: HostRuntime) -> Result<(), Fail> {
 }
 
 /// The message isn't written.
-fn not_written(
+fn check_refused(
     rt: &impl Abort,
     alloc: Global,
     message: &Message,
@@ -105,6 +105,18 @@ fn not_written(
     Ok(())
 }
 
+/// The message isn't written, and is let go.
+fn not_written(
+    rt: &impl Abort,
+    alloc: Global,
+    message: Message,
+    fault: FrameFault,
+) -> Result<(), Fail>
+    requires { octets_in message < 2 ^ 31 }
+{
+    check_refused(rt, alloc, &message, fault)
+}
+
 /// A Request with this key and this operation isn't written.
 fn request_not_written(
     rt: &impl Abort,
@@ -116,14 +128,14 @@ fn request_not_written(
     requires { length key.now + length operation.now < 2 ^ 31 }
 {
     let message = Message::Request(request(alloc, 4, key, operation, b"")?);
-    not_written(rt, alloc, &message, fault)
+    not_written(rt, alloc, message, fault)
 }
 
 #[test]
 fn profiles_and_references_are_not_written(rt: HostRuntime) -> Result<(), Fail> {
     for target in [Target::Profile, Target::Reference] {
         let locate = Message::Locate(Locate { id: 4, target });
-        not_written(&rt, rt.alloc(), &locate, FrameFault::NotWritten)?;
+        not_written(&rt, rt.alloc(), locate, FrameFault::NotWritten)?;
     }
     Ok(())
 }
@@ -145,7 +157,7 @@ fn reply_not_written(
     requires { length body.now < 2 ^ 31 }
 {
     let message = reply(alloc, body)?;
-    not_written(rt, alloc, &message, fault)
+    not_written(rt, alloc, message, fault)
 }
 
 /// The octets of a Reply with this body.
@@ -216,5 +228,5 @@ fn more_contexts_are_not_written(rt: HostRuntime) -> Result<(), Fail> {
     let contexts = contexts(rt.alloc())?;
     let without = request(rt.alloc(), 4, b"", b"commit", b"")?;
     let message = with_contexts(without, contexts);
-    not_written(&rt, rt.alloc(), &message, too_long(39, 17))
+    not_written(&rt, rt.alloc(), message, too_long(39, 17))
 }

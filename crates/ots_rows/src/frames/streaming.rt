@@ -1,4 +1,4 @@
-ghost use Rattle.std.specs.Prelude.{◌<◌, ◌≤◌, length};
+ghost use Rattle.std.specs.Prelude.{◌≡◌, ◌<◌, ◌≤◌, length};
 
 use super::vectors::REGISTER_RESOURCE;
 use super::{Part, append, feed, next_framed, next_message, octets, standing, stream_of};
@@ -146,14 +146,19 @@ fn messages_come_in_the_order_of_last_parts(rt: HostRuntime) -> Result<(), Fail>
     Ok(())
 }
 
+/// The place of the next message.
+fn next_place(stream: &mut Stream) -> Result<Option<u64>, FrameFault> {
+    Ok(next_framed(stream)?.map(|framed| framed.place))
+}
+
 /// The places of the messages, where one octet comes at a time.
 fn places(alloc: Global, bytes: &[u8]) -> Result<Vec<u64>, Fail> {
     let mut stream = Stream::new(alloc);
     let mut places = Vec::new(alloc);
     for &octet in bytes {
         feed(&mut stream, &[octet])?;
-        if let Some(framed) = next_framed(&mut stream)? {
-            places.push(framed.place)?;
+        if let Some(place) = next_place(&mut stream)? {
+            places.push(place)?;
         }
     }
     Ok(places)
@@ -193,13 +198,18 @@ fn of_one_number(alloc: Global) -> Result<Vec<u8>, Fail> {
     Ok(bytes)
 }
 
+/// The whole Reply comes first, and each has the byte order of its first part.
+fn check_of_one_number(rt: &impl Abort, stream: &mut Stream) -> Result<(), Fail> {
+    check(rt, stream, Order::Big, 1, 24, b"")?;
+    check(rt, stream, Order::Little, 1, 0, b"body")?;
+    check_none(rt, stream, 68, false)
+}
+
 #[test]
 fn joined_octets_have_the_order_of_the_first_part(rt: HostRuntime) -> Result<(), Fail> {
     let bytes = of_one_number(rt.alloc())?;
     let mut stream = stream_of(rt.alloc(), &bytes)?;
-    check(&rt, &mut stream, Order::Big, 1, 24, b"")?;
-    check(&rt, &mut stream, Order::Little, 1, 0, b"body")?;
-    check_none(&rt, &mut stream, 68, false)
+    check_of_one_number(&rt, &mut stream)
 }
 
 /// A part of a little endian Request.
@@ -248,16 +258,28 @@ fn check_register(rt: &impl Abort, found: &Message, body: &[u8]) {
     }
 }
 
+/// The next message is register_resource, with a first part of this size, and this body.
+fn check_next(rt: &impl Abort, stream: &mut Stream, first: u32, body: &[u8]) -> Result<(), Fail> {
+    let found = next(rt, stream, 0, Order::Little, first)?;
+    check_register(rt, &found, body);
+    Ok(())
+}
+
+/// register_resource is read where its first part has so many octets.
+fn check_parts(rt: &impl Abort, alloc: Global, content: &[u8], first: u32) -> Result<(), Fail>
+    requires { (first < length content.now) × (length content.now ≡ 400) }
+{
+    let bytes = in_parts(alloc, content, first as usize)?;
+    let mut stream = stream_of(alloc, &bytes)?;
+    check_next(rt, &mut stream, first, &content[292..])
+}
+
 #[test]
 fn fields_may_be_cut_into_parts(rt: HostRuntime) -> Result<(), Fail> {
     let whole = octets(&rt, rt.alloc(), REGISTER_RESOURCE)?;
     assert_eq!(rt; whole.len(), 412);
     for count in 0..49_u32 {
-        let first = 4 + 8 * count;
-        let bytes = in_parts(rt.alloc(), &whole[12..], first as usize)?;
-        let mut stream = stream_of(rt.alloc(), &bytes)?;
-        let found = next(&rt, &mut stream, 0, Order::Little, first)?;
-        check_register(&rt, &found, &whole[304..]);
+        check_parts(&rt, rt.alloc(), &whole[12..], 4 + 8 * count)?;
     }
     Ok(())
 }

@@ -1,6 +1,6 @@
 use super::reading::message;
 use super::writing::check;
-use giop_frames::{Contexts, Locate, Located, Message, ServiceContext, Target};
+use giop_frames::{Contexts, Kind, Locate, Located, Message, ServiceContext, Target};
 use ots_model::Octets;
 use std::alloc::Global;
 use std::process::Abort;
@@ -21,24 +21,43 @@ const CLOSE: &str = "47494f50 01020005 00000000";
 
 const ERROR: &str = "47494f50 01020006 00000000";
 
-#[test]
-fn messages_of_numbers_alone_are_read(rt: HostRuntime) -> Result<(), Fail> {
-    let a = rt.alloc();
-    assert!(rt; matches!(message(&rt, a, CANCEL)?, Message::Cancel(7)));
-    assert!(rt; matches!(message(&rt, a, CLOSE)?, Message::Close));
-    assert!(rt; matches!(message(&rt, a, ERROR)?, Message::Error));
-    Ok(())
+/// The type that the words say, and the number of a CancelRequest.
+fn plain(rt: &impl Abort, alloc: Global, words: &str) -> Result<(Kind, u32), Fail> {
+    match message(rt, alloc, words)? {
+        Message::Cancel(id) => Ok((Kind::CancelRequest, id)),
+        Message::Close => Ok((Kind::CloseConnection, 0)),
+        Message::Error => Ok((Kind::MessageError, 0)),
+        other => panic!(rt; "{other:?}"),
+    }
 }
 
 #[test]
-fn locate_reply_is_read(rt: HostRuntime) -> Result<(), Fail> {
-    match message(&rt, rt.alloc(), LOCATED)? {
+fn messages_of_numbers_alone_are_read(rt: HostRuntime) -> Result<(), Fail> {
+    let cases = [
+        (CANCEL, Kind::CancelRequest, 7),
+        (CLOSE, Kind::CloseConnection, 0),
+        (ERROR, Kind::MessageError, 0),
+    ];
+    for (words, kind, id) in cases {
+        assert_eq!(rt; plain(&rt, rt.alloc(), words)?, (kind, id));
+    }
+    Ok(())
+}
+
+fn check_located(rt: &impl Abort, found: Message) {
+    match found {
         Message::LocateReply(located) => {
             assert_eq!(rt; (located.id, located.status), (7, 1));
             assert_eq!(rt; located.rest.bytes(), b"hi".as_slice());
         }
         other => panic!(rt; "{other:?}"),
     }
+}
+
+#[test]
+fn locate_reply_is_read(rt: HostRuntime) -> Result<(), Fail> {
+    let found = message(&rt, rt.alloc(), LOCATED)?;
+    check_located(&rt, found);
     Ok(())
 }
 
@@ -53,40 +72,52 @@ fn target(rt: &impl Abort, alloc: Global, words: &str) -> Result<Target, Fail> {
     }
 }
 
+/// Which of the ways to name a target this is. The key is "ab".
+fn way(rt: &impl Abort, target: Target) -> u8 {
+    match target {
+        Target::Key(key) => {
+            assert_eq!(rt; key.bytes(), b"ab".as_slice());
+            0
+        }
+        Target::Profile => 1,
+        Target::Reference => 2,
+    }
+}
+
 #[test]
 fn each_target_is_read(rt: HostRuntime) -> Result<(), Fail> {
-    let a = rt.alloc();
-    match target(&rt, a, LOCATE_KEY)? {
-        Target::Key(key) => assert_eq!(rt; key.bytes(), b"ab".as_slice()),
-        other => panic!(rt; "{other:?}"),
+    let cases = [(LOCATE_KEY, 0), (LOCATE_PROFILE, 1), (LOCATE_REFERENCE, 2)];
+    for (words, wanted) in cases {
+        let target = target(&rt, rt.alloc(), words)?;
+        assert_eq!(rt; way(&rt, target), wanted);
     }
-    assert!(rt; matches!(target(&rt, a, LOCATE_PROFILE)?, Target::Profile));
-    assert!(rt; matches!(target(&rt, a, LOCATE_REFERENCE)?, Target::Reference));
     Ok(())
 }
 
 #[test]
 fn messages_of_numbers_alone_are_written(rt: HostRuntime) -> Result<(), Fail> {
     let a = rt.alloc();
-    check(&rt, a, &Message::Cancel(7), CANCEL)?;
-    check(&rt, a, &Message::Close, CLOSE)?;
-    check(&rt, a, &Message::Error, ERROR)
+    check(&rt, a, Message::Cancel(7), CANCEL)?;
+    check(&rt, a, Message::Close, CLOSE)?;
+    check(&rt, a, Message::Error, ERROR)
 }
 
 #[test]
-fn locate_messages_are_written(rt: HostRuntime) -> Result<(), Fail> {
-    let a = rt.alloc();
-    let locate = Locate {
-        id: 7,
-        target: Target::Key(Octets::new(a, b"ab")?),
-    };
-    check(&rt, a, &Message::Locate(locate), LOCATE_KEY)?;
+fn locate_request_is_written(rt: HostRuntime) -> Result<(), Fail> {
+    let key = Octets::new(rt.alloc(), b"ab")?;
+    let target = Target::Key(key);
+    let locate = Locate { id: 7, target };
+    check(&rt, rt.alloc(), Message::Locate(locate), LOCATE_KEY)
+}
+
+#[test]
+fn locate_reply_is_written(rt: HostRuntime) -> Result<(), Fail> {
     let located = Located {
         id: 7,
         status: 1,
-        rest: Octets::new(a, b"hi")?,
+        rest: Octets::new(rt.alloc(), b"hi")?,
     };
-    check(&rt, a, &Message::LocateReply(located), LOCATED)
+    check(&rt, rt.alloc(), Message::LocateReply(located), LOCATED)
 }
 
 #[test]

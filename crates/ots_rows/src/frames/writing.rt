@@ -64,12 +64,19 @@ pub fn write(alloc: Global, message: &Message, into: &mut Vec<u8>) -> Result<(),
 }
 
 /// What stands in a vector behind which the message was written.
-fn written(alloc: Global, message: &Message) -> Result<Vec<u8>, Fail>
+fn appended(alloc: Global, message: &Message) -> Result<Vec<u8>, Fail>
     requires { octets_in message.now < 2 ^ 31 }
 {
     let mut into = b"before".to_vec(alloc)?;
     write(alloc, message, &mut into)?;
     Ok(into)
+}
+
+/// The same, and the message is let go.
+fn written(alloc: Global, message: Message) -> Result<Vec<u8>, Fail>
+    requires { octets_in message < 2 ^ 31 }
+{
+    appended(alloc, &message)
 }
 
 /// The octets that stood there, and what these words spell.
@@ -80,8 +87,8 @@ fn wanted(rt: &impl Abort, alloc: Global, words: &str) -> Result<Vec<u8>, Fail> 
 }
 
 /// The message is written as these words, behind what stands there.
-pub fn check(rt: &impl Abort, alloc: Global, message: &Message, words: &str) -> Result<(), Fail>
-    requires { octets_in message.now < 2 ^ 31 }
+pub fn check(rt: &impl Abort, alloc: Global, message: Message, words: &str) -> Result<(), Fail>
+    requires { octets_in message < 2 ^ 31 }
 {
     let into = written(alloc, message)?;
     let wanted = wanted(rt, alloc, words)?;
@@ -107,13 +114,13 @@ fn request_of(
 #[test]
 fn prepare_request_is_written(rt: HostRuntime) -> Result<(), Fail> {
     let found = request_of(&rt, rt.alloc(), 4, PREPARE_KEY, b"prepare", b"")?;
-    check(&rt, rt.alloc(), &Message::Request(found), PREPARE_REQUEST)
+    check(&rt, rt.alloc(), Message::Request(found), PREPARE_REQUEST)
 }
 
 #[test]
 fn zero_reply_is_written(rt: HostRuntime) -> Result<(), Fail> {
     let found = reply(rt.alloc(), &[0; 4])?;
-    check(&rt, rt.alloc(), &found, ZERO_REPLY)
+    check(&rt, rt.alloc(), found, ZERO_REPLY)
 }
 
 /// One context, which holds what these words spell.
@@ -139,5 +146,5 @@ fn commit_request(rt: &impl Abort, alloc: Global) -> Result<Message, Fail>
 #[test]
 fn commit_request_is_written(rt: HostRuntime) -> Result<(), Fail> {
     let found = commit_request(&rt, rt.alloc())?;
-    check(&rt, rt.alloc(), &found, COMMIT_REQUEST)
+    check(&rt, rt.alloc(), found, COMMIT_REQUEST)
 }
