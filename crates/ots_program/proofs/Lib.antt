@@ -8,4 +8,4 @@ pub mod Runs
 pub mod Seen
 pub mod Safely
 pub mod Showing
-pub mod SightLines
+pub mod MessageLineLemmas

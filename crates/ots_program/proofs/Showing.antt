@@ -14,9 +14,9 @@ use Rattle.ots_outside.specs.Sink.{Takes, TakesPart}
 use Rattle.ots_outside.specs.Source.{Gives}
 use Rattle.ots_program.specs.declared.status.Status.{Status}
 use Rattle.ots_program.specs.declared.status.Status.TheVariants as statuses
-use Rattle.ots_program.specs.Show.{Ends, Shows, StopsShow, WritesSights}
+use Rattle.ots_program.specs.Show.{Ends, Shows, StopsShow, WritesMessageLines}
 use Rattle.ots_program.specs.ShowInside.{Breaks, BrokeOff, EndsCut, EndsWhole, OfPiece, TellsBreak, TellsPiece, TookPiece, status_by}
-use Rattle.ots_program.specs.Sight.{sight, sights}
+use Rattle.ots_program.specs.MessageLine.{message_line, message_lines}
 use Rattle.ots_program.proofs.Taken.{Takes-none, Takes-trans}
 
 -- these messages come first where octets are held so
@@ -43,7 +43,7 @@ begun_on octets more messages b = record {
 pub record Telling (old now : Held) (piece told : List ℕ) : Type 0 where
   pub messages : List Framed
   pub holds : (octets : List ℕ) (given : List Framed) → Holds octets given old → Holds (octets ++ piece) (given ++ messages) now
-  pub told_is : told ≡ sights messages
+  pub told_is : told ≡ message_lines messages
   pub accepts : now.refused ≡ None
 
 pub telling_start : (old now : Held) (piece told : List ℕ) → ((octets : List ℕ) (given : List Framed) → Holds octets given old → Holds (octets ++ piece) given now) → told ≡ [] → now.refused ≡ None → Telling old now piece told
@@ -54,15 +54,15 @@ telling_start old now piece told fed none accepts = record {
   accepts = accepts;
 }
 
-sights-push : (messages : List Framed) (m : Framed) → sights (messages ++ m ∷ []) ≡ sights messages ++ sight m
-sights-push messages m = flat_map-append sight messages (m ∷ []) ∙ ap (λ (x : List ℕ). sights messages ++ x) (append-nil (sight m))
+message_lines-push : (messages : List Framed) (m : Framed) → message_lines (messages ++ m ∷ []) ≡ message_lines messages ++ message_line m
+message_lines-push messages m = flat_map-append message_line messages (m ∷ []) ∙ ap (λ (x : List ℕ). message_lines messages ++ x) (append-nil (message_line m))
 
 pub telling_more : (old now next : Held) (piece told more : List ℕ) (m : Framed) → Telling old now piece told → ((octets : List ℕ) (given : List Framed) → Holds octets given now → Holds octets (given ++ m ∷ []) next)
-    → more ≡ told ++ sight m → next.refused ≡ None → Telling old next piece more
+    → more ≡ told ++ message_line m → next.refused ≡ None → Telling old next piece more
 telling_more old now next piece told more m t gives written accepts = record {
   messages = t.messages ++ m ∷ [];
   holds = λ octets given h. subst (λ (ms : List Framed). Holds (octets ++ piece) ms next) (append_assoc given t.messages (m ∷ [])) (gives (octets ++ piece) (given ++ t.messages) (t.holds octets given h));
-  told_is = written ∙ ap (λ (x : List ℕ). x ++ sight m) t.told_is ∙ sym (sights-push t.messages m);
+  told_is = written ∙ ap (λ (x : List ℕ). x ++ message_line m) t.told_is ∙ sym (message_lines-push t.messages m);
   accepts = accepts;
 }
 
@@ -119,17 +119,17 @@ whole_front : (taken told : List ℕ) (after : Option (List ℕ)) → after ≡ 
 whole_front taken told after e = (length told, e ∙ ap (λ (x : List ℕ). Some (taken ++ x)) (sym (take_all (length told) told (omega arith))))
 
 -- all lines went out
-pub writes_whole : (status : Status) (messages : List Framed) (taken : List ℕ) (after : Option (List ℕ)) → after ≡ Some (taken ++ sights messages) → WritesSights status messages taken after
+pub writes_whole : (status : Status) (messages : List Framed) (taken : List ℕ) (after : Option (List ℕ)) → after ≡ Some (taken ++ message_lines messages) → WritesMessageLines status messages taken after
 writes_whole statuses.Done messages taken after e = e
 writes_whole (statuses.BadMessage place fault) messages taken after e = e
-writes_whole statuses.Usage messages taken after e = whole_front taken (sights messages) after e
-writes_whole (statuses.Script line) messages taken after e = whole_front taken (sights messages) after e
-writes_whole statuses.ReadFault messages taken after e = whole_front taken (sights messages) after e
-writes_whole statuses.WriteFault messages taken after e = whole_front taken (sights messages) after e
-writes_whole (statuses.Limit line number) messages taken after e = whole_front taken (sights messages) after e
-writes_whole statuses.Memory messages taken after e = whole_front taken (sights messages) after e
+writes_whole statuses.Usage messages taken after e = whole_front taken (message_lines messages) after e
+writes_whole (statuses.Script line) messages taken after e = whole_front taken (message_lines messages) after e
+writes_whole statuses.ReadFault messages taken after e = whole_front taken (message_lines messages) after e
+writes_whole statuses.WriteFault messages taken after e = whole_front taken (message_lines messages) after e
+writes_whole (statuses.Limit line number) messages taken after e = whole_front taken (message_lines messages) after e
+writes_whole statuses.Memory messages taken after e = whole_front taken (message_lines messages) after e
 
-written : (status : Status) (messages : List Framed) (told : List ℕ) (before after : Option (List ℕ)) → told ≡ sights messages → Takes before told after → IfSome before (λ taken. WritesSights status messages taken after)
+written : (status : Status) (messages : List Framed) (told : List ℕ) (before after : Option (List ℕ)) → told ≡ message_lines messages → Takes before told after → IfSome before (λ taken. WritesMessageLines status messages taken after)
 written status messages told None after e t = tt
 written status messages told (Some taken) after e t = writes_whole status messages taken after (t ∙ ap (λ (x : List ℕ). Some (taken ++ x)) e)
 
@@ -146,7 +146,7 @@ breaks_begun statuses.WriteFault messages octets b = b
 breaks_begun (statuses.Limit line number) messages octets b = b
 breaks_begun statuses.Memory messages octets b = b
 
-front_written : (messages : List Framed) (told : List ℕ) (before after : Option (List ℕ)) → told ≡ sights messages → TakesPart before told after → IfSome before (λ taken. WritesSights statuses.WriteFault messages taken after)
+front_written : (messages : List Framed) (told : List ℕ) (before after : Option (List ℕ)) → told ≡ message_lines messages → TakesPart before told after → IfSome before (λ taken. WritesMessageLines statuses.WriteFault messages taken after)
 front_written messages told None after e t = tt
 front_written messages told (Some taken) after e t = (t.0, t.1 ∙ ap (λ (x : List ℕ). Some (taken ++ take t.0 x)) e)
 
@@ -176,7 +176,7 @@ pub record Showing (octets : List ℕ) (left before now : Option (List ℕ)) (h 
   pub whole : octets ≡ read ++ rest
   pub messages : List Framed
   pub holds : Holds read messages h
-  pub taken : Takes before (sights messages) now
+  pub taken : Takes before (message_lines messages) now
 
 pub showing_start : (left before : Option (List ℕ)) (h : Held) → Holds [] [] h → IfSome left (λ octets. Showing octets left before before h)
 showing_start None before h holds = tt
@@ -192,7 +192,7 @@ more octets left next before now after h new places n room s gives t =
       whole = s.whole ∙ ap (λ (x : List ℕ). s.read ++ x) (sym (take-append-drop n s.rest) ∙ ap (λ (x : List ℕ). x ++ drop n s.rest) (sym g.octets)) ∙ sym (append_assoc s.read (take n room) (drop n s.rest));
       messages = s.messages ++ t.messages;
       holds = t.holds s.read s.messages s.holds;
-      taken = subst (λ (x : List ℕ). Takes before x after) (sym (flat_map-append sight s.messages t.messages)) (Takes-trans (sights s.messages) (sights t.messages) before now after s.taken t.taken);
+      taken = subst (λ (x : List ℕ). Takes before x after) (sym (flat_map-append message_line s.messages t.messages)) (Takes-trans (message_lines s.messages) (message_lines t.messages) before now after s.taken t.taken);
     }
 
 pub showing_more : (script left next before now after : Option (List ℕ)) (h new : Held) (places n : ℕ) (room : List ℕ) → IfSome script (λ octets. Showing octets left before now h) → IfSome left (λ l. Gives l places n room next) → TookPiece h new (take n room) now after
@@ -204,7 +204,7 @@ showing_more (Some octets) left next before now after h new places n room s give
 abbrev pub ShowsTold : Status → List ℕ → Option (List ℕ) → Option (List ℕ) → Type 0
 ShowsTold status octets before after = IfSome before (λ taken. Shows status octets taken after)
 
-told : (status : Status) (octets : List ℕ) (messages : List Framed) (before after : Option (List ℕ)) → Ends status messages octets → IfSome before (λ taken. WritesSights status messages taken after) → ShowsTold status octets before after
+told : (status : Status) (octets : List ℕ) (messages : List Framed) (before after : Option (List ℕ)) → Ends status messages octets → IfSome before (λ taken. WritesMessageLines status messages taken after) → ShowsTold status octets before after
 told status octets messages None after ends writes = tt
 told status octets messages (Some taken) after ends writes = record { messages = messages; ends = ends; writes = writes }
 
@@ -212,7 +212,7 @@ told status octets messages (Some taken) after ends writes = record { messages =
 begun_shows : (status : Status) (octets : List ℕ) (left before now : Option (List ℕ)) (h : Held) → ((messages : List Framed) → IsBegun messages octets → Ends status messages octets) → Showing octets left before now h → ShowsTold status octets before now
 begun_shows status octets left before now h ends s =
     let begun : IsBegun s.messages octets = subst (λ (x : List ℕ). IsBegun s.messages x) (sym s.whole) (begun_on s.read s.rest s.messages (held_begun s.read s.messages h s.holds)) in
-    told status octets s.messages before now (ends s.messages begun) (written status s.messages (sights s.messages) before now refl s.taken)
+    told status octets s.messages before now (ends s.messages begun) (written status s.messages (message_lines s.messages) before now refl s.taken)
 
 -- reading failed
 pub read_failed : (script left before now : Option (List ℕ)) (h : Held) → IfSome script (λ octets. Showing octets left before now h) → IfSome script (λ octets. ShowsTold statuses.ReadFault octets before now)
@@ -243,7 +243,7 @@ ended_whole None left next before now h places n room s gives none place ends = 
 ended_whole (Some octets) left next before now h places n room s gives none place ends =
     let all = nothing_left octets left next before now h places n room s gives none place in
     let whole : IsWhole s.messages octets = subst (λ (x : List ℕ). IsWhole s.messages x) (sym all.0) (ends s.read s.messages s.holds) in
-    told statuses.Done octets s.messages before now whole (written statuses.Done s.messages (sights s.messages) before now refl s.taken)
+    told statuses.Done octets s.messages before now whole (written statuses.Done s.messages (message_lines s.messages) before now refl s.taken)
 
 -- the source ended inside a message
 pub ended_cut : (status : Status) (script left next before now : Option (List ℕ)) (h : Held) (places n : ℕ) (room : List ℕ) → IfSome script (λ octets. Showing octets left before now h) → IfSome left (λ l. Gives l places n room next) → n ≡ 0 → 0 < places → EndsCut h status
@@ -259,7 +259,7 @@ ended_cut statuses.Memory (Some octets) left next before now h places n room s g
 ended_cut (statuses.BadMessage at fault) (Some octets) left next before now h places n room s gives none place ends =
     let all = nothing_left octets left next before now h places n room s gives none place in
     let cut : IsCut s.messages at octets = subst (λ (x : List ℕ). IsCut s.messages at x) (sym all.0) (ends.1 s.read s.messages s.holds) in
-    told (statuses.BadMessage at fault) octets s.messages before now (inr (ends.0, cut)) (written (statuses.BadMessage at fault) s.messages (sights s.messages) before now refl s.taken)
+    told (statuses.BadMessage at fault) octets s.messages before now (inr (ends.0, cut)) (written (statuses.BadMessage at fault) s.messages (message_lines s.messages) before now refl s.taken)
 
 -- a law: octets that are refused are refused with more of them too
 abbrev pub RefusalGoesOn : Type 0
@@ -275,12 +275,12 @@ breaks_end law statuses.WriteFault messages octets more stops b = begun_on octet
 breaks_end law statuses.Memory messages octets more stops b = begun_on octets more messages b
 breaks_end law (statuses.BadMessage place fault) messages octets more stops b = inl (law messages place fault octets more b)
 
-ahead_front : (messages more : List Framed) (taken : List ℕ) (after : Option (List ℕ)) → ((n : ℕ) × (after ≡ Some ((taken ++ sights messages) ++ take n (sights more)))) → (n : ℕ) × (after ≡ Some (taken ++ take n (sights (messages ++ more))))
+ahead_front : (messages more : List Framed) (taken : List ℕ) (after : Option (List ℕ)) → ((n : ℕ) × (after ≡ Some ((taken ++ message_lines messages) ++ take n (message_lines more)))) → (n : ℕ) × (after ≡ Some (taken ++ take n (message_lines (messages ++ more))))
 ahead_front messages more taken after h =
-    (length (sights messages) + h.0, h.1 ∙ ap (λ (x : List ℕ). Some x) (append_assoc taken (sights messages) (take h.0 (sights more)) ∙ ap (λ (x : List ℕ). taken ++ x) (sym (ap (take (length (sights messages) + h.0)) (flat_map-append sight messages more) ∙ take-append-add (sights messages) (sights more) h.0))))
+    (length (message_lines messages) + h.0, h.1 ∙ ap (λ (x : List ℕ). Some x) (append_assoc taken (message_lines messages) (take h.0 (message_lines more)) ∙ ap (λ (x : List ℕ). taken ++ x) (sym (ap (take (length (message_lines messages) + h.0)) (flat_map-append message_line messages more) ∙ take-append-add (message_lines messages) (message_lines more) h.0))))
 
 -- lines, and then what a piece wrote
-ahead : (status : Status) (messages more : List Framed) (taken : List ℕ) (now after : Option (List ℕ)) → now ≡ Some (taken ++ sights messages) → IfSome now (λ t. WritesSights status more t after) → StopsShow status → WritesSights status (messages ++ more) taken after
+ahead : (status : Status) (messages more : List Framed) (taken : List ℕ) (now after : Option (List ℕ)) → now ≡ Some (taken ++ message_lines messages) → IfSome now (λ t. WritesMessageLines status more t after) → StopsShow status → WritesMessageLines status (messages ++ more) taken after
 ahead statuses.Done messages more taken now after e w stops = absurd stops
 ahead statuses.Usage messages more taken now after e w stops = absurd stops
 ahead (statuses.Script line) messages more taken now after e w stops = absurd stops
@@ -289,10 +289,10 @@ ahead statuses.ReadFault messages more taken now after e w stops = ahead_front m
 ahead statuses.WriteFault messages more taken now after e w stops = ahead_front messages more taken after (rw e at w)
 ahead statuses.Memory messages more taken now after e w stops = ahead_front messages more taken after (rw e at w)
 ahead (statuses.BadMessage place fault) messages more taken now after e w stops =
-    let w' : after ≡ Some ((taken ++ sights messages) ++ sights more) = rw e at w in
-    w' ∙ ap (λ (x : List ℕ). Some x) (append_assoc taken (sights messages) (sights more) ∙ ap (λ (x : List ℕ). taken ++ x) (sym (flat_map-append sight messages more)))
+    let w' : after ≡ Some ((taken ++ message_lines messages) ++ message_lines more) = rw e at w in
+    w' ∙ ap (λ (x : List ℕ). Some x) (append_assoc taken (message_lines messages) (message_lines more) ∙ ap (λ (x : List ℕ). taken ++ x) (sym (flat_map-append message_line messages more)))
 
-broke_writes : (status : Status) (messages more : List Framed) (before now after : Option (List ℕ)) → Takes before (sights messages) now → IfSome now (λ t. WritesSights status more t after) → StopsShow status → IfSome before (λ taken. WritesSights status (messages ++ more) taken after)
+broke_writes : (status : Status) (messages more : List Framed) (before now after : Option (List ℕ)) → Takes before (message_lines messages) now → IfSome now (λ t. WritesMessageLines status more t after) → StopsShow status → IfSome before (λ taken. WritesMessageLines status (messages ++ more) taken after)
 broke_writes status messages more None now after t w stops = tt
 broke_writes status messages more (Some taken) now after t w stops = ahead status messages more taken now after t w stops
 

@@ -3,6 +3,6 @@ pub mod Answers
 pub mod Playing
 pub mod Number
 pub mod Words
-pub mod Sight
+pub mod MessageLine
 pub mod Show
 pub mod ShowInside

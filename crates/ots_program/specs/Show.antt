@@ -6,7 +6,7 @@ use Rattle.giop_frames.specs.declared.framed.Framed.{Framed}
 use Rattle.giop_frames.specs.Stream.{IsBegun, IsCut, IsRefused, IsWhole}
 use Rattle.ots_program.specs.declared.status.Status.{Status}
 use Rattle.ots_program.specs.declared.status.Status.TheVariants as statuses
-use Rattle.ots_program.specs.Sight.{sights}
+use Rattle.ots_program.specs.MessageLine.{message_lines}
 
 -- behind these messages there is no further one: a part is refused, or the octets end inside a message
 abbrev pub EndsBadly : List Framed → ℕ → FrameFault → List ℕ → Type 0
@@ -20,16 +20,16 @@ Ends (statuses.BadMessage place fault) messages octets = EndsBadly messages plac
 Ends _ messages octets = IsBegun messages octets
 
 -- the lines of these messages went out, whole or from the front, by the status
-abbrev pub WritesSights : Status → List Framed → List ℕ → Option (List ℕ) → Type 0
-WritesSights statuses.Done messages before after = after ≡ Some (before ++ sights messages)
-WritesSights (statuses.BadMessage place fault) messages before after = after ≡ Some (before ++ sights messages)
-WritesSights _ messages before after = (n : ℕ) × (after ≡ Some (before ++ take n (sights messages)))
+abbrev pub WritesMessageLines : Status → List Framed → List ℕ → Option (List ℕ) → Type 0
+WritesMessageLines statuses.Done messages before after = after ≡ Some (before ++ message_lines messages)
+WritesMessageLines (statuses.BadMessage place fault) messages before after = after ≡ Some (before ++ message_lines messages)
+WritesMessageLines _ messages before after = (n : ℕ) × (after ≡ Some (before ++ take n (message_lines messages)))
 
 -- what a show of these octets wrote with this status
 pub record Shows (status : Status) (octets before : List ℕ) (after : Option (List ℕ)) : Type 0 where
   pub messages : List Framed
   pub ends : Ends status messages octets
-  pub writes : WritesSights status messages before after
+  pub writes : WritesMessageLines status messages before after
 
 -- a status with which a show breaks off
 abbrev pub StopsShow : Status → Type 0

@@ -8,8 +8,8 @@ use Rattle.giop_frames.specs.Held.{Held, Holds}
 use Rattle.ots_outside.specs.Sink.{Takes}
 use Rattle.ots_program.specs.declared.status.Status.{Status}
 use Rattle.ots_program.specs.declared.status.Status.TheVariants as statuses
-use Rattle.ots_program.specs.Sight.{sights}
-use Rattle.ots_program.specs.Show.{StopsShow, WritesSights}
+use Rattle.ots_program.specs.MessageLine.{message_lines}
+use Rattle.ots_program.specs.Show.{StopsShow, WritesMessageLines}
 
 -- the same at a piece, behind which more octets may come
 abbrev pub Breaks : Status → List Framed → List ℕ → Type 0
@@ -31,7 +31,7 @@ status_by place fault = statuses.BadMessage place fault
 pub record TellsPiece (old new : Held) (piece told : List ℕ) : Type 0 where
   pub messages : List Framed
   pub holds : (octets : List ℕ) (given : List Framed) → Holds octets given old → Holds (octets ++ piece) (given ++ messages) new
-  pub told_is : told ≡ sights messages
+  pub told_is : told ≡ message_lines messages
   pub partial : part_at new.rest ≡ Err Short
   pub accepts : new.refused ≡ None
 
@@ -40,13 +40,13 @@ pub record TellsBreak (status : Status) (old : Held) (piece told : List ℕ) : T
   pub messages : List Framed
   pub stops : StopsShow status
   pub ends : (octets : List ℕ) (given : List Framed) → Holds octets given old → Breaks status (given ++ messages) (octets ++ piece)
-  pub told_is : told ≡ sights messages
+  pub told_is : told ≡ message_lines messages
 
 -- a stream took a piece, and the lines of the messages that are whole now went out; no whole part is left
 pub record TookPiece (old new : Held) (piece : List ℕ) (before after : Option (List ℕ)) : Type 0 where
   pub messages : List Framed
   pub holds : (octets : List ℕ) (given : List Framed) → Holds octets given old → Holds (octets ++ piece) (given ++ messages) new
-  pub taken : Takes before (sights messages) after
+  pub taken : Takes before (message_lines messages) after
   pub partial : part_at new.rest ≡ Err Short
   pub accepts : new.refused ≡ None
 
@@ -55,7 +55,7 @@ pub record BrokeOff (status : Status) (old : Held) (piece : List ℕ) (before af
   pub messages : List Framed
   pub stops : StopsShow status
   pub ends : (octets : List ℕ) (given : List Framed) → Holds octets given old → Breaks status (given ++ messages) (octets ++ piece)
-  pub writes : IfSome before (λ taken. WritesSights status messages taken after)
+  pub writes : IfSome before (λ taken. WritesMessageLines status messages taken after)
 
 -- the stream ends here, with no message unfinished
 abbrev pub EndsWhole : Held → Type 0

@@ -7,7 +7,7 @@ pub use status::{LINES_LIMIT, OCTETS_LIMIT, Status};
 
 mod command;
 mod devices;
+mod message_line;
 mod player;
 mod show;
-mod sight;
 mod status;

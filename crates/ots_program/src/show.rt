@@ -5,10 +5,10 @@ ghost use Rattle.ots_outside.specs.Source.{HasRisen};
 ghost use Rattle.ots_program.specs.Answers.{WhereTold};
 ghost use Rattle.ots_program.specs.Show.{Shows, StopsShow};
 ghost use Rattle.ots_program.specs.ShowInside.{BrokeOff, EndsCut, EndsWhole, OfPiece, TellsBreak, TellsPiece, TookPiece, status_by};
-ghost use Rattle.ots_program.specs.Sight.{sight};
+ghost use Rattle.ots_program.specs.MessageLine.{message_line};
 
 use crate::command::write_out;
-use crate::sight::write_sight;
+use crate::message_line::write_message_line;
 use crate::status::Status;
 use giop_frames::{FrameFault, Framed, Stream, a_refusal_stays};
 use ots_outside::{Sink, Source};
@@ -114,11 +114,11 @@ fn take_piece(
 
 /// Tells the line of a message.
 fn tell(alloc: Global, lines: &mut Vec<u8>, framed: Framed) -> Result<(), Status>
-    ensures ok { OnOk result (lines.new.items ≡ lines.old.items ++ sight framed) }
+    ensures ok { OnOk result (lines.new.items ≡ lines.old.items ++ message_line framed) }
     ensures err { OnErr result (lines.new.items ≡ lines.old.items) }
     ensures memory { IfErr result (λ status. status ≡ Status.Memory) }
 {
-    write_sight(alloc, lines, &framed)?;
+    write_message_line(alloc, lines, &framed)?;
     Ok(())
 }
 

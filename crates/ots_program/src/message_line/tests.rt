@@ -1,4 +1,4 @@
-use super::write_sight;
+use super::write_message_line;
 use cdr_values::Order;
 use giop_frames::{Contexts, Framed, Message, Request, ServiceContext, Target};
 use ots_model::Octets;
@@ -45,10 +45,10 @@ fn requests_are_shown(rt: HostRuntime) -> Result<(), Fail> {
     let key = Target::Key(Octets::new(alloc, &[0x01, 0xab])?);
     let two = contexts(alloc, &[1, 0])?;
     let plain = request(alloc, key, b"register_resource", two)?;
-    write_sight(alloc, &mut lines, &plain)?;
+    write_message_line(alloc, &mut lines, &plain)?;
     let none = contexts(alloc, &[])?;
     let hidden = request(alloc, Target::Profile, b"a b\x80~!", none)?;
-    write_sight(alloc, &mut lines, &hidden)?;
+    write_message_line(alloc, &mut lines, &hidden)?;
     let shown =
         b"0 request little id 5 op register_resource key 01ab contexts 1,0 body 3\n0 request little id 5 op a?b?~! key - contexts - body 3\n";
     assert_eq!(rt; lines.as_slice(), shown.as_slice());
@@ -64,7 +64,7 @@ fn a_cancelled_request_is_shown(rt: HostRuntime) -> Result<(), Fail> {
         size: 4,
         message: Message::Cancel(7),
     };
-    write_sight(rt.alloc(), &mut lines, &cancel)?;
+    write_message_line(rt.alloc(), &mut lines, &cancel)?;
     assert_eq!(rt; lines.as_slice(), b"12 cancel big size 4\n".as_slice());
     Ok(())
 }

@@ -3,7 +3,7 @@ use Rattle.std.proofs.lemmas.List.{append-nil, take_all}
 use Rattle.std.specs.List.{join_with_byte, flat_map}
 use Rattle.std.specs.Fmt.{decimal}
 use Rattle.giop_frames.specs.declared.message.ServiceContext.{ServiceContext}
-use Rattle.ots_program.specs.Sight.{contexts_word}
+use Rattle.ots_program.specs.MessageLine.{contexts_word}
 
 -- the ids of contexts, one after another with a comma before each but the first
 pub joined_ids : (first : ServiceContext) (others : List ServiceContext)

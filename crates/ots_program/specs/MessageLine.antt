@@ -52,9 +52,9 @@ shown order size messages.Close = sized (codes " close ") order size
 shown order size messages.Error = sized (codes " error ") order size
 
 -- the line of a message: where its first part stands, and what it is
-unfoldable pub sight : Framed → List ℕ
-sight framed = decimal framed.place ++ shown framed.order framed.size framed.message
+unfoldable pub message_line : Framed → List ℕ
+message_line framed = decimal framed.place ++ shown framed.order framed.size framed.message
 
 -- the lines of messages
-abbrev pub sights : List Framed → List ℕ
-sights messages = flat_map sight messages
+abbrev pub message_lines : List Framed → List ℕ
+message_lines messages = flat_map message_line messages

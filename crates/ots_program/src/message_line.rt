@@ -1,7 +1,7 @@
 ghost use Rattle.std.specs.Prelude.{◌≡◌, ◌∷◌, ◌++◌, length, take, map, codes, OnErr, OnOk};
 ghost use Rattle.std.specs.List.{flat_map};
 ghost use Rattle.std.specs.Fmt.{decimal};
-ghost use Rattle.ots_program.specs.Sight.{sight, shown, sized, behind_fields, contexts_word, key_word, visible, order_word};
+ghost use Rattle.ots_program.specs.MessageLine.{message_line, shown, sized, behind_fields, contexts_word, key_word, visible, order_word};
 
 use cdr_values::Order;
 use giop_frames::{Framed, Message, Reply, Request, ServiceContext, Target};
@@ -9,8 +9,12 @@ use itoa::Buffer;
 use std::alloc::{AllocError, Global};
 
 /// Writes the line of a message at the end. Want of memory leaves what stood there.
-pub fn write_sight(alloc: Global, lines: &mut Vec<u8>, framed: &Framed) -> Result<(), AllocError>
-    ensures ok { OnOk result (lines.new.items ≡ lines.old.items ++ sight framed.now) }
+pub fn write_message_line(
+    alloc: Global,
+    lines: &mut Vec<u8>,
+    framed: &Framed,
+) -> Result<(), AllocError>
+    ensures ok { OnOk result (lines.new.items ≡ lines.old.items ++ message_line framed.now) }
     ensures err { OnErr result (lines.new.items ≡ lines.old.items) }
 {
     let start = lines.len();
@@ -21,9 +25,9 @@ pub fn write_sight(alloc: Global, lines: &mut Vec<u8>, framed: &Framed) -> Resul
     written
 }
 
-#[tactic(auto, unfolding(crate::specs::Sight::sight))]
+#[tactic(auto, unfolding(crate::specs::MessageLine::message_line))]
 fn write_line(alloc: Global, lines: &mut Vec<u8>, framed: &Framed) -> Result<(), AllocError>
-    ensures ok { OnOk result (lines.new.items ≡ lines.old.items ++ sight framed.now) }
+    ensures ok { OnOk result (lines.new.items ≡ lines.old.items ++ message_line framed.now) }
     ensures front { OnErr result (take (length lines.old.items) lines.new.items ≡ lines.old.items) }
 {
     write_number(lines, framed.place)?;
@@ -151,13 +155,13 @@ fn write_contexts(lines: &mut Vec<u8>, contexts: &[ServiceContext]) -> Result<()
         [] => lines.extend_from_slice(b" contexts -"),
         [first, others @ ..] => {
             write_field(lines, b" contexts ", u64::from(first.id))?;
-            write_others(lines, others)
+            write_other_ids(lines, others)
         }
     }
 }
 
 /// Writes the ids of the contexts that stand behind the first, with a comma before each.
-fn write_others(lines: &mut Vec<u8>, contexts: &[ServiceContext]) -> Result<(), AllocError>
+fn write_other_ids(lines: &mut Vec<u8>, contexts: &[ServiceContext]) -> Result<(), AllocError>
     ensures ok { OnOk result (lines.new.items ≡ lines.old.items ++ flat_map (λ c. 44 ∷ decimal c.id) contexts.now) }
     ensures front { OnErr result (take (length lines.old.items) lines.new.items ≡ lines.old.items) }
 {
