@@ -1,5 +1,6 @@
 -- Reading values from the front (CORBA, CDR Transfer Syntax), and the fault of what no value spells (our profile).
 use Rattle.std.specs.Prelude.{◌≡◌, ℕ, ◌+◌, ◌-◌, ◌==◌, Bool, ◌&&◌, not, nat_lt, List, ◌++◌, length, take, drop, slice_index, Result, Ok, Err, if◌then◌else◌}
+use Rattle.cdr_values.specs.declared.fault.TheConstants.{LENGTH_LIMIT}
 use Rattle.cdr_values.specs.declared.order.Order.{Order}
 use Rattle.cdr_values.specs.declared.fault.CdrFault.{CdrFault}
 use Rattle.cdr_values.specs.declared.fault.CdrFault.TheVariants.{Short, BadBoolean, BadString, TooLong}
@@ -67,11 +68,11 @@ ulong_at r = number_at 4 r
 abbrev pub ulonglong_at : Reading → Result (ℕ × Reading) CdrFault
 ulonglong_at r = number_at 8 r
 
--- a length above 65,536 is refused before the octets are counted
+-- a length above the limit is refused before the octets are counted
 unfoldable pub octets_at : Reading → Result (List ℕ × Reading) CdrFault
 octets_at r = do
   count ← ulong_at r
-  if nat_lt 65536 count.0 then Err (TooLong r.place count.0) else (if nat_lt (length count.1.rest) count.0 then Err (Short r.place) else Ok (take count.0 count.1.rest, further count.1 count.0))
+  if nat_lt LENGTH_LIMIT count.0 then Err (TooLong r.place count.0) else (if nat_lt (length count.1.rest) count.0 then Err (Short r.place) else Ok (take count.0 count.1.rest, further count.1 count.0))
 
 -- a text, and one NUL behind it
 abbrev pub is_string : List ℕ → Bool

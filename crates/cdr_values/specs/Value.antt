@@ -1,5 +1,6 @@
 -- Which octets spell a value (CORBA, General Inter-ORB Protocol, CDR Transfer Syntax).
 use Rattle.std.specs.Prelude.{◌≡◌, ℕ, ◌+◌, ◌-◌, ◌%◌, ◌^◌, ◌<◌, ◌≤◌, ◌⊎◌, ◌==◌, Bool, false, List, [], ◌∷◌, ◌++◌, length, replicate, if◌then◌else◌}
+use Rattle.cdr_values.specs.declared.fault.TheConstants.{LENGTH_LIMIT}
 use Rattle.std.specs.List.{list_any}
 use Rattle.byteorder.specs.Endian.{big_number, little_number, big_bytes, little_bytes}
 use Rattle.cdr_values.specs.declared.order.Order.{Order}
@@ -46,12 +47,12 @@ pub record IsNumber (order : Order) (n number : ℕ) (octets : List ℕ) : Type 
   pub size : length octets ≡ n
   pub value : number_in order n octets ≡ number
 
--- the count of the items, in four octets, and the items, of which there are at most 65,536 (our profile)
+-- the count of the items, in four octets, and the items, whose number has a limit (our profile)
 pub record IsCounted (order : Order) (items octets : List ℕ) : Type 0 where
   pub count : List ℕ
   pub parts : octets ≡ count ++ items
   pub counted : IsNumber order 4 (length items) count
-  pub few : length items ≤ 65536
+  pub few : length items ≤ LENGTH_LIMIT
 
 -- some octet is 0
 abbrev pub has_nul : List ℕ → Bool
@@ -103,6 +104,6 @@ Fits (Boolean b) = Unit {0}
 Fits (UShort n) = n < 2 ^ 16
 Fits (ULong n) = n < 2 ^ 32
 Fits (ULongLong n) = n < 2 ^ 64
-Fits (OctetSequence items) = length items ≤ 65536
-Fits (Text text) = (length text < 65536) × (has_nul text ≡ false)
+Fits (OctetSequence items) = length items ≤ LENGTH_LIMIT
+Fits (Text text) = (length text < LENGTH_LIMIT) × (has_nul text ≡ false)
 Fits (Aligned n) = Unit {0}

@@ -1,5 +1,6 @@
 -- Writing values at the end (CORBA, CDR Transfer Syntax), and what refuses them (our profile).
 use Rattle.std.specs.Prelude.{◌≡◌, ℕ, ◌+◌, ◌<◌, ◌≤◌, Bool, false, nat_lt, List, ◌++◌, length, Option, Some, None, Result, Ok, Err, if◌then◌else◌}
+use Rattle.cdr_values.specs.declared.fault.TheConstants.{LENGTH_LIMIT}
 use Rattle.cdr_values.specs.declared.order.Order.{Order}
 use Rattle.cdr_values.specs.declared.fault.CdrFault.{CdrFault}
 use Rattle.cdr_values.specs.declared.fault.CdrFault.TheVariants.{BadString, TooLong, Memory}
@@ -28,7 +29,7 @@ is_bad _ = false
 abbrev pub refusal : Writing → Value → Option CdrFault
 refusal w value =
     if is_bad value then Some (BadString (place_of w))
-    else (if nat_lt 65536 (length (with_value w value).octets) then Some (TooLong (place_of w) (length (with_value w value).octets)) else None)
+    else (if nat_lt LENGTH_LIMIT (length (with_value w value).octets) then Some (TooLong (place_of w) (length (with_value w value).octets)) else None)
 
 -- with these octets at its end
 abbrev pub with_octets : Writing → List ℕ → Writing
@@ -36,6 +37,6 @@ with_octets w octets = record w { octets = w.octets ++ octets }
 
 -- octets were written at the end, or there is no room for them
 abbrev pub Puts : Writing → List ℕ → Result (Unit {0}) CdrFault → Writing → Type 0
-Puts old octets (Ok nothing) new = (new ≡ with_octets old octets) × (length old.octets + length octets ≤ 65536)
+Puts old octets (Ok nothing) new = (new ≡ with_octets old octets) × (length old.octets + length octets ≤ LENGTH_LIMIT)
 Puts old octets (Err Memory) new = new ≡ old
-Puts old octets (Err fault) new = (new ≡ old) × (fault ≡ TooLong (place_of old) (length old.octets + length octets)) × (65536 < length old.octets + length octets)
+Puts old octets (Err fault) new = (new ≡ old) × (fault ≡ TooLong (place_of old) (length old.octets + length octets)) × (LENGTH_LIMIT < length old.octets + length octets)

@@ -1,4 +1,4 @@
--- The unfinished message of a number is told by the parts of that number.
+-- The unfinished message of a request_id is told by the parts of that request_id.
 use Rattle.std.proofs.Common.{◌≡◌, ℕ, ◌==◌, Bool, true, false, cond, ltb, List, [], ◌∷◌, ◌++◌, length, drop, Option, Some, None, Ok, Err, refl, sym, ap, subst, ◌∙◌, inl, inr}
 use Rattle.std.specs.Prelude.{◌||◌, is_some, nat_le, not, if◌then◌else◌}
 use Rattle.std.specs.Option.{option_or}

@@ -1,4 +1,4 @@
--- Unfinished messages by their numbers and by their places in the list.
+-- Unfinished messages by their request_ids and by their places in the list.
 use Rattle.std.proofs.Common.{◌≡◌, ℕ, zero, suc, ◌==◌, ◌<◌, Bool, true, false, cond, List, [], ◌∷◌, ◌++◌, length, get_or, set, Option, Some, None, refl, sym, ap, ◌∙◌, ◌⊎◌, inl, inr, arith}
 use Rattle.std.specs.Prelude.{IfSome, IfNone, position, slice_get, remove}
 use Rattle.std.specs.List.{position_or_len}

@@ -1,5 +1,6 @@
 -- Reading the content of a message from its front (CORBA, GIOP Message Formats), and its first fault (our profile).
 use Rattle.std.specs.Prelude.{ℕ, zero, suc, ◌==◌, nat_lt, List, [], ◌∷◌, length, drop, Result, Ok, Err, if◌then◌else◌}
+use Rattle.giop_frames.specs.declared.fault.TheConstants.{CONTEXT_LIMIT, KEY_LIMIT, PROFILE_LIMIT}
 use Rattle.cdr_values.specs.declared.order.Order.{Order}
 use Rattle.cdr_values.specs.Value.{gap}
 use Rattle.cdr_values.specs.Reading.{Reading, ◌>>=◌, octet_at, ushort_at, ulong_at, octets_at, string_at}
@@ -21,7 +22,7 @@ use Rattle.giop_frames.specs.Fault.{field, too_long}
 unfoldable pub key_at : Reading → Result (Target × Reading) FrameFault
 key_at r = do
   key ← field (octets_at r)
-  if nat_lt 256 (length key.0) then Err (too_long r.place (length key.0)) else Ok (Key key.0, key.1)
+  if nat_lt KEY_LIMIT (length key.0) then Err (too_long r.place (length key.0)) else Ok (Key key.0, key.1)
 
 unfoldable pub profile_at : Reading → Result (Target × Reading) FrameFault
 profile_at r = do
@@ -41,7 +42,7 @@ reference_at r = do
   index ← field (ulong_at r)
   type_id ← field (string_at index.1)
   count ← field (ulong_at type_id.1)
-  if nat_lt 65536 count.0 then Err (too_long type_id.1.place count.0) else (profiles_at count.0 count.1 >>= λ passed. Ok (Reference, passed.1))
+  if nat_lt PROFILE_LIMIT count.0 then Err (too_long type_id.1.place count.0) else (profiles_at count.0 count.1 >>= λ passed. Ok (Reference, passed.1))
 
 unfoldable pub target_at : Reading → Result (Target × Reading) FrameFault
 target_at r = do
@@ -65,7 +66,7 @@ each_context_at (suc n) r = do
 unfoldable pub contexts_at : Reading → Result (List ServiceContext × Reading) FrameFault
 contexts_at r = do
   count ← field (ulong_at r)
-  if nat_lt 16 count.0 then Err (too_long r.place count.0) else each_context_at count.0 count.1
+  if nat_lt CONTEXT_LIMIT count.0 then Err (too_long r.place count.0) else each_context_at count.0 count.1
 
 -- what stands from the next multiple of 8 on
 abbrev pub body_at : Reading → List ℕ

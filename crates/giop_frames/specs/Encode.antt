@@ -1,5 +1,6 @@
 -- The octets that are written for a message (CORBA, GIOP Message Formats), and what refuses it first (our profile).
 use Rattle.std.specs.Prelude.{ℕ, ◌+◌, nat_lt, List, [], ◌∷◌, ◌++◌, length, replicate, sum_by, Option, Some, None, if◌then◌else◌}
+use Rattle.giop_frames.specs.declared.fault.TheConstants.{CONTEXT_LIMIT, KEY_LIMIT, SIZE_LIMIT}
 use Rattle.cdr_values.specs.declared.order.Order.{Order}
 use Rattle.cdr_values.specs.declared.order.Order.TheVariants.{Big}
 use Rattle.cdr_values.specs.declared.fault.CdrFault.TheVariants as cdr
@@ -83,13 +84,13 @@ behind values = 12 + length (canonical_all Big 12 values)
 
 -- a target in front of which these values stand: profiles and references are not written, and a key has at most 256 octets
 abbrev pub target_refusal : List Value → Target → Option FrameFault
-target_refusal before (Key key) = if nat_lt 256 (length key) then Some (too_long (behind (before ++ (UShort 0 ∷ []))) (length key)) else None
+target_refusal before (Key key) = if nat_lt KEY_LIMIT (length key) then Some (too_long (behind (before ++ (UShort 0 ∷ []))) (length key)) else None
 target_refusal before Profile = Some NotWritten
 target_refusal before Reference = Some NotWritten
 
 -- at most 16 contexts are written
 abbrev pub contexts_refusal : List Value → List ServiceContext → Option FrameFault
-contexts_refusal before contexts = if nat_lt 16 (length contexts) then Some (too_long (behind before) (length contexts)) else None
+contexts_refusal before contexts = if nat_lt CONTEXT_LIMIT (length contexts) then Some (too_long (behind before) (length contexts)) else None
 
 abbrev pub operation_refusal : List Value → List ℕ → Option FrameFault
 operation_refusal before operation = if has_nul operation then Some (Body (behind before) (cdr.BadString (behind before))) else None
@@ -109,7 +110,7 @@ field_refusal (messages.Locate l) = target_refusal (ULong l.id ∷ []) l.target
 field_refusal _ = None
 
 abbrev pub size_refusal : Message → Option FrameFault
-size_refusal m = if nat_lt 65536 (length (content_of m)) then Some (TooLarge (length (content_of m))) else None
+size_refusal m = if nat_lt SIZE_LIMIT (length (content_of m)) then Some (TooLarge (length (content_of m))) else None
 
 -- why the message is not written: a limit is passed in its fields, or it has more than 65,536 octets behind the header
 unfoldable pub refusal_of : Message → Option FrameFault

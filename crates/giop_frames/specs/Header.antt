@@ -1,5 +1,6 @@
 -- The header in front of each part of a message (CORBA, GIOP Message Formats, MessageHeader_1_1 with version 1.2).
 use Rattle.std.specs.Prelude.{◌≡◌, ℕ, ◌/◌, ◌%◌, ◌≤◌, ◌==◌, nat_eq, nat_lt, Bool, true, false, not, List, [], ◌∷◌, ◌++◌, length, take, drop, slice_index, Result, Ok, Err, if◌then◌else◌, codes}
+use Rattle.giop_frames.specs.declared.fault.TheConstants.{SIZE_LIMIT}
 use Rattle.std.specs.List.{starts_with}
 use Rattle.cdr_values.specs.declared.order.Order.{Order}
 use Rattle.cdr_values.specs.declared.order.Order.TheVariants.{Big, Little}
@@ -46,7 +47,7 @@ order_of_flags flags = if flags % 2 == 1 then Little else Big
 abbrev pub more_of_flags : ℕ → Bool
 more_of_flags flags = flags / 2 % 2 == 1
 
--- the octets are a part: a header, and the content whose length it tells, at most 65,536 (our profile)
+-- the octets are a part: a header, and the content whose length it tells, which has a limit (our profile)
 pub record IsPart (header : Header) (content octets : List ℕ) : Type 0 where
   pub flags : ℕ
   pub size : List ℕ
@@ -55,7 +56,7 @@ pub record IsPart (header : Header) (content octets : List ℕ) : Type 0 where
   pub more_bit : more_of_flags flags ≡ header.more
   pub sized : IsNumber header.order 4 header.size size
   pub counted : length content ≡ header.size
-  pub few : header.size ≤ 65536
+  pub few : header.size ≤ SIZE_LIMIT
 
 -- the size that a header tells
 abbrev pub size_at : List ℕ → ℕ
@@ -68,7 +69,7 @@ header_at octets =
     if not (starts_with nat_eq version (take 2 (drop 4 octets))) then Err BadVersion else (
     if nat_lt 7 (slice_index octets 7) then Err BadType else (
     if nat_lt (length octets) 12 then Err Short else (
-    if nat_lt 65536 (size_at octets) then Err (TooLarge (size_at octets)) else
+    if nat_lt SIZE_LIMIT (size_at octets) then Err (TooLarge (size_at octets)) else
     Ok (record { order = order_of_flags (slice_index octets 6); more = more_of_flags (slice_index octets 6); kind = kind_at (slice_index octets 7); size = size_at octets })))))
 
 -- the flags of a message that isn't fragmented

@@ -1,5 +1,7 @@
 -- What the calls inside a stream do with what it holds back.
 use Rattle.std.specs.Prelude.{◌≡◌, ◌≢◌, ◌⊎◌, ℕ, ◌+◌, ◌-◌, ◌^◌, ◌≤◌, min, List, length, Option, Some, None, Result, Ok, Err}
+use Rattle.giop_frames.specs.declared.fault.TheConstants.{SIZE_LIMIT}
+use Rattle.giop_frames.specs.declared.parts.TheConstants.{UNFINISHED_LIMIT}
 use Rattle.std.specs.List.{AllByRecursion}
 use Rattle.giop_frames.specs.declared.fault.FrameFault.{FrameFault}
 use Rattle.giop_frames.specs.declared.fault.FrameFault.TheVariants.{Short, Memory}
@@ -16,8 +18,8 @@ remembering h fault = record h { refused = Some fault }
 
 -- no unfinished message is longer than a message may be, and there are at most 8
 pub record AreShort (messages : List Unfinished) : Type 0 where
-  pub few : length messages ≤ 8
-  pub short : AllByRecursion (λ u. length u.content ≤ 65536) messages
+  pub few : length messages ≤ UNFINISHED_LIMIT
+  pub short : AllByRecursion (λ u. length u.content ≤ SIZE_LIMIT) messages
 
 -- the part at the place was taken, and says this
 pub record Took (old : Held) (answer : Option Framed) (new : Held) : Type 0 where

@@ -1,6 +1,7 @@
 -- Which octets are a message (CORBA, General Inter-ORB Protocol, GIOP Message Formats, version 1.2). The fields of a
 -- message are values of CDR, from offset 12 on; what a message doesn't keep, as the reserved octets, may be anything.
 use Rattle.std.specs.Prelude.{◌≡◌, ℕ, ◌+◌, ◌≤◌, false, List, [], ◌∷◌, ◌++◌, length, drop}
+use Rattle.giop_frames.specs.declared.fault.TheConstants.{CONTEXT_LIMIT, KEY_LIMIT, PROFILE_LIMIT}
 use Rattle.std.specs.List.{flat_map}
 use Rattle.cdr_values.specs.declared.order.Order.{Order}
 use Rattle.cdr_values.specs.Value.{Value, Octet, UShort, ULong, OctetSequence, Text, gap}
@@ -26,10 +27,10 @@ profile_values profile = ULong profile.0 ∷ OctetSequence profile.1 ∷ []
 -- profile; or ReferenceAddr, an index and a reference, of at most 65,536 profiles (our profile). CORBA's discriminator is a
 -- short, of which 0, 1 and 2 are used.
 abbrev pub IsTarget : Target → List Value → Type 0
-IsTarget (Key key) values = (values ≡ UShort 0 ∷ OctetSequence key ∷ []) × (length key ≤ 256)
+IsTarget (Key key) values = (values ≡ UShort 0 ∷ OctetSequence key ∷ []) × (length key ≤ KEY_LIMIT)
 IsTarget Profile values = (profile : ℕ × List ℕ) × (values ≡ UShort 1 ∷ profile_values profile)
 IsTarget Reference values =
-    (index : ℕ) × (type_id : List ℕ) × (profiles : List (ℕ × List ℕ)) × (length profiles ≤ 65536)
+    (index : ℕ) × (type_id : List ℕ) × (profiles : List (ℕ × List ℕ)) × (length profiles ≤ PROFILE_LIMIT)
     × (values ≡ UShort 2 ∷ ULong index ∷ Text type_id ∷ ULong (length profiles) ∷ flat_map profile_values profiles)
 
 -- a service context (ORB Interoperability Architecture, ServiceContext)
@@ -44,12 +45,12 @@ contexts_values contexts = ULong (length contexts) ∷ flat_map context_values c
 -- contexts (our profile)
 abbrev pub IsRequest : Request → List Value → Type 0
 IsRequest r values =
-    (one : ℕ) × (two : ℕ) × (three : ℕ) × (target : List Value) × IsTarget r.target target × (length r.contexts ≤ 16)
+    (one : ℕ) × (two : ℕ) × (three : ℕ) × (target : List Value) × IsTarget r.target target × (length r.contexts ≤ CONTEXT_LIMIT)
     × (values ≡ ULong r.id ∷ Octet r.flags ∷ Octet one ∷ Octet two ∷ Octet three ∷ (target ++ (Text r.operation ∷ contexts_values r.contexts)))
 
 -- the values of a Reply (ReplyHeader_1_2), with at most 16 contexts (our profile)
 abbrev pub IsReply : Reply → List Value → Type 0
-IsReply r values = (length r.contexts ≤ 16) × (values ≡ ULong r.id ∷ ULong r.status ∷ contexts_values r.contexts)
+IsReply r values = (length r.contexts ≤ CONTEXT_LIMIT) × (values ≡ ULong r.id ∷ ULong r.status ∷ contexts_values r.contexts)
 
 -- the values of a LocateRequest (LocateRequestHeader_1_2)
 abbrev pub IsLocate : Locate → List Value → Type 0

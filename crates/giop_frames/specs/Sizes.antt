@@ -2,6 +2,7 @@
 -- profile). The fields in front of a Request's key end at offset 22, those of a LocateRequest's at 18; two numbers behind the
 -- header end at 20, and one at 16.
 use Rattle.std.specs.Prelude.{ℕ, ◌+◌, ◌-◌, nat_lt, List, [], ◌∷◌, length, Result, Ok, Err, if◌then◌else◌}
+use Rattle.giop_frames.specs.declared.fault.TheConstants.{CONTEXT_LIMIT, KEY_LIMIT, SIZE_LIMIT}
 use Rattle.cdr_values.specs.declared.fault.CdrFault.TheVariants as cdr
 use Rattle.cdr_values.specs.Value.{Value, Octet, Boolean, UShort, ULong, ULongLong, OctetSequence, Text, Aligned, alignment, gap, has_nul}
 use Rattle.cdr_values.specs.Reading.{◌>>=◌}
@@ -35,7 +36,7 @@ end_of at (value ∷ values) = end_of (at + gap (alignment value) at + size_of v
 
 -- the offset behind a key whose count stands from this offset on
 unfoldable pub target_end : ℕ → Target → Result ℕ FrameFault
-target_end at (Key key) = if nat_lt 256 (length key) then Err (too_long at (length key)) else Ok (end_of at (OctetSequence key ∷ []))
+target_end at (Key key) = if nat_lt KEY_LIMIT (length key) then Err (too_long at (length key)) else Ok (end_of at (OctetSequence key ∷ []))
 target_end at Profile = Err NotWritten
 target_end at Reference = Err NotWritten
 
@@ -43,7 +44,7 @@ unfoldable pub operation_end : ℕ → List ℕ → Result ℕ FrameFault
 operation_end at operation = if has_nul operation then Err (Body at (cdr.BadString at)) else Ok (end_of at (Text operation ∷ []))
 
 unfoldable pub contexts_end : ℕ → List ServiceContext → Result ℕ FrameFault
-contexts_end at contexts = if nat_lt 16 (length contexts) then Err (too_long at (length contexts)) else Ok (end_of at (contexts_values contexts))
+contexts_end at contexts = if nat_lt CONTEXT_LIMIT (length contexts) then Err (too_long at (length contexts)) else Ok (end_of at (contexts_values contexts))
 
 -- the offset behind the fields of a Request
 unfoldable pub request_end : Request → Result ℕ FrameFault
@@ -74,4 +75,4 @@ message_end messages.Error = Ok 12
 unfoldable pub content_size : Message → Result ℕ FrameFault
 content_size m = do
   behind ← message_end m
-  if nat_lt 65536 (behind - 12) then Err (TooLarge (behind - 12)) else Ok (behind - 12)
+  if nat_lt SIZE_LIMIT (behind - 12) then Err (TooLarge (behind - 12)) else Ok (behind - 12)

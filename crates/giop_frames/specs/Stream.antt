@@ -1,6 +1,8 @@
 -- Streams of messages (CORBA, GIOP Message Formats, Fragment Message): parts one after another, each judged by the parts
 -- before it. Where parts are in a list, the newest stands first.
 use Rattle.std.specs.Prelude.{◌≡◌, ◌≢◌, ◌⊎◌, ℕ, ◌+◌, ◌-◌, ◌^◌, ◌%◌, ◌==◌, nat_le, nat_lt, min, Bool, true, false, ◌||◌, ◌&&◌, not, List, [], ◌∷◌, ◌++◌, length, take, drop, find, Option, Some, None, is_some, Result, Ok, Err, if◌then◌else◌}
+use Rattle.giop_frames.specs.declared.fault.TheConstants.{SIZE_LIMIT}
+use Rattle.giop_frames.specs.declared.parts.TheConstants.{UNFINISHED_LIMIT}
 use Rattle.cdr_values.specs.declared.fault.CdrFault.TheVariants as cdr
 use Rattle.cdr_values.specs.Value.{number_in}
 use Rattle.cdr_values.specs.Reading.{◌>>=◌}
@@ -70,7 +72,7 @@ offset (p ∷ older) = min (offset older + (12 + p.header.size)) (2 ^ 64 - 1)
 abbrev pub id_of : Part → ℕ
 id_of p = number_in p.header.order 4 (take 4 p.content)
 
--- the unfinished message of this number
+-- the unfinished message of this request_id
 abbrev pub numbered : ℕ → List Unfinished → Option Unfinished
 numbered id messages = find (λ u. u.id == id) messages
 
@@ -133,15 +135,15 @@ so_far (Err fault) = Err fault
 abbrev pub without_id : FrameFault
 without_id = Body 12 (cdr.Short 12)
 
--- a first part whose message goes on: its number must be free, and at most 8 messages are unfinished (our profile)
+-- a first part whose message goes on: its request_id must be free, and at most 8 messages are unfinished (our profile)
 abbrev pub opening : List Unfinished → Part → Judgement
-opening messages p = if nat_lt (length p.content) 4 then Err without_id else (if is_some (numbered (id_of p) messages) || nat_le 8 (length messages) then Err BadFragment else so_far (message_of p.header.order p.header.kind p.content))
+opening messages p = if nat_lt (length p.content) 4 then Err without_id else (if is_some (numbered (id_of p) messages) || nat_le UNFINISHED_LIMIT (length messages) then Err BadFragment else so_far (message_of p.header.order p.header.kind p.content))
 
 -- more octets of a message, whose joined octets are at most 65,536 (our profile)
 abbrev pub joined : Bool → List ℕ → Unfinished → Judgement
 joined more octets first =
     let content = first.content ++ octets in
-    if nat_lt 65536 (length content) then Err (TooLarge (length content)) else (if more then so_far (message_of first.header.order first.header.kind content) else whole first.place first.header (message_of first.header.order first.header.kind content))
+    if nat_lt SIZE_LIMIT (length content) then Err (TooLarge (length content)) else (if more then so_far (message_of first.header.order first.header.kind content) else whole first.place first.header (message_of first.header.order first.header.kind content))
 
 -- a Fragment goes on with a message
 abbrev pub continuing : Part → Option Unfinished → Judgement

@@ -10,7 +10,7 @@ pub record IsInFront (header : Header) (octets : List ℕ) : Type 0 where
   pub whole : 12 + header.size ≤ length octets
   pub few : header.size ≤ 65536
 
--- the unfinished message of this number is at this index, the first one of that number
+-- the unfinished message of this request_id is at this index, the first one that has it
 pub record IsAt (id : ℕ) (messages : List Unfinished) (index : ℕ) : Type 0 where
   pub within : index < length messages
   pub first : position_or_len (λ u. u.id == id) messages ≡ index

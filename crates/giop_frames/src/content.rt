@@ -4,7 +4,7 @@ ghost use Rattle.giop_frames.specs.Fault.{Finds, Gives};
 ghost use Rattle.giop_frames.specs.Skim.{Passes};
 ghost use Rattle.giop_frames.specs.Content.{key_at, profile_at, profiles_at, reference_at, target_at, context_at, each_context_at, contexts_at, body_at, reserved_at, request_at, reply_at, locate_at, located_at, message_of};
 
-use crate::fault::{CONTEXT_LIMIT, FrameFault, KEY_LIMIT, SIZE_LIMIT};
+use crate::fault::{CONTEXT_LIMIT, FrameFault, KEY_LIMIT, PROFILE_LIMIT};
 use crate::header::{HEADER_LENGTH, Kind, behind};
 use crate::message::{Contexts, Locate, Located, Message, Reply, Request, ServiceContext, Target};
 use crate::sizes::gap_before;
@@ -150,7 +150,7 @@ fn skip_reference(reader: &mut Reader) -> Result<Target, FrameFault>
     reader.string()?;
     let place = reader.place();
     let count = reader.ulong()?;
-    if count as usize > SIZE_LIMIT {
+    if count > PROFILE_LIMIT {
         return Err(too_long(place, count));
     }
     skip_profiles(reader, count)?;

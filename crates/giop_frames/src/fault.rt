@@ -14,6 +14,9 @@ pub const CONTEXT_LIMIT: u32 = 16;
 /// How many octets an object key has at most (our profile).
 pub const KEY_LIMIT: usize = 256;
 
+/// How many profiles a reference has at most (our profile).
+pub const PROFILE_LIMIT: u32 = 65_536;
+
 /// Why octets are no message, or why a message isn't written.
 #[derive(Clone, Copy, Debug, PartialEq, Eq)]
 pub enum FrameFault {

@@ -10,8 +10,7 @@ ghost use Rattle.giop_frames.specs.declared.message.Message.{Message};
 
 use cdr_values::reading_is_exact;
 
-/// A law: no octets that are a message begin others that are one, and no octets are two messages. So a stream of
-/// messages, one after another, is cut into them in one way.
+/// A law: no octets that are a message in one part begin others that are one, and no octets are two such messages.
 pub fn no_message_begins_another()
     ensures { (m n : Message) (a b x y : List ℕ) → IsMessage m a → IsMessage n b → a ++ x ≡ b ++ y → (a ≡ b) × (m ≡ n) }
 {
@@ -47,6 +46,6 @@ pub fn a_message_is_its_content()
 
 /// A law: the unfinished message of a request_id is told by the parts of that request_id alone, whatever parts stand
 /// between them.
-pub fn fragments_join_by_number()
+pub fn fragments_join_by_request_id()
     ensures { (octets : List ℕ) (parts : List Part) (messages : List Framed) (rest : List ℕ) → Splits octets parts messages rest → (id : ℕ) → numbered id (unfinished parts) ≡ going_on id parts }
 {}

@@ -3,12 +3,12 @@
 
 pub use decoding::{Decoded, decode};
 pub use encoding::encode;
-pub use fault::{CONTEXT_LIMIT, FrameFault, KEY_LIMIT, SIZE_LIMIT};
+pub use fault::{CONTEXT_LIMIT, FrameFault, KEY_LIMIT, PROFILE_LIMIT, SIZE_LIMIT};
 pub use framed::Framed;
 pub use header::{HEADER_LENGTH, Kind};
 pub use laws::{
     a_message_is_its_content, a_refusal_stays, a_stream_is_cut_in_one_way,
-    fragments_join_by_number, no_message_begins_another, octets_end_in_one_way,
+    fragments_join_by_request_id, no_message_begins_another, octets_end_in_one_way,
 };
 pub use message::{Contexts, Locate, Located, Message, Reply, Request, ServiceContext, Target};
 pub use stream::Stream;

@@ -161,7 +161,7 @@ fn go_on(
     Ok(Some(framed))
 }
 
-/// Where the unfinished message of this number is.
+/// Where the unfinished message of this request_id is.
 fn position(unfinished: &[Unfinished], id: u32) -> Option<usize>
     ensures found { IfSome result (IsAt id unfinished.now) }
     ensures none { IfNone result (numbered id unfinished.now ≡ None) }

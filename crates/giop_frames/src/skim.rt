@@ -4,7 +4,7 @@ ghost use Rattle.giop_frames.specs.Content.{message_of};
 ghost use Rattle.giop_frames.specs.Stream.{so_far};
 
 use crate::content::{skip_reserved, too_long};
-use crate::fault::{CONTEXT_LIMIT, FrameFault, KEY_LIMIT, SIZE_LIMIT};
+use crate::fault::{CONTEXT_LIMIT, FrameFault, KEY_LIMIT, PROFILE_LIMIT};
 use crate::header::{HEADER_LENGTH, Kind, behind};
 use cdr_values::{CdrFault, Order, Reader, reading_is_exact};
 
@@ -210,7 +210,7 @@ fn pass_reference(reader: &mut Reader) -> Result<Option<Field>, FrameFault>
     reader.string()?;
     let place = reader.place();
     let count = reader.ulong()?;
-    if count as usize > SIZE_LIMIT {
+    if count > PROFILE_LIMIT {
         return Err(too_long(place, count));
     }
     Ok(Some(Field::Profiles(count)))
