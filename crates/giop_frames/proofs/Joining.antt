@@ -1,14 +1,14 @@
 -- The unfinished message of a request_id is told by the parts of that request_id.
-use Rattle.std.proofs.Common.{◌≡◌, ℕ, ◌==◌, Bool, true, false, cond, ltb, List, [], ◌∷◌, ◌++◌, length, drop, Option, Some, None, Ok, Err, refl, sym, ap, subst, ◌∙◌, inl, inr}
+use Rattle.std.proofs.Common.{◌≡◌, ℕ, ◌==◌, ◌≤◌, Bool, true, false, cond, ltb, List, [], ◌∷◌, ◌++◌, length, drop, Option, Some, None, Ok, Err, refl, sym, ap, subst, ◌∙◌, inl, inr}
 use Rattle.std.specs.Prelude.{◌||◌, is_some, nat_le, not, if◌then◌else◌}
 use Rattle.std.specs.Option.{option_or}
 use Rattle.std.proofs.lemmas.List.Folds.{find-append}
-use Rattle.std.proofs.lemmas.Bool.{eqb-true, eq-eqb, eqb-false}
+use Rattle.std.proofs.lemmas.Bool.{eqb-true, eq-eqb, eqb-false, le-ltb}
 use Rattle.giop_frames.specs.declared.framed.Framed.{Framed}
 use Rattle.giop_frames.specs.declared.fault.FrameFault.TheVariants.{BadFragment}
 use Rattle.giop_frames.specs.Header.{is_fragment}
 use Rattle.giop_frames.specs.Content.{message_of}
-use Rattle.giop_frames.specs.Stream.{Part, Unfinished, AreTaken, after, begun, continued, extended, going_on, id_of, judged, numbered, offset, opening, so_far, unfinished, with_octets, without, without_id}
+use Rattle.giop_frames.specs.Stream.{Part, Unfinished, AreTaken, after, begun, continued, continuing, extended, going_on, id_of, judged, numbered, offset, opening, says, so_far, unfinished, with_octets, without, without_id}
 use Rattle.giop_frames.proofs.Given.{guard_ok}
 use Rattle.giop_frames.proofs.Numbered.{cases_bool, extended_here, extended_on, without_here, without_on}
 
@@ -233,3 +233,8 @@ found_after messages place p answer id said h =
 pub joins : (parts : List Part) → AreTaken parts → (id : ℕ) → numbered id (unfinished parts) ≡ going_on id parts
 joins [] t id = refl
 joins (p ∷ older) t id = found_after (unfinished older) (offset older) p t.0 id t.1 (all_apart older t.2) ∙ ap (stepped id (offset older) p) (joins older t.2 id)
+
+-- so a Fragment goes on with the message that the parts of its request_id tell
+pub fragment_goes_on : (parts : List Part) → AreTaken parts → (p : Part) → is_fragment p.header.kind ≡ true → 4 ≤ length p.content → says parts p ≡ continuing p (going_on (id_of p) parts)
+unfolding judged
+fragment_goes_on parts t p fragment long = rw (fragment, le-ltb (length p.content) 4 long, joins parts t (id_of p)) refl

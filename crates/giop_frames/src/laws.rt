@@ -1,8 +1,9 @@
-ghost use Rattle.std.specs.Prelude.{◌≡◌, ℕ, List, ◌++◌, Ok};
+ghost use Rattle.std.specs.Prelude.{◌≡◌, ◌≤◌, ℕ, true, List, ◌++◌, length, Ok};
+ghost use Rattle.giop_frames.specs.Header.{is_fragment};
 ghost use Rattle.cdr_values.specs.declared.order.Order.{Order};
 ghost use Rattle.giop_frames.specs.Content.{message_of};
 ghost use Rattle.giop_frames.specs.Message.{IsContent, IsMessage, kind_of};
-ghost use Rattle.giop_frames.specs.Stream.{Part, Splits, IsCut, IsRefused, IsStream, IsWhole, going_on, numbered, unfinished};
+ghost use Rattle.giop_frames.specs.Stream.{Part, Splits, IsCut, IsRefused, IsStream, IsWhole, continuing, going_on, id_of, numbered, says, unfinished};
 ghost use Rattle.giop_frames.specs.declared.fault.FrameFault.{FrameFault};
 ghost use Rattle.giop_frames.specs.declared.framed.Framed.{Framed};
 ghost use Rattle.giop_frames.specs.declared.header.Kind.{Kind};
@@ -45,7 +46,8 @@ pub fn a_message_is_its_content()
 }
 
 /// A law: the unfinished message of a request_id is told by the parts of that request_id alone, whatever parts stand
-/// between them.
+/// between them; and it is the one with which a Fragment of that request_id goes on.
 pub fn fragments_join_by_request_id()
-    ensures { (octets : List ℕ) (parts : List Part) (messages : List Framed) (rest : List ℕ) → Splits octets parts messages rest → (id : ℕ) → numbered id (unfinished parts) ≡ going_on id parts }
+    ensures joins { (octets : List ℕ) (parts : List Part) (messages : List Framed) (rest : List ℕ) → Splits octets parts messages rest → (id : ℕ) → numbered id (unfinished parts) ≡ going_on id parts }
+    ensures goes_on { (octets : List ℕ) (parts : List Part) (messages : List Framed) (rest : List ℕ) → Splits octets parts messages rest → (p : Part) → is_fragment p.header.kind ≡ true → 4 ≤ length p.content → says parts p ≡ continuing p (going_on (id_of p) parts) }
 {}
