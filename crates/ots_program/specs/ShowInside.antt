@@ -11,7 +11,7 @@ use Rattle.ots_program.specs.declared.status.Status.TheVariants as statuses
 use Rattle.ots_program.specs.MessageLine.{message_lines}
 use Rattle.ots_program.specs.Show.{StopsShow, WritesMessageLines}
 
--- the same at a piece, behind which more octets may come
+-- how a show breaks off at a piece, by its status, behind the messages whose lines were told; more octets may come
 abbrev pub Breaks : Status → List Framed → List ℕ → Type 0
 Breaks (statuses.BadMessage place fault) messages octets = IsRefused messages place fault octets
 Breaks _ messages octets = IsBegun messages octets
