@@ -5,7 +5,8 @@ use Rattle.std.proofs.lemmas.Bool.{ltb-true, ltb-false, le-ltb, lt-ltb, eqb-true
 use Rattle.std.proofs.lemmas.List.{take_at, drop_at, take_more, take_all, get_or_push, take-append-drop, length-append, length-take, length_push}
 use Rattle.cdr_values.specs.declared.fault.CdrFault.TheVariants.{Short, TooLong, BadString}
 use Rattle.cdr_values.specs.Value.{OctetSequence, Text, IsNumber, IsCounted, has_nul}
-use Rattle.cdr_values.specs.Reading.{Reading, Reads, further, is_string, number_at, octets_at, string_at}
+use Rattle.cdr_values.specs.Reading.{Reading, Reads, further, is_string, number_at, octets_at, string_at, text_in}
+use Rattle.cdr_values.specs.Limits.{length_limit}
 use Rattle.cdr_values.proofs.Given.{ok_is, bind_ok, guard_ok, pass_ok}
 use Rattle.cdr_values.proofs.Standing.{Stands, reads_from, stands_from, stands_then, reading_is}
 use Rattle.cdr_values.proofs.Numbers.{number_found, number_only}
@@ -14,10 +15,10 @@ use Rattle.cdr_values.proofs.Numbers.{number_found, number_only}
 pub counted_found : (items : List ℕ) (r behind : Reading) → octets_at r ≡ Ok (items, behind) → (octets : List ℕ) × Stands 4 r octets behind × IsCounted r.order items octets
 unfolding octets_at
 counted_found items r behind e =
-    let b = bind_ok (number_at 4 r) (λ count. cond (ltb 65536 count.0) (Err (TooLong r.place count.0)) (cond (ltb (length count.1.rest) count.0) (Err (Short r.place)) (Ok (take count.0 count.1.rest, further count.1 count.0)))) (items, behind) e in
+    let b = bind_ok (number_at 4 r) (λ count. cond (ltb length_limit count.0) (Err (TooLong r.place count.0)) (cond (ltb (length count.1.rest) count.0) (Err (Short r.place)) (Ok (take count.0 count.1.rest, further count.1 count.0)))) (items, behind) e in
     let n = b.0.0 in
     let middle = b.0.1 in
-    let q = guard_ok (ltb 65536 n) (TooLong r.place n) (cond (ltb (length middle.rest) n) (Err (Short r.place)) (Ok (take n middle.rest, further middle n))) (items, behind) b.2 in
+    let q = guard_ok (ltb length_limit n) (TooLong r.place n) (cond (ltb (length middle.rest) n) (Err (Short r.place)) (Ok (take n middle.rest, further middle n))) (items, behind) b.2 in
     let p = guard_ok (ltb (length middle.rest) n) (Short r.place) (Ok (take n middle.rest, further middle n)) (items, behind) q.1 in
     let count = number_found 4 n r middle b.1 in
     let size : length (take n middle.rest) ≡ n = omega (arith, length-take n middle.rest, ltb-false _ _ p.0) in
@@ -34,7 +35,7 @@ counted_only items r behind octets s is =
     let middle : Reading = record { order = r.order; place = r.place + length (s.padding ++ count); rest = items ++ behind.rest } in
     let whole : s.padding ++ octets ≡ (s.padding ++ count) ++ items = ap (λ (x : List ℕ). s.padding ++ x) is.parts ∙ sym (append_assoc s.padding count items) in
     let front : Stands 4 r count middle = record { padding = s.padding; parts = s.parts ∙ ap (λ (x : List ℕ). x ++ behind.rest) whole ∙ append_assoc (s.padding ++ count) items behind.rest; aligned = s.aligned; place = refl; order = refl } in
-    let few : ltb 65536 n ≡ false = le-ltb _ _ is.few in
+    let few : ltb length_limit n ≡ false = le-ltb _ _ is.few in
     let long : ltb (length (items ++ behind.rest)) n ≡ false = le-ltb _ _ (omega (arith, length-append items behind.rest)) in
     let after : further middle n ≡ behind = reading_is (further middle n) behind (sym s.order) (omega (arith, s.place, ap length whole, length-append (s.padding ++ count) items)) (drop_at items behind.rest n refl) in
     rw (number_only 4 n r middle count front is.counted, few, long, take_at items behind.rest n refl, after) refl
@@ -48,10 +49,6 @@ octets_found items r behind e =
 -- and where it stands it is read
 pub octets_only : (items : List ℕ) (r behind : Reading) → Reads r (OctetSequence items) behind → octets_at r ≡ Ok (items, behind)
 octets_only items r behind h = counted_only items r behind h.spelled.bare (stands_from (OctetSequence items) r behind h) h.spelled.is_bare
-
--- a string's octets but the last, which is its NUL
-abbrev pub text_in : List ℕ → List ℕ
-text_in octets = take (length octets - 1) octets
 
 -- the octets of a string are its text and a NUL
 pub string_parts : (octets : List ℕ) → is_string octets ≡ true → (text_in octets ++ 0 ∷ [] ≡ octets) × (has_nul (text_in octets) ≡ false)

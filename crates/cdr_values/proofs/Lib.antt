@@ -2,4 +2,9 @@ pub mod Given
 pub mod Standing
 pub mod Numbers
 pub mod Counted
+pub mod Exact
+pub mod Room
 pub mod Spelling
+pub mod Values
+pub mod Sequence
+pub mod Tagged

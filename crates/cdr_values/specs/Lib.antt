@@ -1,6 +1,14 @@
+pub mod Limits
 pub mod Value
 pub mod Reading
 pub mod Writing
+pub mod WritingInside
+pub mod Appending
 pub mod Alike
 pub mod Values
+pub mod Encapsulation
+pub mod Raw
+pub mod Again
+pub mod Sequence
+pub mod Tagged
 pub mod Laws

@@ -1,10 +1,10 @@
 -- Which octets spell a value (CORBA, General Inter-ORB Protocol, CDR Transfer Syntax).
 use Rattle.std.specs.Prelude.{◌≡◌, ℕ, ◌+◌, ◌-◌, ◌%◌, ◌^◌, ◌<◌, ◌≤◌, ◌⊎◌, ◌==◌, Bool, false, List, [], ◌∷◌, ◌++◌, length, replicate, if◌then◌else◌}
-use Rattle.cdr_values.specs.declared.fault.TheConstants.{LENGTH_LIMIT}
 use Rattle.std.specs.List.{list_any}
 use Rattle.byteorder.specs.Endian.{big_number, little_number, big_bytes, little_bytes}
 use Rattle.cdr_values.specs.declared.order.Order.{Order}
 use Rattle.cdr_values.specs.declared.order.Order.TheVariants.{Big, Little}
+use Rattle.cdr_values.specs.Limits.{length_limit}
 
 -- a value of one of the types that fields have. A string is its text, without the NUL; Aligned n is nothing at all, at
 -- an offset that is a multiple of n.
@@ -52,7 +52,7 @@ pub record IsCounted (order : Order) (items octets : List ℕ) : Type 0 where
   pub count : List ℕ
   pub parts : octets ≡ count ++ items
   pub counted : IsNumber order 4 (length items) count
-  pub few : length items ≤ LENGTH_LIMIT
+  pub few : length items ≤ length_limit
 
 -- some octet is 0
 abbrev pub has_nul : List ℕ → Bool
@@ -93,9 +93,13 @@ bare_of order (OctetSequence items) = octets_of order 4 (length items) ++ items
 bare_of order (Text text) = octets_of order 4 (length text + 1) ++ text ++ 0 ∷ []
 bare_of order (Aligned n) = []
 
+-- octets that stand at a multiple of n, behind padding 0
+abbrev pub padded : ℕ → ℕ → List ℕ → List ℕ
+padded n at octets = replicate (gap n at) 0 ++ octets
+
 -- the canonical spelling at this offset: padding is 0 (our profile)
 abbrev pub canonical : Order → ℕ → Value → List ℕ
-canonical order at value = replicate (gap (alignment value) at) 0 ++ bare_of order value
+canonical order at value = padded (alignment value) at (bare_of order value)
 
 -- what a value of its type can be
 abbrev pub Fits : Value → Type 0
@@ -104,6 +108,6 @@ Fits (Boolean b) = Unit {0}
 Fits (UShort n) = n < 2 ^ 16
 Fits (ULong n) = n < 2 ^ 32
 Fits (ULongLong n) = n < 2 ^ 64
-Fits (OctetSequence items) = length items ≤ LENGTH_LIMIT
-Fits (Text text) = (length text < LENGTH_LIMIT) × (has_nul text ≡ false)
+Fits (OctetSequence items) = length items ≤ length_limit
+Fits (Text text) = (length text < length_limit) × (has_nul text ≡ false)
 Fits (Aligned n) = Unit {0}

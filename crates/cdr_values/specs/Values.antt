@@ -8,7 +8,9 @@ use Rattle.cdr_values.specs.Writing.{Writing, with_value}
 -- the octets spell the values, each where the one before ends
 abbrev pub SpellsAll : Order → ℕ → List Value → List ℕ → Type 0
 SpellsAll order at [] octets = octets ≡ []
-SpellsAll order at (value ∷ values) octets = (front : List ℕ) × (rest : List ℕ) × (octets ≡ front ++ rest) × Spells order at value front × SpellsAll order (at + length front) values rest
+SpellsAll order at (value ∷ values) octets =
+    (front : List ℕ) × (rest : List ℕ) × (octets ≡ front ++ rest) × Spells order at value front
+    × SpellsAll order (at + length front) values rest
 
 -- the values stand at the place one after another, and the reader then stands behind them
 abbrev pub ReadsAll : Reading → List Value → Reading → Type 0
@@ -18,7 +20,8 @@ ReadsAll old (value ∷ values) new = (behind : Reading) × Reads old value behi
 -- the canonical spellings, each where the one before ends
 abbrev pub canonical_all : Order → ℕ → List Value → List ℕ
 canonical_all order at [] = []
-canonical_all order at (value ∷ values) = canonical order at value ++ canonical_all order (at + length (canonical order at value)) values
+canonical_all order at (value ∷ values) =
+    canonical order at value ++ canonical_all order (at + length (canonical order at value)) values
 
 -- what a writer has with more values
 abbrev pub with_values : Writing → List Value → Writing

@@ -3,9 +3,11 @@ ghost use Rattle.cdr_values.specs.declared.fault.CdrFault.TheVariants.{Memory};
 
 use std::alloc::AllocError;
 
-/// How many octets a sequence of octets has at most, a string with its NUL, and what a writer has written (our
-/// profile).
+/// How many octets a sequence of octets has at most, and a string with its NUL (our profile).
 pub const LENGTH_LIMIT: usize = 65_536;
+
+/// How many octets a writer has written at most (our profile).
+pub const OUTPUT_LIMIT: usize = 65_536;
 
 /// Why a value is not read or written. Each place is the offset at which the reader or the writer stood when the call
 /// began.

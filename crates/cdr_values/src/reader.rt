@@ -1,6 +1,7 @@
-ghost use Rattle.std.specs.Prelude.{◌≡◌, ℕ, ◌+◌, ◌-◌, ◌^◌, ◌<◌, ◌≤◌, Bool, false, List, length, take, IsTrue, IfOk, IsOkAnd, OnOk, IfSome, IfNone, Ok};
+ghost use Rattle.std.specs.Prelude.{◌≡◌, ◌+◌, ◌-◌, ◌^◌, ◌<◌, ◌≤◌, false, length, IsTrue, IfOk, IsOkAnd, IfSome, IfNone, Ok};
 ghost use Rattle.cdr_values.specs.Value.{Octet, Boolean, UShort, ULong, ULongLong, OctetSequence, Text, Aligned, IsSize, gap, number_in};
-ghost use Rattle.cdr_values.specs.Reading.{Reading, Reads, Gives, Finds, is_string, sized_at, octet_at, boolean_at, number_at, ushort_at, ulong_at, ulonglong_at, octets_at, string_at, aligned_at};
+ghost use Rattle.cdr_values.specs.Encapsulation.{IsEncapsulation, opened};
+ghost use Rattle.cdr_values.specs.Reading.{Reading, Gives, GivesValue, Finds, is_string, text_in, sized_at, octet_at, boolean_at, number_at, ushort_at, ulong_at, ulonglong_at, octets_at, string_at, aligned_at};
 
 use crate::fault::{CdrFault, LENGTH_LIMIT};
 use crate::order::Order;
@@ -42,6 +43,25 @@ impl<'a> Reader<'a> {
         }
     }
 
+    /// A reader of an encapsulation of these octets. The first of them tells the byte order, and the reader stands
+    /// behind it. Offsets count from that first octet, at offset 0.
+    pub fn encapsulation(octets: &'a [u8]) -> Result<Reader<'a>, CdrFault>
+        requires { length octets.now < 2 ^ 31 }
+        ensures found { IfOk result (λ reader. IsEncapsulation octets.now reader) }
+        ensures only { (r : Reading) → IsEncapsulation octets.now r → IsOkAnd result (λ reader. reader ≡ r) }
+        ensures exact { Finds (λ reader. reader) result (opened octets.now) }
+    {
+        let [first, rest @ ..] = octets else {
+            return Err(CdrFault::Short(0));
+        };
+        let order = match *first {
+            0 => Order::Big,
+            1 => Order::Little,
+            _ => return Err(CdrFault::BadOrder(0)),
+        };
+        Ok(Reader::new(rest, order, 1))
+    }
+
     /// The offset at which it stands.
     pub fn place(&self) -> u32
         ensures { result ≡ self.now.place }
@@ -58,63 +78,49 @@ impl<'a> Reader<'a> {
 
     /// Reads an octet.
     pub fn octet(&mut self) -> Result<u8, CdrFault>
-        ensures found { IfOk result (λ n. Reads self.old (Octet n) self.new) }
-        ensures only { (n : ℕ) (behind : Reading) → Reads self.old (Octet n) behind → (result ≡ Ok n) × (self.new ≡ behind) }
-        ensures exact { Gives (λ n. n) result self.new self.old (octet_at self.old) }
+        ensures { GivesValue Octet octet_at (λ n. n) result self.old self.new }
     {
         self.next_octet()
     }
 
     /// Reads a boolean: the octet 0 or 1, and no other.
     pub fn boolean(&mut self) -> Result<bool, CdrFault>
-        ensures found { IfOk result (λ b. Reads self.old (Boolean b) self.new) }
-        ensures only { (b : Bool) (behind : Reading) → Reads self.old (Boolean b) behind → (result ≡ Ok b) × (self.new ≡ behind) }
-        ensures exact { Gives (λ b. b) result self.new self.old (boolean_at self.old) }
+        ensures { GivesValue Boolean boolean_at (λ b. b) result self.old self.new }
     {
         self.next_boolean()
     }
 
     /// Reads an unsigned short.
     pub fn ushort(&mut self) -> Result<u16, CdrFault>
-        ensures found { IfOk result (λ n. Reads self.old (UShort n) self.new) }
-        ensures only { (n : ℕ) (behind : Reading) → Reads self.old (UShort n) behind → (result ≡ Ok n) × (self.new ≡ behind) }
-        ensures exact { Gives (λ n. n) result self.new self.old (ushort_at self.old) }
+        ensures { GivesValue UShort ushort_at (λ n. n) result self.old self.new }
     {
         self.next_ushort()
     }
 
     /// Reads an unsigned long.
     pub fn ulong(&mut self) -> Result<u32, CdrFault>
-        ensures found { IfOk result (λ n. Reads self.old (ULong n) self.new) }
-        ensures only { (n : ℕ) (behind : Reading) → Reads self.old (ULong n) behind → (result ≡ Ok n) × (self.new ≡ behind) }
-        ensures exact { Gives (λ n. n) result self.new self.old (ulong_at self.old) }
+        ensures { GivesValue ULong ulong_at (λ n. n) result self.old self.new }
     {
         self.next_ulong()
     }
 
     /// Reads an unsigned long long.
     pub fn ulonglong(&mut self) -> Result<u64, CdrFault>
-        ensures found { IfOk result (λ n. Reads self.old (ULongLong n) self.new) }
-        ensures only { (n : ℕ) (behind : Reading) → Reads self.old (ULongLong n) behind → (result ≡ Ok n) × (self.new ≡ behind) }
-        ensures exact { Gives (λ n. n) result self.new self.old (ulonglong_at self.old) }
+        ensures { GivesValue ULongLong ulonglong_at (λ n. n) result self.old self.new }
     {
         self.next_ulonglong()
     }
 
     /// Reads a sequence of octets, of at most 65,536.
     pub fn octets(&mut self) -> Result<&'a [u8], CdrFault>
-        ensures found { IfOk result (λ octets. Reads self.old (OctetSequence octets.now) self.new) }
-        ensures only { (octets : List ℕ) (behind : Reading) → Reads self.old (OctetSequence octets) behind → IsOkAnd result (λ found. found.now ≡ octets) × (self.new ≡ behind) }
-        ensures exact { Gives (λ octets. octets.now) result self.new self.old (octets_at self.old) }
+        ensures { GivesValue OctetSequence octets_at (λ octets. octets.now) result self.old self.new }
     {
         self.next_octets()
     }
 
     /// Reads a string, of at most 65,536 octets with its NUL, and gives its text without the NUL.
     pub fn string(&mut self) -> Result<&'a [u8], CdrFault>
-        ensures found { IfOk result (λ text. Reads self.old (Text text.now) self.new) }
-        ensures only { (text : List ℕ) (behind : Reading) → Reads self.old (Text text) behind → IsOkAnd result (λ found. found.now ≡ text) × (self.new ≡ behind) }
-        ensures exact { Gives (λ text. text.now) result self.new self.old (string_at self.old) }
+        ensures { GivesValue Text string_at (λ text. text.now) result self.old self.new }
     {
         self.next_string()
     }
@@ -122,9 +128,7 @@ impl<'a> Reader<'a> {
     /// Goes on to the next multiple of n.
     pub fn align(&mut self, n: u32) -> Result<(), CdrFault>
         requires { IsSize n }
-        ensures found { OnOk result (Reads self.old (Aligned n) self.new) }
-        ensures only { (behind : Reading) → Reads self.old (Aligned n) behind → (result ≡ Ok tt) × (self.new ≡ behind) }
-        ensures exact { Gives (λ nothing. nothing) result self.new self.old (aligned_at n self.old) }
+        ensures { GivesValue (λ nothing. Aligned n) (aligned_at n) (λ nothing. nothing) result self.old self.new }
     {
         self.skip_gap(n)
     }
@@ -306,7 +310,7 @@ fn ulonglong_in(order: Order, octets: &[u8]) -> u64
 
 /// The text of a string's octets, where one NUL stands behind it.
 fn text_of(octets: &[u8]) -> Option<&[u8]>
-    ensures text { IfSome result (λ text. IsTrue (is_string octets.now) × (text.now ≡ take (length octets.now - 1) octets.now)) }
+    ensures text { IfSome result (λ text. IsTrue (is_string octets.now) × (text.now ≡ text_in octets.now)) }
     ensures none { IfNone result (is_string octets.now ≡ false) }
 {
     match octets.split_last() {

@@ -1,9 +1,14 @@
-ghost use Rattle.std.specs.Prelude.{◌≡◌, ◌+◌, ◌^◌, ◌<◌, ◌≤◌, ◌⊎◌, ◌++◌, List, [], length, take, replicate, None, Some, IfErr, OnErr, OnOk};
-ghost use Rattle.cdr_values.specs.Value.{Octet, Boolean, UShort, ULong, ULongLong, OctetSequence, Text, Aligned, IsSize, gap, octets_of};
-ghost use Rattle.cdr_values.specs.Writing.{Writing, Puts, with_value, refusal, place_of};
-ghost use Rattle.cdr_values.specs.declared.fault.CdrFault.TheVariants as faults;
+ghost use Rattle.std.specs.Prelude.{◌≡◌, ◌+◌, ◌^◌, ◌<◌, ◌≤◌, ◌++◌, [], length, IfOk, IfErr};
+ghost use Rattle.cdr_values.specs.Value.{Octet, Boolean, UShort, ULong, ULongLong, OctetSequence, Text, Aligned, IsSize, octets_of, padded};
+ghost use Rattle.cdr_values.specs.Encapsulation.{begun};
+ghost use Rattle.cdr_values.specs.Raw.{WritesOctets};
+ghost use Rattle.cdr_values.specs.declared.fault.CdrFault.TheVariants.{Memory};
+ghost use Rattle.cdr_values.specs.Limits.{output_limit, start_limit};
+ghost use Rattle.cdr_values.specs.Writing.{WritesValue, place_of};
+ghost use Rattle.cdr_values.specs.WritingInside.{Puts, in_order};
+ghost use Rattle.cdr_values.specs.Appending.{Appends, AppendsSome};
 
-use crate::fault::{CdrFault, LENGTH_LIMIT};
+use crate::fault::{CdrFault, OUTPUT_LIMIT};
 use crate::order::Order;
 use crate::reader::gap_before;
 use byteorder::{BigEndian, ByteOrder, LittleEndian};
@@ -25,19 +30,20 @@ pub struct Writer {
 
 impl Model for Writer {
     ghost use Rattle.std.specs.Prelude.{◌≤◌, length};
+    ghost use Rattle.cdr_values.specs.Limits.{output_limit, start_limit};
     ghost use Rattle.cdr_values.specs.Writing.{Writing};
 
     ghost Value = { Writing };
 
     ghost view = { λ w. record { order = w.order; start = w.start; octets = w.octets.items } };
 
-    ghost invariant = { λ w. (w.start ≤ 65548) × (length w.octets.items ≤ 65536) };
+    ghost invariant = { λ w. (w.start ≤ start_limit) × (length w.octets.items ≤ output_limit) };
 }
 
 impl Writer {
     /// A writer that has written nothing, and whose first octet is to stand at the offset `start`.
     pub fn new(alloc: Global, order: Order, start: u32) -> Writer
-        requires { start ≤ 65548 }
+        requires { start ≤ start_limit }
         ensures stands { result ≡ record { order = order; start = start; octets = [] } }
     {
         Writer {
@@ -47,32 +53,37 @@ impl Writer {
         }
     }
 
+    /// A writer of an encapsulation, which has written the octet that tells the byte order. Offsets count from that
+    /// octet, at offset 0.
+    pub fn encapsulation(alloc: Global, order: Order) -> Result<Writer, CdrFault>
+        ensures ok { IfOk result (λ writer. writer ≡ begun order) }
+        ensures refused { IfErr result (λ fault. fault ≡ Memory) }
+    {
+        let mut writer = Writer::new(alloc, order, 0);
+        match order {
+            Order::Big => writer.octet(0)?,
+            Order::Little => writer.octet(1)?,
+        }
+        Ok(writer)
+    }
+
     /// Writes an octet.
     pub fn octet(&mut self, value: u8) -> Result<(), CdrFault>
-        ensures ok { OnOk result (self.new ≡ with_value self.old (Octet value)) }
-        ensures fits { OnOk result (refusal self.old (Octet value) ≡ None) }
-        ensures refused { IfErr result (λ fault. (fault ≡ faults.Memory) ⊎ (refusal self.old (Octet value) ≡ Some fault)) }
-        ensures err { OnErr result (self.new ≡ self.old) }
+        ensures { WritesValue (Octet value) result self.old self.new }
     {
         self.put(1, &[value], &[], &[])
     }
 
     /// Writes a boolean, as the octet 0 or 1.
     pub fn boolean(&mut self, value: bool) -> Result<(), CdrFault>
-        ensures ok { OnOk result (self.new ≡ with_value self.old (Boolean value)) }
-        ensures fits { OnOk result (refusal self.old (Boolean value) ≡ None) }
-        ensures refused { IfErr result (λ fault. (fault ≡ faults.Memory) ⊎ (refusal self.old (Boolean value) ≡ Some fault)) }
-        ensures err { OnErr result (self.new ≡ self.old) }
+        ensures { WritesValue (Boolean value) result self.old self.new }
     {
         self.put(1, &[u8::from(value)], &[], &[])
     }
 
     /// Writes an unsigned short.
     pub fn ushort(&mut self, value: u16) -> Result<(), CdrFault>
-        ensures ok { OnOk result (self.new ≡ with_value self.old (UShort value)) }
-        ensures fits { OnOk result (refusal self.old (UShort value) ≡ None) }
-        ensures refused { IfErr result (λ fault. (fault ≡ faults.Memory) ⊎ (refusal self.old (UShort value) ≡ Some fault)) }
-        ensures err { OnErr result (self.new ≡ self.old) }
+        ensures { WritesValue (UShort value) result self.old self.new }
     {
         let mut number = [0; 2];
         match self.order {
@@ -84,10 +95,7 @@ impl Writer {
 
     /// Writes an unsigned long.
     pub fn ulong(&mut self, value: u32) -> Result<(), CdrFault>
-        ensures ok { OnOk result (self.new ≡ with_value self.old (ULong value)) }
-        ensures fits { OnOk result (refusal self.old (ULong value) ≡ None) }
-        ensures refused { IfErr result (λ fault. (fault ≡ faults.Memory) ⊎ (refusal self.old (ULong value) ≡ Some fault)) }
-        ensures err { OnErr result (self.new ≡ self.old) }
+        ensures { WritesValue (ULong value) result self.old self.new }
     {
         let number = ulong_octets(self.order, value);
         self.put(4, &number, &[], &[])
@@ -95,10 +103,7 @@ impl Writer {
 
     /// Writes an unsigned long long.
     pub fn ulonglong(&mut self, value: u64) -> Result<(), CdrFault>
-        ensures ok { OnOk result (self.new ≡ with_value self.old (ULongLong value)) }
-        ensures fits { OnOk result (refusal self.old (ULongLong value) ≡ None) }
-        ensures refused { IfErr result (λ fault. (fault ≡ faults.Memory) ⊎ (refusal self.old (ULongLong value) ≡ Some fault)) }
-        ensures err { OnErr result (self.new ≡ self.old) }
+        ensures { WritesValue (ULongLong value) result self.old self.new }
     {
         let mut number = [0; 8];
         match self.order {
@@ -111,10 +116,7 @@ impl Writer {
     /// Writes a sequence of octets.
     pub fn octets(&mut self, value: &[u8]) -> Result<(), CdrFault>
         requires { length value.now < 2 ^ 31 }
-        ensures ok { OnOk result (self.new ≡ with_value self.old (OctetSequence value.now)) }
-        ensures fits { OnOk result (refusal self.old (OctetSequence value.now) ≡ None) }
-        ensures refused { IfErr result (λ fault. (fault ≡ faults.Memory) ⊎ (refusal self.old (OctetSequence value.now) ≡ Some fault)) }
-        ensures err { OnErr result (self.new ≡ self.old) }
+        ensures { WritesValue (OctetSequence value.now) result self.old self.new }
     {
         let count = ulong_octets(self.order, value.len() as u32);
         self.put(4, &count, value, &[])
@@ -123,10 +125,7 @@ impl Writer {
     /// Writes a string of this text, with a NUL behind it. A text that holds a NUL is refused.
     pub fn string(&mut self, value: &[u8]) -> Result<(), CdrFault>
         requires { length value.now < 2 ^ 31 }
-        ensures ok { OnOk result (self.new ≡ with_value self.old (Text value.now)) }
-        ensures fits { OnOk result (refusal self.old (Text value.now) ≡ None) }
-        ensures refused { IfErr result (λ fault. (fault ≡ faults.Memory) ⊎ (refusal self.old (Text value.now) ≡ Some fault)) }
-        ensures err { OnErr result (self.new ≡ self.old) }
+        ensures { WritesValue (Text value.now) result self.old self.new }
     {
         if value.contains(&0) {
             return Err(CdrFault::BadString(self.place()));
@@ -138,27 +137,32 @@ impl Writer {
     /// Goes on to the next multiple of n.
     pub fn align(&mut self, n: u32) -> Result<(), CdrFault>
         requires { IsSize n }
-        ensures ok { OnOk result (self.new ≡ with_value self.old (Aligned n)) }
-        ensures fits { OnOk result (refusal self.old (Aligned n) ≡ None) }
-        ensures refused { IfErr result (λ fault. (fault ≡ faults.Memory) ⊎ (refusal self.old (Aligned n) ≡ Some fault)) }
-        ensures err { OnErr result (self.new ≡ self.old) }
+        ensures { WritesValue (Aligned n) result self.old self.new }
     {
         self.put(n, &[], &[], &[])
+    }
+
+    /// Writes these octets as they stand, with no count in front and no padding.
+    pub fn raw(&mut self, octets: &[u8]) -> Result<(), CdrFault>
+        requires { length octets.now < 2 ^ 31 }
+        ensures { WritesOctets octets.now result self.old self.new }
+    {
+        self.put(1, &[], octets, &[])
+    }
+
+    /// The offset at which it stands, which is that of the next octet.
+    pub fn place(&self) -> u32
+        ensures { result ≡ place_of self.now }
+    {
+        self.start + self.octets.len() as u32
     }
 
     /// The octets that it has written.
     pub fn finish(self) -> Octets
         ensures octets { result ≡ self.octets }
-        ensures few { length self.octets ≤ 65536 }
+        ensures few { length self.octets ≤ output_limit }
     {
         Octets::from_vec(self.octets)
-    }
-
-    /// The offset at which it stands.
-    fn place(&self) -> u32
-        ensures { result ≡ place_of self.now }
-    {
-        self.start + self.octets.len() as u32
     }
 
     /// Writes padding to a multiple of n, and then these octets.
@@ -167,11 +171,11 @@ impl Writer {
         requires number { length number.now ≤ 8 }
         requires items { length items.now < 2 ^ 31 }
         requires end { length end.now ≤ 1 }
-        ensures answer { Puts self.old (replicate (gap n (place_of self.old)) 0 ++ (number.now ++ (items.now ++ end.now))) result self.new }
+        ensures { Puts self.old (padded n (place_of self.old) (number.now ++ (items.now ++ end.now))) result self.new }
     {
         let gap = gap_before(n, self.place());
         let length = self.octets.len() + gap + number.len() + items.len() + end.len();
-        if length > LENGTH_LIMIT {
+        if length > OUTPUT_LIMIT {
             return Err(CdrFault::TooLong {
                 place: self.place(),
                 length: length as u32,
@@ -202,8 +206,7 @@ fn append(
     items: &[u8],
     end: &[u8],
 ) -> Result<(), AllocError>
-    ensures ok { OnOk result (octets.new.items ≡ octets.old.items ++ (padding.now ++ (number.now ++ (items.now ++ end.now)))) }
-    ensures err { OnErr result (octets.new.items ≡ octets.old.items) }
+    ensures { Appends (in_order padding.now number.now items.now end.now) result octets.old.items octets.new.items }
 {
     let start = octets.len();
     let appended = append_parts(octets, padding, number, items, end);
@@ -220,8 +223,7 @@ fn append_parts(
     items: &[u8],
     end: &[u8],
 ) -> Result<(), AllocError>
-    ensures ok { OnOk result (octets.new.items ≡ octets.old.items ++ (padding.now ++ (number.now ++ (items.now ++ end.now)))) }
-    ensures err { OnErr result (take (length octets.old.items) octets.new.items ≡ octets.old.items) }
+    ensures { AppendsSome (in_order padding.now number.now items.now end.now) result octets.old.items octets.new.items }
 {
     octets.extend_from_slice(padding)?;
     octets.extend_from_slice(number)?;

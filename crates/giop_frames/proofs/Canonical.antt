@@ -5,9 +5,11 @@ use Rattle.std.proofs.lemmas.List.{drop_at, length-replicate}
 use Rattle.std.proofs.Math.Seq.{drop-nil}
 use Rattle.cdr_values.specs.declared.order.Order.{Order}
 use Rattle.cdr_values.specs.declared.order.Order.TheVariants.{Big, Little}
-use Rattle.cdr_values.specs.Value.{Value, Octet, Boolean, UShort, ULong, ULongLong, OctetSequence, Text, Aligned, gap, octets_of, canonical, Fits, Spells, IsNumber}
+use Rattle.cdr_values.specs.Value.{Value, Octet, Boolean, UShort, ULong, ULongLong, OctetSequence, Text, Aligned, gap, octets_of, canonical, Fits, IsNumber}
 use Rattle.cdr_values.specs.Values.{SpellsAll, canonical_all, with_values}
 use Rattle.cdr_values.specs.Writing.{Writing}
+use Rattle.cdr_values.specs.Laws.{CanonicalSpells}
+use Rattle.cdr_values.specs.Limits.{length_limit}
 use Rattle.giop_frames.specs.declared.fault.FrameFault.{FrameFault}
 use Rattle.giop_frames.specs.declared.fault.FrameFault.TheVariants.{Memory}
 use Rattle.giop_frames.specs.declared.header.Header.{Header}
@@ -20,6 +22,7 @@ use Rattle.giop_frames.specs.Header.{IsPart, flags_of, order_of_flags, more_of_f
 use Rattle.giop_frames.specs.Message.{IsMessage, IsContent, IsTarget, Begins, kind_of}
 use Rattle.giop_frames.specs.Encode.{behind, target_values, request_head, values_of, order_of, fields_of, tail_of, content_of, padded_body, spelling, target_refusal, refusal_of}
 use Rattle.giop_frames.specs.Write.{IsPlain, ArePlain, Refuses}
+use Rattle.giop_frames.specs.Limits.{key_limit, size_limit}
 use Rattle.giop_frames.proofs.Ends.{value_size}
 use Rattle.giop_frames.proofs.Written.{with_values-is}
 use Rattle.giop_frames.proofs.Refused.{test_none, size_is_small, fields_pass, contexts_pass, request_passes}
@@ -41,12 +44,8 @@ only_memory m fault none (inr many) = absurd (omega (arith, many, ap length (fie
 
 -- ---- values
 
--- the canonical spelling is a spelling
-abbrev pub CanonicalSpells : Type 0
-CanonicalSpells = (order : Order) (at : ℕ) (value : Value) → Fits value → Spells order at value (canonical order at value)
-
 -- what is plain and not too long fits
-fits_from : (order : Order) (at : ℕ) (value : Value) → IsPlain value → length (canonical order at value) ≤ 65536 → Fits value
+fits_from : (order : Order) (at : ℕ) (value : Value) → IsPlain value → length (canonical order at value) ≤ length_limit → Fits value
 fits_from order at (Octet n) plain short = plain
 fits_from order at (Boolean b) plain short = tt
 fits_from order at (UShort n) plain short = plain
@@ -57,7 +56,7 @@ fits_from order at (Text text) plain short = (omega (arith, short, value_size or
 fits_from order at (Aligned n) plain short = tt
 
 -- the octets of values spell them
-spells_all : CanonicalSpells → (order : Order) (at : ℕ) (values : List Value) → ArePlain values → length (canonical_all order at values) ≤ 65536 → SpellsAll order at values (canonical_all order at values)
+spells_all : CanonicalSpells → (order : Order) (at : ℕ) (values : List Value) → ArePlain values → length (canonical_all order at values) ≤ length_limit → SpellsAll order at values (canonical_all order at values)
 spells_all law order at [] plain short = refl
 spells_all law order at (x ∷ xs) plain short =
     let one = canonical order at x in
@@ -94,7 +93,7 @@ abbrev header_for : Message → Header
 header_for m = record { order = order_of m; more = false; kind = kind_of m; size = length (content_of m) }
 
 -- what is written is one part
-part : CanonicalSpells → (m : Message) → length (content_of m) ≤ 65536 → IsPart (header_for m) (content_of m) (spelling m)
+part : CanonicalSpells → (m : Message) → length (content_of m) ≤ size_limit → IsPart (header_for m) (content_of m) (spelling m)
 unfolding spelling
 part law m short = record {
   flags = flags_of (order_of m);
@@ -110,7 +109,7 @@ part law m short = record {
 -- ---- the content
 
 -- its content begins with the fields
-begins : CanonicalSpells → (m : Message) → ArePlain (values_of m) → length (content_of m) ≤ 65536 → Begins (order_of m) (values_of m) (content_of m) (tail_of m)
+begins : CanonicalSpells → (m : Message) → ArePlain (values_of m) → length (content_of m) ≤ size_limit → Begins (order_of m) (values_of m) (content_of m) (tail_of m)
 begins law m plain short = record {
   fields = fields_of m;
   spelled = spells_all law (order_of m) 12 (values_of m) plain (omega (arith, short, length-append (fields_of m) (tail_of m)));
@@ -124,7 +123,7 @@ body_again at (x ∷ xs) = sym (drop_at (replicate (gap 8 at) 0) (x ∷ xs) (gap
 
 -- a target that is not refused is spelled as a key
 target_is : (before : List Value) (target : Target) → target_refusal before target ≡ None → IsTarget target (target_values target)
-target_is before (Key key) none = (refl, ltb-false _ _ (test_none (ltb 256 (length key)) (too_long (behind (before ++ (UShort 0 ∷ []))) (length key)) none))
+target_is before (Key key) none = (refl, ltb-false _ _ (test_none (ltb key_limit (length key)) (too_long (behind (before ++ (UShort 0 ∷ []))) (length key)) none))
 target_is before Profile none = absurd cc
 target_is before Reference none = absurd cc
 

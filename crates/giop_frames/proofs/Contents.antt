@@ -17,6 +17,7 @@ use Rattle.giop_frames.specs.declared.message.Located.{Located}
 use Rattle.giop_frames.specs.Fault.{field}
 use Rattle.giop_frames.specs.Message.{contexts_values, IsTarget, IsRequest, IsLocate, Begins, HasBody, IsContent, kind_of}
 use Rattle.giop_frames.specs.Content.{target_at, contexts_at, body_at, reserved_at, request_at, reply_at, locate_at, located_at, made, message_at, message_of}
+use Rattle.giop_frames.specs.Limits.{context_limit}
 use Rattle.giop_frames.proofs.Given.{ok_is, bind_ok, field_ok, field_is}
 use Rattle.giop_frames.proofs.Spelled.{reads_then, reads_apart, after, reads_spelled, passed}
 use Rattle.giop_frames.proofs.FieldsRead.{target_found, target_only, contexts_found, contexts_only, reserved_found, reserved_only}
@@ -70,7 +71,7 @@ record Asked (id flags : ℕ) (order : Order) (r : Reading) (q : Request) : Type
   target : List Value
   behind : Reading
   is : IsTarget q.target target
-  few : length q.contexts ≤ 16
+  few : length q.contexts ≤ context_limit
   read : ReadsAll r (target ++ (Text q.operation ∷ contexts_values q.contexts)) behind
   made : record q { id = id; flags = flags; order = order; body = body_at behind } ≡ q
 
@@ -139,7 +140,7 @@ request_only laws r q s =
 -- the values of a reply, where a reader stands behind them, and its body
 record ReplyStands (r : Reading) (q : Reply) : Type 0 where
   behind : Reading
-  few : length q.contexts ≤ 16
+  few : length q.contexts ≤ context_limit
   read : ReadsAll r (ULong q.id ∷ ULong q.status ∷ contexts_values q.contexts) behind
   order : q.order ≡ r.order
   body : q.body ≡ body_at behind

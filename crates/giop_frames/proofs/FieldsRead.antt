@@ -14,24 +14,25 @@ use Rattle.giop_frames.specs.declared.message.ServiceContext.{ServiceContext}
 use Rattle.giop_frames.specs.Fault.{too_long}
 use Rattle.giop_frames.specs.Message.{profile_values, IsTarget, context_values, contexts_values}
 use Rattle.giop_frames.specs.Content.{key_at, profile_at, profiles_at, reference_at, target_at, context_at, each_context_at, contexts_at, reserved_at}
+use Rattle.giop_frames.specs.Limits.{context_limit, key_limit, profile_limit}
 use Rattle.giop_frames.proofs.Given.{read_is, bind_ok, field_ok, guard_ok, which}
 
 -- ---- keys
 
 -- a key that is read stands there
-key_found : ReadingLaws → (r : Reading) (t : Target) (behind : Reading) → key_at r ≡ Ok (t, behind) → (key : List ℕ) × (Key key ≡ t) × (length key ≤ 256) × Reads r (OctetSequence key) behind
+key_found : ReadingLaws → (r : Reading) (t : Target) (behind : Reading) → key_at r ≡ Ok (t, behind) → (key : List ℕ) × (Key key ≡ t) × (length key ≤ key_limit) × Reads r (OctetSequence key) behind
 unfolding key_at
 key_found laws r t behind e =
     let a = field_ok (octets_at r) _ (t, behind) e in
     let key = a.0.0 in
-    let g = guard_ok (ltb 256 (length key)) (too_long r.place (length key)) (Ok (Key key, a.0.1)) (t, behind) a.2 in
+    let g = guard_ok (ltb key_limit (length key)) (too_long r.place (length key)) (Ok (Key key, a.0.1)) (t, behind) a.2 in
     let same = read_is (Key key) a.0.1 t behind g.1 in
     (key, same.0, ltb-false _ _ g.0, subst (λ (b : Reading). Reads r (OctetSequence key) b) same.1 (laws.octets.found r key a.0.1 a.1))
 
 -- and a key that stands there is read
-key_only : ReadingLaws → (r : Reading) (key : List ℕ) (behind : Reading) → length key ≤ 256 → Reads r (OctetSequence key) behind → key_at r ≡ Ok (Key key, behind)
+key_only : ReadingLaws → (r : Reading) (key : List ℕ) (behind : Reading) → length key ≤ key_limit → Reads r (OctetSequence key) behind → key_at r ≡ Ok (Key key, behind)
 unfolding key_at
-key_only laws r key behind few h = rw (laws.octets.only r key behind h, le-ltb 256 (length key) few) refl
+key_only laws r key behind few h = rw (laws.octets.only r key behind h, le-ltb key_limit (length key) few) refl
 
 -- ---- profiles
 
@@ -78,7 +79,7 @@ record IsReference (r behind : Reading) : Type 0 where
   index : ℕ
   type_id : List ℕ
   profiles : List (ℕ × List ℕ)
-  few : length profiles ≤ 65536
+  few : length profiles ≤ profile_limit
   read : ReadsAll r (ULong index ∷ reference_values type_id profiles) behind
 
 -- a reference ends where its profiles end
@@ -103,7 +104,7 @@ reference_found laws r t behind e =
     let b = field_ok (string_at a.0.1) _ (t, behind) a.2 in
     let c = field_ok (ulong_at b.0.1) _ (t, behind) b.2 in
     let count = c.0.0 in
-    let g = guard_ok (ltb 65536 count) (too_long b.0.1.place count) (profiles_at count c.0.1 >>= ended) (t, behind) c.2 in
+    let g = guard_ok (ltb profile_limit count) (too_long b.0.1.place count) (profiles_at count c.0.1 >>= ended) (t, behind) c.2 in
     let p = counted_found laws b.0.1 count c.0.1 t behind c.1 g.1 in (
       p.1,
       record {
@@ -123,7 +124,7 @@ reference_only laws r behind is =
     let one = laws.ulong.only r is.index h.0 h.1 in
     let two = laws.string.only h.0 is.type_id h.2.0 h.2.1 in
     let three = laws.ulong.only h.2.0 (length is.profiles) h.2.2.0 h.2.2.1 in
-    rw (one, two, three, le-ltb 65536 (length is.profiles) is.few, profiles_only laws is.profiles h.2.2.0 behind h.2.2.2) refl
+    rw (one, two, three, le-ltb profile_limit (length is.profiles) is.few, profiles_only laws is.profiles h.2.2.0 behind h.2.2.2) refl
 
 -- ---- targets
 
@@ -231,20 +232,20 @@ each_only laws (c ∷ cs) r behind h =
     rw (context_only laws r c h.2.0 (h.0, h.1, (h.2.0, h.2.1, refl)), each_only laws cs h.2.0 behind h.2.2) refl
 
 -- contexts that are read stand there, behind their count
-pub contexts_found : ReadingLaws → (r : Reading) (cs : List ServiceContext) (behind : Reading) → contexts_at r ≡ Ok (cs, behind) → (length cs ≤ 16) × ReadsAll r (contexts_values cs) behind
+pub contexts_found : ReadingLaws → (r : Reading) (cs : List ServiceContext) (behind : Reading) → contexts_at r ≡ Ok (cs, behind) → (length cs ≤ context_limit) × ReadsAll r (contexts_values cs) behind
 unfolding contexts_at
 contexts_found laws r cs behind e =
     let a = field_ok (ulong_at r) _ (cs, behind) e in
     let n = a.0.0 in
-    let g = guard_ok (ltb 16 n) (too_long r.place n) (each_context_at n a.0.1) (cs, behind) a.2 in
+    let g = guard_ok (ltb context_limit n) (too_long r.place n) (each_context_at n a.0.1) (cs, behind) a.2 in
     let p = each_found laws n a.0.1 cs behind g.1 in
     let counted : Reads r (ULong (length cs)) a.0.1 = subst (λ (k : ℕ). Reads r (ULong k) a.0.1) p.0 (laws.ulong.found r n a.0.1 a.1) in
     (omega (arith, p.0, ltb-false _ _ g.0), (a.0.1, counted, p.1))
 
 -- and contexts that stand there are read
-pub contexts_only : ReadingLaws → (r : Reading) (cs : List ServiceContext) (behind : Reading) → length cs ≤ 16 → ReadsAll r (contexts_values cs) behind → contexts_at r ≡ Ok (cs, behind)
+pub contexts_only : ReadingLaws → (r : Reading) (cs : List ServiceContext) (behind : Reading) → length cs ≤ context_limit → ReadsAll r (contexts_values cs) behind → contexts_at r ≡ Ok (cs, behind)
 unfolding contexts_at
-contexts_only laws r cs behind few h = rw (laws.ulong.only r (length cs) h.0 h.1, le-ltb 16 (length cs) few) (each_only laws cs h.0 behind h.2)
+contexts_only laws r cs behind few h = rw (laws.ulong.only r (length cs) h.0 h.1, le-ltb context_limit (length cs) few) (each_only laws cs h.0 behind h.2)
 
 -- ---- reserved octets
 

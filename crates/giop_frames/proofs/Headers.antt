@@ -12,6 +12,7 @@ use Rattle.giop_frames.specs.declared.header.Kind.{Kind}
 use Rattle.giop_frames.specs.declared.header.Kind.TheVariants as kinds
 use Rattle.giop_frames.specs.declared.header.Header.{Header}
 use Rattle.giop_frames.specs.Header.{magic, version, type_octet, kind_at, order_of_flags, more_of_flags, IsPart, size_at, header_at}
+use Rattle.giop_frames.specs.Limits.{size_limit}
 use Rattle.giop_frames.proofs.Given.{ok_is, guard_ok}
 
 -- the octet of a type is that of its type
@@ -66,7 +67,7 @@ record IsRead (octets : List ℕ) (h : Header) : Type 0 where
   marked : octets ≡ magic ++ (version ++ (slice_index octets 6 ∷ slice_index octets 7 ∷ (take 4 (drop 8 octets) ++ drop 12 octets)))
   type : slice_index octets 7 ≤ 7
   long : 12 ≤ length octets
-  few : size_at octets ≤ 65536
+  few : size_at octets ≤ size_limit
   same : read octets ≡ h
 
 -- a header that is read has them
@@ -77,7 +78,7 @@ is_read octets h e =
     let b = guard_ok (not (starts_with nat_eq version (take 2 (drop 4 octets)))) BadVersion _ h a.1 in
     let c = guard_ok (ltb 7 (slice_index octets 7)) BadType _ h b.1 in
     let d = guard_ok (ltb (length octets) 12) Short _ h c.1 in
-    let f = guard_ok (ltb 65536 (size_at octets)) (TooLarge (size_at octets)) (Ok (read octets)) h d.1 in
+    let f = guard_ok (ltb size_limit (size_at octets)) (TooLarge (size_at octets)) (Ok (read octets)) h d.1 in
     let long : 12 ≤ length octets = ltb-false _ _ d.0 in
     let first : take 4 octets ≡ magic = marked magic (take 4 octets) (omega (arith, length-take 4 octets)) a.0 in
     let second : take 2 (drop 4 octets) ≡ version = marked version (take 2 (drop 4 octets)) (omega (arith, length-take 2 (drop 4 octets), length-drop 4 octets)) b.0 in
@@ -126,4 +127,4 @@ header_only h content octets rest p =
     let more = content ++ rest in
     let all : octets ++ rest ≡ front p.flags (type_octet h.kind) p.size ++ more = ap (λ (x : List ℕ). x ++ rest) p.parts ∙ ap (λ (x : List ℕ). magic ++ (version ++ (p.flags ∷ type_octet h.kind ∷ x))) (append_assoc p.size content rest) in
     let long : ltb (length (front p.flags (type_octet h.kind) p.size ++ more)) 12 ≡ false = le-ltb _ _ (omega (arith, length-append p.size more, p.sized.size)) in
-    rw (all, kind.1, long, take_at p.size more 4 p.sized.size, p.order_bit, p.more_bit, p.sized.value, le-ltb 65536 h.size p.few, kind.0) refl
+    rw (all, kind.1, long, take_at p.size more 4 p.sized.size, p.order_bit, p.more_bit, p.sized.value, le-ltb size_limit h.size p.few, kind.0) refl

@@ -9,6 +9,7 @@ use Rattle.giop_frames.specs.declared.fault.FrameFault.TheVariants.{BadFragment}
 use Rattle.giop_frames.specs.Header.{is_fragment}
 use Rattle.giop_frames.specs.Content.{message_of}
 use Rattle.giop_frames.specs.Stream.{Part, Unfinished, AreTaken, after, begun, continued, continuing, extended, going_on, id_of, judged, numbered, offset, opening, says, so_far, unfinished, with_octets, without, without_id}
+use Rattle.giop_frames.specs.Limits.{unfinished_limit}
 use Rattle.giop_frames.proofs.Given.{guard_ok}
 use Rattle.giop_frames.proofs.Numbered.{cases_bool, extended_here, extended_on, without_here, without_on}
 
@@ -123,10 +124,10 @@ none_or (Some x) b e = absurd cc
 -- a first part that goes on has a number that is free
 opened_free : (messages : List Unfinished) (p : Part) (answer : Option Framed) → opening messages p ≡ Ok answer → numbered (id_of p) messages ≡ None
 opened_free messages p answer e =
-    let taken : Bool = is_some (numbered (id_of p) messages) || nat_le 8 (length messages) in
+    let taken : Bool = is_some (numbered (id_of p) messages) || nat_le unfinished_limit (length messages) in
     let a = guard_ok (ltb (length p.content) 4) without_id (cond taken (Err BadFragment) (so_far (message_of p.header.order p.header.kind p.content))) answer e in
     let b = guard_ok taken BadFragment (so_far (message_of p.header.order p.header.kind p.content)) answer a.1 in
-    none_or (numbered (id_of p) messages) (nat_le 8 (length messages)) b.0
+    none_or (numbered (id_of p) messages) (nat_le unfinished_limit (length messages)) b.0
 
 judged_opening : (messages : List Unfinished) (place : ℕ) (p : Part) → is_fragment p.header.kind ≡ false → p.header.more ≡ true → judged messages place p ≡ opening messages p
 unfolding judged

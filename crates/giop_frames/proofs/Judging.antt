@@ -13,6 +13,7 @@ use Rattle.giop_frames.specs.Header.{is_fragment}
 use Rattle.giop_frames.specs.Content.{message_of}
 use Rattle.giop_frames.specs.Stream.{Part, Unfinished, after, id_of, joined, judged, numbered, opening, so_far, without_id}
 use Rattle.giop_frames.specs.StreamInside.{IsAt}
+use Rattle.giop_frames.specs.Limits.{unfinished_limit}
 use Rattle.giop_frames.proofs.Numbered.{numbered_at, extended_at, without_at}
 
 abbrev failing : {X E : Type 0} → E → Result X E
@@ -33,8 +34,8 @@ opening_taken messages p u long e = rw (le-ltb (length p.content) 4 long, e) ref
 pub opening_at : (messages : List Unfinished) (p : Part) (i : ℕ) → 4 ≤ length p.content → IsAt (id_of p) messages i → opening messages p ≡ Err BadFragment
 opening_at messages p i long at = opening_taken messages p _ long (numbered_at (id_of p) messages i (record { id = 0; place = 0; header = p.header; content = [] }) at)
 
-pub opening_free : (messages : List Unfinished) (p : Part) → 4 ≤ length p.content → numbered (id_of p) messages ≡ None → length messages < 8 → opening messages p ≡ so_far (message_of p.header.order p.header.kind p.content)
-opening_free messages p long e room = rw (le-ltb (length p.content) 4 long, e, lt-leb 8 (length messages) room) refl
+pub opening_free : (messages : List Unfinished) (p : Part) → 4 ≤ length p.content → numbered (id_of p) messages ≡ None → length messages < unfinished_limit → opening messages p ≡ so_far (message_of p.header.order p.header.kind p.content)
+opening_free messages p long e room = rw (le-ltb (length p.content) 4 long, e, lt-leb unfinished_limit (length messages) room) refl
 
 -- ---- a Fragment
 

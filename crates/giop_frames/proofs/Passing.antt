@@ -21,6 +21,7 @@ use Rattle.giop_frames.specs.Fault.{field}
 use Rattle.giop_frames.specs.Content.{key_at, profile_at, profiles_at, reference_at, target_at, context_at, each_context_at, contexts_at, reserved_at, request_at, reply_at, locate_at, located_at, message_at, message_of, made}
 use Rattle.giop_frames.specs.Stream.{so_far}
 use Rattle.giop_frames.specs.Skim.{GoesOn, IsBehind, IsPassed, behind_target, fields_at, followed, passing, rest_at, standing, wants_octets}
+use Rattle.giop_frames.specs.Limits.{context_limit, key_limit, profile_limit}
 use Rattle.giop_frames.proofs.Given.{reading_is}
 use Rattle.giop_frames.proofs.Further.{err_is}
 use Rattle.giop_frames.proofs.Followed.{here, further_on, kept, passed, reserved_kept, reserved_passed}
@@ -134,20 +135,20 @@ reference_begun laws r a kind one = record {
   same = λ more. rw (kept ushort_at UShort laws.ushort r 2 a one more) refl;
 }
 
-pub key_passed : ReadingLaws → (r a : Reading) (kind : Kind) (key : List ℕ) → octets_at r ≡ Ok (key, a) → length key ≤ 256 → GoesOn kind fields.Key r (Some fields.Operation) a
+pub key_passed : ReadingLaws → (r a : Reading) (kind : Kind) (key : List ℕ) → octets_at r ≡ Ok (key, a) → length key ≤ key_limit → GoesOn kind fields.Key r (Some fields.Operation) a
 unfolding fields_at key_at
 key_passed laws r a kind key one few = record {
   behind = passed octets_at OctetSequence laws.octets r key a one;
-  same = λ more. rw (kept octets_at OctetSequence laws.octets r key a one more, le-ltb 256 (length key) few) refl;
+  same = λ more. rw (kept octets_at OctetSequence laws.octets r key a one more, le-ltb key_limit (length key) few) refl;
 }
 
-pub profiles_begun : ReadingLaws → (r a b c : Reading) (kind : Kind) (index count : ℕ) (type_id : List ℕ) → ulong_at r ≡ Ok (index, a) → string_at a ≡ Ok (type_id, b) → ulong_at b ≡ Ok (count, c) → count ≤ 65536
+pub profiles_begun : ReadingLaws → (r a b c : Reading) (kind : Kind) (index count : ℕ) (type_id : List ℕ) → ulong_at r ≡ Ok (index, a) → string_at a ≡ Ok (type_id, b) → ulong_at b ≡ Ok (count, c) → count ≤ profile_limit
     → GoesOn kind fields.Reference r (Some (fields.Profiles count)) c
 unfolding fields_at reference_at
 profiles_begun laws r a b c kind index count type_id one two three few = record {
   behind = further_on r a c (passed ulong_at ULong laws.ulong r index a one) (further_on a b c (passed string_at Text laws.string a type_id b two) (passed ulong_at ULong laws.ulong b count c three));
   same = λ more.
-      rw (kept ulong_at ULong laws.ulong r index a one more, kept string_at Text laws.string a type_id b two more, kept ulong_at ULong laws.ulong b count c three more, le-ltb 65536 count few)
+      rw (kept ulong_at ULong laws.ulong r index a one more, kept string_at Text laws.string a type_id b two more, kept ulong_at ULong laws.ulong b count c three more, le-ltb profile_limit count few)
       (pass_on (profiles_at count (followed c more)) Reference (behind_target kind));
 }
 
@@ -168,11 +169,11 @@ operation_passed laws r a operation one = record {
   same = λ more. rw (kept string_at Text laws.string r operation a one more) refl;
 }
 
-pub count_passed : ReadingLaws → (r a : Reading) (kind : Kind) (count : ℕ) → ulong_at r ≡ Ok (count, a) → count ≤ 16 → GoesOn kind fields.Contexts r (Some (fields.EachContext count)) a
+pub count_passed : ReadingLaws → (r a : Reading) (kind : Kind) (count : ℕ) → ulong_at r ≡ Ok (count, a) → count ≤ context_limit → GoesOn kind fields.Contexts r (Some (fields.EachContext count)) a
 unfolding fields_at contexts_at
 count_passed laws r a kind count one few = record {
   behind = passed ulong_at ULong laws.ulong r count a one;
-  same = λ more. rw (kept ulong_at ULong laws.ulong r count a one more, le-ltb 16 count few) refl;
+  same = λ more. rw (kept ulong_at ULong laws.ulong r count a one more, le-ltb context_limit count few) refl;
 }
 
 pub context_passed : ReadingLaws → (r a b : Reading) (kind : Kind) (count id : ℕ) (octets : List ℕ) → 0 < count → ulong_at r ≡ Ok (id, a) → octets_at a ≡ Ok (octets, b) → GoesOn kind (fields.EachContext count) r (Some (fields.EachContext (count - 1))) b

@@ -18,6 +18,7 @@ use Rattle.giop_frames.specs.Fault.{too_long}
 use Rattle.giop_frames.specs.Message.{contexts_values}
 use Rattle.giop_frames.specs.Encode.{behind, target_values, request_head, request_start, request_values, values_of, fields_of, content_of, padded_body, order_of, target_refusal, operation_refusal, contexts_refusal, field_refusal, size_refusal, refusal_of, ◌or◌}
 use Rattle.giop_frames.specs.Sizes.{end_of, target_end, operation_end, contexts_end, request_end, body_end, message_end, content_size}
+use Rattle.giop_frames.specs.Limits.{context_limit, key_limit, size_limit}
 use Rattle.giop_frames.proofs.Ends.{end_of-append, end_of-is}
 
 -- the offset behind values
@@ -54,7 +55,7 @@ unfolding target_end
 target_ends before (Key key) =
     let at = behind (before ++ (UShort 0 ∷ [])) in
     let same : (before ++ (UShort 0 ∷ [])) ++ (OctetSequence key ∷ []) ≡ before ++ target_values (Key key) = append_assoc before (UShort 0 ∷ []) (OctetSequence key ∷ []) in
-    ends_test (ltb 256 (length key)) (too_long at (length key)) (behind (before ++ target_values (Key key))) (end_of at (OctetSequence key ∷ [])) (end_behind (before ++ (UShort 0 ∷ [])) (OctetSequence key ∷ []) ∙ ap behind same)
+    ends_test (ltb key_limit (length key)) (too_long at (length key)) (behind (before ++ target_values (Key key))) (end_of at (OctetSequence key ∷ [])) (end_behind (before ++ (UShort 0 ∷ [])) (OctetSequence key ∷ []) ∙ ap behind same)
 target_ends before Profile = refl
 target_ends before Reference = refl
 
@@ -70,7 +71,7 @@ contexts_ends : (before : List Value) (contexts : List ServiceContext) → Ends 
 unfolding contexts_end
 contexts_ends before contexts =
     let at = behind before in
-    ends_test (ltb 16 (length contexts)) (too_long at (length contexts)) (behind (before ++ contexts_values contexts)) (end_of at (contexts_values contexts)) (end_behind before (contexts_values contexts))
+    ends_test (ltb context_limit (length contexts)) (too_long at (length contexts)) (behind (before ++ contexts_values contexts)) (end_of at (contexts_values contexts)) (end_behind before (contexts_values contexts))
 
 -- the fields of a Request
 request_ends : (r : Request) → Ends (field_refusal (messages.Request r)) (behind (request_values r)) (request_end r)
@@ -116,10 +117,10 @@ pub content_ends : (m : Message) → Ends (refusal_of m) (length (content_of m))
 unfolding refusal_of content_size
 content_ends m =
     let n = length (content_of m) in
-    let last = ends_test (ltb 65536 (12 + n - 12)) (TooLarge (12 + n - 12)) n (12 + n - 12) (omega arith) in
+    let last = ends_test (ltb size_limit (12 + n - 12)) (TooLarge (12 + n - 12)) n (12 + n - 12) (omega arith) in
     let same : 12 + n - 12 ≡ n = omega arith in
-    let size : Ends (size_refusal m) n (cond (ltb 65536 (12 + n - 12)) (Err (TooLarge (12 + n - 12))) (Ok (12 + n - 12))) = subst (λ (k : ℕ). Ends (cond (ltb 65536 k) (Some (TooLarge k)) None) n (cond (ltb 65536 (12 + n - 12)) (Err (TooLarge (12 + n - 12))) (Ok (12 + n - 12)))) same last in
-    ends_then (field_refusal m) (size_refusal m) (12 + n) n (message_end m) (λ (k : ℕ). cond (ltb 65536 (k - 12)) (Err (TooLarge (k - 12))) (Ok (k - 12))) (message_ends m) size
+    let size : Ends (size_refusal m) n (cond (ltb size_limit (12 + n - 12)) (Err (TooLarge (12 + n - 12))) (Ok (12 + n - 12))) = subst (λ (k : ℕ). Ends (cond (ltb size_limit k) (Some (TooLarge k)) None) n (cond (ltb size_limit (12 + n - 12)) (Err (TooLarge (12 + n - 12))) (Ok (12 + n - 12)))) same last in
+    ends_then (field_refusal m) (size_refusal m) (12 + n) n (message_end m) (λ (k : ℕ). cond (ltb size_limit (k - 12)) (Err (TooLarge (k - 12))) (Ok (k - 12))) (message_ends m) size
 
 -- a size was found where nothing refuses
 pub sized : (m : Message) (n : ℕ) → Ok n ≡ content_size m → (refusal_of m ≡ None) × (n ≡ length (content_of m))
@@ -142,9 +143,9 @@ test_none true fault e = absurd cc
 test_none false fault e = refl
 
 -- a message that is not refused is small
-pub size_is_small : (m : Message) → refusal_of m ≡ None → length (content_of m) ≤ 65536
+pub size_is_small : (m : Message) → refusal_of m ≡ None → length (content_of m) ≤ size_limit
 unfolding refusal_of
-size_is_small m none = ltb-false _ _ (test_none (ltb 65536 (length (content_of m))) (TooLarge (length (content_of m))) (or_none (field_refusal m) (size_refusal m) none).1)
+size_is_small m none = ltb-false _ _ (test_none (ltb size_limit (length (content_of m))) (TooLarge (length (content_of m))) (or_none (field_refusal m) (size_refusal m) none).1)
 
 -- no field of it passes a limit
 pub fields_pass : (m : Message) → refusal_of m ≡ None → field_refusal m ≡ None
@@ -152,14 +153,14 @@ unfolding refusal_of
 fields_pass m none = (or_none (field_refusal m) (size_refusal m) none).0
 
 -- contexts that are not refused are few
-pub contexts_pass : (before : List Value) (contexts : List ServiceContext) → contexts_refusal before contexts ≡ None → length contexts ≤ 16
-contexts_pass before contexts none = ltb-false _ _ (test_none (ltb 16 (length contexts)) (too_long (behind before) (length contexts)) none)
+pub contexts_pass : (before : List Value) (contexts : List ServiceContext) → contexts_refusal before contexts ≡ None → length contexts ≤ context_limit
+contexts_pass before contexts none = ltb-false _ _ (test_none (ltb context_limit (length contexts)) (too_long (behind before) (length contexts)) none)
 
 -- what a Request that is not refused has
 pub record Passes (r : Request) : Type 0 where
   pub target : target_refusal (request_head r) r.target ≡ None
   pub text : has_nul r.operation ≡ false
-  pub few : length r.contexts ≤ 16
+  pub few : length r.contexts ≤ context_limit
 
 -- a Request that is not refused passes each test
 pub request_passes : (r : Request) → refusal_of (messages.Request r) ≡ None → Passes r

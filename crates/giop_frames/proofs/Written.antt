@@ -15,6 +15,7 @@ use Rattle.giop_frames.specs.declared.message.ServiceContext.{ServiceContext}
 use Rattle.giop_frames.specs.Message.{context_values}
 use Rattle.giop_frames.specs.Write.{Refuses, ArePlain}
 use Rattle.giop_frames.specs.Fault.{fault_of}
+use Rattle.cdr_values.specs.Limits.{output_limit}
 use Rattle.giop_frames.proofs.Ends.{one_context_more}
 
 -- values behind others
@@ -93,4 +94,4 @@ pub refuses_one : (value : Value) (fault : CdrFault) (w : Writing) → is_bad va
 refuses_one value fault w good (inl memory) = inl (ap fault_of memory)
 refuses_one value fault w good (inr refused) =
     let n = length (with_value w value).octets in
-    inr (ltb-true _ _ (passed (ltb 65536 n) (cdr.TooLong (place_of w) n) fault (rw good at refused)))
+    inr (ltb-true _ _ (passed (ltb output_limit n) (cdr.TooLong (place_of w) n) fault (rw good at refused)))

@@ -1,6 +1,5 @@
 -- Reading the content of a message from its front (CORBA, GIOP Message Formats), and its first fault (our profile).
 use Rattle.std.specs.Prelude.{ℕ, zero, suc, ◌==◌, nat_lt, List, [], ◌∷◌, length, drop, Result, Ok, Err, if◌then◌else◌}
-use Rattle.giop_frames.specs.declared.fault.TheConstants.{CONTEXT_LIMIT, KEY_LIMIT, PROFILE_LIMIT}
 use Rattle.cdr_values.specs.declared.order.Order.{Order}
 use Rattle.cdr_values.specs.Value.{gap}
 use Rattle.cdr_values.specs.Reading.{Reading, ◌>>=◌, octet_at, ushort_at, ulong_at, octets_at, string_at}
@@ -17,12 +16,13 @@ use Rattle.giop_frames.specs.declared.message.Located.{Located}
 use Rattle.giop_frames.specs.declared.message.Target.{Target}
 use Rattle.giop_frames.specs.declared.message.Target.TheVariants.{Key, Profile, Reference}
 use Rattle.giop_frames.specs.declared.message.ServiceContext.{ServiceContext}
+use Rattle.giop_frames.specs.Limits.{context_limit, key_limit, profile_limit}
 use Rattle.giop_frames.specs.Fault.{field, too_long}
 
 unfoldable pub key_at : Reading → Result (Target × Reading) FrameFault
 key_at r = do
   key ← field (octets_at r)
-  if nat_lt KEY_LIMIT (length key.0) then Err (too_long r.place (length key.0)) else Ok (Key key.0, key.1)
+  if nat_lt key_limit (length key.0) then Err (too_long r.place (length key.0)) else Ok (Key key.0, key.1)
 
 unfoldable pub profile_at : Reading → Result (Target × Reading) FrameFault
 profile_at r = do
@@ -42,12 +42,14 @@ reference_at r = do
   index ← field (ulong_at r)
   type_id ← field (string_at index.1)
   count ← field (ulong_at type_id.1)
-  if nat_lt PROFILE_LIMIT count.0 then Err (too_long type_id.1.place count.0) else (profiles_at count.0 count.1 >>= λ passed. Ok (Reference, passed.1))
+  if nat_lt profile_limit count.0 then Err (too_long type_id.1.place count.0) else (
+      profiles_at count.0 count.1 >>= λ passed. Ok (Reference, passed.1))
 
 unfoldable pub target_at : Reading → Result (Target × Reading) FrameFault
 target_at r = do
   way ← field (ushort_at r)
-  if way.0 == 0 then key_at way.1 else (if way.0 == 1 then profile_at way.1 else (if way.0 == 2 then reference_at way.1 else Err BadType))
+  if way.0 == 0 then key_at way.1 else (
+      if way.0 == 1 then profile_at way.1 else (if way.0 == 2 then reference_at way.1 else Err BadType))
 
 unfoldable pub context_at : Reading → Result (ServiceContext × Reading) FrameFault
 context_at r = do
@@ -66,7 +68,7 @@ each_context_at (suc n) r = do
 unfoldable pub contexts_at : Reading → Result (List ServiceContext × Reading) FrameFault
 contexts_at r = do
   count ← field (ulong_at r)
-  if nat_lt CONTEXT_LIMIT count.0 then Err (too_long r.place count.0) else each_context_at count.0 count.1
+  if nat_lt context_limit count.0 then Err (too_long r.place count.0) else each_context_at count.0 count.1
 
 -- what stands from the next multiple of 8 on
 abbrev pub body_at : Reading → List ℕ
@@ -88,7 +90,15 @@ request_at r = do
   target ← target_at reserved.1
   operation ← field (string_at target.1)
   contexts ← contexts_at operation.1
-  Ok (record { id = id.0; flags = flags.0; target = target.0; operation = operation.0; contexts = contexts.0; order = r.order; body = body_at contexts.1 })
+  Ok (record {
+    id = id.0;
+    flags = flags.0;
+    target = target.0;
+    operation = operation.0;
+    contexts = contexts.0;
+    order = r.order;
+    body = body_at contexts.1;
+  })
 
 unfoldable pub reply_at : Reading → Result Reply FrameFault
 reply_at r = do

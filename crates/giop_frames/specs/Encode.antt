@@ -1,6 +1,5 @@
 -- The octets that are written for a message (CORBA, GIOP Message Formats), and what refuses it first (our profile).
 use Rattle.std.specs.Prelude.{ℕ, ◌+◌, nat_lt, List, [], ◌∷◌, ◌++◌, length, replicate, sum_by, Option, Some, None, if◌then◌else◌}
-use Rattle.giop_frames.specs.declared.fault.TheConstants.{CONTEXT_LIMIT, KEY_LIMIT, SIZE_LIMIT}
 use Rattle.cdr_values.specs.declared.order.Order.{Order}
 use Rattle.cdr_values.specs.declared.order.Order.TheVariants.{Big}
 use Rattle.cdr_values.specs.declared.fault.CdrFault.TheVariants as cdr
@@ -15,6 +14,7 @@ use Rattle.giop_frames.specs.declared.message.Reply.{Reply}
 use Rattle.giop_frames.specs.declared.message.Target.{Target}
 use Rattle.giop_frames.specs.declared.message.Target.TheVariants.{Key, Profile, Reference}
 use Rattle.giop_frames.specs.declared.message.ServiceContext.{ServiceContext}
+use Rattle.giop_frames.specs.Limits.{context_limit, key_limit, size_limit}
 use Rattle.giop_frames.specs.Fault.{too_long}
 use Rattle.giop_frames.specs.Header.{header_octets}
 use Rattle.giop_frames.specs.Message.{kind_of, contexts_values}
@@ -82,18 +82,21 @@ spelling m = header_octets (order_of m) (kind_of m) (length (content_of m)) ++ c
 abbrev pub behind : List Value → ℕ
 behind values = 12 + length (canonical_all Big 12 values)
 
--- a target in front of which these values stand: profiles and references are not written, and a key has at most 256 octets
+-- a target in front of which these values stand: profiles and references are not written, and a key has a limit
 abbrev pub target_refusal : List Value → Target → Option FrameFault
-target_refusal before (Key key) = if nat_lt KEY_LIMIT (length key) then Some (too_long (behind (before ++ (UShort 0 ∷ []))) (length key)) else None
+target_refusal before (Key key) =
+    if nat_lt key_limit (length key) then Some (too_long (behind (before ++ (UShort 0 ∷ []))) (length key)) else None
 target_refusal before Profile = Some NotWritten
 target_refusal before Reference = Some NotWritten
 
--- at most 16 contexts are written
+-- the number of contexts has a limit
 abbrev pub contexts_refusal : List Value → List ServiceContext → Option FrameFault
-contexts_refusal before contexts = if nat_lt CONTEXT_LIMIT (length contexts) then Some (too_long (behind before) (length contexts)) else None
+contexts_refusal before contexts =
+    if nat_lt context_limit (length contexts) then Some (too_long (behind before) (length contexts)) else None
 
 abbrev pub operation_refusal : List Value → List ℕ → Option FrameFault
-operation_refusal before operation = if has_nul operation then Some (Body (behind before) (cdr.BadString (behind before))) else None
+operation_refusal before operation =
+    if has_nul operation then Some (Body (behind before) (cdr.BadString (behind before))) else None
 
 -- the first refusal
 infixr 20 ◌or◌
@@ -104,15 +107,17 @@ None or later = later
 -- what passes a limit in the fields, from the left
 abbrev pub field_refusal : Message → Option FrameFault
 field_refusal (messages.Request r) =
-    target_refusal (request_head r) r.target or (operation_refusal (request_start r) r.operation or contexts_refusal (request_start r ++ (Text r.operation ∷ [])) r.contexts)
+    target_refusal (request_head r) r.target or (
+    operation_refusal (request_start r) r.operation or
+    contexts_refusal (request_start r ++ (Text r.operation ∷ [])) r.contexts)
 field_refusal (messages.Reply r) = contexts_refusal (ULong r.id ∷ ULong r.status ∷ []) r.contexts
 field_refusal (messages.Locate l) = target_refusal (ULong l.id ∷ []) l.target
 field_refusal _ = None
 
 abbrev pub size_refusal : Message → Option FrameFault
-size_refusal m = if nat_lt SIZE_LIMIT (length (content_of m)) then Some (TooLarge (length (content_of m))) else None
+size_refusal m = if nat_lt size_limit (length (content_of m)) then Some (TooLarge (length (content_of m))) else None
 
--- why the message is not written: a limit is passed in its fields, or it has more than 65,536 octets behind the header
+-- why the message is not written: a limit is passed in its fields, or it has too many octets behind the header
 unfoldable pub refusal_of : Message → Option FrameFault
 refusal_of m = field_refusal m or size_refusal m
 
@@ -123,9 +128,13 @@ abbrev pub octets_in_target : Target → ℕ
 octets_in_target (Key key) = length key
 octets_in_target _ = 0
 
+-- how many octets the lists in a Request's fields have together
+abbrev pub octets_in_fields : Request → ℕ
+octets_in_fields r = octets_in_target r.target + length r.operation + octets_in_contexts r.contexts
+
 -- how many octets and members all lists of a message have together
 abbrev pub octets_in : Message → ℕ
-octets_in (messages.Request r) = octets_in_target r.target + length r.operation + length r.contexts + octets_in_contexts r.contexts + length r.body
+octets_in (messages.Request r) = octets_in_fields r + length r.contexts + length r.body
 octets_in (messages.Reply r) = length r.contexts + octets_in_contexts r.contexts + length r.body
 octets_in (messages.Locate l) = octets_in_target l.target
 octets_in (messages.LocateReply l) = length l.rest

@@ -1,5 +1,5 @@
 -- Faults of fields as faults of messages (our profile).
-use Rattle.std.specs.Prelude.{◌≡◌, ℕ, Result, Ok, Err}
+use Rattle.std.specs.Prelude.{◌≡◌, ◌⊎◌, ℕ, Result, Ok, Err, IfErr}
 use Rattle.cdr_values.specs.declared.fault.CdrFault.{CdrFault}
 use Rattle.cdr_values.specs.Reading.{Reading}
 use Rattle.cdr_values.specs.declared.fault.CdrFault.TheVariants as cdr
@@ -24,6 +24,10 @@ abbrev pub field : {A : Type 0} → Result A CdrFault → Result A FrameFault
 field (Ok x) = Ok x
 field (Err fault) = Err (fault_of fault)
 
+-- a fault that a call answers is want of memory, or one of these
+abbrev pub IfRefused : {X : Type 0} → Result X FrameFault → (FrameFault → Type 0) → Type 0
+IfRefused result Refuses = IfErr result (λ fault. (fault ≡ Memory) ⊎ Refuses fault)
+
 -- a call answered this fault where reading gives it; want of memory comes in place of any answer
 abbrev pub Fails : {Y : Type 0} → FrameFault → Result Y FrameFault → Type 0
 Fails Memory read = Unit {0}
@@ -35,6 +39,7 @@ Finds view (Ok x) read = read ≡ Ok (view x)
 Finds view (Err fault) read = Fails fault read
 
 -- the same for a call that goes on behind what it read
-abbrev pub Gives : {X Y : Type 0} → (X → Y) → Result X FrameFault → Reading → Result (Y × Reading) FrameFault → Type 0
+abbrev pub Gives : {X Y : Type 0} → (X → Y) → Result X FrameFault → Reading
+    → Result (Y × Reading) FrameFault → Type 0
 Gives view (Ok x) new read = read ≡ Ok (view x, new)
 Gives view (Err fault) new read = Fails fault read

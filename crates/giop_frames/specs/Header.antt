@@ -1,6 +1,5 @@
 -- The header in front of each part of a message (CORBA, GIOP Message Formats, MessageHeader_1_1 with version 1.2).
 use Rattle.std.specs.Prelude.{◌≡◌, ℕ, ◌/◌, ◌%◌, ◌≤◌, ◌==◌, nat_eq, nat_lt, Bool, true, false, not, List, [], ◌∷◌, ◌++◌, length, take, drop, slice_index, Result, Ok, Err, if◌then◌else◌, codes}
-use Rattle.giop_frames.specs.declared.fault.TheConstants.{SIZE_LIMIT}
 use Rattle.std.specs.List.{starts_with}
 use Rattle.cdr_values.specs.declared.order.Order.{Order}
 use Rattle.cdr_values.specs.declared.order.Order.TheVariants.{Big, Little}
@@ -10,6 +9,7 @@ use Rattle.giop_frames.specs.declared.fault.FrameFault.TheVariants.{BadMagic, Ba
 use Rattle.giop_frames.specs.declared.header.Kind.{Kind}
 use Rattle.giop_frames.specs.declared.header.Kind.TheVariants as kinds
 use Rattle.giop_frames.specs.declared.header.Header.{Header}
+use Rattle.giop_frames.specs.Limits.{size_limit}
 
 abbrev pub magic : List ℕ
 magic = codes "GIOP"
@@ -31,8 +31,13 @@ type_octet kinds.Fragment = 7
 -- the type that an octet of at most 7 stands for
 abbrev pub kind_at : ℕ → Kind
 kind_at octet =
-    if octet == 0 then kinds.Request else (if octet == 1 then kinds.Reply else (if octet == 2 then kinds.CancelRequest else (if octet == 3 then kinds.LocateRequest else
-    (if octet == 4 then kinds.LocateReply else (if octet == 5 then kinds.CloseConnection else (if octet == 6 then kinds.MessageError else kinds.Fragment))))))
+    if octet == 0 then kinds.Request else (
+    if octet == 1 then kinds.Reply else (
+    if octet == 2 then kinds.CancelRequest else (
+    if octet == 3 then kinds.LocateRequest else (
+    if octet == 4 then kinds.LocateReply else (
+    if octet == 5 then kinds.CloseConnection else (
+    if octet == 6 then kinds.MessageError else kinds.Fragment))))))
 
 -- a part of this type goes on with a message
 abbrev pub is_fragment : Kind → Bool
@@ -56,7 +61,7 @@ pub record IsPart (header : Header) (content octets : List ℕ) : Type 0 where
   pub more_bit : more_of_flags flags ≡ header.more
   pub sized : IsNumber header.order 4 header.size size
   pub counted : length content ≡ header.size
-  pub few : header.size ≤ SIZE_LIMIT
+  pub few : header.size ≤ size_limit
 
 -- the size that a header tells
 abbrev pub size_at : List ℕ → ℕ
@@ -69,8 +74,17 @@ header_at octets =
     if not (starts_with nat_eq version (take 2 (drop 4 octets))) then Err BadVersion else (
     if nat_lt 7 (slice_index octets 7) then Err BadType else (
     if nat_lt (length octets) 12 then Err Short else (
-    if nat_lt SIZE_LIMIT (size_at octets) then Err (TooLarge (size_at octets)) else
-    Ok (record { order = order_of_flags (slice_index octets 6); more = more_of_flags (slice_index octets 6); kind = kind_at (slice_index octets 7); size = size_at octets })))))
+    if nat_lt size_limit (size_at octets) then Err (TooLarge (size_at octets)) else
+    Ok (record {
+      order = order_of_flags (slice_index octets 6);
+      more = more_of_flags (slice_index octets 6);
+      kind = kind_at (slice_index octets 7);
+      size = size_at octets;
+    })))))
+
+-- the content behind a header that stands in front
+abbrev pub content_behind : Header → List ℕ → List ℕ
+content_behind header octets = take header.size (drop 12 octets)
 
 -- the flags of a message that isn't fragmented
 abbrev pub flags_of : Order → ℕ

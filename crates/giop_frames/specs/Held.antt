@@ -1,8 +1,11 @@
 -- What a stream holds back between two calls, of a stream of messages (CORBA, GIOP Message Formats, Fragment Message).
-use Rattle.std.specs.Prelude.{◌≡◌, ◌≢◌, ◌⊎◌, ℕ, List, [], Option, Some, None, IfSome}
+use Rattle.std.specs.Prelude.{◌≡◌, ◌≢◌, ◌⊎◌, ◌<◌, ℕ, List, [], ◌∷◌, ◌++◌, length, Option, Some, None, IfSome, IsSome, Result, Ok, Err, IfOk, OnErr, OnOk}
 use Rattle.giop_frames.specs.declared.fault.FrameFault.{FrameFault}
+use Rattle.giop_frames.specs.declared.fault.FrameFault.TheVariants.{Short}
 use Rattle.giop_frames.specs.declared.framed.Framed.{Framed}
-use Rattle.giop_frames.specs.Stream.{Part, Unfinished, Splits, Refuses, earliest, offset, unfinished}
+use Rattle.giop_frames.specs.declared.message.Message.{Message}
+use Rattle.giop_frames.specs.Fault.{IfRefused}
+use Rattle.giop_frames.specs.Stream.{Part, Unfinished, IsRefused, IsStream, Splits, Refuses, earliest, offset, part_at, unfinished}
 
 -- the unfinished messages, the octets of no whole part yet and their offset in the stream, and the refusal that is
 -- answered for good
@@ -31,3 +34,46 @@ place_of h = place_by h.place h.refused h.unfinished
 -- octets are held that were not given as a message yet
 abbrev pub IsUnfinished : Held → Type 0
 IsUnfinished h = (h.unfinished ≢ []) ⊎ (h.rest ≢ [])
+
+-- these octets came to a stream
+abbrev pub HasCome : List ℕ → Held → Held → Type 0
+HasCome piece old new =
+    (octets : List ℕ) (messages : List Framed) → Holds octets messages old → Holds (octets ++ piece) messages new
+
+-- a stream gave this message, with what the header of its first part says
+abbrev pub HasGivenFramed : Framed → Held → Held → Type 0
+HasGivenFramed framed old new =
+    (octets : List ℕ) (messages : List Framed) → Holds octets messages old → Holds octets (messages ++ framed ∷ []) new
+
+-- a stream gave this message
+abbrev pub HasGiven : Message → Held → Held → Type 0
+HasGiven m old new = (framed : Framed) × (framed.message ≡ m) × HasGivenFramed framed old new
+
+-- a stream gave no message, and lost nothing
+abbrev pub HasKept : Held → Held → Type 0
+HasKept old new = (octets : List ℕ) (messages : List Framed) → Holds octets messages old → Holds octets messages new
+
+-- a stream gave no message, since there is none but what it gave
+abbrev pub HasGivenAll : Held → Held → Type 0
+HasGivenAll old new =
+    (octets : List ℕ) (messages : List Framed) → Holds octets messages old
+    → Holds octets messages new × IsStream messages new.rest octets
+
+-- the part at a stream's place is refused
+abbrev pub IsRefusedAtPlace : Held → Held → FrameFault → Type 0
+IsRefusedAtPlace old new fault =
+    (octets : List ℕ) (messages : List Framed) → Holds octets messages old → IsRefused messages new.place fault octets
+
+-- A call asked for the next message: it was given so, or there is none, or a part is refused. A refusal is answered for
+-- good, and loses nothing.
+pub record GivesNext {X : Type 0} (Gave : X → Held → Held → Type 0) (result : Result (Option X) FrameFault)
+    (old new : Held) : Type 0 where
+  pub message : IfOk result (λ found. IfSome found (λ m. Gave m old new))
+  pub nothing : result ≡ Ok None → HasGivenAll old new
+  pub refused : IfRefused result (IsRefusedAtPlace old new)
+  pub keeps : OnErr result (HasKept old new)
+  pub remembered : IfRefused result (λ fault. new.refused ≡ Some fault)
+  pub again : IfSome old.refused (λ fault. (result ≡ Err fault) × (new ≡ old))
+  pub accepts : OnOk result (new.refused ≡ None)
+  pub partial : result ≡ Ok None → part_at new.rest ≡ Err Short
+  pub shorter : IfOk result (λ found. IsSome found → length new.rest < length old.rest)

@@ -1,14 +1,14 @@
 -- What the calls inside a stream do with what it holds back.
-use Rattle.std.specs.Prelude.{◌≡◌, ◌≢◌, ◌⊎◌, ℕ, ◌+◌, ◌-◌, ◌^◌, ◌≤◌, min, List, length, Option, Some, None, Result, Ok, Err}
-use Rattle.giop_frames.specs.declared.fault.TheConstants.{SIZE_LIMIT}
-use Rattle.giop_frames.specs.declared.parts.TheConstants.{UNFINISHED_LIMIT}
+use Rattle.std.specs.Prelude.{◌≡◌, ℕ, ◌+◌, ◌-◌, ◌^◌, ◌≤◌, min, List, length, Option, Some, None, Result, Ok, Err, IfErr, IfOk, OnErr, OnOk}
 use Rattle.std.specs.List.{AllByRecursion}
 use Rattle.giop_frames.specs.declared.fault.FrameFault.{FrameFault}
 use Rattle.giop_frames.specs.declared.fault.FrameFault.TheVariants.{Short, Memory}
 use Rattle.giop_frames.specs.declared.framed.Framed.{Framed}
 use Rattle.giop_frames.specs.declared.stream.Taken.{Taken}
 use Rattle.giop_frames.specs.declared.stream.Taken.TheVariants.{Nothing, Piece, Whole}
-use Rattle.giop_frames.specs.Stream.{Part, Unfinished, after, judged, part_at}
+use Rattle.giop_frames.specs.Limits.{size_limit, unfinished_limit}
+use Rattle.giop_frames.specs.Fault.{Fails}
+use Rattle.giop_frames.specs.Stream.{Part, Unfinished, RefusesFront, after, judged, part_at}
 use Rattle.giop_frames.specs.Held.{Held}
 
 -- a refusal is answered for good, and want of memory is not
@@ -18,8 +18,17 @@ remembering h fault = record h { refused = Some fault }
 
 -- no unfinished message is longer than a message may be, and there are at most 8
 pub record AreShort (messages : List Unfinished) : Type 0 where
-  pub few : length messages ≤ UNFINISHED_LIMIT
-  pub short : AllByRecursion (λ u. length u.content ≤ SIZE_LIMIT) messages
+  pub few : length messages ≤ unfinished_limit
+  pub short : AllByRecursion (λ u. length u.content ≤ size_limit) messages
+
+-- a call judged the part at this place, and these are the unfinished messages behind it
+pub record Judges (place : ℕ) (p : Part) (result : Result (Option Framed) FrameFault)
+    (old new : List Unfinished) : Type 0 where
+  pub says : IfOk result (λ answer. judged old place p ≡ Ok answer)
+  pub after : OnOk result (new ≡ after place p old)
+  pub refused : IfErr result (λ fault. Fails fault (judged old place p))
+  pub err : OnErr result (new ≡ old)
+  pub short : AreShort new
 
 -- the part at the place was taken, and says this
 pub record Took (old : Held) (answer : Option Framed) (new : Held) : Type 0 where
@@ -32,7 +41,7 @@ pub record Took (old : Held) (answer : Option Framed) (new : Held) : Type 0 wher
 
 -- the part at the place is refused
 abbrev pub RefusesHeld : Held → FrameFault → Type 0
-RefusesHeld h fault = ((part_at h.rest ≡ Err fault) × (fault ≢ Short)) ⊎ ((p : Part) × (behind : List ℕ) × (part_at h.rest ≡ Ok (p, behind)) × (judged h.unfinished h.place p ≡ Err fault))
+RefusesHeld h fault = RefusesFront (judged h.unfinished h.place) h.rest fault
 
 abbrev pub Takes : Held → Result Taken FrameFault → Held → Type 0
 Takes old (Ok Nothing) new = (new ≡ old) × (part_at old.rest ≡ Err Short)

@@ -1,3 +1,4 @@
+pub mod Limits
 pub mod Fault
 pub mod Header
 pub mod Message
@@ -11,3 +12,4 @@ pub mod HeldInside
 pub mod Encode
 pub mod Sizes
 pub mod Write
+pub mod Laws

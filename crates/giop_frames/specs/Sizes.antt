@@ -1,8 +1,7 @@
 -- How many octets a message has behind its header, by the sizes of its values alone, and what refuses it first (our
--- profile). The fields in front of a Request's key end at offset 22, those of a LocateRequest's at 18; two numbers behind the
--- header end at 20, and one at 16.
+-- profile). The fields in front of a Request's key end at offset 22, those of a LocateRequest's at 18; two numbers behind
+-- the header end at 20, and one at 16.
 use Rattle.std.specs.Prelude.{ℕ, ◌+◌, ◌-◌, nat_lt, List, [], ◌∷◌, length, Result, Ok, Err, if◌then◌else◌}
-use Rattle.giop_frames.specs.declared.fault.TheConstants.{CONTEXT_LIMIT, KEY_LIMIT, SIZE_LIMIT}
 use Rattle.cdr_values.specs.declared.fault.CdrFault.TheVariants as cdr
 use Rattle.cdr_values.specs.Value.{Value, Octet, Boolean, UShort, ULong, ULongLong, OctetSequence, Text, Aligned, alignment, gap, has_nul}
 use Rattle.cdr_values.specs.Reading.{◌>>=◌}
@@ -14,6 +13,7 @@ use Rattle.giop_frames.specs.declared.message.Request.{Request}
 use Rattle.giop_frames.specs.declared.message.Target.{Target}
 use Rattle.giop_frames.specs.declared.message.Target.TheVariants.{Key, Profile, Reference}
 use Rattle.giop_frames.specs.declared.message.ServiceContext.{ServiceContext}
+use Rattle.giop_frames.specs.Limits.{context_limit, key_limit, size_limit}
 use Rattle.giop_frames.specs.Fault.{too_long}
 use Rattle.giop_frames.specs.Message.{contexts_values}
 use Rattle.giop_frames.specs.Encode.{padded_body}
@@ -36,15 +36,19 @@ end_of at (value ∷ values) = end_of (at + gap (alignment value) at + size_of v
 
 -- the offset behind a key whose count stands from this offset on
 unfoldable pub target_end : ℕ → Target → Result ℕ FrameFault
-target_end at (Key key) = if nat_lt KEY_LIMIT (length key) then Err (too_long at (length key)) else Ok (end_of at (OctetSequence key ∷ []))
+target_end at (Key key) =
+    if nat_lt key_limit (length key) then Err (too_long at (length key)) else Ok (end_of at (OctetSequence key ∷ []))
 target_end at Profile = Err NotWritten
 target_end at Reference = Err NotWritten
 
 unfoldable pub operation_end : ℕ → List ℕ → Result ℕ FrameFault
-operation_end at operation = if has_nul operation then Err (Body at (cdr.BadString at)) else Ok (end_of at (Text operation ∷ []))
+operation_end at operation =
+    if has_nul operation then Err (Body at (cdr.BadString at)) else Ok (end_of at (Text operation ∷ []))
 
 unfoldable pub contexts_end : ℕ → List ServiceContext → Result ℕ FrameFault
-contexts_end at contexts = if nat_lt CONTEXT_LIMIT (length contexts) then Err (too_long at (length contexts)) else Ok (end_of at (contexts_values contexts))
+contexts_end at contexts =
+    if nat_lt context_limit (length contexts) then Err (too_long at (length contexts)) else
+    Ok (end_of at (contexts_values contexts))
 
 -- the offset behind the fields of a Request
 unfoldable pub request_end : Request → Result ℕ FrameFault
@@ -75,4 +79,4 @@ message_end messages.Error = Ok 12
 unfoldable pub content_size : Message → Result ℕ FrameFault
 content_size m = do
   behind ← message_end m
-  if nat_lt SIZE_LIMIT (behind - 12) then Err (TooLarge (behind - 12)) else Ok (behind - 12)
+  if nat_lt size_limit (behind - 12) then Err (TooLarge (behind - 12)) else Ok (behind - 12)

@@ -1,5 +1,5 @@
--- Passing over the fields of a message whose octets are still coming: a call goes on where the one before stood, so no
--- field that is whole is read twice.
+-- Passing over the fields of a message whose octets are still coming: what it means that a call goes on where the one
+-- before stood (our profile).
 use Rattle.std.specs.Prelude.{◌≡◌, ℕ, ◌+◌, ◌-◌, ◌^◌, ◌<◌, ◌≤◌, Bool, true, false, List, ◌++◌, length, drop, Option, Some, None, Result, Ok, Err}
 use Rattle.cdr_values.specs.declared.order.Order.{Order}
 use Rattle.cdr_values.specs.Reading.{Reading, ◌>>=◌, string_at}
@@ -91,4 +91,6 @@ standing order content place = record { order = order; place = place; rest = dro
 pub record IsPassed (order : Order) (kind : Kind) (content : List ℕ) (p : Passed) : Type 0 where
   pub behind_header : 12 ≤ p.place
   pub within : p.place ≤ 12 + length content
-  pub same : (more : List ℕ) → passing (message_of order kind (content ++ more)) ≡ rest_at kind p.next (followed (standing order content p.place) more)
+  pub same :
+      (more : List ℕ)
+      → passing (message_of order kind (content ++ more)) ≡ rest_at kind p.next (followed (standing order content p.place) more)

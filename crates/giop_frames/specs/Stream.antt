@@ -1,8 +1,6 @@
--- Streams of messages (CORBA, GIOP Message Formats, Fragment Message): parts one after another, each judged by the parts
--- before it. Where parts are in a list, the newest stands first.
+-- Streams of messages (CORBA, GIOP Message Formats, Fragment Message): parts one after another, each judged by the
+-- parts before it. Where parts are in a list, the newest stands first.
 use Rattle.std.specs.Prelude.{◌≡◌, ◌≢◌, ◌⊎◌, ℕ, ◌+◌, ◌-◌, ◌^◌, ◌%◌, ◌==◌, nat_le, nat_lt, min, Bool, true, false, ◌||◌, ◌&&◌, not, List, [], ◌∷◌, ◌++◌, length, take, drop, find, Option, Some, None, is_some, Result, Ok, Err, if◌then◌else◌}
-use Rattle.giop_frames.specs.declared.fault.TheConstants.{SIZE_LIMIT}
-use Rattle.giop_frames.specs.declared.parts.TheConstants.{UNFINISHED_LIMIT}
 use Rattle.cdr_values.specs.declared.fault.CdrFault.TheVariants as cdr
 use Rattle.cdr_values.specs.Value.{number_in}
 use Rattle.cdr_values.specs.Reading.{◌>>=◌}
@@ -13,13 +11,17 @@ use Rattle.giop_frames.specs.declared.header.Kind.TheVariants as kinds
 use Rattle.giop_frames.specs.declared.header.Header.{Header}
 use Rattle.giop_frames.specs.declared.message.Message.{Message}
 use Rattle.giop_frames.specs.declared.framed.Framed.{Framed}
-use Rattle.giop_frames.specs.Header.{IsPart, is_fragment, header_at}
+use Rattle.giop_frames.specs.Limits.{size_limit, unfinished_limit}
+use Rattle.giop_frames.specs.Header.{IsPart, content_behind, is_fragment, header_at}
 use Rattle.giop_frames.specs.Content.{message_of}
 
 -- a part of a stream: what its header says, and its content
 pub record Part : Type 0 where
   pub header : Header
   pub content : List ℕ
+
+abbrev pub part_of : Header → List ℕ → Part
+part_of header content = record { header = header; content = content }
 
 -- a message whose last part hasn't come: its request_id, the place and the header of its first part, and its octets so
 -- far, joined without the request_ids of the Fragments
@@ -36,8 +38,8 @@ may_be_fragmented kinds.CloseConnection = false
 may_be_fragmented kinds.MessageError = false
 may_be_fragmented _ = true
 
--- the "more fragments" bit stands where it can: on such a type, and where the part's length is a multiple of 8, as it has
--- to be but for a message's last part; that another length is refused is our profile
+-- the "more fragments" bit stands where it can: on such a type, and where the part's length is a multiple of 8, as it
+-- has to be but for a message's last part; that another length is refused is our profile
 abbrev pub may_go_on : Header → Bool
 may_go_on header = may_be_fragmented header.kind && ((12 + header.size) % 8 == 0)
 
@@ -49,7 +51,8 @@ pub record IsStreamPart (p : Part) (octets : List ℕ) : Type 0 where
 -- the octets are these parts
 abbrev pub AreParts : List Part → List ℕ → Type 0
 AreParts [] octets = octets ≡ []
-AreParts (p ∷ older) octets = (before : List ℕ) × (part : List ℕ) × (octets ≡ before ++ part) × IsStreamPart p part × AreParts older before
+AreParts (p ∷ older) octets =
+    (before : List ℕ) × (part : List ℕ) × (octets ≡ before ++ part) × IsStreamPart p part × AreParts older before
 
 -- the header of a part in front, or its first fault as its octets come
 unfoldable pub part_header_at : List ℕ → Result Header FrameFault
@@ -61,7 +64,8 @@ part_header_at octets = do
 unfoldable pub part_at : List ℕ → Result (Part × List ℕ) FrameFault
 part_at octets = do
   header ← part_header_at octets
-  if nat_lt (length octets) (12 + header.size) then Err Short else Ok (record { header = header; content = take header.size (drop 12 octets) }, drop (12 + header.size) octets)
+  if nat_lt (length octets) (12 + header.size) then Err Short else
+      Ok (part_of header (content_behind header octets), drop (12 + header.size) octets)
 
 -- the offset behind parts; it stands still at its type's end
 abbrev pub offset : List Part → ℕ
@@ -72,6 +76,18 @@ offset (p ∷ older) = min (offset older + (12 + p.header.size)) (2 ^ 64 - 1)
 abbrev pub id_of : Part → ℕ
 id_of p = number_in p.header.order 4 (take 4 p.content)
 
+-- a message of this request_id, whose first part, at this place, has come
+abbrev pub begun_as : ℕ → ℕ → Part → Unfinished
+begun_as id place p = record { id = id; place = place; header = p.header; content = p.content }
+
+-- the message that goes on behind this first part of it
+abbrev pub begun_by : ℕ → Part → Unfinished
+begun_by place p = begun_as (id_of p) place p
+
+-- a message with more octets
+abbrev pub with_more : List ℕ → Unfinished → Unfinished
+with_more octets u = record u { content = u.content ++ octets }
+
 -- the unfinished message of this request_id
 abbrev pub numbered : ℕ → List Unfinished → Option Unfinished
 numbered id messages = find (λ u. u.id == id) messages
@@ -79,17 +95,26 @@ numbered id messages = find (λ u. u.id == id) messages
 -- with more octets
 abbrev pub extended : ℕ → List ℕ → List Unfinished → List Unfinished
 extended id octets [] = []
-extended id octets (u ∷ others) = if u.id == id then (record u { content = u.content ++ octets }) ∷ others else u ∷ extended id octets others
+extended id octets (u ∷ others) = if u.id == id then with_more octets u ∷ others else u ∷ extended id octets others
 
 abbrev pub without : ℕ → List Unfinished → List Unfinished
 without id [] = []
 without id (u ∷ others) = if u.id == id then others else u ∷ without id others
 
+-- with the message that goes on behind this first part of it
+abbrev pub with_begun : ℕ → Part → List Unfinished → List Unfinished
+with_begun place p messages = messages ++ begun_by place p ∷ []
+
+-- the unfinished messages after a Fragment
+abbrev pub after_fragment : Part → List Unfinished → List Unfinished
+after_fragment p messages =
+    if p.header.more then extended (id_of p) (drop 4 p.content) messages else without (id_of p) messages
+
 -- the unfinished messages after a part at this place
 abbrev pub after : ℕ → Part → List Unfinished → List Unfinished
 after place p messages =
-    if is_fragment p.header.kind then (if p.header.more then extended (id_of p) (drop 4 p.content) messages else without (id_of p) messages)
-    else (if p.header.more then messages ++ (record { id = id_of p; place = place; header = p.header; content = p.content }) ∷ [] else messages)
+    if is_fragment p.header.kind then after_fragment p messages
+    else (if p.header.more then with_begun place p messages else messages)
 
 abbrev pub unfinished : List Part → List Unfinished
 unfinished [] = []
@@ -98,18 +123,19 @@ unfinished (p ∷ older) = after (offset older) p (unfinished older)
 -- a message with more octets, where there is one
 abbrev pub with_octets : List ℕ → Option Unfinished → Option Unfinished
 with_octets octets None = None
-with_octets octets (Some u) = Some (record u { content = u.content ++ octets })
+with_octets octets (Some u) = Some (with_more octets u)
 
 -- the message that goes on behind this Fragment of it, by how far it came before: the last Fragment ends it
 abbrev pub continued : Part → Option Unfinished → Option Unfinished
 continued p before = if p.header.more then with_octets (drop 4 p.content) before else None
 
--- the message that goes on behind this part, which is no Fragment: the part begins it, or is a whole message and changes nothing
+-- the message that goes on behind this part, which is no Fragment: the part begins it, or is a whole message and changes
+-- nothing
 abbrev pub begun : ℕ → Part → Option Unfinished → Option Unfinished
-begun place p before = if p.header.more then Some (record { id = id_of p; place = place; header = p.header; content = p.content }) else before
+begun place p before = if p.header.more then Some (begun_by place p) else before
 
--- the message of this request_id that goes on behind these parts: its newest first part, and the octets of each Fragment
--- of that request_id since. Parts of other request_ids are passed over.
+-- the message of this request_id that goes on behind these parts: its newest first part, and the octets of each
+-- Fragment of that request_id since. Parts of other request_ids are passed over.
 abbrev pub going_on : ℕ → List Part → Option Unfinished
 going_on id [] = None
 going_on id (p ∷ older) =
@@ -122,7 +148,8 @@ Judgement = Result (Option Framed) FrameFault
 
 -- a whole message, whose first part has this place and header
 abbrev pub whole : ℕ → Header → Result Message FrameFault → Judgement
-whole place header (Ok message) = Ok (Some (record { place = place; order = header.order; size = header.size; message = message }))
+whole place header (Ok message) =
+    Ok (Some (record { place = place; order = header.order; size = header.size; message = message }))
 whole place header (Err fault) = Err fault
 
 -- a message isn't whole yet: want of octets is no fault, and each field that stands there is judged
@@ -135,26 +162,41 @@ so_far (Err fault) = Err fault
 abbrev pub without_id : FrameFault
 without_id = Body 12 (cdr.Short 12)
 
--- a first part whose message goes on: its request_id must be free, and at most 8 messages are unfinished (our profile)
-abbrev pub opening : List Unfinished → Part → Judgement
-opening messages p = if nat_lt (length p.content) 4 then Err without_id else (if is_some (numbered (id_of p) messages) || nat_le UNFINISHED_LIMIT (length messages) then Err BadFragment else so_far (message_of p.header.order p.header.kind p.content))
+-- the message of a part with this header whose content this is
+abbrev pub message_by : Header → List ℕ → Result Message FrameFault
+message_by header content = message_of header.order header.kind content
 
--- more octets of a message, whose joined octets are at most 65,536 (our profile)
+-- a first part whose message goes on: its request_id must be free, and there must be room for one more unfinished
+-- message (our profile)
+abbrev pub opening : List Unfinished → Part → Judgement
+opening messages p =
+    if nat_lt (length p.content) 4 then Err without_id else (
+    if is_some (numbered (id_of p) messages) || nat_le unfinished_limit (length messages) then Err BadFragment else
+    so_far (message_by p.header p.content))
+
+-- more octets of a message, whose joined octets have a limit (our profile)
 abbrev pub joined : Bool → List ℕ → Unfinished → Judgement
 joined more octets first =
     let content = first.content ++ octets in
-    if nat_lt SIZE_LIMIT (length content) then Err (TooLarge (length content)) else (if more then so_far (message_of first.header.order first.header.kind content) else whole first.place first.header (message_of first.header.order first.header.kind content))
+    if nat_lt size_limit (length content) then Err (TooLarge (length content)) else (
+    if more then so_far (message_by first.header content) else
+    whole first.place first.header (message_by first.header content))
 
 -- a Fragment goes on with a message
 abbrev pub continuing : Part → Option Unfinished → Judgement
 continuing p None = Err BadFragment
 continuing p (Some first) = joined p.header.more (drop 4 p.content) first
 
+-- what a Fragment says
+abbrev pub continuation : List Unfinished → Part → Judgement
+continuation messages p =
+    if nat_lt (length p.content) 4 then Err without_id else continuing p (numbered (id_of p) messages)
+
 -- what the part at this place says, by the messages that are unfinished before it
 unfoldable pub judged : List Unfinished → ℕ → Part → Judgement
 judged messages place p =
-    if is_fragment p.header.kind then (if nat_lt (length p.content) 4 then Err without_id else continuing p (numbered (id_of p) messages))
-    else (if p.header.more then opening messages p else whole place p.header (message_of p.header.order p.header.kind p.content))
+    if is_fragment p.header.kind then continuation messages p
+    else (if p.header.more then opening messages p else whole place p.header (message_by p.header p.content))
 
 -- what the newest part says
 abbrev pub says : List Part → Part → Judgement
@@ -188,9 +230,15 @@ pub record IsStream (messages : List Framed) (rest octets : List ℕ) : Type 0 w
   pub splits : Splits octets parts messages rest
   pub partial : part_at rest ≡ Err Short
 
+-- the part in front of the rest is refused: by its octets, or by what is said of it
+abbrev pub RefusesFront : (Part → Judgement) → List ℕ → FrameFault → Type 0
+RefusesFront say rest fault =
+    ((part_at rest ≡ Err fault) × (fault ≢ Short))
+    ⊎ ((p : Part) × (behind : List ℕ) × (part_at rest ≡ Ok (p, behind)) × (say p ≡ Err fault))
+
 -- the part in front of the rest is refused: by its octets, or by the parts before it
 abbrev pub Refuses : List Part → List ℕ → FrameFault → Type 0
-Refuses older rest fault = ((part_at rest ≡ Err fault) × (fault ≢ Short)) ⊎ ((p : Part) × (behind : List ℕ) × (part_at rest ≡ Ok (p, behind)) × (says older p ≡ Err fault))
+Refuses older rest fault = RefusesFront (says older) rest fault
 
 -- behind these messages the octets have a part that is refused: it stands at this place
 pub record IsRefused (messages : List Framed) (place : ℕ) (fault : FrameFault) (octets : List ℕ) : Type 0 where

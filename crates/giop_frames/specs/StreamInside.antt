@@ -1,14 +1,34 @@
--- How the code finds a part, and an unfinished message.
-use Rattle.std.specs.Prelude.{◌≡◌, ℕ, ◌+◌, ◌≤◌, ◌<◌, ◌==◌, List, length, take, drop, Ok}
+-- How the code finds a part and an unfinished message, and what its calls do.
+use Rattle.std.specs.Prelude.{◌≡◌, ℕ, ◌+◌, ◌≤◌, ◌<◌, ◌==◌, List, length, take, drop, Option, Some, None, Result, Ok, Err}
 use Rattle.std.specs.List.{position_or_len}
+use Rattle.cdr_values.specs.declared.order.Order.{Order}
+use Rattle.cdr_values.specs.Value.{number_in}
+use Rattle.giop_frames.specs.declared.fault.FrameFault.{FrameFault}
+use Rattle.giop_frames.specs.declared.fault.FrameFault.TheVariants.{Short, TooLarge}
 use Rattle.giop_frames.specs.declared.header.Header.{Header}
-use Rattle.giop_frames.specs.Stream.{Unfinished, part_at}
+use Rattle.giop_frames.specs.Limits.{size_limit}
+use Rattle.giop_frames.specs.Header.{content_behind}
+use Rattle.giop_frames.specs.Stream.{Unfinished, part_at, part_of, without_id}
 
 -- a whole part with this header stands in front
 pub record IsInFront (header : Header) (octets : List ℕ) : Type 0 where
-  pub part : part_at octets ≡ Ok (record { header = header; content = take header.size (drop 12 octets) }, drop (12 + header.size) octets)
+  pub part : part_at octets ≡ Ok (part_of header (content_behind header octets), drop (12 + header.size) octets)
   pub whole : 12 + header.size ≤ length octets
-  pub few : header.size ≤ 65536
+  pub few : header.size ≤ size_limit
+
+-- a call found the header of the whole part in front, or less than a part
+abbrev pub FindsPart : List ℕ → Option Header → Type 0
+FindsPart octets None = part_at octets ≡ Err Short
+FindsPart octets (Some header) = IsInFront header octets
+
+-- a call read the request_id in front of a content, or there is none
+abbrev pub ReadsId : Order → List ℕ → Result ℕ FrameFault → Type 0
+ReadsId order content (Ok id) = (4 ≤ length content) × (id ≡ number_in order 4 (take 4 content))
+ReadsId order content (Err fault) = (fault ≡ without_id) × (length content < 4)
+
+-- the content of a message is too large, which is this fault
+abbrev pub IsTooLarge : List ℕ → FrameFault → Type 0
+IsTooLarge content fault = (fault ≡ TooLarge (length content)) × (size_limit < length content)
 
 -- the unfinished message of this request_id is at this index, the first one that has it
 pub record IsAt (id : ℕ) (messages : List Unfinished) (index : ℕ) : Type 0 where

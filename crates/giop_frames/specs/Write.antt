@@ -1,6 +1,7 @@
 -- Writing values one after another.
 use Rattle.std.specs.Prelude.{◌≡◌, ◌<◌, ◌^◌, ◌⊎◌, false, List, length, Result, Ok, Err}
 use Rattle.std.specs.List.{AllByRecursion}
+use Rattle.cdr_values.specs.Limits.{output_limit}
 use Rattle.cdr_values.specs.Value.{Value, Octet, Boolean, UShort, ULong, ULongLong, OctetSequence, Text, Aligned, has_nul}
 use Rattle.cdr_values.specs.Values.{with_values}
 use Rattle.cdr_values.specs.Writing.{Writing}
@@ -9,7 +10,7 @@ use Rattle.giop_frames.specs.declared.fault.FrameFault.TheVariants.{Memory}
 
 -- memory ran out, or the values would make more octets than a writer writes
 abbrev pub Refuses : List Value → FrameFault → Writing → Type 0
-Refuses values fault old = (fault ≡ Memory) ⊎ (65536 < length (with_values old values).octets)
+Refuses values fault old = (fault ≡ Memory) ⊎ (output_limit < length (with_values old values).octets)
 
 -- a call wrote the values
 abbrev pub Writes : List Value → Result (Unit {0}) FrameFault → Writing → Writing → Type 0

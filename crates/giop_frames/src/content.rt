@@ -1,5 +1,4 @@
 ghost use Rattle.std.specs.Prelude.{◌≡◌, ◌^◌, ◌<◌, length};
-ghost use Rattle.cdr_values.specs.Reading.{Reading};
 ghost use Rattle.giop_frames.specs.Fault.{Finds, Gives};
 ghost use Rattle.giop_frames.specs.Skim.{Passes};
 ghost use Rattle.giop_frames.specs.Content.{key_at, profile_at, profiles_at, reference_at, target_at, context_at, each_context_at, contexts_at, body_at, reserved_at, request_at, reply_at, locate_at, located_at, message_of};

@@ -1,8 +1,6 @@
-ghost use Rattle.std.specs.Prelude.{◌≡◌, ◌≤◌, ◌^◌, ◌<◌, ◌++◌, ℕ, List, length, take, IfOk, IfErr};
-ghost use Rattle.giop_frames.specs.Fault.{Finds};
+ghost use Rattle.std.specs.Prelude.{◌≤◌, ◌^◌, ◌<◌, length, take, IfOk};
 ghost use Rattle.giop_frames.specs.Message.{IsMessage};
-ghost use Rattle.giop_frames.specs.Decode.{decoded};
-ghost use Rattle.giop_frames.specs.declared.message.Message.{Message as AnyMessage};
+ghost use Rattle.giop_frames.specs.Decode.{Decodes, FindsWhatStands};
 
 use crate::content::read_message;
 use crate::fault::FrameFault;
@@ -26,8 +24,8 @@ pub fn decode(alloc: Global, bytes: &[u8]) -> Result<Decoded, FrameFault>
     requires { length bytes.now < 2 ^ 31 }
     ensures within { IfOk result (λ d. d.used ≤ length bytes.now) }
     ensures found { IfOk result (λ d. IsMessage d.message (take d.used bytes.now)) }
-    ensures only { (m : AnyMessage) (octets rest : List ℕ) → IsMessage m octets → bytes.now ≡ octets ++ rest → IfOk result (λ d. (d.message ≡ m) × (d.used ≡ length octets)) × IfErr result (λ fault. fault ≡ FrameFault.Memory) }
-    ensures exact { Finds (λ d. (d.message, d.used)) result (decoded bytes.now) }
+    ensures only { FindsWhatStands bytes.now result }
+    ensures exact { Decodes bytes.now result }
 {
     reading_is_exact();
     decode_front(alloc, bytes)
@@ -36,7 +34,7 @@ pub fn decode(alloc: Global, bytes: &[u8]) -> Result<Decoded, FrameFault>
 #[tactic(auto, unfolding(crate::specs::Decode::decoded))]
 fn decode_front(alloc: Global, bytes: &[u8]) -> Result<Decoded, FrameFault>
     requires { length bytes.now < 2 ^ 31 }
-    ensures { Finds (λ d. (d.message, d.used)) result (decoded bytes.now) }
+    ensures { Decodes bytes.now result }
 {
     let header = read_header(bytes)?;
     if header.is_fragmented() {

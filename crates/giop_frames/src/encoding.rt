@@ -1,5 +1,7 @@
-ghost use Rattle.std.specs.Prelude.{◌≡◌, ◌+◌, ◌<◌, ◌^◌, ◌⊎◌, ◌++◌, length, take, None, Some, IfErr, OnErr, OnOk};
+ghost use Rattle.std.specs.Prelude.{◌≡◌, ◌+◌, ◌<◌, ◌^◌, ◌++◌, length, None, Some, OnErr, OnOk};
 ghost use Rattle.cdr_values.specs.Value.{octets_of};
+ghost use Rattle.cdr_values.specs.Appending.{Appends, AppendsSome};
+ghost use Rattle.giop_frames.specs.Fault.{IfRefused};
 ghost use Rattle.giop_frames.specs.Header.{header_octets, flags_of};
 ghost use Rattle.giop_frames.specs.Message.{IsMessage, kind_of};
 ghost use Rattle.giop_frames.specs.Encode.{spelling, refusal_of, octets_in, content_of, fields_of, tail_of, padded_body};
@@ -25,7 +27,7 @@ pub fn encode(alloc: Global, message: &Message, into: &mut Vec<u8>) -> Result<()
     ensures ok { OnOk result (into.new.items ≡ into.old.items ++ spelling message.now) }
     ensures spelled { OnOk result (IsMessage message.now (spelling message.now)) }
     ensures fits { OnOk result (refusal_of message.now ≡ None) }
-    ensures refused { IfErr result (λ fault. (fault ≡ FrameFault.Memory) ⊎ (refusal_of message.now ≡ Some fault)) }
+    ensures refused { IfRefused result (λ fault. refusal_of message.now ≡ Some fault) }
     ensures err { OnErr result (into.new.items ≡ into.old.items) }
 {
     cdr_values::canonical_octets_spell();
@@ -39,8 +41,7 @@ pub fn encode(alloc: Global, message: &Message, into: &mut Vec<u8>) -> Result<()
 fn append(message: &Message, size: u32, fields: &[u8], into: &mut Vec<u8>) -> Result<(), AllocError>
     requires size { size ≡ length (content_of message.now) }
     requires fields { fields.now ≡ fields_of message.now }
-    ensures ok { OnOk result (into.new.items ≡ into.old.items ++ spelling message.now) }
-    ensures err { OnErr result (into.new.items ≡ into.old.items) }
+    ensures { Appends (spelling message.now) result into.old.items into.new.items }
 {
     let start = into.len();
     let appended = append_parts(message, size, fields, into);
@@ -59,8 +60,7 @@ fn append_parts(
 ) -> Result<(), AllocError>
     requires size { size ≡ length (content_of message.now) }
     requires fields { fields.now ≡ fields_of message.now }
-    ensures ok { OnOk result (into.new.items ≡ into.old.items ++ spelling message.now) }
-    ensures err { OnErr result (take (length into.old.items) into.new.items ≡ into.old.items) }
+    ensures { AppendsSome (spelling message.now) result into.old.items into.new.items }
 {
     append_header(order_of(message), kind_of(message), size, into)?;
     into.extend_from_slice(fields)?;
@@ -68,8 +68,7 @@ fn append_parts(
 }
 
 fn append_header(order: Order, kind: Kind, size: u32, into: &mut Vec<u8>) -> Result<(), AllocError>
-    ensures ok { OnOk result (into.new.items ≡ into.old.items ++ header_octets order kind size) }
-    ensures err { OnErr result (take (length into.old.items) into.new.items ≡ into.old.items) }
+    ensures { AppendsSome (header_octets order kind size) result into.old.items into.new.items }
 {
     into.extend_from_slice(&MAGIC)?;
     into.extend_from_slice(&VERSION)?;
@@ -80,8 +79,7 @@ fn append_header(order: Order, kind: Kind, size: u32, into: &mut Vec<u8>) -> Res
 /// Appends what stands behind the fields, which end at an offset.
 fn append_tail(message: &Message, at: usize, into: &mut Vec<u8>) -> Result<(), AllocError>
     requires { at ≡ 12 + length (fields_of message.now) }
-    ensures ok { OnOk result (into.new.items ≡ into.old.items ++ tail_of message.now) }
-    ensures err { OnErr result (take (length into.old.items) into.new.items ≡ into.old.items) }
+    ensures { AppendsSome (tail_of message.now) result into.old.items into.new.items }
 {
     match message {
         Message::Request(request) => append_body(at, request.body.bytes(), into),
@@ -93,8 +91,7 @@ fn append_tail(message: &Message, at: usize, into: &mut Vec<u8>) -> Result<(), A
 
 /// Appends a body behind padding to a multiple of 8, or nothing where there is none.
 fn append_body(at: usize, body: &[u8], into: &mut Vec<u8>) -> Result<(), AllocError>
-    ensures ok { OnOk result (into.new.items ≡ into.old.items ++ padded_body at body.now) }
-    ensures err { OnErr result (take (length into.old.items) into.new.items ≡ into.old.items) }
+    ensures { AppendsSome (padded_body at body.now) result into.old.items into.new.items }
 {
     if body.is_empty() {
         return Ok(());

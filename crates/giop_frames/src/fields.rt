@@ -3,7 +3,7 @@ ghost use Rattle.std.specs.List.{flat_map};
 ghost use Rattle.cdr_values.specs.Value.{Octet, ULong, has_nul};
 ghost use Rattle.giop_frames.specs.declared.fault.FrameFault.TheVariants.{Memory};
 ghost use Rattle.giop_frames.specs.Message.{context_values, contexts_values};
-ghost use Rattle.giop_frames.specs.Encode.{target_values, request_head, request_values, values_of, fields_of, order_of, refusal_of, octets_in, octets_in_target, octets_in_contexts};
+ghost use Rattle.giop_frames.specs.Encode.{target_values, request_head, request_values, values_of, fields_of, order_of, refusal_of, octets_in, octets_in_contexts, octets_in_fields, octets_in_target};
 ghost use Rattle.giop_frames.specs.Write.{Writes, ArePlain};
 
 use crate::fault::FrameFault;
@@ -60,7 +60,7 @@ fn write_message(writer: &mut Writer, message: &Message) -> Result<(), FrameFaul
 }
 
 fn write_request(writer: &mut Writer, request: &Request) -> Result<(), FrameFault>
-    requires small { octets_in_target request.now.target + length request.now.operation + length request.now.contexts + octets_in_contexts request.now.contexts < 2 ^ 31 }
+    requires small { octets_in_fields request.now + length request.now.contexts < 2 ^ 31 }
     requires text { has_nul request.now.operation ≡ false }
     ensures writes { Writes (request_values request.now) result writer.old writer.new }
     ensures plain { OnOk result (ArePlain (request_values request.now)) }

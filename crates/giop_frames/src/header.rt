@@ -1,5 +1,6 @@
 ghost use Rattle.std.specs.Prelude.{◌≡◌, ◌||◌, ◌≤◌, length, take, drop, IfOk};
 ghost use Rattle.cdr_values.specs.Value.{number_in};
+ghost use Rattle.giop_frames.specs.Limits.{size_limit};
 ghost use Rattle.giop_frames.specs.Header.{kind_at, type_octet, order_of_flags, is_fragment, header_at};
 
 use crate::fault::{FrameFault, SIZE_LIMIT};
@@ -86,7 +87,7 @@ impl Header {
 #[tactic(auto, unfolding(crate::specs::Header::header_at))]
 pub fn read_header(octets: &[u8]) -> Result<Header, FrameFault>
     ensures header { result ≡ header_at octets.now }
-    ensures small { IfOk result (λ header. header.size ≤ 65536) }
+    ensures small { IfOk result (λ header. header.size ≤ size_limit) }
 {
     if !MAGIC.starts_with(front(octets, 4)) {
         return Err(FrameFault::BadMagic);

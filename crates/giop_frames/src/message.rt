@@ -111,7 +111,7 @@ impl Model for Contexts {
 impl Contexts {
     ghost use Rattle.std.specs.Prelude.{◌≡◌};
 
-    /// The contexts of a vector, which takes no memory.
+    /// The contexts of a vector. It needs no memory.
     pub fn from_vec(items: Vec<ServiceContext>) -> Contexts
         ensures same { result ≡ items.items }
     {
@@ -125,7 +125,7 @@ impl Contexts {
         self.items.as_slice()
     }
 
-    /// The contexts as a vector, which takes no memory.
+    /// The contexts as a vector. It needs no memory.
     pub fn into_vec(self) -> Vec<ServiceContext>
         ensures same { result.items ≡ self }
     {

@@ -1,11 +1,11 @@
-ghost use Rattle.std.specs.Prelude.{◌≡◌, ℕ, ◌≢◌, ◌↔◌, ◌==◌, ◌<◌, ◌≤◌, ◌^◌, ◌++◌, ◌+◌, [], ◌∷◌, length, take, drop, MatchOption, MatchResult, None, Err, IsTrue, IfNone, IfSome, Ok, IfErr, IfOk, OnErr, OnOk};
+ghost use Rattle.std.specs.Prelude.{◌≡◌, ℕ, ◌≢◌, ◌↔◌, ◌==◌, ◌<◌, ◌≤◌, ◌+◌, length, None, Err, IsTrue, IfNone, IfSome, Ok, IfErr, IfOk, OnErr, OnOk};
 ghost use Rattle.std.specs.List.{position as position_of};
-ghost use Rattle.giop_frames.specs.Fault.{Fails, Finds};
-ghost use Rattle.cdr_values.specs.Value.{number_in};
-ghost use Rattle.giop_frames.specs.Content.{message_of};
-ghost use Rattle.giop_frames.specs.HeldInside.{AreShort};
-ghost use Rattle.giop_frames.specs.Stream.{after, joined, judged, may_go_on, opening, numbered, part_at, part_header_at, so_far, whole, without_id};
-ghost use Rattle.giop_frames.specs.StreamInside.{IsAt, IsInFront};
+ghost use Rattle.giop_frames.specs.Limits.{size_limit, unfinished_limit};
+ghost use Rattle.giop_frames.specs.Fault.{Fails};
+ghost use Rattle.giop_frames.specs.Header.{content_behind};
+ghost use Rattle.giop_frames.specs.HeldInside.{AreShort, Judges};
+ghost use Rattle.giop_frames.specs.Stream.{may_go_on, opening, numbered, part_at, part_header_at, part_of, with_begun};
+ghost use Rattle.giop_frames.specs.StreamInside.{FindsPart, IsAt, ReadsId};
 
 use crate::content::read_message;
 use crate::fault::{FrameFault, SIZE_LIMIT};
@@ -21,7 +21,7 @@ pub const UNFINISHED_LIMIT: usize = 8;
 /// The header of the part in front of the octets, where the part is whole.
 #[tactic(auto, unfolding(crate::specs::Stream::part_at))]
 pub fn whole_part(octets: &[u8]) -> Result<Option<Header>, FrameFault>
-    ensures part { IfOk result (λ found. MatchOption found (part_at octets.now ≡ Err FrameFault.Short) (λ header. IsInFront header octets.now)) }
+    ensures part { IfOk result (FindsPart octets.now) }
     ensures refused { IfErr result (λ fault. (part_at octets.now ≡ Err fault) × (fault ≢ FrameFault.Short)) }
 {
     match read_part_header(octets) {
@@ -35,7 +35,7 @@ pub fn whole_part(octets: &[u8]) -> Result<Option<Header>, FrameFault>
 /// The content of the whole part with this header in front of the octets.
 pub fn content_of(header: Header, octets: &[u8]) -> &[u8]
     requires { 12 + header.size ≤ length octets.now }
-    ensures { result.now ≡ take header.size (drop 12 octets.now) }
+    ensures { result.now ≡ content_behind header octets.now }
 {
     front(behind(octets, HEADER_LENGTH), header.size as usize)
 }
@@ -50,7 +50,7 @@ fn is_short(fault: FrameFault) -> bool
 #[tactic(auto, unfolding(crate::specs::Stream::part_header_at))]
 fn read_part_header(octets: &[u8]) -> Result<Header, FrameFault>
     ensures header { result ≡ part_header_at octets.now }
-    ensures small { IfOk result (λ header. header.size ≤ 65536) }
+    ensures small { IfOk result (λ header. header.size ≤ size_limit) }
 {
     let header = read_header(octets)?;
     if header.more && !can_go_on(header) {
@@ -60,7 +60,7 @@ fn read_part_header(octets: &[u8]) -> Result<Header, FrameFault>
 }
 
 fn can_go_on(header: Header) -> bool
-    requires { header.size ≤ 65536 }
+    requires { header.size ≤ size_limit }
     ensures { result ≡ may_go_on header }
 {
     let length = HEADER_LENGTH as u32 + header.size;
@@ -80,12 +80,8 @@ pub fn judge(
     content: &[u8],
 ) -> Result<Option<Framed>, FrameFault>
     requires unfinished { AreShort unfinished.old.items }
-    requires content { length content.now ≤ 65536 }
-    ensures says { IfOk result (λ framed. judged unfinished.old.items place (record { header = header; content = content.now }) ≡ Ok framed) }
-    ensures after { OnOk result (unfinished.new.items ≡ after place (record { header = header; content = content.now }) unfinished.old.items) }
-    ensures refused { IfErr result (λ fault. Fails fault (judged unfinished.old.items place (record { header = header; content = content.now }))) }
-    ensures err { OnErr result (unfinished.new.items ≡ unfinished.old.items) }
-    ensures short { AreShort unfinished.new.items }
+    requires content { length content.now ≤ size_limit }
+    ensures { Judges place (part_of header content.now) result unfinished.old.items unfinished.new.items }
 {
     if matches!(header.kind, Kind::Fragment) {
         return go_on(alloc, unfinished, header, content);
@@ -111,11 +107,11 @@ fn begin(
     header: Header,
     content: &[u8],
 ) -> Result<(), FrameFault>
-    requires content { length content.now ≤ 65536 }
-    ensures says { OnOk result (opening unfinished.old.items (record { header = header; content = content.now }) ≡ Ok None) }
-    ensures after { OnOk result (unfinished.new.items ≡ unfinished.old.items ++ (record { id = number_in header.order 4 (take 4 content.now); place = place; header = header; content = content.now }) ∷ []) }
-    ensures room { OnOk result (length unfinished.old.items < 8) }
-    ensures refused { IfErr result (λ fault. Fails fault (opening unfinished.old.items (record { header = header; content = content.now }))) }
+    requires content { length content.now ≤ size_limit }
+    ensures says { OnOk result (opening unfinished.old.items (part_of header content.now) ≡ Ok None) }
+    ensures after { OnOk result (unfinished.new.items ≡ with_begun place (part_of header content.now) unfinished.old.items) }
+    ensures room { OnOk result (length unfinished.old.items < unfinished_limit) }
+    ensures refused { IfErr result (λ fault. Fails fault (opening unfinished.old.items (part_of header content.now))) }
     ensures err { OnErr result (unfinished.new.items ≡ unfinished.old.items) }
 {
     let id = read_id(header.order, content)?;
@@ -138,13 +134,9 @@ fn go_on(
     content: &[u8],
 ) -> Result<Option<Framed>, FrameFault>
     requires unfinished { AreShort unfinished.old.items }
-    requires content { length content.now ≤ 65536 }
+    requires content { length content.now ≤ size_limit }
     requires fragment { header.kind ≡ Kind.Fragment }
-    ensures says { IfOk result (λ framed. (place : ℕ) → judged unfinished.old.items place (record { header = header; content = content.now }) ≡ Ok framed) }
-    ensures after { OnOk result ((place : ℕ) → unfinished.new.items ≡ after place (record { header = header; content = content.now }) unfinished.old.items) }
-    ensures refused { IfErr result (λ fault. (place : ℕ) → Fails fault (judged unfinished.old.items place (record { header = header; content = content.now }))) }
-    ensures err { OnErr result (unfinished.new.items ≡ unfinished.old.items) }
-    ensures short { AreShort unfinished.new.items }
+    ensures { (place : ℕ) → Judges place (part_of header content.now) result unfinished.old.items unfinished.new.items }
 {
     let id = read_id(header.order, content)?;
     let Some(index) = position(unfinished, id) else {
@@ -177,8 +169,8 @@ fn first_of(unfinished: &[Unfinished], id: u32) -> Option<usize>
 
 /// The request_id in front of a part's content.
 fn read_id(order: Order, content: &[u8]) -> Result<u32, FrameFault>
-    requires { length content.now ≤ 65536 }
-    ensures { MatchResult result (λ id. (4 ≤ length content.now) × (id ≡ number_in order 4 (take 4 content.now))) (λ fault. (fault ≡ without_id) × (length content.now < 4)) }
+    requires { length content.now ≤ size_limit }
+    ensures { ReadsId order content.now result }
 {
     Ok(Reader::new(content, order, HEADER_LENGTH as u32).ulong()?)
 }

@@ -1,8 +1,9 @@
 ghost use Rattle.std.specs.Prelude.{◌≡◌, ◌+◌, ◌*◌, ◌≤◌, ◌<◌, ◌^◌, length, IfOk};
 ghost use Rattle.std.specs.List.{flat_map};
 ghost use Rattle.cdr_values.specs.Value.{gap};
+ghost use Rattle.giop_frames.specs.Limits.{context_limit};
 ghost use Rattle.giop_frames.specs.Message.{context_values};
-ghost use Rattle.giop_frames.specs.Encode.{octets_in, octets_in_target, octets_in_contexts};
+ghost use Rattle.giop_frames.specs.Encode.{octets_in, octets_in_contexts, octets_in_fields, octets_in_target};
 ghost use Rattle.giop_frames.specs.Sizes.{end_of, target_end, operation_end, contexts_end, request_end, body_end, message_end, content_size};
 
 use crate::content::too_long;
@@ -59,9 +60,9 @@ fn message_end(message: &Message) -> Result<usize, FrameFault>
 /// The offset behind the fields of a Request.
 #[tactic(auto, unfolding(crate::specs::Sizes::request_end))]
 fn request_end(request: &Request) -> Result<usize, FrameFault>
-    requires { octets_in_target request.now.target + length request.now.operation + length request.now.contexts + octets_in_contexts request.now.contexts < 2 ^ 31 }
+    requires { octets_in_fields request.now + length request.now.contexts < 2 ^ 31 }
     ensures end { result ≡ request_end request.now }
-    ensures within { IfOk result (λ end. (12 ≤ end) × (end ≤ 512 + octets_in_target request.now.target + length request.now.operation + octets_in_contexts request.now.contexts)) }
+    ensures within { IfOk result (λ end. (12 ≤ end) × (end ≤ 512 + octets_in_fields request.now)) }
 {
     let target = target_end(REQUEST_KEY, &request.target)?;
     let operation = operation_end(target, request.operation.bytes())?;
@@ -119,7 +120,7 @@ fn contexts_end(at: usize, contexts: &[ServiceContext]) -> Result<usize, FrameFa
 
 fn each_context_end(at: usize, contexts: &[ServiceContext]) -> usize
     requires small { at + octets_in_contexts contexts.now < 2 ^ 33 }
-    requires few { length contexts.now ≤ 16 }
+    requires few { length contexts.now ≤ context_limit }
     ensures end { result ≡ end_of at (flat_map context_values contexts.now) }
     ensures within { (at ≤ result) × (result ≤ at + octets_in_contexts contexts.now + 14 * length contexts.now) }
 {

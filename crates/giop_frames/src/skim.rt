@@ -1,4 +1,5 @@
 ghost use Rattle.std.specs.Prelude.{◌≡◌, ◌≤◌, ℕ, List, length, IfErr, IfOk, Ok, Err, None};
+ghost use Rattle.giop_frames.specs.Limits.{size_limit};
 ghost use Rattle.giop_frames.specs.Skim.{IsPassed, PassesField, wants_octets};
 ghost use Rattle.giop_frames.specs.Content.{message_of};
 ghost use Rattle.giop_frames.specs.Stream.{so_far};
@@ -56,7 +57,7 @@ pub fn pass_over(
     content: &[u8],
     passed: Passed,
 ) -> Result<Passed, FrameFault>
-    requires short { length content.now ≤ 65536 }
+    requires short { length content.now ≤ size_limit }
     requires passed { IsPassed order kind content.now passed }
     ensures passed { IfOk result (λ later. IsPassed order kind content.now later) }
     ensures sound { IfOk result (λ later. so_far (message_of order kind content.now) ≡ Ok None) }

@@ -1,8 +1,7 @@
-ghost use Rattle.std.specs.Prelude.{◌≡◌, ◌↔◌, ◌⊎◌, ◌+◌, ◌<◌, ◌≤◌, ◌^◌, ◌++◌, ℕ, List, [], ◌∷◌, length, drop, min, Option, None, Some, Ok, Err, IfErr, IfOk, IfSome, IsSome, IsTrue, OnErr, OnOk};
-ghost use Rattle.giop_frames.specs.Stream.{Splits, IsStream, IsRefused, part_at};
-ghost use Rattle.giop_frames.specs.Held.{Held, Holds, place_of, IsUnfinished};
+ghost use Rattle.std.specs.Prelude.{◌≡◌, ◌↔◌, ◌+◌, ◌<◌, ◌≤◌, ◌^◌, [], length, drop, Option, None, Some, Ok, Err, IfSome, IsTrue, OnErr, OnOk};
+ghost use Rattle.giop_frames.specs.Fault.{IfRefused};
+ghost use Rattle.giop_frames.specs.Held.{Held, Holds, GivesNext, HasCome, HasGiven, HasGivenFramed, IsUnfinished, place_of};
 ghost use Rattle.giop_frames.specs.HeldInside.{Takes, remembering};
-ghost use Rattle.giop_frames.specs.declared.framed.Framed.{Framed as Given};
 
 use crate::fault::FrameFault;
 use crate::framed::Framed;
@@ -33,7 +32,12 @@ impl Model for Stream {
 
     ghost Value = { Held };
 
-    ghost view = { λ s. record { unfinished = s.messages.items; place = s.place; rest = drop s.start s.buffer.items; refused = s.refused } };
+    ghost view = { λ s. record {
+      unfinished = s.messages.items;
+      place = s.place;
+      rest = drop s.start s.buffer.items;
+      refused = s.refused;
+    } };
 
     ghost invariant = { λ s. (s.start ≤ length s.buffer.items) × AreShort s.messages.items };
 }
@@ -66,9 +70,9 @@ impl Stream {
 
     /// These octets have come.
     pub fn feed(&mut self, piece: &[u8]) -> Result<(), FrameFault>
-        ensures ok { OnOk result ((octets : List ℕ) (messages : List Given) → Holds octets messages self.old → Holds (octets ++ piece.now) messages self.new) }
+        ensures ok { OnOk result (HasCome piece.now self.old self.new) }
         ensures err { OnErr result (self.new ≡ self.old) }
-        ensures refused { IfErr result (λ fault. (fault ≡ FrameFault.Memory) ⊎ (self.old.refused ≡ Some fault)) }
+        ensures refused { IfRefused result (λ fault. self.old.refused ≡ Some fault) }
         ensures again { IfSome self.old.refused (λ fault. result ≡ Err fault) }
         ensures accepts { OnOk result (self.new.refused ≡ None) }
     {
@@ -82,15 +86,7 @@ impl Stream {
 
     /// The next message that is whole, in the order of last parts.
     pub fn next(&mut self) -> Result<Option<Message>, FrameFault>
-        ensures message { IfOk result (λ found. IfSome found (λ m. (octets : List ℕ) (messages : List Given) → Holds octets messages self.old → (framed : Given) × (framed.message ≡ m) × Holds octets (messages ++ framed ∷ []) self.new)) }
-        ensures nothing { result ≡ Ok None → (octets : List ℕ) (messages : List Given) → Holds octets messages self.old → Holds octets messages self.new × IsStream messages self.new.rest octets }
-        ensures refused { IfErr result (λ fault. (fault ≡ FrameFault.Memory) ⊎ ((octets : List ℕ) (messages : List Given) → Holds octets messages self.old → IsRefused messages self.new.place fault octets)) }
-        ensures keeps { OnErr result ((octets : List ℕ) (messages : List Given) → Holds octets messages self.old → Holds octets messages self.new) }
-        ensures remembered { IfErr result (λ fault. (fault ≡ FrameFault.Memory) ⊎ (self.new.refused ≡ Some fault)) }
-        ensures again { IfSome self.old.refused (λ fault. (result ≡ Err fault) × (self.new ≡ self.old)) }
-        ensures accepts { OnOk result (self.new.refused ≡ None) }
-        ensures partial { result ≡ Ok None → part_at self.new.rest ≡ Err FrameFault.Short }
-        ensures shorter { IfOk result (λ found. IsSome found → length self.new.rest < length self.old.rest) }
+        ensures { GivesNext HasGiven result self.old self.new }
     {
         let Some(framed) = self.next_framed()? else {
             return Ok(None);
@@ -101,15 +97,7 @@ impl Stream {
     /// The next message that is whole, in the order of last parts, with what the header of its first part says. A
     /// refusal other than want of memory is answered for good.
     pub fn next_framed(&mut self) -> Result<Option<Framed>, FrameFault>
-        ensures message { IfOk result (λ found. IfSome found (λ m. (octets : List ℕ) (messages : List Given) → Holds octets messages self.old → Holds octets (messages ++ m ∷ []) self.new)) }
-        ensures nothing { result ≡ Ok None → (octets : List ℕ) (messages : List Given) → Holds octets messages self.old → Holds octets messages self.new × IsStream messages self.new.rest octets }
-        ensures refused { IfErr result (λ fault. (fault ≡ FrameFault.Memory) ⊎ ((octets : List ℕ) (messages : List Given) → Holds octets messages self.old → IsRefused messages self.new.place fault octets)) }
-        ensures keeps { OnErr result ((octets : List ℕ) (messages : List Given) → Holds octets messages self.old → Holds octets messages self.new) }
-        ensures remembered { IfErr result (λ fault. (fault ≡ FrameFault.Memory) ⊎ (self.new.refused ≡ Some fault)) }
-        ensures again { IfSome self.old.refused (λ fault. (result ≡ Err fault) × (self.new ≡ self.old)) }
-        ensures accepts { OnOk result (self.new.refused ≡ None) }
-        ensures partial { result ≡ Ok None → part_at self.new.rest ≡ Err FrameFault.Short }
-        ensures shorter { IfOk result (λ found. IsSome found → length self.new.rest < length self.old.rest) }
+        ensures { GivesNext HasGivenFramed result self.old self.new }
     {
         if let Some(fault) = self.refused {
             return Err(fault);
@@ -146,7 +134,7 @@ impl Stream {
         !self.messages.is_empty() || !behind(&self.buffer, self.start).is_empty()
     }
 
-    /// Gives back the room of what was taken, where it is the larger part.
+    /// Moves what is left to the front, where what was taken is the larger part.
     fn compact(&mut self)
         ensures { self.new ≡ self.old }
     {

@@ -1,7 +1,8 @@
-ghost use Rattle.std.specs.Prelude.{◌≡◌, ◌⊎◌, ◌<◌, ◌≤◌, ◌++◌, true, false, IfErr, IfOk, OnErr, OnOk, Ok, None, Some, length};
-ghost use Rattle.giop_frames.specs.Fault.{Fails};
-ghost use Rattle.giop_frames.specs.Content.{message_of};
-ghost use Rattle.giop_frames.specs.Stream.{joined, so_far};
+ghost use Rattle.std.specs.Prelude.{◌≡◌, ◌<◌, ◌≤◌, ◌++◌, true, false, IfErr, IfOk, OnErr, OnOk, Ok, None, Some, length};
+ghost use Rattle.giop_frames.specs.Limits.{size_limit};
+ghost use Rattle.giop_frames.specs.Fault.{Fails, IfRefused};
+ghost use Rattle.giop_frames.specs.Stream.{begun_as, joined, message_by, part_of, so_far, with_more};
+ghost use Rattle.giop_frames.specs.StreamInside.{IsTooLarge};
 
 use crate::content::read_message;
 use crate::fault::{FrameFault, SIZE_LIMIT};
@@ -43,10 +44,10 @@ impl Unfinished {
         header: Header,
         content: &[u8],
     ) -> Result<Unfinished, FrameFault>
-        requires content { length content.now ≤ 65536 }
-        ensures begun { IfOk result (λ begun. begun ≡ record { id = id; place = place; header = header; content = content.now }) }
-        ensures sound { OnOk result (so_far (message_of header.order header.kind content.now) ≡ Ok None) }
-        ensures refused { IfErr result (λ fault. Fails fault (so_far (message_of header.order header.kind content.now))) }
+        requires content { length content.now ≤ size_limit }
+        ensures begun { IfOk result (λ begun. begun ≡ begun_as id place (part_of header content.now)) }
+        ensures sound { OnOk result (so_far (message_by header content.now) ≡ Ok None) }
+        ensures refused { IfErr result (λ fault. Fails fault (so_far (message_by header content.now))) }
     {
         let passed = pass_over(header.order, header.kind, content, Passed::nothing())?;
         Ok(Unfinished {
@@ -74,11 +75,11 @@ impl Unfinished {
 
     /// More octets of it have come, and not the last ones.
     pub fn go_on(&mut self, octets: &[u8]) -> Result<(), FrameFault>
-        requires content { length self.old.content ≤ 65536 }
-        requires octets { length octets.now ≤ 65536 }
+        requires content { length self.old.content ≤ size_limit }
+        requires octets { length octets.now ≤ size_limit }
         ensures says { OnOk result (joined true octets.now self.old ≡ Ok None) }
-        ensures after { OnOk result (self.new ≡ record self.old { content = self.old.content ++ octets.now }) }
-        ensures short { length self.new.content ≤ 65536 }
+        ensures after { OnOk result (self.new ≡ with_more octets.now self.old) }
+        ensures short { length self.new.content ≤ size_limit }
         ensures refused { IfErr result (λ fault. Fails fault (joined true octets.now self.old)) }
         ensures err { OnErr result (self.new ≡ self.old) }
     {
@@ -99,8 +100,8 @@ impl Unfinished {
 
     /// Its last octets have come.
     pub fn finish(&mut self, alloc: Global, octets: &[u8]) -> Result<Framed, FrameFault>
-        requires content { length self.old.content ≤ 65536 }
-        requires octets { length octets.now ≤ 65536 }
+        requires content { length self.old.content ≤ size_limit }
+        requires octets { length octets.now ≤ size_limit }
         ensures says { IfOk result (λ framed. joined false octets.now self.old ≡ Ok (Some framed)) }
         ensures refused { IfErr result (λ fault. Fails fault (joined false octets.now self.old)) }
         ensures err { OnErr result (self.new ≡ self.old) }
@@ -130,11 +131,11 @@ impl Unfinished {
 
 /// Appends octets of a message, which is 65,536 octets long at most (our profile).
 fn append(content: &mut Vec<u8>, octets: &[u8]) -> Result<(), FrameFault>
-    requires content { length content.old.items ≤ 65536 }
-    requires octets { length octets.now ≤ 65536 }
+    requires content { length content.old.items ≤ size_limit }
+    requires octets { length octets.now ≤ size_limit }
     ensures ok { OnOk result (content.new.items ≡ content.old.items ++ octets.now) }
-    ensures short { length content.new.items ≤ 65536 }
-    ensures refused { IfErr result (λ fault. (fault ≡ FrameFault.Memory) ⊎ ((fault ≡ FrameFault.TooLarge (length (content.old.items ++ octets.now))) × (65536 < length (content.old.items ++ octets.now)))) }
+    ensures short { length content.new.items ≤ size_limit }
+    ensures refused { IfRefused result (IsTooLarge (content.old.items ++ octets.now)) }
     ensures err { OnErr result (content.new.items ≡ content.old.items) }
 {
     let joined = content.len() + octets.len();

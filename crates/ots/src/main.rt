@@ -2,9 +2,6 @@
 //! line for each message of the octets on standard input.
 #![tactic(auto)]
 
-mod fault;
-
-use fault::Fault;
 use ots_outside::{StdSink, StdSource};
 use ots_program::{Devices, Status, Word, run};
 use std::io::ErrorKind;
@@ -23,9 +20,7 @@ fn main(rt: HostRuntime) -> ExitCode {
         Err(error) if error.kind() == ErrorKind::OutOfMemory => Status::Memory,
         Err(_) => Status::Usage,
     };
-    if let Some(fault) = Fault::of(status) {
-        let _ = eprintln!(rt; "ots: {fault}");
-    }
+    let _ = eprint!(rt; "{status}");
     ExitCode::from(status.number())
 }
 

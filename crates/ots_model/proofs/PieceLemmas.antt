@@ -1,44 +1,17 @@
-use Rattle.std.proofs.Common.{◌≡◌, ℕ, ◌+◌, ◌/◌, ◌%◌, ◌^◌, ◌<◌, ◌≤◌, List, [], ◌∷◌, ◌++◌, length, take, drop, map, refl, sym, ap, ◌∙◌, append_assoc}
-use Rattle.std.specs.Prelude.{Some, slice_get}
-use Rattle.std.proofs.lemmas.List.{append-nil, take_all, take-append-drop}
-use Rattle.std.proofs.lemmas.List.Folds.{flat_map-map}
+-- How words are written one after another.
+use Rattle.std.proofs.Common.{◌≡◌, ℕ, ◌+◌, ◌/◌, ◌%◌, ◌^◌, ◌<◌, ◌≤◌, List, [], ◌∷◌, ◌++◌, length, get_or, take, drop, map, refl, sym, ap, ◌∙◌, append_assoc, arith}
+use Rattle.std.proofs.lemmas.List.{take-append-drop, take_more, length-take}
 use Rattle.std.proofs.Math.Seq.{take-append_seam}
 use Rattle.std.proofs.lemmas.Fmt.{decimal_digit, decimal_step}
-use Rattle.std.specs.List.{join_with_byte, flat_map}
+use Rattle.std.specs.List.{join_with_byte}
 use Rattle.std.specs.Fmt.{decimal}
-use Rattle.ots_model.specs.Piece.{piece_word, spaced}
+use Rattle.ots_model.specs.Piece.{word_of}
+use Rattle.ots_model.specs.PieceInside.{part_of, parts_of}
 use Rattle.ots_model.specs.declared.piece.Piece.{Piece}
 
--- a space, and a word
-abbrev pub spaced_piece : Piece → List ℕ
-spaced_piece p = 32 ∷ piece_word p
-
--- all the words, each behind a space
-pub words_ended : (xs : List ℕ) (ps : List Piece) (i : ℕ) → length ps ≤ i
-    → xs ++ flat_map spaced_piece (take i ps) ≡ xs ++ spaced (map piece_word ps)
-words_ended xs ps i h =
-    rw (take_all i ps h, flat_map-map (λ (word : List ℕ). 32 ∷ word) piece_word ps) refl
-
--- joined words: the first, and then the others, each behind a space
-joined : (first : List ℕ) (others : List (List ℕ)) → join_with_byte 32 (first ∷ others) ≡ first ++ spaced others
-joined first [] = sym (append-nil first)
-joined first (w ∷ ws) = ap (λ (rest : List ℕ). first ++ (32 ∷ rest)) (joined w ws)
-
-two_and_more : (old first second : List ℕ) (others : List (List ℕ))
-    → (((old ++ first) ++ spaced (second ∷ [])) ++ spaced others) ++ (10 ∷ [])
-    ≡ old ++ (join_with_byte 32 (first ∷ second ∷ others) ++ (10 ∷ []))
-two_and_more old first second others = rw (joined first (second ∷ others), append-nil second) (simp append_assoc)
-
--- a line of two words and more, and the line feed behind it
-pub line_ended : (old : List ℕ) (words : List (List ℕ)) (first second : List ℕ)
-    → slice_get words 0 ≡ Some first → slice_get words 1 ≡ Some second
-    → (((old ++ first) ++ spaced (second ∷ [])) ++ spaced (drop 2 words)) ++ (10 ∷ []) ≡ old ++ (join_with_byte 32 words ++ (10 ∷ []))
-line_ended old [] first second e f = absurd (cc)
-line_ended old (a ∷ []) first second e f = absurd (cc)
-line_ended old (a ∷ b ∷ words) first second e f =
-    let same_first : a ≡ first = cc in
-    let same_second : b ≡ second = cc in
-    rw (← same_first, ← same_second) (two_and_more old a b words)
+-- pieces, parted by single spaces
+abbrev pub joined : List Piece → List ℕ
+joined words = join_with_byte 32 (map word_of (parts_of words))
 
 -- one more digit
 pub digit_added : (xs : List ℕ) (n : ℕ) → n < 10 → xs ++ ((48 + n) ∷ []) ≡ xs ++ decimal n
@@ -56,3 +29,24 @@ kept_in_front old was ys new e kept =
     sym (take-append-drop (length was) new) ∙ ap (λ (front : List ℕ). front ++ drop (length was) new) (kept ∙ e)
     ∙ append_assoc old ys (drop (length was) new) in
     ap (λ (all : List ℕ). take (length old) all) whole ∙ take-append_seam old (ys ++ drop (length was) new)
+
+joined-push : (words : List Piece) (word : Piece) → 0 < length words
+    → joined (words ++ word ∷ []) ≡ joined words ++ 32 ∷ word_of (part_of word)
+joined-push [] word some = absurd (omega arith)
+joined-push (first ∷ []) word some = refl
+joined-push (first ∷ second ∷ words) word some =
+    ap (λ (rest : List ℕ). word_of (part_of first) ++ 32 ∷ rest) (joined-push (second ∷ words) word (omega arith))
+    ∙ sym (append_assoc (word_of (part_of first)) (32 ∷ joined (second ∷ words)) (32 ∷ word_of (part_of word)))
+
+-- the first word
+pub first_joined : (words : List Piece) (word : Piece) → 0 < length words → word ≡ get_or words 0 word
+    → joined (take 1 words) ≡ word_of (part_of word)
+first_joined [] word some e = absurd (omega arith)
+first_joined (first ∷ words) word some e = rw (← e)
+
+-- one more word
+pub more_joined : (words : List Piece) (i : ℕ) (word : Piece) → 0 < i → i < length words → word ≡ get_or words i word
+    → joined (take (i + 1) words) ≡ joined (take i words) ++ 32 ∷ word_of (part_of word)
+more_joined words i word some low e =
+    ap joined (take_more words i word low ∙ ap (λ (w : Piece). take i words ++ w ∷ []) (sym e))
+    ∙ joined-push (take i words) word (omega (arith, length-take i words))

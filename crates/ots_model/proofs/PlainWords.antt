@@ -1,8 +1,18 @@
-use Rattle.std.proofs.Common.{◌≡◌, ℕ, ◌<◌, ◌≤◌, Bool, false, List, [], ◌∷◌, length, refl, ap, ◌∙◌, arith}
-use Rattle.std.specs.Prelude.{nat_eq}
-use Rattle.std.specs.List.{join_with_byte, slice_split, All, AllByRecursion}
+-- Plain words: they hold no space and no line feed, and a text of them is parted at those.
+use Rattle.std.proofs.Common.{◌≡◌, ℕ, ◌<◌, ◌≤◌, Bool, true, false, List, [], ◌∷◌, length, refl, ap, ◌∙◌, arith, leb-true}
+use Rattle.std.specs.Prelude.{◌&&◌, ◌||◌, nat_eq, nat_lt, nat_le}
+use Rattle.std.specs.List.{join_with_byte, slice_split, list_all, All, AllByRecursion}
+use Rattle.std.specs.Fmt.{decimal}
+use Rattle.std.specs.Str.Parse.{AllDigits}
+use Rattle.std.proofs.lemmas.Fmt.{decimal_is_IsNumeral}
+use Rattle.std.proofs.lemmas.Str.Parse.{digit_from_value}
 use Rattle.std.proofs.lemmas.List.Elements.{All-from_recursion, All-append, All-cons}
 use Rattle.std.proofs.lemmas.List.Splits.{slice_split_none, slice_split_at}
+use borrow.Author.Tests.{ltb-true}
+use Rattle.ots_model.specs.Limits.{name_limit}
+use Rattle.ots_model.specs.Name.{IsName, is_letter, is_digit, is_name_octet}
+use Rattle.ots_model.specs.Piece.{IsNumber}
+use Rattle.ots_model.proofs.WordsRead.{is_plain}
 
 -- the octet is past the space and the line feed
 abbrev pub IsPlainOctet : ℕ → Type 0
@@ -15,6 +25,55 @@ IsPlain word = AllByRecursion IsPlainOctet word
 -- such words
 abbrev pub ArePlain : List (List ℕ) → Type 0
 ArePlain words = AllByRecursion IsPlain words
+
+-- both of two tests that pass together
+pub first_of_both : (a b : Bool) → (a && b) ≡ true → a ≡ true
+first_of_both true b h = refl
+first_of_both false b h = cc
+
+pub last_of_both : (a b : Bool) → (a && b) ≡ true → b ≡ true
+last_of_both true b h = h
+last_of_both false b h = cc
+
+either_of : {X : Type 0} (a b : Bool) → (a || b) ≡ true → (a ≡ true → X) → (b ≡ true → X) → X
+either_of true b h f g = f refl
+either_of false b h f g = g h
+
+letter_is_plain : (b : ℕ) → is_letter b ≡ true → IsPlainOctet b
+letter_is_plain b h = omega (arith, leb-true 97 b (first_of_both (nat_le 97 b) (nat_le b 122) h))
+
+digit_is_plain : (b : ℕ) → is_digit b ≡ true → IsPlainOctet b
+digit_is_plain b h = omega (arith, leb-true 48 b (first_of_both (nat_le 48 b) (nat_le b 57) h))
+
+name_octets_are_plain : (bs : List ℕ) → list_all is_name_octet bs ≡ true → IsPlain bs
+name_octets_are_plain [] h = tt
+name_octets_are_plain (b ∷ bs) h = (
+  either_of (is_letter b) (is_digit b) (first_of_both (is_name_octet b) (list_all is_name_octet bs) h) (letter_is_plain b) (digit_is_plain b),
+  name_octets_are_plain bs (last_of_both (is_name_octet b) (list_all is_name_octet bs) h),
+)
+
+pub name_is_plain : (word : List ℕ) → IsName word → IsPlain word
+name_is_plain [] h = cc
+name_is_plain (b ∷ bs) h =
+    let inner : (is_letter b && list_all is_name_octet bs) ≡ true = first_of_both (is_letter b && list_all is_name_octet bs) (nat_lt (length bs) name_limit) h in (
+      letter_is_plain b (first_of_both (is_letter b) (list_all is_name_octet bs) inner),
+      name_octets_are_plain bs (last_of_both (is_letter b) (list_all is_name_octet bs) inner),
+    )
+
+digits_are_plain : (ds : List ℕ) → AllDigits 10 ds → IsPlain ds
+digits_are_plain [] h = tt
+digits_are_plain (d ∷ ds) h = (omega (arith, digit_from_value d h.0), digits_are_plain ds h.1)
+
+pub number_is_plain : (n : ℕ) → IsNumber n → IsPlain (decimal n)
+number_is_plain n h = digits_are_plain (decimal n) (decimal_is_IsNumeral n h).0.1
+
+-- a word whose octets pass the test
+pub fixed_is_plain : (word : List ℕ) → is_plain word ≡ true → IsPlain word
+fixed_is_plain [] h = tt
+fixed_is_plain (b ∷ word) h = (
+  ltb-true 32 b (first_of_both (nat_lt 32 b) (is_plain word) h),
+  fixed_is_plain word (last_of_both (nat_lt 32 b) (is_plain word) h),
+)
 
 -- the octet is such and no other
 abbrev pub is_octet : ℕ → ℕ → Bool

@@ -1,7 +1,13 @@
+pub mod Limits
 pub mod Name
 pub mod NameInside
+pub mod Response
+pub mod Outcome
+pub mod Words
 pub mod Piece
+pub mod PieceInside
 pub mod Line
 pub mod LineLaws
 pub mod Safe
+pub mod SafeByLine
 pub mod SafeExamples

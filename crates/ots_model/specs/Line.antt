@@ -1,96 +1,52 @@
-use Rattle.std.specs.Prelude.{ℕ, Bool, true, false, List, [], ◌∷◌, ◌++◌, codes}
-use Rattle.std.specs.List.{join_with_byte, flat_map}
-use Rattle.std.specs.Fmt.{decimal}
-use Rattle.ots_model.specs.declared.completion.Vote.{Vote}
-use Rattle.ots_model.specs.declared.completion.Vote.TheVariants.{VoteCommit, VoteRollback, VoteReadOnly}
-use Rattle.ots_model.specs.declared.line.Operation.{Operation}
-use Rattle.ots_model.specs.declared.line.Operation.TheVariants as operations
-use Rattle.ots_model.specs.declared.line.Said.{Said}
-use Rattle.ots_model.specs.declared.line.Said.TheVariants as says
-use Rattle.ots_model.specs.declared.line.ResourceState.{ResourceState}
-use Rattle.ots_model.specs.declared.line.ResourceState.TheVariants as states
-use Rattle.ots_model.specs.declared.line.Decision.{Decision}
-use Rattle.ots_model.specs.declared.line.Decision.TheVariants as decisions
-use Rattle.ots_model.specs.declared.line.Cause.{Cause}
-use Rattle.ots_model.specs.declared.line.Cause.TheVariants as causes
-use Rattle.ots_model.specs.declared.line.Decided.{Decided}
-use Rattle.ots_model.specs.declared.line.Decided.TheVariants as outcomes
+-- The lines that tell what happened (our profile), each said once: by its words. From these follow how it is spelled,
+-- and that its names are names.
+use Rattle.std.specs.Prelude.{ℕ, List, [], ◌∷◌, codes}
+use Rattle.std.specs.List.{flat_map}
+use Rattle.ots_model.specs.Piece.{Part, Fixed, Named, Number, line_of}
+use Rattle.ots_model.specs.Words.{vote_word, told_word, operation_word, response_word, state_word, decision_word, ground_word, ending_word}
+use Rattle.ots_model.specs.declared.completion.Reason.{Reason}
+use Rattle.ots_model.specs.declared.completion.Reason.TheVariants as reasons
+use Rattle.ots_model.specs.declared.completion.Outcome.{Outcome}
+use Rattle.ots_model.specs.declared.completion.Outcome.TheVariants as outcomes
 use Rattle.ots_model.specs.declared.line.Line.{Line}
 use Rattle.ots_model.specs.declared.line.Line.TheVariants as lines
 
--- a vote, by its name in module CosTransactions
-abbrev pub vote_word : Vote → List ℕ
-vote_word VoteCommit = codes "VoteCommit"
-vote_word VoteRollback = codes "VoteRollback"
-vote_word VoteReadOnly = codes "VoteReadOnly"
-
--- an operation, by its name in module CosTransactions
-abbrev pub operation_word : Operation → List ℕ
-operation_word operations.RegisterResource = codes "register_resource"
-operation_word operations.Prepare = codes "prepare"
-operation_word operations.Commit = codes "commit"
-operation_word operations.CommitOnePhase = codes "commit_one_phase"
-operation_word operations.Rollback = codes "rollback"
-
--- an answer: ok, the vote, or the exception's bare name
-abbrev pub said_word : Said → List ℕ
-said_word says.Plain = codes "ok"
-said_word (says.Voted vote) = vote_word vote
-said_word says.TransactionRolledBack = codes "TRANSACTION_ROLLEDBACK"
-said_word says.NotPrepared = codes "NotPrepared"
-said_word says.ObjectNotExist = codes "OBJECT_NOT_EXIST"
-
-abbrev pub state_word : ResourceState → List ℕ
-state_word states.Prepared = codes "prepared"
-state_word states.Applied = codes "applied"
-state_word states.Undone = codes "undone"
-state_word states.Forgotten = codes "forgotten"
-
-abbrev pub decision_word : Decision → List ℕ
-decision_word decisions.Commit = codes "commit"
-decision_word decisions.Rollback = codes "rollback"
-
--- how a subtransaction ended
-abbrev pub ending_word : Bool → List ℕ
-ending_word true = codes "committed"
-ending_word false = codes "rolledback"
-
 -- a reason, and then what it speaks of
-abbrev pub cause_words : Cause → List (List ℕ)
-cause_words (causes.Vote resource) = codes "Vote" ∷ resource ∷ []
-cause_words (causes.PrepareLost resource) = codes "PrepareLost" ∷ resource ∷ []
-cause_words (causes.PrepareStarved resource) = codes "PrepareStarved" ∷ resource ∷ []
-cause_words (causes.PrepareFault resource) = codes "PrepareFault" ∷ resource ∷ []
-cause_words (causes.JournalFull used need) = codes "JournalFull" ∷ decimal used ∷ decimal need ∷ []
+abbrev pub reason_parts : Reason (List ℕ) → List Part
+reason_parts (reasons.Vote g) = Fixed (codes "Vote") ∷ Named g ∷ []
+reason_parts (reasons.PrepareLost g) = Fixed (codes "PrepareLost") ∷ Named g ∷ []
+reason_parts (reasons.PrepareStarved g) = Fixed (codes "PrepareStarved") ∷ Named g ∷ []
+reason_parts (reasons.PrepareFault g) = Fixed (codes "PrepareFault") ∷ Named g ∷ []
+reason_parts (reasons.JournalFull used need) = Fixed (codes "JournalFull") ∷ Number used ∷ Number need ∷ []
 
 -- an outcome
-abbrev pub decided_words : Decided → List (List ℕ)
-decided_words outcomes.CommitRecord = codes "commit" ∷ codes "record" ∷ []
-decided_words outcomes.CommitNone = codes "commit" ∷ codes "none" ∷ []
-decided_words (outcomes.Rollback cause) = codes "rollback" ∷ cause_words cause
+abbrev pub outcome_parts : Outcome (List ℕ) → List Part
+outcome_parts (outcomes.Commit basis) = Fixed (codes "commit") ∷ Fixed (ground_word basis) ∷ []
+outcome_parts (outcomes.Rollback reason) = Fixed (codes "rollback") ∷ reason_parts reason
+outcome_parts outcomes.Unknown = Fixed (codes "unknown") ∷ []
 
--- the words of a line (our profile)
-unfoldable pub line_words : Line → List (List ℕ)
-line_words (lines.Up server life) = codes "up" ∷ server ∷ decimal life ∷ []
-line_words (lines.Top transaction node) = codes "top" ∷ transaction ∷ node ∷ []
-line_words (lines.Sub transaction parent) = codes "sub" ∷ transaction ∷ parent ∷ []
-line_words (lines.Imp subordinate superior node) = codes "imp" ∷ subordinate ∷ superior ∷ node ∷ []
-line_words (lines.Reg resource transaction end) = codes "reg" ∷ resource ∷ transaction ∷ end ∷ []
-line_words (lines.Call message operation transaction) = codes "call" ∷ decimal message ∷ operation_word operation ∷ transaction ∷ []
-line_words (lines.Answered message said) = codes "ans" ∷ decimal message ∷ said_word said ∷ []
-line_words (lines.Send message operation registration) = codes "send" ∷ decimal message ∷ operation_word operation ∷ registration ∷ []
-line_words (lines.Back message request said) = codes "back" ∷ decimal message ∷ decimal request ∷ said_word said ∷ []
-line_words (lines.Recv message) = codes "recv" ∷ decimal message ∷ []
-line_words (lines.Voted registration vote) = codes "vote" ∷ registration ∷ vote_word vote ∷ []
-line_words (lines.Decide transaction decided) = codes "decide" ∷ transaction ∷ decided_words decided
-line_words (lines.SubDone transaction committed) = codes "subdone" ∷ transaction ∷ ending_word committed ∷ []
-line_words (lines.State resource state) = codes "state" ∷ resource ∷ state_word state ∷ []
-line_words (lines.Learn registration decision) = codes "learn" ∷ registration ∷ decision_word decision ∷ []
-line_words (lines.Done transaction) = codes "done" ∷ transaction ∷ []
+-- the words of a line
+unfoldable pub parts : Line → List Part
+parts (lines.Up server life) = Fixed (codes "up") ∷ Named server ∷ Number life ∷ []
+parts (lines.Top transaction node) = Fixed (codes "top") ∷ Named transaction ∷ Named node ∷ []
+parts (lines.Sub transaction parent) = Fixed (codes "sub") ∷ Named transaction ∷ Named parent ∷ []
+parts (lines.Imp subordinate superior node) = Fixed (codes "imp") ∷ Named subordinate ∷ Named superior ∷ Named node ∷ []
+parts (lines.Reg resource transaction end) = Fixed (codes "reg") ∷ Named resource ∷ Named transaction ∷ Named end ∷ []
+parts (lines.Call message operation transaction) = Fixed (codes "call") ∷ Number message ∷ Fixed (operation_word operation) ∷ Named transaction ∷ []
+parts (lines.Answered message response) = Fixed (codes "ans") ∷ Number message ∷ Fixed (response_word response) ∷ []
+parts (lines.Send message word registration) = Fixed (codes "send") ∷ Number message ∷ Fixed (told_word word) ∷ Named registration ∷ []
+parts (lines.Back message request response) = Fixed (codes "back") ∷ Number message ∷ Number request ∷ Fixed (response_word response) ∷ []
+parts (lines.Recv message) = Fixed (codes "recv") ∷ Number message ∷ []
+parts (lines.Voted registration vote) = Fixed (codes "vote") ∷ Named registration ∷ Fixed (vote_word vote) ∷ []
+parts (lines.Decide transaction outcome) = Fixed (codes "decide") ∷ Named transaction ∷ outcome_parts outcome
+parts (lines.SubDone transaction committed) = Fixed (codes "subdone") ∷ Named transaction ∷ Fixed (ending_word committed) ∷ []
+parts (lines.State resource state) = Fixed (codes "state") ∷ Named resource ∷ Fixed (state_word state) ∷ []
+parts (lines.Learn registration decision) = Fixed (codes "learn") ∷ Named registration ∷ Fixed (decision_word decision) ∷ []
+parts (lines.Done transaction) = Fixed (codes "done") ∷ Named transaction ∷ []
 
--- the octets of a line: its words, parted by single spaces, and a line feed
+-- the octets of a line
 unfoldable pub spelling : Line → List ℕ
-spelling line = join_with_byte 32 (line_words line) ++ 10 ∷ []
+spelling line = line_of (parts line)
 
 -- the octets of some lines
 abbrev pub text_of : List Line → List ℕ

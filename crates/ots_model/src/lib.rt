@@ -2,19 +2,20 @@
 #![tactic(auto)]
 
 pub use completion::{
-    CallNumber, Disposition, Doubted, Heard, Outcome, Outward, Reason, Receipt, Stood, Vote, Word,
+    CallNumber, Disposition, Doubted, Ground, Heard, Outcome, Outward, Reason, Receipt, Stood,
+    Vote, Word,
 };
-pub use line::{
-    Cause, Decided, Decision, Line, Operation, ResourceState, Said, different_lines_differ,
-    text_reads_back,
-};
+pub use line::{Decision, Line, Operation, ResourceState, different_lines_differ, text_reads_back};
 pub use name::{NAME_LIMIT, Name};
 pub use octets::{Octets, REFERENCE_LIMIT, RefBytes, RefFault};
-pub use safety::safety_refuses;
+pub use response::{Exception, Response};
+pub use safety::{allowed_lines_are_safe, safety_refuses};
 
 mod completion;
 mod line;
 mod name;
 mod octets;
 mod piece;
+mod response;
 mod safety;
+mod words;

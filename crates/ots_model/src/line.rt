@@ -1,74 +1,28 @@
-ghost use Rattle.std.specs.Prelude.{◌≡◌, ◌++◌, length, take, drop, slice_get, OnOk, OnErr};
+ghost use Rattle.std.specs.Prelude.{◌≡◌, ◌++◌, length, take, OnOk, OnErr};
 ghost use Rattle.ots_model.specs.LineLaws.{DifferentLinesDiffer, TextReadsBack};
-ghost use Rattle.ots_model.specs.Line.{line_words, spelling, vote_word, operation_word, said_word, state_word, decision_word, cause_words, decided_words, ending_word};
-ghost use Rattle.ots_model.specs.Piece.{piece_word, spaced};
+ghost use Rattle.ots_model.specs.Line.{spelling};
 
-use crate::completion::Vote;
+use crate::completion::{Outcome, Reason, Vote, Word};
 use crate::name::Name;
-use crate::piece::Piece::{self, Named, Number, Text};
-use crate::piece::write_words;
+use crate::piece::Piece::{Named, Number, Size, Text};
+use crate::piece::write_joined;
+use crate::response::Response;
+use crate::words::ending_text;
 use std::alloc::AllocError;
 
-/// An operation of the interfaces of module CosTransactions.
-#[derive(Clone, Copy, Debug, PartialEq, Eq)]
+/// An operation that a client calls, of the interfaces of module CosTransactions.
+#[derive(Clone, Copy)]
 pub enum Operation {
     /// `register_resource` of Coordinator.
     RegisterResource,
-    /// `prepare` of Resource.
-    Prepare,
-    /// `commit` of Terminator or Resource.
+    /// `commit` of Terminator.
     Commit,
-    /// `commit_one_phase` of Resource.
-    CommitOnePhase,
-    /// `rollback` of Terminator or Resource.
+    /// `rollback` of Terminator.
     Rollback,
 }
 
-impl Operation {
-    fn text(self) -> &'static [u8]
-        ensures { result.now ≡ operation_word self }
-    {
-        match self {
-            Operation::RegisterResource => b"register_resource",
-            Operation::Prepare => b"prepare",
-            Operation::Commit => b"commit",
-            Operation::CommitOnePhase => b"commit_one_phase",
-            Operation::Rollback => b"rollback",
-        }
-    }
-}
-
-/// What a call is answered.
-#[derive(Clone, Copy, Debug, PartialEq, Eq)]
-pub enum Said {
-    /// It was done; there is nothing to say.
-    Plain,
-    /// A vote.
-    Voted(Vote),
-    /// The system exception TRANSACTION_ROLLEDBACK.
-    TransactionRolledBack,
-    /// The user exception NotPrepared.
-    NotPrepared,
-    /// The system exception OBJECT_NOT_EXIST.
-    ObjectNotExist,
-}
-
-impl Said {
-    fn text(self) -> &'static [u8]
-        ensures { result.now ≡ said_word self }
-    {
-        match self {
-            Said::Plain => b"ok",
-            Said::Voted(vote) => vote_text(vote),
-            Said::TransactionRolledBack => b"TRANSACTION_ROLLEDBACK",
-            Said::NotPrepared => b"NotPrepared",
-            Said::ObjectNotExist => b"OBJECT_NOT_EXIST",
-        }
-    }
-}
-
 /// What became of a resource.
-#[derive(Clone, Copy, Debug, PartialEq, Eq)]
+#[derive(Clone, Copy)]
 pub enum ResourceState {
     /// It keeps its updates and waits for the outcome.
     Prepared,
@@ -80,19 +34,6 @@ pub enum ResourceState {
     Forgotten,
 }
 
-impl ResourceState {
-    fn text(self) -> &'static [u8]
-        ensures { result.now ≡ state_word self }
-    {
-        match self {
-            ResourceState::Prepared => b"prepared",
-            ResourceState::Applied => b"applied",
-            ResourceState::Undone => b"undone",
-            ResourceState::Forgotten => b"forgotten",
-        }
-    }
-}
-
 /// What the service decides of a transaction, or a resource learns.
 #[derive(Clone, Copy, Debug, PartialEq, Eq)]
 pub enum Decision {
@@ -102,90 +43,8 @@ pub enum Decision {
     Rollback,
 }
 
-impl Decision {
-    fn text(self) -> &'static [u8]
-        ensures { result.now ≡ decision_word self }
-    {
-        match self {
-            Decision::Commit => b"commit",
-            Decision::Rollback => b"rollback",
-        }
-    }
-}
-
-/// Why a transaction is rolled back, with the names of what the reason speaks of.
-#[derive(Clone, Copy, Debug)]
-pub enum Cause {
-    /// That resource voted rollback.
-    Vote(Name),
-    /// That resource's prepare was lost.
-    PrepareLost(Name),
-    /// That resource's prepare wanted memory.
-    PrepareStarved(Name),
-    /// That resource answered its prepare with no vote.
-    PrepareFault(Name),
-    /// The journal, of which so much is used, has no room for a record of such a need.
-    JournalFull(u64, u64),
-}
-
-impl Cause {
-    /// Writes the words, each behind a space. Want of memory leaves what stood there in front.
-    fn write_words(self, lines: &mut Vec<u8>) -> Result<(), AllocError>
-        ensures ok { OnOk result (lines.new.items ≡ lines.old.items ++ spaced (cause_words self)) }
-        ensures err { OnErr result (take (length lines.old.items) lines.new.items ≡ lines.old.items) }
-    {
-        match self {
-            Cause::Vote(resource) => write_words(lines, &[Text(b"Vote"), Named(resource)]),
-            Cause::PrepareLost(resource) => write_words(
-                lines,
-                &[Text(b"PrepareLost"), Named(resource)],
-            ),
-            Cause::PrepareStarved(resource) => write_words(
-                lines,
-                &[Text(b"PrepareStarved"), Named(resource)],
-            ),
-            Cause::PrepareFault(resource) => write_words(
-                lines,
-                &[Text(b"PrepareFault"), Named(resource)],
-            ),
-            Cause::JournalFull(used, need) => write_words(
-                lines,
-                &[Text(b"JournalFull"), Number(used), Number(need)],
-            ),
-        }
-    }
-}
-
-/// The outcome of a transaction, as a line tells it.
-#[derive(Clone, Copy, Debug)]
-pub enum Decided {
-    /// Commit, by a decision record that stands.
-    CommitRecord,
-    /// Commit, and no participant needs to be told.
-    CommitNone,
-    /// Rollback.
-    Rollback(Cause),
-}
-
-impl Decided {
-    /// Writes the words, each behind a space. Want of memory leaves what stood there in front.
-    fn write_words(self, lines: &mut Vec<u8>) -> Result<(), AllocError>
-        ensures ok { OnOk result (lines.new.items ≡ lines.old.items ++ spaced (decided_words self)) }
-        ensures err { OnErr result (take (length lines.old.items) lines.new.items ≡ lines.old.items) }
-    {
-        match self {
-            Decided::CommitRecord => write_words(lines, &[Text(b"commit"), Text(b"record")]),
-            Decided::CommitNone => write_words(lines, &[Text(b"commit"), Text(b"none")]),
-            Decided::Rollback(cause) => {
-                write_words(lines, &[Text(b"rollback")])?;
-                cause.write_words(lines)
-            }
-        }
-    }
-}
-
 /// One thing that happened, which is told by one line of output.
-#[derive(Clone, Copy, Debug)]
+#[derive(Clone, Copy)]
 pub enum Line {
     /// A node or an end runs, in that life.
     Up {
@@ -223,19 +82,19 @@ pub enum Line {
     /// The client's call is answered.
     Answered {
         message: u32,
-        said: Said,
+        response: Response,
     },
     /// A request goes out to a registration.
     Send {
         message: u32,
-        operation: Operation,
+        word: Word,
         registration: Name,
     },
     /// A reply to a request goes out.
     Back {
         message: u32,
         request: u32,
-        said: Said,
+        response: Response,
     },
     /// A message was delivered.
     Recv {
@@ -249,7 +108,7 @@ pub enum Line {
     /// The outcome of a transaction is fixed.
     Decide {
         transaction: Name,
-        decided: Decided,
+        outcome: Outcome<Name>,
     },
     /// A subtransaction ended, committed or rolled back.
     SubDone {
@@ -272,6 +131,16 @@ pub enum Line {
     },
 }
 
+/// Writes the words that stand beside a value in a table; behind the table, what writes the other values.
+macro_rules! write_row {
+    ($lines:ident, $value:expr, $($row:pat => [$($word:expr),+],)+ $(; $other:pat => $write:expr)?) => {
+        match $value {
+            $($row => write_joined($lines, &[$($word),+]),)+
+            $($other => $write,)?
+        }
+    };
+}
+
 impl Line {
     /// Writes the line at the end. Want of memory leaves what stood there.
     pub fn write(&self, lines: &mut Vec<u8>) -> Result<(), AllocError>
@@ -279,114 +148,59 @@ impl Line {
         ensures err { OnErr result (lines.new.items ≡ lines.old.items) }
     {
         let start = lines.len();
-        let written = self.spell(lines);
+        let written = self.write_words(lines);
         if written.is_err() {
             lines.truncate(start);
         }
         written
     }
 
-    /// Writes the line at the end. Want of memory leaves what stood there in front.
-    #[tactic(auto, using(crate::proofs::PieceLemmas::line_ended), unfolding(crate::specs::Line::spelling))]
-    fn spell(&self, lines: &mut Vec<u8>) -> Result<(), AllocError>
+    /// Writes the words of the line. Want of memory leaves what stood there in front.
+    #[tactic(auto, unfolding(crate::specs::Line::spelling, crate::specs::Line::parts))]
+    fn write_words(&self, lines: &mut Vec<u8>) -> Result<(), AllocError>
         ensures ok { OnOk result (lines.new.items ≡ lines.old.items ++ spelling self.now) }
         ensures err { OnErr result (take (length lines.old.items) lines.new.items ≡ lines.old.items) }
     {
-        lines.extend_from_slice(self.kind())?;
-        write_words(lines, &[self.subject()])?;
-        self.write_details(lines)?;
-        lines.push(b'\n')?;
-        Ok(())
-    }
-
-    /// The first word, which tells what happened.
-    #[tactic(auto, unfolding(crate::specs::Line::line_words))]
-    fn kind(&self) -> &'static [u8]
-        ensures { slice_get (line_words self.now) 0 ≡ Some result.now }
-    {
-        match self {
-            Line::Up { .. } => b"up",
-            Line::Top { .. } => b"top",
-            Line::Sub { .. } => b"sub",
-            Line::Imp { .. } => b"imp",
-            Line::Reg { .. } => b"reg",
-            Line::Call { .. } => b"call",
-            Line::Answered { .. } => b"ans",
-            Line::Send { .. } => b"send",
-            Line::Back { .. } => b"back",
-            Line::Recv { .. } => b"recv",
-            Line::Voted { .. } => b"vote",
-            Line::Decide { .. } => b"decide",
-            Line::SubDone { .. } => b"subdone",
-            Line::State { .. } => b"state",
-            Line::Learn { .. } => b"learn",
-            Line::Done { .. } => b"done",
+        write_row! { lines, *self,
+            Line::Up { server, life } => [Text(b"up"), Named(server), Number(life)],
+            Line::Top { transaction, node } => [Text(b"top"), Named(transaction), Named(node)],
+            Line::Sub { transaction, parent } => [Text(b"sub"), Named(transaction), Named(parent)],
+            Line::Imp { subordinate, superior, node } => [Text(b"imp"), Named(subordinate), Named(superior), Named(node)],
+            Line::Reg { resource, transaction, end } => [Text(b"reg"), Named(resource), Named(transaction), Named(end)],
+            Line::Call { message, operation, transaction } => [Text(b"call"), Number(message), Text(operation.text()), Named(transaction)],
+            Line::Answered { message, response } => [Text(b"ans"), Number(message), Text(response.text())],
+            Line::Send { message, word, registration } => [Text(b"send"), Number(message), Text(word.text()), Named(registration)],
+            Line::Back { message, request, response } => [Text(b"back"), Number(message), Number(request), Text(response.text())],
+            Line::Recv { message } => [Text(b"recv"), Number(message)],
+            Line::Voted { registration, vote } => [Text(b"vote"), Named(registration), Text(vote.text())],
+            Line::SubDone { transaction, committed } => [Text(b"subdone"), Named(transaction), Text(ending_text(committed))],
+            Line::State { resource, state } => [Text(b"state"), Named(resource), Text(state.text())],
+            Line::Learn { registration, decision } => [Text(b"learn"), Named(registration), Text(decision.text())],
+            Line::Done { transaction } => [Text(b"done"), Named(transaction)],
+            ; Line::Decide { transaction, outcome } => write_decide(lines, transaction, outcome)
         }
     }
+}
 
-    /// The second word, which names what the line is about.
-    #[tactic(auto, unfolding(crate::specs::Line::line_words))]
-    fn subject(&self) -> Piece
-        ensures { slice_get (line_words self.now) 1 ≡ Some (piece_word result) }
-    {
-        match *self {
-            Line::Up { server, .. } => Named(server),
-            Line::Top { transaction, .. }
-            | Line::Sub { transaction, .. }
-            | Line::Decide { transaction, .. }
-            | Line::SubDone { transaction, .. }
-            | Line::Done { transaction } => Named(transaction),
-            Line::Imp { subordinate, .. } => Named(subordinate),
-            Line::Reg { resource, .. } | Line::State { resource, .. } => Named(resource),
-            Line::Voted { registration, .. } | Line::Learn { registration, .. } => {
-                Named(registration)
-            }
-            Line::Call { message, .. }
-            | Line::Answered { message, .. }
-            | Line::Send { message, .. }
-            | Line::Back { message, .. }
-            | Line::Recv { message } => Number(u64::from(message)),
-        }
-    }
-
-    /// Writes the other words, each behind a space. Want of memory leaves what stood there in front.
-    #[tactic(auto, unfolding(crate::specs::Line::line_words))]
-    fn write_details(&self, lines: &mut Vec<u8>) -> Result<(), AllocError>
-        ensures ok { OnOk result (lines.new.items ≡ lines.old.items ++ spaced (drop 2 (line_words self.now))) }
-        ensures err { OnErr result (take (length lines.old.items) lines.new.items ≡ lines.old.items) }
-    {
-        match *self {
-            Line::Up { life, .. } => write_words(lines, &[Number(u64::from(life))]),
-            Line::Top { node, .. } => write_words(lines, &[Named(node)]),
-            Line::Sub { parent, .. } => write_words(lines, &[Named(parent)]),
-            Line::Imp { superior, node, .. } => write_words(lines, &[Named(superior), Named(node)]),
-            Line::Reg {
-                transaction,
-                end,
-                ..
-            } => write_words(lines, &[Named(transaction), Named(end)]),
-            Line::Call {
-                operation,
-                transaction,
-                ..
-            } => write_words(lines, &[Text(operation.text()), Named(transaction)]),
-            Line::Answered { said, .. } => write_words(lines, &[Text(said.text())]),
-            Line::Send {
-                operation,
-                registration,
-                ..
-            } => write_words(lines, &[Text(operation.text()), Named(registration)]),
-            Line::Back { request, said, .. } => write_words(
-                lines,
-                &[Number(u64::from(request)), Text(said.text())],
-            ),
-            Line::Recv { .. } | Line::Done { .. } => Ok(()),
-            Line::Voted { vote, .. } => write_words(lines, &[Text(vote_text(vote))]),
-            Line::Decide { decided, .. } => decided.write_words(lines),
-            Line::SubDone { committed, .. } => write_words(lines, &[Text(ending_text(committed))]),
-            Line::State { state, .. } => write_words(lines, &[Text(state.text())]),
-            Line::Learn { decision, .. } => write_words(lines, &[Text(decision.text())]),
-        }
+/// Writes the words of the line that tells the outcome of a transaction. Want of memory leaves what stood there in front.
+#[tactic(auto, unfolding(crate::specs::Line::spelling, crate::specs::Line::parts))]
+fn write_decide(
+    lines: &mut Vec<u8>,
+    transaction: Name,
+    outcome: Outcome<Name>,
+) -> Result<(), AllocError>
+    ensures ok { OnOk result (lines.new.items ≡ lines.old.items ++ spelling (Line.Decide transaction outcome)) }
+    ensures err { OnErr result (take (length lines.old.items) lines.new.items ≡ lines.old.items) }
+{
+    let (decide, name, rollback) = (Text(b"decide"), Named(transaction), Text(b"rollback"));
+    write_row! { lines, outcome,
+        Outcome::Commit(basis) => [decide, name, Text(b"commit"), Text(basis.text())],
+        Outcome::Rollback(Reason::Vote(g)) => [decide, name, rollback, Text(b"Vote"), Named(g)],
+        Outcome::Rollback(Reason::PrepareLost(g)) => [decide, name, rollback, Text(b"PrepareLost"), Named(g)],
+        Outcome::Rollback(Reason::PrepareStarved(g)) => [decide, name, rollback, Text(b"PrepareStarved"), Named(g)],
+        Outcome::Rollback(Reason::PrepareFault(g)) => [decide, name, rollback, Text(b"PrepareFault"), Named(g)],
+        Outcome::Rollback(Reason::JournalFull(used, need)) => [decide, name, rollback, Text(b"JournalFull"), Size(used), Size(need)],
+        Outcome::Unknown => [decide, name, Text(b"unknown")],
     }
 }
 
@@ -404,26 +218,6 @@ pub fn different_lines_differ()
 pub fn text_reads_back()
     ensures { TextReadsBack }
 {}
-
-fn vote_text(vote: Vote) -> &'static [u8]
-    ensures { result.now ≡ vote_word vote }
-{
-    match vote {
-        Vote::VoteCommit => b"VoteCommit",
-        Vote::VoteRollback => b"VoteRollback",
-        Vote::VoteReadOnly => b"VoteReadOnly",
-    }
-}
-
-fn ending_text(committed: bool) -> &'static [u8]
-    ensures { result.now ≡ ending_word committed }
-{
-    if committed {
-        b"committed"
-    } else {
-        b"rolledback"
-    }
-}
 
 #[cfg(test)]
 mod tests;

@@ -1,7 +1,6 @@
 ghost use Rattle.std.specs.Prelude.{◌≡◌, ◌↔◌, IsTrue, IfSome, IfNone};
 ghost use Rattle.std.specs.List.{list_all};
 ghost use Rattle.ots_model.specs.Name.{IsName, is_name_octet};
-ghost use Rattle.ots_model.specs.declared.name.TheConstants.{NAME_LIMIT};
 
 use std::marker::Model;
 
@@ -12,7 +11,7 @@ pub const NAME_LIMIT: usize = 12;
 /// digits. Contracts see it as the list of its octets.
 #[derive(Clone, Copy, Debug, PartialEq, Eq, Hash)]
 pub struct Name {
-    octets: [u8; 12],
+    octets: [u8; NAME_LIMIT],
     length: u8,
 }
 
@@ -41,7 +40,7 @@ impl Name {
         if !is_name(octets) {
             return None;
         }
-        let mut padded = [0u8; 12];
+        let mut padded = [0u8; NAME_LIMIT];
         padded[..octets.len()].copy_from_slice(octets);
         Some(Name {
             octets: padded,

@@ -1,5 +1,5 @@
 ghost use Rattle.std.specs.Prelude.{◌≡◌, ℕ, ◌^◌, ◌<◌, ◌≤◌, ◌⊎◌, IsOk, IfOk, IfErr, IsErrOf, length};
-ghost use Rattle.ots_model.specs.declared.octets.TheConstants.{REFERENCE_LIMIT};
+ghost use Rattle.ots_model.specs.Limits.{reference_limit};
 
 use std::alloc::{AllocError, Global};
 use std::marker::Model;
@@ -31,7 +31,7 @@ impl Octets {
         })
     }
 
-    /// The octets of a vector, which takes no memory.
+    /// The octets of a vector. It needs no memory.
     pub fn from_vec(items: Vec<u8>) -> Octets
         ensures same { result ≡ items.items }
     {
@@ -56,20 +56,20 @@ pub enum RefFault {
 }
 
 /// The octets of an object reference, at most 1,024. Contracts see them as a list.
-#[derive(Debug, Drop)]
+#[derive(Drop)]
 pub struct RefBytes {
     items: Vec<u8>,
 }
 
 impl Model for RefBytes {
     ghost use Rattle.std.specs.Prelude.{List, ℕ, length, ◌≤◌};
-    ghost use Rattle.ots_model.specs.declared.octets.TheConstants.{REFERENCE_LIMIT};
+    ghost use Rattle.ots_model.specs.Limits.{reference_limit};
 
     ghost Value = { List ℕ };
 
     ghost view = { λ r. r.items.items };
 
-    ghost invariant = { λ r. length r.items.items ≤ REFERENCE_LIMIT };
+    ghost invariant = { λ r. length r.items.items ≤ reference_limit };
 }
 
 impl RefBytes {
@@ -77,9 +77,9 @@ impl RefBytes {
     pub fn new(alloc: Global, octets: &[u8]) -> Result<RefBytes, RefFault>
         requires { length octets.now < 2 ^ 31 }
         ensures copy { IfOk result (λ copy. copy ≡ octets.now) }
-        ensures short { IsOk result → length octets.now ≤ REFERENCE_LIMIT }
-        ensures too_long { REFERENCE_LIMIT < length octets.now → IsErrOf result (RefFault.TooLong (length octets.now)) }
-        ensures memory { IfErr result (λ fault. (fault ≡ RefFault.Memory) ⊎ (REFERENCE_LIMIT < length octets.now)) }
+        ensures short { IsOk result → length octets.now ≤ reference_limit }
+        ensures too_long { reference_limit < length octets.now → IsErrOf result (RefFault.TooLong (length octets.now)) }
+        ensures memory { IfErr result (λ fault. (fault ≡ RefFault.Memory) ⊎ (reference_limit < length octets.now)) }
     {
         if octets.len() > REFERENCE_LIMIT {
             return Err(RefFault::TooLong(octets.len() as u32));
@@ -99,9 +99,9 @@ impl RefBytes {
         })
     }
 
-    /// The reference of a vector's octets, which takes no memory.
+    /// The reference of a vector's octets. It needs no memory.
     pub fn from_vec(items: Vec<u8>) -> RefBytes
-        requires { length items.items ≤ REFERENCE_LIMIT }
+        requires { length items.items ≤ reference_limit }
         ensures same { result ≡ items.items }
     {
         RefBytes { items }
@@ -110,7 +110,7 @@ impl RefBytes {
     /// The octets.
     pub fn bytes(&self) -> &[u8]
         ensures same { result.now ≡ self.now }
-        ensures short { length self.now ≤ REFERENCE_LIMIT }
+        ensures short { length self.now ≤ reference_limit }
     {
         self.items.as_slice()
     }

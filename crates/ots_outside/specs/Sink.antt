@@ -1,3 +1,4 @@
+-- What a sink takes of octets (our profile).
 use Rattle.std.specs.Prelude.{◌≡◌, ℕ, List, ◌++◌, take, Option, Some, IfSome}
 
 -- where the sink tells what it has taken, it has taken these octets too

@@ -1,3 +1,4 @@
+-- What contracts see of the adapters over std::io (our profile).
 use Rattle.std.specs.Prelude.{ℕ}
 use Rattle.ots_outside.specs.declared.streams.StdSource.{StdSource}
 use Rattle.ots_outside.specs.declared.streams.StdSink.{StdSink}

@@ -1,11 +1,11 @@
-ghost use Rattle.std.specs.Prelude.{◌≡◌, ◌≤◌, ◌↔◌, [], length, min, IsSome, IsErr, IfOk, OnOk, OnErr, Contains};
-ghost use Rattle.ots_outside.specs.Memory.{TakesCut, cut_at};
+ghost use Rattle.std.specs.Prelude.{◌≡◌, ◌<◌, ◌≤◌, ◌↔◌, [], length, min, IsSome, IsErr, IfOk, OnOk, OnErr, Contains};
+ghost use Rattle.ots_outside.specs.Memory.{TakesCut, capacity, cut_at, next_cut};
 ghost use Rattle.ots_outside.specs.Sink.{Takes, TakesPart};
-ghost use Rattle.ots_outside.specs.Source.{Gives, HasRisen, raised};
+ghost use Rattle.ots_outside.specs.Source.{CountsFault, CountsWithin, Gives, HasRisen, raised};
 
 use crate::sink::Sink;
 use crate::source::{Failed, Source};
-use std::alloc::Global;
+use std::alloc::{AllocError, Global};
 use std::marker::Model;
 
 /// A source in memory, of which chosen calls fail. Contracts see it as a `SourceState`.
@@ -24,7 +24,12 @@ impl Model for MemSource {
 
     ghost Value = { SourceState };
 
-    ghost view = { λ source. record { left = drop source.position source.contents.items; failing = source.failing.items; calls = source.calls; faults = source.faults } };
+    ghost view = { λ source. record {
+      left = drop source.position source.contents.items;
+      failing = source.failing.items;
+      calls = source.calls;
+      faults = source.faults;
+    } };
 
     ghost invariant = { λ source. source.position ≤ length source.contents.items };
 }
@@ -63,7 +68,7 @@ impl Source for MemSource {
 
     fn read(&mut self, into: &mut [u8]) -> Result<usize, Failed>
         // What each source promises.
-        ensures count { IfOk result (λ n. n ≤ length into.old) }
+        ensures count { CountsWithin result into.old }
         ensures octets { IfOk result (λ n. Gives self.old.left (length into.old) n into.new (Some self.new.left)) }
         ensures untouched { OnErr result (self.new.left ≡ self.old.left) }
         ensures cause { OnErr result (HasRisen self.old.faults self.new.faults) }
@@ -74,8 +79,7 @@ impl Source for MemSource {
         ensures most { IfOk result (λ n. n ≡ min (length into.old) (length self.old.left)) }
         ensures failing { self.new.failing ≡ self.old.failing }
         ensures calls { self.new.calls ≡ raised self.old.calls }
-        ensures blameless { OnOk result (self.new.faults ≡ self.old.faults) }
-        ensures blamed { OnErr result (self.new.faults ≡ raised self.old.faults) }
+        ensures faults { CountsFault result self.old.faults self.new.faults }
     {
         let call = self.calls;
         self.calls = call.saturating_add(1);
@@ -110,17 +114,25 @@ pub struct MemSink {
 }
 
 impl Model for MemSink {
+    ghost use Rattle.std.specs.Prelude.{◌-◌, vec_capacity, vec_len};
     ghost use Rattle.ots_outside.specs.Memory.{SinkState};
 
     ghost Value = { SinkState };
 
-    ghost view = { λ sink. record { octets = sink.octets.items; failing = sink.failing.items; calls = sink.calls; faults = sink.faults } };
+    ghost view = { λ sink. record {
+      octets = sink.octets.items;
+      room = vec_capacity sink.octets - vec_len sink.octets;
+      failing = sink.failing.items;
+      calls = sink.calls;
+      faults = sink.faults;
+    } };
 }
 
 impl MemSink {
     /// An empty sink, of which these calls fail.
     pub fn new(alloc: Global, failing: Vec<Failure>) -> MemSink
         ensures octets { result.octets ≡ [] }
+        ensures room { result.room ≡ 0 }
         ensures failing { result.failing ≡ failing.items }
         ensures calls { result.calls ≡ 0 }
         ensures faults { result.faults ≡ 0 }
@@ -131,6 +143,17 @@ impl MemSink {
             calls: 0,
             faults: 0,
         }
+    }
+
+    /// Makes room for so many octets more, which are then taken without memory.
+    pub fn reserve(&mut self, additional: usize) -> Result<(), AllocError>
+        ensures ok { OnOk result (additional ≤ self.new.room) }
+        ensures err { OnErr result (self.new ≡ self.old) }
+        ensures full { OnErr result (self.old.room < additional) }
+        ensures grows { self.old.room ≤ self.new.room }
+        ensures rest { self.new ≡ record self.old { room = self.new.room } }
+    {
+        self.octets.reserve(additional)
     }
 
     /// The octets that it has taken.
@@ -162,13 +185,13 @@ impl Sink for MemSink {
         ensures cause { OnErr result (HasRisen self.old.faults self.new.faults) }
         ensures later { self.old.faults ≤ self.new.faults }
 
-        // A listed call fails, and takes what is listed for it.
-        ensures listed { IsSome (cut_at self.old.failing self.old.calls) → IsErr result }
-        ensures cut { OnErr result (TakesCut self.old bytes.now self.new.octets) }
+        // Exactly the listed calls fail, but for want of room.
+        ensures listed { IsSome (next_cut self.old) → IsErr result }
+        ensures cut { OnErr result (TakesCut (next_cut self.old) self.old bytes.now self.new.octets) }
+        ensures capacity { capacity self.old ≤ capacity self.new }
         ensures failing { self.new.failing ≡ self.old.failing }
         ensures calls { self.new.calls ≡ raised self.old.calls }
-        ensures blameless { OnOk result (self.new.faults ≡ self.old.faults) }
-        ensures blamed { OnErr result (self.new.faults ≡ raised self.old.faults) }
+        ensures faults { CountsFault result self.old.faults self.new.faults }
     {
         let cut = planned_cut(&self.failing, self.calls);
         self.calls = self.calls.saturating_add(1);

@@ -1,7 +1,7 @@
-ghost use Rattle.std.specs.Prelude.{◌≡◌, ℕ, ◌≤◌, List, Option, length, IfOk, IfSome, OnErr};
-ghost use Rattle.ots_outside.specs.Source.{Gives, HasRisen, raised};
+ghost use Rattle.std.specs.Prelude.{◌≡◌, ℕ, ◌≤◌, List, Option, length, IfOk, OnErr};
+ghost use Rattle.ots_outside.specs.Source.{CountsWithin, GivesOf, HasRisen, raised};
 
-/// A call to the outside failed, and the object's count of faults rose.
+/// A call to the outside failed.
 #[derive(Clone, Copy, Debug, PartialEq, Eq)]
 pub struct Failed;
 
@@ -27,8 +27,8 @@ pub trait Source {
 
     /// Reads some octets into the front of the piece, and says how many. 0 is the end, where the piece isn't empty.
     fn read(&mut self, into: &mut [u8]) -> Result<usize, Failed>
-        ensures count { IfOk result (λ n. n ≤ length into.old) }
-        ensures octets { IfOk result (λ n. IfSome (remaining self.old) (λ left. Gives left (length into.old) n into.new (remaining self.new))) }
+        ensures count { CountsWithin result into.old }
+        ensures octets { IfOk result (λ n. GivesOf (remaining self.old) (length into.old) n into.new (remaining self.new)) }
         ensures untouched { OnErr result (remaining self.new ≡ remaining self.old) }
         ensures cause { OnErr result (HasRisen (faults self.old) (faults self.new)) }
         ensures later { faults self.old ≤ faults self.new };

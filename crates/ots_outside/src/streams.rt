@@ -1,6 +1,6 @@
-ghost use Rattle.std.specs.Prelude.{◌≡◌, ◌≤◌, IfOk, OnErr, OnOk, length};
+ghost use Rattle.std.specs.Prelude.{◌≡◌, ◌≤◌, OnErr, OnOk};
 ghost use Rattle.std.specs.Io.KnownBytes.{ReadConsumes};
-ghost use Rattle.ots_outside.specs.Source.{HasRisen, raised};
+ghost use Rattle.ots_outside.specs.Source.{CountsFault, CountsWithin, HasRisen};
 ghost use Rattle.ots_outside.specs.Sink.{Takes, TakesPart};
 
 use crate::sink::Sink;
@@ -8,7 +8,7 @@ use crate::source::{Failed, Source};
 use std::io;
 use std::io::{ErrorKind, Read, Write};
 
-/// A source over a reader of `std::io`. Each error of the reader is a fault, an interrupted read too.
+/// A source over a reader of `std::io`. Each failure that it answers counts as one fault.
 #[derive(Drop)]
 pub struct StdSource<R> {
     reader: R,
@@ -44,16 +44,16 @@ impl<R: Read> Source for StdSource<R> {
 
     fn read(&mut self, into: &mut [u8]) -> Result<usize, Failed>
         // What each source promises.
-        ensures count { IfOk result (λ n. n ≤ length into.old) }
+        ensures count { CountsWithin result into.old }
         ensures cause { OnErr result (HasRisen (source_faults self.old) (source_faults self.new)) }
         ensures later { source_faults self.old ≤ source_faults self.new }
 
         // What the reader gives, where it tells what is left.
-        ensures octets { ReadConsumes (R.remaining (source_reader self.old)) (R.remaining (source_reader self.new)) result into.new }
+        ensures octets { ReadConsumes (R.remaining (source_reader self.old)) (R.remaining (source_reader self.new))
+            result into.new }
 
-        // Each error of the reader counts as one fault, and nothing else does.
-        ensures blameless { OnOk result (source_faults self.new ≡ source_faults self.old) }
-        ensures blamed { OnErr result (source_faults self.new ≡ raised (source_faults self.old)) }
+        // A failure counts as one fault, and an Ok as none.
+        ensures faults { CountsFault result (source_faults self.old) (source_faults self.new) }
     {
         match self.reader.read(into) {
             Ok(count) => Ok(count),
@@ -62,7 +62,7 @@ impl<R: Read> Source for StdSource<R> {
     }
 }
 
-/// A sink over a writer of `std::io`. Each error of the writer is a fault, an interrupted write too.
+/// A sink over a writer of `std::io`. Each failure that it answers counts as one fault.
 #[derive(Drop)]
 pub struct StdSink<W> {
     writer: W,
@@ -97,14 +97,15 @@ impl<W: Write> Sink for StdSink<W> {
 
     fn write(&mut self, bytes: &[u8]) -> Result<(), Failed>
         // What each sink promises.
-        ensures whole { OnOk result (Takes (W.contents (sink_writer self.old)) bytes.now (W.contents (sink_writer self.new))) }
-        ensures part { OnErr result (TakesPart (W.contents (sink_writer self.old)) bytes.now (W.contents (sink_writer self.new))) }
+        ensures whole { OnOk result
+            (Takes (W.contents (sink_writer self.old)) bytes.now (W.contents (sink_writer self.new))) }
+        ensures part { OnErr result
+            (TakesPart (W.contents (sink_writer self.old)) bytes.now (W.contents (sink_writer self.new))) }
         ensures cause { OnErr result (HasRisen (sink_faults self.old) (sink_faults self.new)) }
         ensures later { sink_faults self.old ≤ sink_faults self.new }
 
-        // Each error of the writer counts as one fault, and nothing else does.
-        ensures blameless { OnOk result (sink_faults self.new ≡ sink_faults self.old) }
-        ensures blamed { OnErr result (sink_faults self.new ≡ raised (sink_faults self.old)) }
+        // A failure counts as one fault, and an Ok as none.
+        ensures faults { CountsFault result (sink_faults self.old) (sink_faults self.new) }
     {
         match write_whole(&mut self.writer, bytes) {
             Ok(()) => Ok(()),

@@ -1,6 +1,6 @@
 use crate::{Failed, Failure, MemSink, MemSource, Sink, Source, StdSink, StdSource};
 use std::io;
-use std::io::{ErrorKind, Read};
+use std::io::{ErrorKind, Read, Write};
 use std::test::Fail;
 
 fn read_from<S: Source>(source: &mut S, into: &mut [u8]) -> Result<usize, Failed> {
@@ -11,13 +11,42 @@ fn write_to<S: Sink>(sink: &mut S, bytes: &[u8]) -> Result<(), Failed> {
     sink.write(bytes)
 }
 
-/// A reader that only fails.
+/// A stream over another, of which chosen calls are interrupted, and which takes at most two octets a write.
 #[derive(Drop)]
-struct Broken;
+struct Faulty<'a, S> {
+    stream: S,
+    failing: &'a [u8],
+    calls: u8,
+}
 
-impl Read for Broken {
-    fn read(&mut self, _into: &mut [u8]) -> io::Result<usize> {
-        Err(ErrorKind::BrokenPipe.into())
+impl<S> Faulty<'_, S> {
+    /// Counts a call of any kind, which fails where its number, from 0, is chosen.
+    fn begin(&mut self) -> io::Result<()> {
+        let call = self.calls;
+        self.calls = call.saturating_add(1);
+        if self.failing.contains(&call) {
+            return Err(ErrorKind::Interrupted.into());
+        }
+        Ok(())
+    }
+}
+
+impl<S: Read> Read for Faulty<'_, S> {
+    fn read(&mut self, into: &mut [u8]) -> io::Result<usize> {
+        self.begin()?;
+        self.stream.read(into)
+    }
+}
+
+impl<S: Write> Write for Faulty<'_, S> {
+    fn write(&mut self, bytes: &[u8]) -> io::Result<usize> {
+        self.begin()?;
+        self.stream.write(&bytes[..bytes.len().min(2)])
+    }
+
+    fn flush(&mut self) -> io::Result<()> {
+        self.begin()?;
+        self.stream.flush()
     }
 }
 
@@ -25,13 +54,15 @@ impl Read for Broken {
 fn memory_fails_in_mid_stream_and_goes_on(rt: HostRuntime) -> Result<(), Fail> {
     let failing = vec![in rt.alloc(); 1]?;
     let mut source = MemSource::new(b"abc".to_vec(rt.alloc())?, failing);
-    let mut piece = [0; 2];
-    assert_eq!(rt; read_from(&mut source, &mut piece), Ok(2));
-    assert_eq!(rt; piece.as_slice(), b"ab".as_slice());
-    assert_eq!(rt; read_from(&mut source, &mut piece), Err(Failed));
-    assert_eq!(rt; read_from(&mut source, &mut piece), Ok(1));
-    assert_eq!(rt; piece[0], b'c');
-    assert_eq!(rt; read_from(&mut source, &mut piece), Ok(0));
+    let mut piece = [0; 4];
+    let counts = [
+        read_from(&mut source, &mut piece[..2]),
+        read_from(&mut source, &mut piece[2..]),
+        read_from(&mut source, &mut piece[2..]),
+        read_from(&mut source, &mut piece[3..]),
+    ];
+    assert_eq!(rt; counts, [Ok(2), Err(Failed), Ok(1), Ok(0)]);
+    assert_eq!(rt; piece.as_slice(), b"abc\0".as_slice());
     assert_eq!(rt; source.faults(), 1);
     Ok(())
 }
@@ -40,42 +71,62 @@ fn memory_fails_in_mid_stream_and_goes_on(rt: HostRuntime) -> Result<(), Fail> {
 fn memory_fails_in_mid_piece(rt: HostRuntime) -> Result<(), Fail> {
     let failing = vec![in rt.alloc(); Failure { call: 1, taken: 2 }]?;
     let mut sink = MemSink::new(rt.alloc(), failing);
-    assert_eq!(rt; write_to(&mut sink, b"one "), Ok(()));
-    assert_eq!(rt; write_to(&mut sink, b"two "), Err(Failed));
-    assert_eq!(rt; write_to(&mut sink, b"three"), Ok(()));
+    sink.reserve(4)?;
+    let first = sink.write(b"one ");
+    // A call that isn't listed succeeds where there is room.
+    prove!(first.is_ok());
+    let later = [write_to(&mut sink, b"two "), write_to(&mut sink, b"three")];
+    assert_eq!(rt; later, [Err(Failed), Ok(())]);
     assert_eq!(rt; sink.octets(), b"one twthree".as_slice());
     assert_eq!(rt; sink.faults(), 1);
     Ok(())
 }
 
 #[test]
-fn a_reader_ends_or_fails(rt: HostRuntime) {
-    let mut source = StdSource::new(b"abc".as_slice());
-    let mut piece = [0; 2];
-    assert_eq!(rt; read_from(&mut source, &mut piece), Ok(2));
-    assert_eq!(rt; read_from(&mut source, &mut piece), Ok(1));
-    assert_eq!(rt; piece.as_slice(), b"cb".as_slice());
-    assert_eq!(rt; read_from(&mut source, &mut piece), Ok(0));
-    assert_eq!(rt; source.faults(), 0);
-
-    let mut broken = StdSource::new(Broken);
-    assert_eq!(rt; read_from(&mut broken, &mut piece), Err(Failed));
-    assert_eq!(rt; broken.faults(), 1);
+fn a_reader_gives_fails_and_ends(rt: HostRuntime) {
+    let mut source = StdSource::new(Faulty {
+        stream: b"abc".as_slice(),
+        failing: &[1],
+        calls: 0,
+    });
+    let mut piece = [0; 4];
+    let counts = [
+        read_from(&mut source, &mut piece[..2]),
+        read_from(&mut source, &mut piece[2..]),
+        read_from(&mut source, &mut piece[2..]),
+        read_from(&mut source, &mut piece[3..]),
+    ];
+    assert_eq!(rt; counts, [Ok(2), Err(Failed), Ok(1), Ok(0)]);
+    assert_eq!(rt; piece.as_slice(), b"abc\0".as_slice());
+    assert_eq!(rt; source.faults(), 1);
 }
 
 #[test]
 fn a_writer_takes_all_or_fails(rt: HostRuntime) {
     let mut octets = Vec::new(rt.alloc());
-    let mut sink = StdSink::new(&mut octets);
-    assert_eq!(rt; write_to(&mut sink, b"one "), Ok(()));
-    assert_eq!(rt; write_to(&mut sink, b"two"), Ok(()));
-    assert_eq!(rt; sink.faults(), 0);
-    assert_eq!(rt; octets.as_slice(), b"one two".as_slice());
+    // The second write of the second piece fails, and the flush after the last.
+    let mut sink = StdSink::new(Faulty {
+        stream: &mut octets,
+        failing: &[4, 9],
+        calls: 0,
+    });
+    let written = [
+        write_to(&mut sink, b"one "),
+        write_to(&mut sink, b"two "),
+        write_to(&mut sink, b"end"),
+        write_to(&mut sink, b"."),
+    ];
+    assert_eq!(rt; written, [Ok(()), Err(Failed), Ok(()), Err(Failed)]);
+    assert_eq!(rt; sink.faults(), 2);
+    assert_eq!(rt; octets.as_slice(), b"one twend.".as_slice());
+}
 
+#[test]
+fn a_writer_without_room_fails(rt: HostRuntime) {
     let mut room = [0; 5];
-    let mut full = StdSink::new(room.as_mut_slice());
-    assert_eq!(rt; write_to(&mut full, b"one "), Ok(()));
-    assert_eq!(rt; write_to(&mut full, b"two"), Err(Failed));
-    assert_eq!(rt; full.faults(), 1);
+    let mut sink = StdSink::new(room.as_mut_slice());
+    let written = [write_to(&mut sink, b"one "), write_to(&mut sink, b"two")];
+    assert_eq!(rt; written, [Ok(()), Err(Failed)]);
+    assert_eq!(rt; sink.faults(), 1);
     assert_eq!(rt; room.as_slice(), b"one t".as_slice());
 }

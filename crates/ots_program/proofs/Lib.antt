@@ -2,10 +2,10 @@ pub mod Rows
 pub mod Replays
 pub mod Told
 pub mod Turned
+pub mod Fed
 pub mod Taken
 pub mod Carried
 pub mod Runs
-pub mod Seen
 pub mod Safely
 pub mod Showing
 pub mod MessageLineLemmas

@@ -4,23 +4,23 @@ use Rattle.std.proofs.lemmas.Bool.{le-leb, lt-leb, le-ltb, lt-ltb}
 use Rattle.ots_model.specs.declared.line.Line.{Line}
 use Rattle.ots_world.specs.Script.{reading}
 use Rattle.ots_world.specs.World.{World}
-use Rattle.ots_program.specs.declared.status.TheConstants.{LINES_LIMIT, OCTETS_LIMIT}
+use Rattle.ots_program.specs.Limits.{lines_limit, octets_limit}
 use Rattle.ots_program.specs.Replay.{Row, size, Ending, Completed, Limited, Place, Goes, Stops, turn, turn_of, behind, ahead_of, replay_from}
 
 -- a line too many
-pub turn-past_lines : (p : Place) (row : Row) → LINES_LIMIT ≤ p.lines → turn p row ≡ Stops (Limited (p.lines + 1) LINES_LIMIT) []
+pub turn-past_lines : (p : Place) (row : Row) → lines_limit ≤ p.lines → turn p row ≡ Stops (Limited (p.lines + 1) lines_limit) []
 unfolding turn
-turn-past_lines p row h = rw (le-leb LINES_LIMIT p.lines h) refl
+turn-past_lines p row h = rw (le-leb lines_limit p.lines h) refl
 
 -- an octet too many
-pub turn-past_octets : (p : Place) (row : Row) → p.lines < LINES_LIMIT → OCTETS_LIMIT < p.octets + size row → turn p row ≡ Stops (Limited (p.lines + 1) OCTETS_LIMIT) []
+pub turn-past_octets : (p : Place) (row : Row) → p.lines < lines_limit → octets_limit < p.octets + size row → turn p row ≡ Stops (Limited (p.lines + 1) octets_limit) []
 unfolding turn
-turn-past_octets p row h long = rw (lt-leb LINES_LIMIT p.lines h, lt-ltb OCTETS_LIMIT (p.octets + size row) long) refl
+turn-past_octets p row h long = rw (lt-leb lines_limit p.lines h, lt-ltb octets_limit (p.octets + size row) long) refl
 
 -- a line within the limits
-pub turn-within : (p : Place) (row : Row) → p.lines < LINES_LIMIT → p.octets + size row ≤ OCTETS_LIMIT → turn p row ≡ turn_of p (reading row.text)
+pub turn-within : (p : Place) (row : Row) → p.lines < lines_limit → p.octets + size row ≤ octets_limit → turn p row ≡ turn_of p (reading row.text)
 unfolding turn
-turn-within p row h short = rw (lt-leb LINES_LIMIT p.lines h, le-ltb OCTETS_LIMIT (p.octets + size row) short) refl
+turn-within p row h short = rw (lt-leb lines_limit p.lines h, le-ltb octets_limit (p.octets + size row) short) refl
 
 pub replay-ended : (p : Place) → replay_from p [] ≡ record { lines = []; further = []; ending = Completed }
 unfolding replay_from

@@ -1,106 +1,156 @@
--- A run under way.
-use Rattle.std.proofs.Common.{◌≡◌, ℕ, ◌<◌, ◌≤◌, inl, inr, List, [], ◌++◌, take, drop, Option, Some, None, IfSome, refl, sym, arith}
+-- A replay of a source under way.
+use Rattle.std.proofs.Common.{◌≡◌, ℕ, ◌<◌, ◌≤◌, inl, inr, List, [], ◌++◌, length, take, drop, Option, Some, None, IfSome, refl, ap, subst, ◌∙◌, append_assoc, append-nil, arith}
+use Rattle.std.specs.Option.{unwrap_or}
 use Rattle.std.proofs.lemmas.List.{take-append-drop}
+use Rattle.std.proofs.Math.Seq.{take-append_seam}
+use Rattle.ots_model.specs.declared.line.Line.{Line}
+use Rattle.ots_model.specs.Line.{text_of}
 use Rattle.ots_outside.specs.Source.{Gives, HasRisen}
+use Rattle.ots_world.specs.Agreement.{Agreement}
 use Rattle.ots_program.specs.declared.player.Player.{Player}
 use Rattle.ots_program.specs.declared.status.Status.{Status}
 use Rattle.ots_program.specs.declared.status.Status.TheVariants as statuses
-use Rattle.ots_program.specs.Answers.{Advances, Completes, Halts}
+use Rattle.ots_program.specs.Answers.{IsReadToEnd, Replays, TakesFront, TakesLines, Tells, WhereTold, Writes}
 use Rattle.ots_program.specs.Playing.{left}
-use Rattle.ots_program.specs.Replay.{replay}
-use Rattle.ots_program.proofs.Taken.{Advances-none, Advances-trans, Completes-advanced, Halts-advanced, Halts-memory, Halts-read}
+use Rattle.ots_program.specs.Replay.{Replay, replay}
+use Rattle.ots_program.specs.ReplayInside.{Advances, BreaksOff, Halts, PlaysPiece}
+use Rattle.ots_program.proofs.Safely.{IfSome-safely}
+use Rattle.ots_program.proofs.Taken.{Advances-none, Advances-trans, Halts-advanced, Halts-read}
+use Rattle.ots_program.proofs.Told.{text_of-append}
 
--- of a script of these octets, the player has come to those that the source has left
-pub record RunsOn (all : List ℕ) (player : Player) (now before after : Option (List ℕ)) : Type 0 where
-  pub rest : List ℕ
-  pub is_left : now ≡ Some rest
-  pub advances : Advances (replay all) (left player rest) before after
+-- ---- what was read
 
--- the same, where the source tells its octets
-abbrev pub Runs : Option (List ℕ) → Player → Option (List ℕ) → Option (List ℕ) → Option (List ℕ) → Type 0
-Runs script player now before after = IfSome script (λ all. RunsOn all player now before after)
+-- where the source tells its octets, these were read, and these are left
+abbrev pub Reads : (seen rest : List ℕ) (script now : Option (List ℕ)) → Type 0
+Reads seen rest script now = IfSome script (λ all. (now ≡ Some rest) × (all ≡ seen ++ rest))
 
-pub Runs-start : (script : Option (List ℕ)) (player : Player) (taken : Option (List ℕ)) → ((octets : List ℕ) → left player octets ≡ replay octets) → Runs script player script taken taken
-Runs-start None player taken e = tt
-Runs-start (Some all) player taken e = record { rest = all; is_left = refl; advances = rw (e all) (Advances-none (replay all) taken) }
-
--- a piece of what the source has left
-pub record IsRead (rest piece : List ℕ) (after : Option (List ℕ)) : Type 0 where
-  pub behind : List ℕ
-  pub split : rest ≡ piece ++ behind
-  pub is_left : after ≡ Some behind
-
--- what a read gave
-IsRead-gives : (rest : List ℕ) (places n : ℕ) (piece : List ℕ) (after : Option (List ℕ)) → Gives rest places n piece after → IsRead rest (take n piece) after
-IsRead-gives rest places n piece after h = record { behind = drop n rest; split = rw h.octets (sym (take-append-drop n rest)); is_left = h.rest }
+Reads-start : (script : Option (List ℕ)) → Reads [] (unwrap_or script []) script script
+Reads-start None = tt
+Reads-start (Some all) = (refl, refl)
 
 -- the next piece was read
-pub RunsOn-read : (all : List ℕ) (player : Player) (now later before mid : Option (List ℕ)) (places n : ℕ) (room : List ℕ) → RunsOn all player now before mid
-    → IfSome now (λ rest. Gives rest places n room later)
-    → (behind : List ℕ) × (later ≡ Some behind) × Advances (replay all) (left player (take n room ++ behind)) before mid
-RunsOn-read all player now later before mid places n room h gives =
-    let g : Gives h.rest places n room later = rw h.is_left at gives in
-    let r = IsRead-gives h.rest places n room later g in
-    (r.behind, r.is_left, rw r.split at h.advances)
-
--- and played
-pub Runs-more : (script : Option (List ℕ)) (player next : Player) (now later before mid after : Option (List ℕ)) (places n : ℕ) (room : List ℕ) → Runs script player now before mid
-    → IfSome now (λ rest. Gives rest places n room later)
-    → ((rest : List ℕ) → Advances (left player (take n room ++ rest)) (left next rest) mid after)
-    → Runs script next later before after
-Runs-more None player next now later before mid after places n room h gives on = tt
-Runs-more (Some all) player next now later before mid after places n room h gives on =
-    let r = RunsOn-read all player now later before mid places n room h gives in
-    record { rest = r.0; is_left = r.1; advances = Advances-trans _ _ _ before mid after r.2 (on r.0) }
-
--- and the replay broke off
-pub Runs-halts : (script : Option (List ℕ)) (player : Player) (status : Status) (now later before mid after : Option (List ℕ)) (places n : ℕ) (room : List ℕ) → Runs script player now before mid
-    → IfSome now (λ rest. Gives rest places n room later)
-    → ((rest : List ℕ) → Halts status (left player (take n room ++ rest)) mid after)
-    → IfSome script (λ all. Halts status (replay all) before after)
-Runs-halts None player status now later before mid after places n room h gives on = tt
-Runs-halts (Some all) player status now later before mid after places n room h gives on =
-    let r = RunsOn-read all player now later before mid places n room h gives in
-    Halts-advanced status _ _ before mid after r.2 (on r.0)
+Reads-more : (seen rest : List ℕ) (script now later : Option (List ℕ)) (places n : ℕ) (room : List ℕ) → Reads seen rest script now
+    → IfSome now (λ octets. Gives octets places n room later) → Reads (seen ++ take n room) (drop n rest) script later
+Reads-more seen rest None now later places n room h gives = tt
+Reads-more seen rest (Some all) now later places n room h gives =
+    let g : Gives rest places n room later = rw h.0 at gives in
+    (g.rest, h.1 ∙ rw (append_assoc, g.octets, take-append-drop n rest) refl)
 
 -- the end was read
-RunsOn-end : (all : List ℕ) (player : Player) (now later before mid : Option (List ℕ)) (places n : ℕ) (room : List ℕ) → RunsOn all player now before mid
-    → IfSome now (λ rest. Gives rest places n room later) → n ≡ 0 → 0 < places
-    → (later ≡ Some []) × Advances (replay all) (left player []) before mid
-RunsOn-end all player now later before mid places n room h gives none some =
-    let g : Gives h.rest places n room later = rw h.is_left at gives in
-    let e : h.rest ≡ [] = g.end none some in
-    (rw (g.rest, none, e) refl, rw e at h.advances)
+Reads-end : (seen rest : List ℕ) (script now later : Option (List ℕ)) (places n : ℕ) (room : List ℕ) → Reads seen rest script now
+    → IfSome now (λ octets. Gives octets places n room later) → n ≡ 0 → 0 < places → IfSome script (λ all. (later ≡ Some []) × (all ≡ seen))
+Reads-end seen rest None now later places n room h gives none some = tt
+Reads-end seen rest (Some all) now later places n room h gives none some =
+    let g : Gives rest places n room later = rw h.0 at gives in
+    let e : rest ≡ [] = g.end none some in
+    (rw (g.rest, none, e) refl, rw (e, append-nil) at h.1)
 
-pub Runs-end : (script : Option (List ℕ)) (player : Player) (now later before mid : Option (List ℕ)) (places n : ℕ) (room : List ℕ) → Runs script player now before mid
-    → IfSome now (λ rest. Gives rest places n room later) → n ≡ 0 → 0 < places
-    → IfSome script (λ all. later ≡ Some [])
-Runs-end None player now later before mid places n room h gives none some = tt
-Runs-end (Some all) player now later before mid places n room h gives none some = (RunsOn-end all player now later before mid places n room h gives none some).0
+-- ---- what was played
 
-pub Runs-completes : (script : Option (List ℕ)) (player : Player) (now later before mid after : Option (List ℕ)) (places n : ℕ) (room : List ℕ) → Runs script player now before mid
-    → IfSome now (λ rest. Gives rest places n room later) → n ≡ 0 → 0 < places → Completes (left player []) mid after
-    → IfSome script (λ all. Completes (replay all) before after)
-Runs-completes None player now later before mid after places n room h gives none some on = tt
-Runs-completes (Some all) player now later before mid after places n room h gives none some on =
-    Completes-advanced _ _ before mid after (RunsOn-end all player now later before mid places n room h gives none some).1 on
+-- The player was fed the octets that were read, and the sink has taken what they tell; what else the source has is still
+-- to come.
+pub record Runs (player : Player) (script now before after : Option (List ℕ)) : Type 0 where
+  pub seen : List ℕ
+  pub rest : List ℕ
+  pub reads : Reads seen rest script now
+  pub advances : (octets : List ℕ) → Advances (replay (seen ++ octets)) (left player octets) before after
 
-pub Runs-end_halts : (script : Option (List ℕ)) (player : Player) (status : Status) (now later before mid after : Option (List ℕ)) (places n : ℕ) (room : List ℕ) → Runs script player now before mid
-    → IfSome now (λ rest. Gives rest places n room later) → n ≡ 0 → 0 < places → Halts status (left player []) mid after
-    → IfSome script (λ all. Halts status (replay all) before after)
-Runs-end_halts None player status now later before mid after places n room h gives none some on = tt
-Runs-end_halts (Some all) player status now later before mid after places n room h gives none some on =
-    Halts-advanced status _ _ before mid after (RunsOn-end all player now later before mid places n room h gives none some).1 on
+pub Runs-start : (player : Player) (script taken : Option (List ℕ)) → ((octets : List ℕ) → left player octets ≡ replay octets) → Runs player script script taken taken
+Runs-start player script taken e =
+    record { seen = []; rest = unwrap_or script []; reads = Reads-start script; advances = λ octets. rw (e octets) (Advances-none (replay octets) taken) }
 
--- a read failed
-pub Runs-read_fault : (script : Option (List ℕ)) (player : Player) (now before after : Option (List ℕ)) → Runs script player now before after → IfSome script (λ all. Halts statuses.ReadFault (replay all) before after)
-Runs-read_fault None player now before after h = tt
-Runs-read_fault (Some all) player now before after h = Halts-read _ _ before after h.advances
+-- the next piece was played
+pub Runs-more : (player next : Player) (script now later before mid after : Option (List ℕ)) (places n : ℕ) (room : List ℕ) → Runs player script now before mid
+    → IfSome now (λ octets. Gives octets places n room later) → PlaysPiece player next (take n room) mid after → Runs next script later before after
+Runs-more player next script now later before mid after places n room h gives on = record {
+  seen = h.seen ++ take n room;
+  rest = drop n h.rest;
+  reads = Reads-more h.seen h.rest script now later places n room h.reads gives;
+  advances = λ octets. rw (append_assoc h.seen (take n room) octets) (Advances-trans _ _ _ before mid after (h.advances (take n room ++ octets)) (on.advances octets));
+}
 
--- memory ran out
-pub Runs-memory : (script : Option (List ℕ)) (player : Player) (now before after : Option (List ℕ)) → Runs script player now before after → IfSome script (λ all. Halts statuses.Memory (replay all) before after)
-Runs-memory None player now before after h = tt
-Runs-memory (Some all) player now before after h = Halts-memory _ _ before after h.advances
+-- ---- how it ends
+
+TakesFront-lines : (some others : List Line) (taken : List ℕ) (after : Option (List ℕ)) → TakesLines some taken after → TakesFront (some ++ others) taken after
+TakesFront-lines some others taken after h =
+    (length (text_of some), rw (h, text_of-append some others, take-append_seam (text_of some) (text_of others)) refl)
+
+TakesFront-limit : (k : ℕ) (some others : List Line) (taken : List ℕ) (after : Option (List ℕ)) → TakesLines (some ++ take k others) taken after → TakesFront (some ++ others) taken after
+TakesFront-limit k some others taken after h =
+    let e : (some ++ take k others) ++ drop k others ≡ some ++ others = append_assoc some (take k others) (drop k others) ∙ ap (λ lines. some ++ lines) (take-append-drop k others) in
+    subst (λ (lines : List Line). TakesFront lines taken after) e (TakesFront-lines (some ++ take k others) (drop k others) taken after h)
+
+-- whatever the status, a front of the replay's lines was taken
+TakesFront-written : (status : Status) (r : Replay) (taken : List ℕ) (after : Option (List ℕ)) → Writes status r taken after → TakesFront (r.lines ++ r.further) taken after
+TakesFront-written statuses.Done r taken after h = TakesFront-lines r.lines r.further taken after h
+TakesFront-written (statuses.Script line) r taken after h = TakesFront-lines r.lines r.further taken after h
+TakesFront-written (statuses.Limit line number) r taken after h = TakesFront-limit h.0 r.lines r.further taken after h.1
+TakesFront-written statuses.Usage r taken after h = h
+TakesFront-written (statuses.BadMessage place fault) r taken after h = h
+TakesFront-written statuses.ReadFault r taken after h = h
+TakesFront-written statuses.WriteFault r taken after h = h
+TakesFront-written statuses.Memory r taken after h = h
+
+Replays-tells : (status : Status) (octets : List ℕ) (script before after : Option (List ℕ)) → IfSome script (λ all. all ≡ octets) → Halts status (replay octets) before after → IfSome script (λ all. Tells status (replay all).ending)
+Replays-tells status octets None before after e h = tt
+Replays-tells status octets (Some all) before after e h = rw e h.tells
+
+Replays-writes : (status : Status) (octets : List ℕ) (script before after : Option (List ℕ)) → IfSome script (λ all. all ≡ octets) → Halts status (replay octets) before after → WhereTold script before (λ all taken. Writes status (replay all) taken after)
+Replays-writes status octets None before after e h = tt
+Replays-writes status octets (Some all) before after e h = rw e h.writes
+
+Replays-safe : Agreement → (status : Status) (octets : List ℕ) (before after : Option (List ℕ)) → Halts status (replay octets) before after → IfSome before (λ taken. TakesFront ((replay octets).lines ++ (replay octets).further) taken after)
+Replays-safe law status octets None after h = tt
+Replays-safe law status octets (Some taken) after h = TakesFront-written status (replay octets) taken after h.writes
+
+-- the replay of octets ended, which are all of the source's where it tells them
+Replays-halted : Agreement → (status : Status) (octets : List ℕ) (script before after : Option (List ℕ)) → IfSome script (λ all. all ≡ octets) → Halts status (replay octets) before after → Replays status script before after
+Replays-halted law status octets script before after e h = record {
+  of_replay = h.of_replay;
+  tells = Replays-tells status octets script before after e h;
+  writes = Replays-writes status octets script before after e h;
+  safe = IfSome-safely law octets before after (Replays-safe law status octets before after h);
+}
+
+Reads-all : (seen rest : List ℕ) (script now : Option (List ℕ)) → Reads seen rest script now → IfSome script (λ all. all ≡ seen ++ rest)
+Reads-all seen rest None now h = tt
+Reads-all seen rest (Some all) now h = h.1
+
+-- reading failed
+pub Replays-read : Agreement → (player : Player) (script now before after : Option (List ℕ)) → Runs player script now before after → Replays statuses.ReadFault script before after
+Replays-read law player script now before after h =
+    Replays-halted law statuses.ReadFault (h.seen ++ h.rest) script before after (Reads-all h.seen h.rest script now h.reads) (Halts-read _ _ before after (h.advances h.rest))
+
+-- the replay broke off at a piece
+pub Replays-broken : Agreement → (player : Player) (status : Status) (script now later before mid after : Option (List ℕ)) (places n : ℕ) (room : List ℕ) → Runs player script now before mid
+    → IfSome now (λ octets. Gives octets places n room later) → BreaksOff status player (take n room) mid after → Replays status script before after
+Replays-broken law player status script now later before mid after places n room h gives b =
+    let all = Reads-all _ _ script later (Reads-more h.seen h.rest script now later places n room h.reads gives) in
+    Replays-halted law status ((h.seen ++ take n room) ++ drop n h.rest) script before after all
+    (rw (append_assoc h.seen (take n room) (drop n h.rest)) (Halts-advanced status _ _ before mid after (h.advances (take n room ++ drop n h.rest)) (b.halts (drop n h.rest))))
+
+IfSome-first : (script : Option (List ℕ)) (P Q : List ℕ → Type 0) → IfSome script (λ all. P all × Q all) → IfSome script P
+IfSome-first None P Q h = tt
+IfSome-first (Some all) P Q h = h.0
+
+IfSome-second : (script : Option (List ℕ)) (P Q : List ℕ → Type 0) → IfSome script (λ all. P all × Q all) → IfSome script Q
+IfSome-second None P Q h = tt
+IfSome-second (Some all) P Q h = h.1
+
+-- the source and the replay ended
+pub Replays-ended : Agreement → (player : Player) (status : Status) (script now later before mid after : Option (List ℕ)) (places n : ℕ) (room : List ℕ) → Runs player script now before mid
+    → IfSome now (λ octets. Gives octets places n room later) → n ≡ 0 → 0 < places → Halts status (left player []) mid after → Replays status script before after
+Replays-ended law player status script now later before mid after places n room h gives none some halts =
+    let end = Reads-end h.seen h.rest script now later places n room h.reads gives none some in
+    let advanced = rw (append-nil h.seen) at (h.advances []) in
+    Replays-halted law status h.seen script before after (IfSome-second script (λ all. later ≡ Some []) (λ all. all ≡ h.seen) end) (Halts-advanced status _ _ before mid after advanced halts)
+
+pub Runs-read_to_end : (player : Player) (script now later before after : Option (List ℕ)) (places n : ℕ) (room : List ℕ) → Runs player script now before after
+    → IfSome now (λ octets. Gives octets places n room later) → n ≡ 0 → 0 < places → IsReadToEnd script later
+Runs-read_to_end player script now later before after places n room h gives none some =
+    IfSome-first script (λ all. later ≡ Some []) (λ all. all ≡ h.seen) (Reads-end h.seen h.rest script now later places n room h.reads gives none some)
+
+-- ---- devices
 
 -- counts of faults never fall
 pub HasRisen-later : (before mid after : ℕ) → before ≤ mid → mid ≤ after → HasRisen mid after → HasRisen before after

@@ -1,18 +1,17 @@
 -- What a replay tells is safe, and so is what a sink has taken of it.
-use Rattle.std.proofs.Common.{◌≡◌, ℕ, zero, suc, ◌+◌, ◌-◌, ◌<◌, ◌≤◌, ◌⊎◌, inl, inr, Bool, true, false, cond, leb, ltb, List, [], ◌∷◌, ◌++◌, length, take, reverse, Option, Some, None, IfSome, refl, ap, ◌∙◌, append_assoc, arith}
-use Rattle.std.proofs.lemmas.List.{append-nil, reverse-append, take-append-le}
+use Rattle.std.proofs.Common.{◌≡◌, ℕ, zero, suc, ◌+◌, ◌-◌, ◌<◌, ◌≤◌, ◌⊎◌, inl, inr, Bool, true, false, cond, leb, ltb, List, [], ◌∷◌, ◌++◌, length, take, Option, Some, None, IfSome, refl, ap, ◌∙◌, append_assoc, arith}
+use Rattle.std.proofs.lemmas.List.{append-nil, take-append-le}
 use Rattle.std.proofs.Math.Seq.{take-append-add}
 use Rattle.ots_model.specs.declared.line.Line.{Line}
 use Rattle.ots_model.specs.Line.{spelling, text_of}
-use Rattle.ots_model.specs.Safe.{AreSafe, Safe}
-use Rattle.ots_world.specs.declared.fault.TheConstants.{MESSAGE_LIMIT}
+use Rattle.ots_model.specs.Safe.{AreSafe}
 use Rattle.ots_world.specs.declared.script.ScriptEvent.{ScriptEvent}
 use Rattle.ots_world.specs.Agreement as agreement
 use Rattle.ots_world.specs.Agreement.{Agreement, Reaches}
 use Rattle.ots_world.specs.Script.{Reading, Blank, Says, Bad, reading}
 use Rattle.ots_world.specs.World.{World, Step, Stepped, Moves, Names, step}
-use Rattle.ots_program.specs.declared.status.TheConstants.{LINES_LIMIT, OCTETS_LIMIT}
-use Rattle.ots_program.specs.Answers.{IsPart, TakesReplay, TakesSafely}
+use Rattle.ots_program.specs.Limits.{lines_limit, message_limit, octets_limit}
+use Rattle.ots_program.specs.Answers.{IsPart, TakesFront, TakesSafely}
 use Rattle.ots_program.specs.Replay.{Row, size, Replay, Ending, Limited, Place, Turn, Goes, Stops, turn, turn_by, turn_of, behind, replay_from, replay, rows, start}
 use Rattle.ots_program.proofs.Replays.{replay-ended, replay-goes, replay-stops}
 
@@ -32,7 +31,7 @@ Follows-moved false to ending told r = r
 Follows-stepped : (p : Place) (event : ScriptEvent) (told : List Line) (t : Stepped) → Reaches p.world told → step event p.world ≡ t → Follows told (turn_by p t)
 Follows-stepped p event told Names r e = (p.world, Reaches-still p.world told r)
 Follows-stepped p event told (Moves to) r e =
-    Follows-moved (ltb MESSAGE_LIMIT (length to.world.board.messages)) to (Limited (p.lines + 1) MESSAGE_LIMIT) told (agreement.more p.world told event to r e)
+    Follows-moved (ltb message_limit (length to.world.board.messages)) to (Limited (p.lines + 1) message_limit) told (agreement.more p.world told event to r e)
 
 Follows-read : (p : Place) (told : List Line) (read : Reading) → Reaches p.world told → Follows told (turn_of p read)
 Follows-read p told Blank r = Reaches-still p.world told r
@@ -47,7 +46,7 @@ Follows-within false false p told one other t r h = h
 Follows-turn : (p : Place) (row : Row) (told : List Line) → Reaches p.world told → Follows told (turn p row)
 unfolding turn
 Follows-turn p row told r =
-    Follows-within (leb LINES_LIMIT p.lines) (ltb OCTETS_LIMIT (p.octets + size row)) p told (Limited (p.lines + 1) LINES_LIMIT) (Limited (p.lines + 1) OCTETS_LIMIT) (turn_of p (reading row.text)) r (Follows-read p told (reading row.text) r)
+    Follows-within (leb lines_limit p.lines) (ltb octets_limit (p.octets + size row)) p told (Limited (p.lines + 1) lines_limit) (Limited (p.lines + 1) octets_limit) (turn_of p (reading row.text)) r (Follows-read p told (reading row.text) r)
 
 -- lines and the replay behind them are safe
 abbrev SafeBehind : List Line → Replay → Type 0
@@ -71,13 +70,9 @@ SafeBehind-rows law p (row ∷ others) told r =
 replay-safe : Agreement → (octets : List ℕ) → AreSafe ((replay octets).lines ++ (replay octets).further)
 replay-safe law octets = SafeBehind-rows law start (rows octets) [] agreement.nothing
 
--- older lines of a safe history are safe
-Safe-older : (newer older : List Line) → Safe (newer ++ older) → Safe older
-Safe-older [] older h = h
-Safe-older (line ∷ newer) older h = Safe-older newer older h.1
-
+-- a front of safe lines is safe
 AreSafe-front : (some others : List Line) → AreSafe (some ++ others) → AreSafe some
-AreSafe-front some others h = Safe-older (reverse others) (reverse some) (rw (reverse-append some others) at h)
+AreSafe-front some others h = λ front behind is. h front (behind ++ others) (ap (λ x. x ++ others) is ∙ append_assoc front behind others)
 
 -- a front of a text, as whole lines and a part of the next one
 record IsCut (n : ℕ) (all : List Line) : Type 0 where
@@ -127,22 +122,23 @@ cut n (line ∷ all) = elim (low_or_high n (length (spelling line))) [
   | inr h ↦ IsCut-over n line all h (cut (n - length (spelling line)) all)
 ]
 
-TakesSafely-replay : Agreement → (before : List ℕ) (after : Option (List ℕ)) → TakesReplay before after → TakesSafely before after
-TakesSafely-replay law before after h =
-    let all = (replay h.octets).lines ++ (replay h.octets).further in
-    let k = cut h.taken.0 all in
+-- a front of the text of what a replay tells
+TakesSafely-front : Agreement → (octets before : List ℕ) (after : Option (List ℕ)) → TakesFront ((replay octets).lines ++ (replay octets).further) before after → TakesSafely before after
+TakesSafely-front law octets before after h =
+    let all = (replay octets).lines ++ (replay octets).further in
+    let k = cut h.0 all in
     record {
-      octets = h.octets;
+      octets = octets;
       lines = k.lines;
       others = k.others;
       of_replay = k.split;
       part = k.part;
       of_next = k.of_next;
-      taken = rw (h.taken.1, k.text) refl;
-      safe = AreSafe-front k.lines k.others (rw k.split at (replay-safe law h.octets));
+      taken = rw (h.1, k.text) refl;
+      safe = AreSafe-front k.lines k.others (rw k.split at (replay-safe law octets));
     }
 
 -- what was taken is safe
-pub IfSome-safely : Agreement → (before after : Option (List ℕ)) → IfSome before (λ taken. TakesReplay taken after) → IfSome before (λ taken. TakesSafely taken after)
-IfSome-safely law None after h = tt
-IfSome-safely law (Some taken) after h = TakesSafely-replay law taken after h
+pub IfSome-safely : Agreement → (octets : List ℕ) (before after : Option (List ℕ)) → IfSome before (λ taken. TakesFront ((replay octets).lines ++ (replay octets).further) taken after) → IfSome before (λ taken. TakesSafely taken after)
+IfSome-safely law octets None after h = tt
+IfSome-safely law octets (Some taken) after h = TakesSafely-front law octets taken after h

@@ -14,8 +14,9 @@ use Rattle.ots_outside.specs.Sink.{Takes, TakesPart}
 use Rattle.ots_outside.specs.Source.{Gives}
 use Rattle.ots_program.specs.declared.status.Status.{Status}
 use Rattle.ots_program.specs.declared.status.Status.TheVariants as statuses
-use Rattle.ots_program.specs.Show.{Ends, Shows, StopsShow, WritesMessageLines}
-use Rattle.ots_program.specs.ShowInside.{Breaks, BrokeOff, EndsCut, EndsWhole, OfPiece, TellsBreak, TellsPiece, TookPiece, status_by}
+use Rattle.ots_program.specs.Answers.{IsReadToEnd}
+use Rattle.ots_program.specs.Show.{Ends, OfShow, Shows, ShowsOctets, WritesMessageLines}
+use Rattle.ots_program.specs.ShowInside.{Breaks, BrokeOff, EndsStream, GivesMessages, OfPiece, StopsShow, TellsBreak, TellsPiece, TookPiece, status_by}
 use Rattle.ots_program.specs.MessageLine.{message_line, message_lines}
 use Rattle.ots_program.proofs.Taken.{Takes-none, Takes-trans}
 
@@ -42,14 +43,14 @@ begun_on octets more messages b = record {
 -- so far in a piece: these messages are whole, and their lines were told
 pub record Telling (old now : Held) (piece told : List ℕ) : Type 0 where
   pub messages : List Framed
-  pub holds : (octets : List ℕ) (given : List Framed) → Holds octets given old → Holds (octets ++ piece) (given ++ messages) now
+  pub gives : GivesMessages old now piece messages
   pub told_is : told ≡ message_lines messages
   pub accepts : now.refused ≡ None
 
 pub telling_start : (old now : Held) (piece told : List ℕ) → ((octets : List ℕ) (given : List Framed) → Holds octets given old → Holds (octets ++ piece) given now) → told ≡ [] → now.refused ≡ None → Telling old now piece told
 telling_start old now piece told fed none accepts = record {
   messages = [];
-  holds = λ octets given h. subst (λ (ms : List Framed). Holds (octets ++ piece) ms now) (sym (append-nil given)) (fed octets given h);
+  gives = λ octets given h. subst (λ (ms : List Framed). Holds (octets ++ piece) ms now) (sym (append-nil given)) (fed octets given h);
   told_is = none;
   accepts = accepts;
 }
@@ -61,7 +62,7 @@ pub telling_more : (old now next : Held) (piece told more : List ℕ) (m : Frame
     → more ≡ told ++ message_line m → next.refused ≡ None → Telling old next piece more
 telling_more old now next piece told more m t gives written accepts = record {
   messages = t.messages ++ m ∷ [];
-  holds = λ octets given h. subst (λ (ms : List Framed). Holds (octets ++ piece) ms next) (append_assoc given t.messages (m ∷ [])) (gives (octets ++ piece) (given ++ t.messages) (t.holds octets given h));
+  gives = λ octets given h. subst (λ (ms : List Framed). Holds (octets ++ piece) ms next) (append_assoc given t.messages (m ∷ [])) (gives (octets ++ piece) (given ++ t.messages) (t.gives octets given h));
   told_is = written ∙ ap (λ (x : List ℕ). x ++ message_line m) t.told_is ∙ sym (message_lines-push t.messages m);
   accepts = accepts;
 }
@@ -71,18 +72,24 @@ pub telling_memory : (old now : Held) (piece told : List ℕ) → Telling old no
 telling_memory old now piece told t = record {
   messages = t.messages;
   stops = tt;
-  ends = λ octets given h. held_begun (octets ++ piece) (given ++ t.messages) now (t.holds octets given h);
+  breaks = λ octets given h. held_begun (octets ++ piece) (given ++ t.messages) now (t.gives octets given h);
   told_is = t.told_is;
 }
 
 -- nothing was taken of the piece
-pub telling_none : (old : Held) (piece told : List ℕ) → told ≡ [] → TellsBreak statuses.Memory old piece told
+telling_none : (old : Held) (piece told : List ℕ) → told ≡ [] → TellsBreak statuses.Memory old piece told
 telling_none old piece told none = record {
   messages = [];
   stops = tt;
-  ends = λ octets given h. subst (λ (ms : List Framed). IsBegun ms (octets ++ piece)) (sym (append-nil given)) (begun_on octets piece given (held_begun octets given old h));
+  breaks = λ octets given h. subst (λ (ms : List Framed). IsBegun ms (octets ++ piece)) (sym (append-nil given)) (begun_on octets piece given (held_begun octets given old h));
   told_is = none;
 }
+
+-- the stream takes a piece unless memory runs out
+pub telling_unfed : (old now : Held) (piece told : List ℕ) (fault : FrameFault) → old.refused ≡ None → (fault ≡ faults.Memory) ⊎ (old.refused ≡ Some fault) → told ≡ []
+    → TellsBreak (status_by (place_of now) fault) old piece told
+telling_unfed old now piece told fault accepts (inl memory) none = rw memory (telling_none old piece told none)
+telling_unfed old now piece told fault accepts (inr refused) none = absurd (cc (accepts, refused))
 
 placed : (h : Held) (fault : FrameFault) → h.refused ≡ Some fault → place_of h ≡ h.place
 placed h fault e = ap (λ (r : Option FrameFault). place_by h.place r h.unfinished) e
@@ -95,7 +102,7 @@ bad old now next piece told fault t not (inl memory) remembered = absurd (not me
 bad old now next piece told fault t not (inr refused) (inr remembered) = record {
   messages = t.messages;
   stops = tt;
-  ends = λ octets given h. subst (λ (n : ℕ). IsRefused (given ++ t.messages) n fault (octets ++ piece)) (sym (placed next fault remembered)) (refused (octets ++ piece) (given ++ t.messages) (t.holds octets given h));
+  breaks = λ octets given h. subst (λ (n : ℕ). IsRefused (given ++ t.messages) n fault (octets ++ piece)) (sym (placed next fault remembered)) (refused (octets ++ piece) (given ++ t.messages) (t.gives octets given h));
   told_is = t.told_is;
 }
 
@@ -156,13 +163,13 @@ pub write_broke : (result : Result (Unit {0}) Status) (old new : Held) (piece to
 write_broke (Ok x) old new piece told before after t b part = record {
   messages = t.messages;
   stops = tt;
-  ends = λ octets given h. held_begun (octets ++ piece) (given ++ t.messages) new (t.holds octets given h);
+  breaks = λ octets given h. held_begun (octets ++ piece) (given ++ t.messages) new (t.gives octets given h);
   writes = front_written t.messages told before after t.told_is part;
 }
 write_broke (Err status) old new piece told before after t b part = record {
   messages = b.messages;
   stops = tt;
-  ends = λ octets given h. breaks_begun status (given ++ b.messages) (octets ++ piece) (b.ends octets given h);
+  breaks = λ octets given h. breaks_begun status (given ++ b.messages) (octets ++ piece) (b.breaks octets given h);
   writes = front_written b.messages told before after b.told_is part;
 }
 
@@ -191,7 +198,7 @@ more octets left next before now after h new places n room s gives t =
       left_is = g.rest;
       whole = s.whole ∙ ap (λ (x : List ℕ). s.read ++ x) (sym (take-append-drop n s.rest) ∙ ap (λ (x : List ℕ). x ++ drop n s.rest) (sym g.octets)) ∙ sym (append_assoc s.read (take n room) (drop n s.rest));
       messages = s.messages ++ t.messages;
-      holds = t.holds s.read s.messages s.holds;
+      holds = t.gives s.read s.messages s.holds;
       taken = subst (λ (x : List ℕ). Takes before x after) (sym (flat_map-append message_line s.messages t.messages)) (Takes-trans (message_lines s.messages) (message_lines t.messages) before now after s.taken t.taken);
     }
 
@@ -202,7 +209,7 @@ showing_more (Some octets) left next before now after h new places n room s give
 
 -- what a show of these octets wrote, where the sink tells it
 abbrev pub ShowsTold : Status → List ℕ → Option (List ℕ) → Option (List ℕ) → Type 0
-ShowsTold status octets before after = IfSome before (λ taken. Shows status octets taken after)
+ShowsTold status octets before after = IfSome before (λ taken. ShowsOctets status octets taken after)
 
 told : (status : Status) (octets : List ℕ) (messages : List Framed) (before after : Option (List ℕ)) → Ends status messages octets → IfSome before (λ taken. WritesMessageLines status messages taken after) → ShowsTold status octets before after
 told status octets messages None after ends writes = tt
@@ -214,18 +221,13 @@ begun_shows status octets left before now h ends s =
     let begun : IsBegun s.messages octets = subst (λ (x : List ℕ). IsBegun s.messages x) (sym s.whole) (begun_on s.read s.rest s.messages (held_begun s.read s.messages h s.holds)) in
     told status octets s.messages before now (ends s.messages begun) (written status s.messages (message_lines s.messages) before now refl s.taken)
 
--- reading failed
-pub read_failed : (script left before now : Option (List ℕ)) (h : Held) → IfSome script (λ octets. Showing octets left before now h) → IfSome script (λ octets. ShowsTold statuses.ReadFault octets before now)
+read_failed : (script left before now : Option (List ℕ)) (h : Held) → IfSome script (λ octets. Showing octets left before now h) → IfSome script (λ octets. ShowsTold statuses.ReadFault octets before now)
 read_failed None left before now h s = tt
 read_failed (Some octets) left before now h s = begun_shows statuses.ReadFault octets left before now h (λ messages b. b) s
 
-nothing_begun : (octets : List ℕ) → IsBegun [] octets
-nothing_begun octets = record { parts = []; rest = octets; splits = record { front = []; whole = refl; are_parts = refl; taken = tt; messages_are = refl } }
-
--- nothing was read for want of memory
-pub memory_first : (script before : Option (List ℕ)) → IfSome script (λ octets. ShowsTold statuses.Memory octets before before)
-memory_first None before = tt
-memory_first (Some octets) before = told statuses.Memory octets [] before before (nothing_begun octets) (written statuses.Memory [] [] before before refl (Takes-none before))
+-- reading failed
+pub showing_failed : (script left before now : Option (List ℕ)) (h : Held) → IfSome script (λ octets. Showing octets left before now h) → Shows statuses.ReadFault script before now
+showing_failed script left before now h s = record { of_show = tt; writes = read_failed script left before now h s }
 
 abbrev no_octets : List ℕ
 no_octets = []
@@ -236,30 +238,48 @@ nothing_left octets left next before now h places n room s gives none place =
     let empty : s.rest ≡ [] = g.end none place in
     (s.whole ∙ ap (λ (x : List ℕ). s.read ++ x) empty ∙ append-nil s.read, g.rest ∙ ap (λ (x : List ℕ). Some (drop n x)) empty ∙ ap (λ (k : ℕ). Some (drop k (no_octets))) none)
 
--- the source ended between messages
-pub ended_whole : (script left next before now : Option (List ℕ)) (h : Held) (places n : ℕ) (room : List ℕ) → IfSome script (λ octets. Showing octets left before now h) → IfSome left (λ l. Gives l places n room next) → n ≡ 0 → 0 < places → EndsWhole h
-    → IfSome script (λ octets. ShowsTold statuses.Done octets before now)
-ended_whole None left next before now h places n room s gives none place ends = tt
-ended_whole (Some octets) left next before now h places n room s gives none place ends =
+-- the source was read to its end
+pub read_to_end : (script left next before now : Option (List ℕ)) (h : Held) (places n : ℕ) (room : List ℕ) → IfSome script (λ octets. Showing octets left before now h) → IfSome left (λ l. Gives l places n room next) → n ≡ 0 → 0 < places → IsReadToEnd script next
+read_to_end None left next before now h places n room s gives none place = tt
+read_to_end (Some octets) left next before now h places n room s gives none place = (nothing_left octets left next before now h places n room s gives none place).1
+
+ended_told : (status : Status) (octets : List ℕ) (left next before now : Option (List ℕ)) (h : Held) (places n : ℕ) (room : List ℕ) → Showing octets left before now h → IfSome left (λ l. Gives l places n room next) → n ≡ 0 → 0 < places → EndsStream status h
+    → ShowsTold status octets before now
+ended_told statuses.Done octets left next before now h places n room s gives none place ends =
     let all = nothing_left octets left next before now h places n room s gives none place in
     let whole : IsWhole s.messages octets = subst (λ (x : List ℕ). IsWhole s.messages x) (sym all.0) (ends s.read s.messages s.holds) in
     told statuses.Done octets s.messages before now whole (written statuses.Done s.messages (message_lines s.messages) before now refl s.taken)
-
--- the source ended inside a message
-pub ended_cut : (status : Status) (script left next before now : Option (List ℕ)) (h : Held) (places n : ℕ) (room : List ℕ) → IfSome script (λ octets. Showing octets left before now h) → IfSome left (λ l. Gives l places n room next) → n ≡ 0 → 0 < places → EndsCut h status
-    → IfSome script (λ octets. ShowsTold status octets before now)
-ended_cut status None left next before now h places n room s gives none place ends = tt
-ended_cut statuses.Done (Some octets) left next before now h places n room s gives none place ends = absurd ends
-ended_cut statuses.Usage (Some octets) left next before now h places n room s gives none place ends = absurd ends
-ended_cut (statuses.Script line) (Some octets) left next before now h places n room s gives none place ends = absurd ends
-ended_cut statuses.ReadFault (Some octets) left next before now h places n room s gives none place ends = absurd ends
-ended_cut statuses.WriteFault (Some octets) left next before now h places n room s gives none place ends = absurd ends
-ended_cut (statuses.Limit line number) (Some octets) left next before now h places n room s gives none place ends = absurd ends
-ended_cut statuses.Memory (Some octets) left next before now h places n room s gives none place ends = absurd ends
-ended_cut (statuses.BadMessage at fault) (Some octets) left next before now h places n room s gives none place ends =
+ended_told (statuses.BadMessage at fault) octets left next before now h places n room s gives none place ends =
     let all = nothing_left octets left next before now h places n room s gives none place in
     let cut : IsCut s.messages at octets = subst (λ (x : List ℕ). IsCut s.messages at x) (sym all.0) (ends.1 s.read s.messages s.holds) in
     told (statuses.BadMessage at fault) octets s.messages before now (inr (ends.0, cut)) (written (statuses.BadMessage at fault) s.messages (message_lines s.messages) before now refl s.taken)
+ended_told statuses.Usage octets left next before now h places n room s gives none place ends = absurd ends
+ended_told (statuses.Script line) octets left next before now h places n room s gives none place ends = absurd ends
+ended_told statuses.ReadFault octets left next before now h places n room s gives none place ends = absurd ends
+ended_told statuses.WriteFault octets left next before now h places n room s gives none place ends = absurd ends
+ended_told (statuses.Limit line number) octets left next before now h places n room s gives none place ends = absurd ends
+ended_told statuses.Memory octets left next before now h places n room s gives none place ends = absurd ends
+
+OfShow-ended : (status : Status) (h : Held) → EndsStream status h → OfShow status
+OfShow-ended statuses.Done h ends = tt
+OfShow-ended (statuses.BadMessage at fault) h ends = tt
+OfShow-ended statuses.Usage h ends = absurd ends
+OfShow-ended (statuses.Script line) h ends = absurd ends
+OfShow-ended statuses.ReadFault h ends = absurd ends
+OfShow-ended statuses.WriteFault h ends = absurd ends
+OfShow-ended (statuses.Limit line number) h ends = absurd ends
+OfShow-ended statuses.Memory h ends = absurd ends
+
+ended_writes : (status : Status) (script left next before now : Option (List ℕ)) (h : Held) (places n : ℕ) (room : List ℕ) → IfSome script (λ octets. Showing octets left before now h) → IfSome left (λ l. Gives l places n room next) → n ≡ 0 → 0 < places → EndsStream status h
+    → IfSome script (λ octets. ShowsTold status octets before now)
+ended_writes status None left next before now h places n room s gives none place ends = tt
+ended_writes status (Some octets) left next before now h places n room s gives none place ends = ended_told status octets left next before now h places n room s gives none place ends
+
+-- the source ended, between messages or inside one
+pub showing_ended : (status : Status) (script left next before now : Option (List ℕ)) (h : Held) (places n : ℕ) (room : List ℕ) → IfSome script (λ octets. Showing octets left before now h) → IfSome left (λ l. Gives l places n room next) → n ≡ 0 → 0 < places → EndsStream status h
+    → Shows status script before now
+showing_ended status script left next before now h places n room s gives none place ends =
+    record { of_show = OfShow-ended status h ends; writes = ended_writes status script left next before now h places n room s gives none place ends }
 
 -- a law: octets that are refused are refused with more of them too
 abbrev pub RefusalGoesOn : Type 0
@@ -270,7 +290,7 @@ breaks_end law statuses.Done messages octets more stops b = absurd stops
 breaks_end law statuses.Usage messages octets more stops b = absurd stops
 breaks_end law (statuses.Script line) messages octets more stops b = absurd stops
 breaks_end law (statuses.Limit line number) messages octets more stops b = absurd stops
-breaks_end law statuses.ReadFault messages octets more stops b = begun_on octets more messages b
+breaks_end law statuses.ReadFault messages octets more stops b = absurd stops
 breaks_end law statuses.WriteFault messages octets more stops b = begun_on octets more messages b
 breaks_end law statuses.Memory messages octets more stops b = begun_on octets more messages b
 breaks_end law (statuses.BadMessage place fault) messages octets more stops b = inl (law messages place fault octets more b)
@@ -285,7 +305,7 @@ ahead statuses.Done messages more taken now after e w stops = absurd stops
 ahead statuses.Usage messages more taken now after e w stops = absurd stops
 ahead (statuses.Script line) messages more taken now after e w stops = absurd stops
 ahead (statuses.Limit line number) messages more taken now after e w stops = absurd stops
-ahead statuses.ReadFault messages more taken now after e w stops = ahead_front messages more taken after (rw e at w)
+ahead statuses.ReadFault messages more taken now after e w stops = absurd stops
 ahead statuses.WriteFault messages more taken now after e w stops = ahead_front messages more taken after (rw e at w)
 ahead statuses.Memory messages more taken now after e w stops = ahead_front messages more taken after (rw e at w)
 ahead (statuses.BadMessage place fault) messages more taken now after e w stops =
@@ -300,18 +320,33 @@ broke : RefusalGoesOn → (status : Status) (octets : List ℕ) (left next befor
 broke law status octets left next before now after h places n room s gives b =
     let g : Gives s.rest places n room next = rw s.left_is at gives in
     let whole : octets ≡ (s.read ++ take n room) ++ drop n s.rest = s.whole ∙ ap (λ (x : List ℕ). s.read ++ x) (sym (take-append-drop n s.rest) ∙ ap (λ (x : List ℕ). x ++ drop n s.rest) (sym g.octets)) ∙ sym (append_assoc s.read (take n room) (drop n s.rest)) in
-    let ends : Ends status (s.messages ++ b.messages) octets = subst (λ (x : List ℕ). Ends status (s.messages ++ b.messages) x) (sym whole) (breaks_end law status (s.messages ++ b.messages) (s.read ++ take n room) (drop n s.rest) b.stops (b.ends s.read s.messages s.holds)) in
+    let ends : Ends status (s.messages ++ b.messages) octets = subst (λ (x : List ℕ). Ends status (s.messages ++ b.messages) x) (sym whole) (breaks_end law status (s.messages ++ b.messages) (s.read ++ take n room) (drop n s.rest) b.stops (b.breaks s.read s.messages s.holds)) in
     told status octets (s.messages ++ b.messages) before after ends (broke_writes status s.messages b.messages before now after s.taken b.writes b.stops)
+
+broke_told : RefusalGoesOn → (status : Status) (script left next before now after : Option (List ℕ)) (h : Held) (places n : ℕ) (room : List ℕ) → IfSome script (λ octets. Showing octets left before now h) → IfSome left (λ l. Gives l places n room next) → BrokeOff status h (take n room) now after
+    → IfSome script (λ octets. ShowsTold status octets before after)
+broke_told law status None left next before now after h places n room s gives b = tt
+broke_told law status (Some octets) left next before now after h places n room s gives b = broke law status octets left next before now after h places n room s gives b
+
+OfShow-stopped : (status : Status) → StopsShow status → OfShow status
+OfShow-stopped statuses.WriteFault stops = tt
+OfShow-stopped (statuses.BadMessage place fault) stops = tt
+OfShow-stopped statuses.Memory stops = tt
+OfShow-stopped statuses.Done stops = absurd stops
+OfShow-stopped statuses.Usage stops = absurd stops
+OfShow-stopped (statuses.Script line) stops = absurd stops
+OfShow-stopped statuses.ReadFault stops = absurd stops
+OfShow-stopped (statuses.Limit line number) stops = absurd stops
 
 -- a show broke off at a piece
 pub showing_broke : RefusalGoesOn → (status : Status) (script left next before now after : Option (List ℕ)) (h : Held) (places n : ℕ) (room : List ℕ) → IfSome script (λ octets. Showing octets left before now h) → IfSome left (λ l. Gives l places n room next) → BrokeOff status h (take n room) now after
-    → IfSome script (λ octets. ShowsTold status octets before after)
-showing_broke law status None left next before now after h places n room s gives b = tt
-showing_broke law status (Some octets) left next before now after h places n room s gives b = broke law status octets left next before now after h places n room s gives b
+    → Shows status script before after
+showing_broke law status script left next before now after h places n room s gives b =
+    record { of_show = OfShow-stopped status b.stops; writes = broke_told law status script left next before now after h places n room s gives b }
 
 -- ---- the end of the stream
 
-pub ends_whole : (h : Held) → h.unfinished ≡ [] → h.rest ≡ [] → EndsWhole h
+ends_whole : (h : Held) → h.unfinished ≡ [] → h.rest ≡ [] → EndsStream statuses.Done h
 ends_whole h none empty octets messages holds = record {
   parts = holds.parts;
   splits = subst (λ (rest : List ℕ). Splits octets holds.parts messages rest) empty holds.splits;
@@ -323,24 +358,29 @@ no_items [] h = refl
 no_items (x ∷ xs) h = absurd (h (λ e. cc))
 
 -- the stream ends with no message unfinished
-pub ends_finished : (h : Held) → (IsUnfinished h → ⊥) → EndsWhole h
+pub ends_finished : (h : Held) → (IsUnfinished h → ⊥) → EndsStream statuses.Done h
 ends_finished h not = ends_whole h (no_items h.unfinished (λ some. not (inl some))) (no_items h.rest (λ some. not (inr some)))
 
 inside_parts : (h : Held) (messages : List Unfinished) → h.unfinished ≡ messages → IsUnfinished h → (messages ≢ []) ⊎ (h.rest ≢ [])
 inside_parts h messages e (inl some) = inl (λ none. some (e ∙ none))
 inside_parts h messages e (inr rest) = inr rest
 
--- ---- statuses
+-- ---- a stop in a piece
 
-pub not_read : (status : Status) → OfPiece status → status ≢ statuses.ReadFault
-not_read statuses.Memory own e = cc
-not_read (statuses.BadMessage place fault) own e = cc
-not_read statuses.Done own e = own
-not_read statuses.Usage own e = own
-not_read (statuses.Script line) own e = own
-not_read statuses.ReadFault own e = own
-not_read statuses.WriteFault own e = own
-not_read (statuses.Limit line number) own e = own
+StopsShow-piece : (status : Status) → OfPiece status → StopsShow status
+StopsShow-piece statuses.WriteFault own = tt
+StopsShow-piece statuses.Memory own = own
+StopsShow-piece (statuses.BadMessage place fault) own = own
+StopsShow-piece statuses.Done own = own
+StopsShow-piece statuses.Usage own = own
+StopsShow-piece (statuses.Script line) own = own
+StopsShow-piece statuses.ReadFault own = own
+StopsShow-piece (statuses.Limit line number) own = own
+
+-- a show stopped in a piece, and the lines so far went out
+pub stopped_broke : (status : Status) (old : Held) (piece told : List ℕ) (before after : Option (List ℕ)) → TellsBreak status old piece told → Takes before told after → BrokeOff status old piece before after
+stopped_broke status old piece told before after b taken =
+    record { messages = b.messages; stops = StopsShow-piece status b.stops; breaks = b.breaks; writes = written status b.messages told before after b.told_is taken }
 
 pub not_write : (status : Status) → OfPiece status → status ≢ statuses.WriteFault
 not_write statuses.Memory own e = cc

@@ -10,9 +10,10 @@ use Rattle.ots_program.specs.declared.player.Stop.{Stop}
 use Rattle.ots_program.specs.declared.player.Stop.TheVariants as stops
 use Rattle.ots_program.specs.declared.status.Status.{Status}
 use Rattle.ots_program.specs.declared.status.Status.TheVariants as statuses
-use Rattle.ots_program.specs.Answers.{Advances, BreaksOff, Completes, Halts, TakesFront, Tells, Writes, status_of}
-use Rattle.ots_program.specs.Playing.{Passes, StopsAt, Ends, left}
+use Rattle.ots_program.specs.Answers.{OfReplay, TakesFront, Tells, Writes}
+use Rattle.ots_program.specs.Playing.{Ends, IsFed, StopsAt, StopsIn, left, octets_fed}
 use Rattle.ots_program.specs.Replay.{Replay, ahead_of}
+use Rattle.ots_program.specs.ReplayInside.{Advances, BreaksOff, Halts, IsReady, PlaysPiece, StopsReplay, status_of}
 use Rattle.ots_program.proofs.Told.{IsFront, IsFront-ahead, IsFront-passed, IsFront-stopped, IsFront-ended, take-shorter, text_of-append}
 
 pub Takes-none : (taken : Option (List ℕ)) → Takes taken [] taken
@@ -42,19 +43,19 @@ pub Advances-trans : (r s t : Replay) (before mid after : Option (List ℕ)) →
 Advances-trans r s t before mid after h k =
     record { lines = h.lines ++ k.lines; whole = rw (h.whole, k.whole, append_assoc) refl; taken = rw (text_of-append h.lines k.lines) (Takes-trans (text_of h.lines) (text_of k.lines) before mid after h.taken k.taken) }
 
+-- ---- a replay that ends
+
 -- the output was written in part
-pub Halts-write : (r : Replay) (told : List ℕ) (before after : Option (List ℕ)) → IsFront told r → TakesPart before told after → Halts statuses.WriteFault r before after
-Halts-write r told before after front h = record { early = tt; tells = tt; writes = TakesFront-part told r before after front h }
+Halts-write : (r : Replay) (told : List ℕ) (before after : Option (List ℕ)) → IsFront told r → TakesPart before told after → Halts statuses.WriteFault r before after
+Halts-write r told before after front h = record { of_replay = tt; tells = tt; writes = TakesFront-part told r before after front h }
 
-TakesFront-advanced : (r s : Replay) (before after : Option (List ℕ)) → Advances r s before after → IfSome before (λ taken. TakesFront (r.lines ++ r.further) taken after)
-TakesFront-advanced r s before after h =
-    rw h.whole (TakesFront-part (text_of h.lines) (ahead_of h.lines s) before after (IsFront-ahead h.lines s) (Takes-part (text_of h.lines) before after h.taken))
-
+-- reading failed behind what was played so far
 pub Halts-read : (r s : Replay) (before after : Option (List ℕ)) → Advances r s before after → Halts statuses.ReadFault r before after
-Halts-read r s before after h = record { early = tt; tells = tt; writes = TakesFront-advanced r s before after h }
-
-pub Halts-memory : (r s : Replay) (before after : Option (List ℕ)) → Advances r s before after → Halts statuses.Memory r before after
-Halts-memory r s before after h = record { early = tt; tells = tt; writes = TakesFront-advanced r s before after h }
+Halts-read r s before after h = record {
+  of_replay = tt;
+  tells = tt;
+  writes = rw h.whole (TakesFront-part (text_of h.lines) (ahead_of h.lines s) before after (IsFront-ahead h.lines s) (Takes-part (text_of h.lines) before after h.taken));
+}
 
 -- the replay stopped, and the output was written
 Writes-stopped : (stop : Stop) (r : Replay) (told : List ℕ) (before after : Option (List ℕ)) → StopsAt stop r [] told → Takes before told after → IfSome before (λ taken. Writes (status_of stop) r taken after)
@@ -69,59 +70,86 @@ Tells-stopped (stops.Script line) r told h = h.0
 Tells-stopped (stops.Limit line number) r told h = h.0
 Tells-stopped stops.Memory r told h = tt
 
-pub BreaksOff-stopped : (stop : Stop) → BreaksOff (status_of stop)
-BreaksOff-stopped (stops.Script line) = tt
-BreaksOff-stopped (stops.Limit line number) = tt
-BreaksOff-stopped stops.Memory = tt
+OfReplay-stopped : (stop : Stop) → OfReplay (status_of stop)
+OfReplay-stopped (stops.Script line) = tt
+OfReplay-stopped (stops.Limit line number) = tt
+OfReplay-stopped stops.Memory = tt
 
 pub Halts-stopped : (stop : Stop) (r : Replay) (told : List ℕ) (before after : Option (List ℕ)) → StopsAt stop r [] told → Takes before told after → Halts (status_of stop) r before after
 Halts-stopped stop r told before after h k =
-    record { early = BreaksOff-stopped stop; tells = Tells-stopped stop r told h; writes = Writes-stopped stop r told before after h k }
+    record { of_replay = OfReplay-stopped stop; tells = Tells-stopped stop r told h; writes = Writes-stopped stop r told before after h k }
+
+-- the script ended, and the output was written
+pub Halts-ended : (r : Replay) (told : List ℕ) (before after : Option (List ℕ)) → Ends r [] told → Takes before told after → Halts statuses.Done r before after
+Halts-ended r told before after h k = record { of_replay = tt; tells = h.ending; writes = rw h.told at k }
+
+-- the last output was written in part
+pub Halts-cut : (result : Result (Unit {0}) Stop) (r : Replay) (output told : List ℕ) (before after : Option (List ℕ)) → output ≡ []
+    → OnOk result (Ends r output told) → IfErr result (λ stop. StopsAt stop r output told)
+    → TakesPart before told after → Halts statuses.WriteFault r before after
+Halts-cut (Ok done) r output told before after none on stop h = Halts-write r told before after (IsFront-ended r told (rw none at on)) h
+Halts-cut (Err why) r output told before after none on stop h = Halts-write r told before after (IsFront-stopped why r told (rw none at stop)) h
+
+-- ---- a piece
+
+-- a player was fed a piece, and what it told was written
+pub PlaysPiece-fed : (old fed new : Player) (piece : List ℕ) (before after : Option (List ℕ)) → old.output.items ≡ [] → IsFed old fed piece
+    → IsReady new → octets_fed new ≡ octets_fed fed → ((rest : List ℕ) → left new rest ≡ left fed rest)
+    → Takes before fed.output.items after → PlaysPiece old new piece before after
+PlaysPiece-fed old fed new piece before after none h ready count same k = record {
+  ready = ready;
+  fed = omega (arith, h.count, count);
+  advances = λ rest.
+      let p = h.passes rest in
+      record { lines = p.lines; whole = rw (same rest) p.whole; taken = rw (p.told, none) at k };
+}
+
+StopsReplay-stopped : (stop : Stop) → StopsReplay (status_of stop)
+StopsReplay-stopped (stops.Script line) = tt
+StopsReplay-stopped (stops.Limit line number) = tt
+StopsReplay-stopped stops.Memory = tt
+
+-- a player stopped in a piece, and what it told was written
+pub BreaksOff-stopped : (stop : Stop) (old fed : Player) (piece : List ℕ) (before after : Option (List ℕ)) → old.output.items ≡ [] → StopsIn stop old fed piece
+    → Takes before fed.output.items after → BreaksOff (status_of stop) old piece before after
+BreaksOff-stopped stop old fed piece before after none h k = record {
+  stops = StopsReplay-stopped stop;
+  halts = λ rest. Halts-stopped stop _ _ before after (rw none at (h rest)) k;
+}
+
+-- what a player told of a piece was written in part
+pub BreaksOff-cut : (result : Result (Unit {0}) Stop) (old fed : Player) (piece : List ℕ) (before after : Option (List ℕ)) → old.output.items ≡ []
+    → OnOk result (IsFed old fed piece) → IfErr result (λ stop. StopsIn stop old fed piece)
+    → TakesPart before fed.output.items after → BreaksOff statuses.WriteFault old piece before after
+BreaksOff-cut (Ok done) old fed piece before after none h stop k =
+    record { stops = tt; halts = λ rest. Halts-write _ _ before after (IsFront-passed _ _ _ (rw none at (h.passes rest))) k }
+BreaksOff-cut (Err why) old fed piece before after none h stop k =
+    record { stops = tt; halts = λ rest. Halts-write _ _ before after (IsFront-stopped why _ _ (rw none at (stop rest))) k }
+
+-- ---- behind lines
 
 -- a front of what is left, behind the lines so far
 TakesFront-ahead : (lines : List Line) (r : Replay) (taken more : List ℕ) (after : Option (List ℕ)) → more ≡ taken ++ text_of lines → TakesFront (r.lines ++ r.further) more after → TakesFront ((lines ++ r.lines) ++ r.further) taken after
 TakesFront-ahead lines r taken more after e h =
     (length (text_of lines) + h.0, rw (h.1, e, append_assoc lines r.lines r.further, text_of-append lines (r.lines ++ r.further), take-append-add (text_of lines) (text_of (r.lines ++ r.further)) h.0, append_assoc) refl)
 
-Writes-ahead : (status : Status) (lines : List Line) (r : Replay) (taken more : List ℕ) (after : Option (List ℕ)) → BreaksOff status → more ≡ taken ++ text_of lines → Writes status r more after → Writes status (ahead_of lines r) taken after
-Writes-ahead statuses.Done lines r taken more after early e h = absurd early
-Writes-ahead statuses.Usage lines r taken more after early e h = absurd early
-Writes-ahead (statuses.Script line) lines r taken more after early e h = rw (h, e, text_of-append lines r.lines, append_assoc) refl
-Writes-ahead (statuses.Limit line number) lines r taken more after early e h =
+Writes-ahead : (status : Status) (lines : List Line) (r : Replay) (taken more : List ℕ) (after : Option (List ℕ)) → more ≡ taken ++ text_of lines → Writes status r more after → Writes status (ahead_of lines r) taken after
+Writes-ahead statuses.Done lines r taken more after e h = rw (h, e, text_of-append lines r.lines, append_assoc) refl
+Writes-ahead (statuses.Script line) lines r taken more after e h = rw (h, e, text_of-append lines r.lines, append_assoc) refl
+Writes-ahead (statuses.Limit line number) lines r taken more after e h =
     (h.0, rw (h.1, e, append_assoc lines r.lines (take h.0 r.further), text_of-append lines (r.lines ++ take h.0 r.further), append_assoc) refl)
-Writes-ahead (statuses.BadMessage place fault) lines r taken more after early e h = absurd early
-Writes-ahead statuses.ReadFault lines r taken more after early e h = TakesFront-ahead lines r taken more after e h
-Writes-ahead statuses.WriteFault lines r taken more after early e h = TakesFront-ahead lines r taken more after e h
-Writes-ahead statuses.Memory lines r taken more after early e h = TakesFront-ahead lines r taken more after e h
+Writes-ahead statuses.Usage lines r taken more after e h = TakesFront-ahead lines r taken more after e h
+Writes-ahead (statuses.BadMessage place fault) lines r taken more after e h = TakesFront-ahead lines r taken more after e h
+Writes-ahead statuses.ReadFault lines r taken more after e h = TakesFront-ahead lines r taken more after e h
+Writes-ahead statuses.WriteFault lines r taken more after e h = TakesFront-ahead lines r taken more after e h
+Writes-ahead statuses.Memory lines r taken more after e h = TakesFront-ahead lines r taken more after e h
 
-IfSome-ahead : (status : Status) (lines : List Line) (r : Replay) (before mid after : Option (List ℕ)) → BreaksOff status → Takes before (text_of lines) mid → IfSome mid (λ taken. Writes status r taken after) → IfSome before (λ taken. Writes status (ahead_of lines r) taken after)
-IfSome-ahead status lines r None mid after early h k = tt
-IfSome-ahead status lines r (Some taken) None after early h k = absurd (cc (h))
-IfSome-ahead status lines r (Some taken) (Some more) after early h k = Writes-ahead status lines r taken more after early (cc (h)) k
+IfSome-ahead : (status : Status) (lines : List Line) (r : Replay) (before mid after : Option (List ℕ)) → Takes before (text_of lines) mid → IfSome mid (λ taken. Writes status r taken after) → IfSome before (λ taken. Writes status (ahead_of lines r) taken after)
+IfSome-ahead status lines r None mid after h k = tt
+IfSome-ahead status lines r (Some taken) None after h k = absurd (cc (h))
+IfSome-ahead status lines r (Some taken) (Some more) after h k = Writes-ahead status lines r taken more after (cc (h)) k
 
--- where it advanced to a replay that breaks off, it breaks off
+-- where it advanced to a replay that ends, it ends
 pub Halts-advanced : (status : Status) (r s : Replay) (before mid after : Option (List ℕ)) → Advances r s before mid → Halts status s mid after → Halts status r before after
 Halts-advanced status r s before mid after h k =
-    rw h.whole (record { early = k.early; tells = k.tells; writes = IfSome-ahead status h.lines s before mid after k.early h.taken k.writes })
-
--- where it advanced to a replay that comes to its end, it comes to its end
-pub Completes-advanced : (r s : Replay) (before mid after : Option (List ℕ)) → Advances r s before mid → Completes s mid after → Completes r before after
-Completes-advanced r s before mid after h k =
-    rw h.whole (record { ending = k.ending; taken = rw (text_of-append h.lines s.lines) (Takes-trans (text_of h.lines) (text_of s.lines) before mid after h.taken k.taken) })
-
--- the output of a piece was written in part
-pub Halts-fed : (result : Result (Unit {0}) Stop) (player next : Player) (piece output told rest : List ℕ) (before after : Option (List ℕ)) → output ≡ []
-    → OnOk result ((rest : List ℕ) → Passes (left player (piece ++ rest)) (left next rest) output told)
-    → IfErr result (λ stop. (rest : List ℕ) → StopsAt stop (left player (piece ++ rest)) output told)
-    → TakesPart before told after → Halts statuses.WriteFault (left player (piece ++ rest)) before after
-Halts-fed (Ok done) player next piece output told rest before after none on stop h =
-    Halts-write _ told before after (IsFront-passed _ _ told (rw none at (on rest))) h
-Halts-fed (Err why) player next piece output told rest before after none on stop h =
-    Halts-write _ told before after (IsFront-stopped why _ told (rw none at (stop rest))) h
-
--- the last output was written in part
-pub Halts-finished : (result : Result (Unit {0}) Stop) (r : Replay) (output told : List ℕ) (before after : Option (List ℕ)) → output ≡ []
-    → OnOk result (Ends r output told) → IfErr result (λ stop. StopsAt stop r output told)
-    → TakesPart before told after → Halts statuses.WriteFault r before after
-Halts-finished (Ok done) r output told before after none on stop h = Halts-write r told before after (IsFront-ended r told (rw none at on)) h
-Halts-finished (Err why) r output told before after none on stop h = Halts-write r told before after (IsFront-stopped why r told (rw none at stop)) h
+    rw h.whole (record { of_replay = k.of_replay; tells = k.tells; writes = IfSome-ahead status h.lines s before mid after h.taken k.writes })

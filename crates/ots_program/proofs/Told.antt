@@ -28,6 +28,9 @@ take-shorter n xs ys = grind (arith, common_steps)
 pub Tells-none : (before : List ℕ) → Tells [] before before
 Tells-none before = grind (arith, common_steps)
 
+pub Passes-none : (r : Replay) (before : List ℕ) → Passes r r before before
+Passes-none r before = record { lines = []; whole = refl; told = Tells-none before }
+
 pub Passes-trans : (r s t : Replay) (before mid after : List ℕ) → Passes r s before mid → Passes s t mid after → Passes r t before after
 Passes-trans r s t before mid after h k =
     record { lines = h.lines ++ k.lines; whole = rw (h.whole, k.whole, append_assoc) refl; told = Tells-trans h.lines k.lines before mid after h.told k.told }

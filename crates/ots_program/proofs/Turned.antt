@@ -5,7 +5,7 @@ use Rattle.ots_world.specs.Standing.{Standing}
 use Rattle.ots_program.specs.declared.player.Player.{Player}
 use Rattle.ots_program.specs.declared.player.Stop.{Stop}
 use Rattle.ots_program.specs.declared.player.Stop.TheVariants as stops
-use Rattle.ots_program.specs.declared.status.TheConstants.{LINES_LIMIT, OCTETS_LIMIT}
+use Rattle.ots_program.specs.Limits.{lines_limit, octets_limit}
 use Rattle.ots_program.specs.Playing.{Passes, StopsAt, Ends, Turns, GoesOn, world_of, lines_of, place_of, row_of, left}
 use Rattle.ots_program.specs.Replay.{Row, Place, Turn, Goes, Stops, Limited, Refused, rows, size, behind, turn, replay_from}
 use Rattle.ots_program.proofs.Replays.{replay-ended, replay-goes, replay-stops, turn-past_lines, turn-past_octets}
@@ -16,15 +16,15 @@ use Rattle.ots_program.proofs.Told.{Tells-none, take-shorter}
 StopsAt-limit : (p : Place) (row : Row) (others : List Row) (number : ℕ) (before : List ℕ) → turn p row ≡ Stops (Limited (p.lines + 1) number) [] → StopsAt (stops.Limit (p.lines + 1) number) (replay_from p (row ∷ others)) before before
 StopsAt-limit p row others number before e = rw (replay-stops p row others _ [] e) (refl, (0, Tells-none before))
 
-pub StopsAt-past_lines : (p : Place) (text : List ℕ) (octet : ℕ) (rest before : List ℕ) → IsOneLine text → LINES_LIMIT ≤ p.lines → StopsAt (stops.Limit (p.lines + 1) LINES_LIMIT) (replay_from p (rows (text ++ octet ∷ rest))) before before
+pub StopsAt-past_lines : (p : Place) (text : List ℕ) (octet : ℕ) (rest before : List ℕ) → IsOneLine text → lines_limit ≤ p.lines → StopsAt (stops.Limit (p.lines + 1) lines_limit) (replay_from p (rows (text ++ octet ∷ rest))) before before
 StopsAt-past_lines p text octet rest before one h =
     let b = rows-begun text octet rest one in
-    rw b.split (StopsAt-limit p b.row b.others LINES_LIMIT before (turn-past_lines p b.row h))
+    rw b.split (StopsAt-limit p b.row b.others lines_limit before (turn-past_lines p b.row h))
 
-pub StopsAt-past_octets : (p : Place) (text : List ℕ) (octet : ℕ) (rest before : List ℕ) → IsOneLine text → p.lines < LINES_LIMIT → OCTETS_LIMIT ≤ p.octets + length text → StopsAt (stops.Limit (p.lines + 1) OCTETS_LIMIT) (replay_from p (rows (text ++ octet ∷ rest))) before before
+pub StopsAt-past_octets : (p : Place) (text : List ℕ) (octet : ℕ) (rest before : List ℕ) → IsOneLine text → p.lines < lines_limit → octets_limit ≤ p.octets + length text → StopsAt (stops.Limit (p.lines + 1) octets_limit) (replay_from p (rows (text ++ octet ∷ rest))) before before
 StopsAt-past_octets p text octet rest before one h long =
     let b = rows-begun text octet rest one in
-    rw b.split (StopsAt-limit p b.row b.others OCTETS_LIMIT before (turn-past_octets p b.row h (omega (arith, b.long))))
+    rw b.split (StopsAt-limit p b.row b.others octets_limit before (turn-past_octets p b.row h (omega (arith, b.long))))
 
 -- memory ran out in a turn
 TellsPart-turned : (t : Turn) (p : Place) (row : Row) (others : List Row) (before after : List ℕ) → turn p row ≡ t → TellsPart (lines_of t) before after → StopsAt stops.Memory (replay_from p (row ∷ others)) before after

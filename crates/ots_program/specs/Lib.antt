@@ -1,8 +1,11 @@
+pub mod Words
+pub mod Limits
 pub mod Replay
 pub mod Answers
 pub mod Playing
-pub mod Number
-pub mod Words
+pub mod ReplayInside
 pub mod MessageLine
+pub mod MessageLineInside
 pub mod Show
 pub mod ShowInside
+pub mod Exit

@@ -8,6 +8,8 @@ use Rattle.cdr_values.specs.declared.order.Order.TheVariants.{Big, Little}
 use Rattle.giop_frames.specs.declared.framed.Framed.{Framed}
 use Rattle.giop_frames.specs.declared.message.Message.{Message}
 use Rattle.giop_frames.specs.declared.message.Message.TheVariants as messages
+use Rattle.giop_frames.specs.declared.message.Reply.{Reply}
+use Rattle.giop_frames.specs.declared.message.Request.{Request}
 use Rattle.giop_frames.specs.declared.message.Target.{Target}
 use Rattle.giop_frames.specs.declared.message.Target.TheVariants.{Key, Profile, Reference}
 use Rattle.giop_frames.specs.declared.message.ServiceContext.{ServiceContext}
@@ -33,18 +35,32 @@ contexts_word (context ∷ contexts) = join_with_byte 44 (map (λ c. decimal c.i
 
 -- a line on contexts and body, and its end
 abbrev pub behind_fields : List ServiceContext → List ℕ → List ℕ
-behind_fields contexts body = codes " contexts " ++ (contexts_word contexts ++ (codes " body " ++ (decimal (length body) ++ 10 ∷ [])))
+behind_fields contexts body = codes " contexts " ++ (contexts_word contexts
+    ++ (codes " body " ++ (decimal (length body) ++ 10 ∷ [])))
 
 -- a line on the size of the first part
 abbrev pub sized : List ℕ → Order → ℕ → List ℕ
 sized name order size = name ++ (order_word order ++ (codes " size " ++ (decimal size ++ 10 ∷ [])))
 
+-- the line of a request behind its place
+abbrev pub shown_request : Order → Request → List ℕ
+shown_request order r = codes " request " ++ (order_word order
+    ++ (codes " id " ++ (decimal r.id
+    ++ (codes " op " ++ (map visible r.operation
+    ++ (codes " key " ++ (key_word r.target
+    ++ behind_fields r.contexts r.body)))))))
+
+-- the line of a reply behind its place
+abbrev pub shown_reply : Order → Reply → List ℕ
+shown_reply order r = codes " reply " ++ (order_word order
+    ++ (codes " id " ++ (decimal r.id
+    ++ (codes " status " ++ (decimal r.status
+    ++ behind_fields r.contexts r.body)))))
+
 -- the line behind the place
 abbrev pub shown : Order → ℕ → Message → List ℕ
-shown order size (messages.Request r) =
-    codes " request " ++ (order_word order ++ (codes " id " ++ (decimal r.id ++ (codes " op " ++ (map visible r.operation ++ (codes " key " ++ (key_word r.target ++ behind_fields r.contexts r.body)))))))
-shown order size (messages.Reply r) =
-    codes " reply " ++ (order_word order ++ (codes " id " ++ (decimal r.id ++ (codes " status " ++ (decimal r.status ++ behind_fields r.contexts r.body)))))
+shown order size (messages.Request r) = shown_request order r
+shown order size (messages.Reply r) = shown_reply order r
 shown order size (messages.Cancel id) = sized (codes " cancel ") order size
 shown order size (messages.Locate l) = sized (codes " locate ") order size
 shown order size (messages.LocateReply l) = sized (codes " located ") order size

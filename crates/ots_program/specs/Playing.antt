@@ -1,4 +1,4 @@
--- A replay under way.
+-- The player of a replay: what it is fed, and what it tells.
 use Rattle.std.specs.Prelude.{◌≡◌, ◌≢◌, ℕ, ◌+◌, ◌<◌, ◌≤◌, Bool, List, [], ◌++◌, length, take, Result, Ok, Err}
 use Rattle.std.specs.List.{AllByRecursion}
 use Rattle.ots_model.specs.declared.line.Line.{Line}
@@ -10,7 +10,7 @@ use Rattle.ots_world.specs.Does.{Tells, TellsPart}
 use Rattle.ots_program.specs.declared.player.Player.{Player}
 use Rattle.ots_program.specs.declared.player.Stop.{Stop}
 use Rattle.ots_program.specs.declared.player.Stop.TheVariants as stops
-use Rattle.ots_program.specs.declared.status.TheConstants.{LINES_LIMIT, OCTETS_LIMIT}
+use Rattle.ots_program.specs.Limits.{lines_limit, octets_limit}
 use Rattle.ots_program.specs.Replay.{Replay, Ending, Completed, Refused, Limited, Place, Row, Turn, Goes, Stops, rows, replay_from, ahead_of}
 
 -- the world that stands
@@ -18,13 +18,17 @@ abbrev pub world_of : Standing → World
 world_of (Ok world) = world
 world_of (Err fault) = empty
 
+-- how many octets the player was fed
+abbrev pub octets_fed : Player → ℕ
+octets_fed p = p.octets + length p.line.items
+
 -- the player plays on, within the limits, and what it has of the next line holds no line feed
 pub record Plays (p : Player) : Type 0 where
   pub stands : p.world ≡ Ok (world_of p.world)
   pub one_line : AllByRecursion (λ octet. octet ≢ 10) p.line.items
-  pub octets : p.octets + length p.line.items ≤ OCTETS_LIMIT
-  pub lines : p.lines ≤ LINES_LIMIT
-  pub begun : p.line.items ≢ [] → p.lines < LINES_LIMIT
+  pub octets : octets_fed p ≤ octets_limit
+  pub lines : p.lines ≤ lines_limit
+  pub begun : p.line.items ≢ [] → p.lines < lines_limit
 
 -- where the player stands in front of the next line
 abbrev pub place_of : Player → Place
@@ -44,11 +48,23 @@ pub record Passes (from rest : Replay) (before after : List ℕ) : Type 0 where
   pub whole : from ≡ ahead_of lines rest
   pub told : Tells lines before after
 
+-- octets were fed to a player, which plays on, whatever comes behind them
+pub record IsFed (old new : Player) (octets : List ℕ) : Type 0 where
+  pub plays : Plays new
+  pub count : octets_fed new ≡ octets_fed old + length octets
+  pub passes : (rest : List ℕ) → Passes (left old (octets ++ rest)) (left new rest) old.output.items new.output.items
+
 -- a replay stopped, and its lines were told
 abbrev pub StopsAt : Stop → Replay → List ℕ → List ℕ → Type 0
 StopsAt (stops.Script line) r before after = (r.ending ≡ Refused line) × Tells r.lines before after
-StopsAt (stops.Limit line number) r before after = (r.ending ≡ Limited line number) × ((k : ℕ) × Tells (r.lines ++ take k r.further) before after)
+StopsAt (stops.Limit line number) r before after =
+    (r.ending ≡ Limited line number) × ((k : ℕ) × Tells (r.lines ++ take k r.further) before after)
 StopsAt stops.Memory r before after = TellsPart (r.lines ++ r.further) before after
+
+-- octets were fed to a player, which stopped in them, whatever comes behind them
+abbrev pub StopsIn : Stop → Player → Player → List ℕ → Type 0
+StopsIn stop old new octets =
+    (rest : List ℕ) → StopsAt stop (left old (octets ++ rest)) old.output.items new.output.items
 
 -- the script has ended, and all of its lines were told
 pub record Ends (r : Replay) (before after : List ℕ) : Type 0 where

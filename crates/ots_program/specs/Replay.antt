@@ -1,10 +1,9 @@
 -- What the replay of a script writes, and how it ends, by the octets of the script (our profile).
 use Rattle.std.specs.Prelude.{ℕ, ◌+◌, Bool, true, false, ◌==◌, nat_lt, nat_le, List, [], ◌∷◌, ◌++◌, length, if◌then◌else◌}
 use Rattle.ots_model.specs.declared.line.Line.{Line}
-use Rattle.ots_world.specs.declared.fault.TheConstants.{MESSAGE_LIMIT}
 use Rattle.ots_world.specs.Script.{Reading, Blank, Says, Bad, reading}
 use Rattle.ots_world.specs.World.{World, Stepped, Moves, Names, empty, step}
-use Rattle.ots_program.specs.declared.status.TheConstants.{LINES_LIMIT, OCTETS_LIMIT}
+use Rattle.ots_program.specs.Limits.{lines_limit, message_limit, octets_limit}
 
 -- one line of a script, and whether a line feed ends it
 pub record Row : Type 0 where
@@ -18,7 +17,8 @@ onto_first_row octet (row ∷ others) = record { text = octet ∷ row.text; ende
 
 abbrev pub rows : List ℕ → List Row
 rows [] = []
-rows (octet ∷ octets) = if octet == 10 then record { text = []; ended = true } ∷ rows octets else onto_first_row octet (rows octets)
+rows (octet ∷ octets) = if octet == 10 then record { text = []; ended = true } ∷ rows octets
+    else onto_first_row octet (rows octets)
 
 -- how many octets a line takes
 abbrev pub size : Row → ℕ
@@ -51,7 +51,8 @@ pub data Turn : Type 0 where
 -- by what the world makes of an event
 abbrev pub turn_by : Place → Stepped → Turn
 turn_by p Names = Stops (Refused (p.lines + 1)) []
-turn_by p (Moves to) = if nat_lt MESSAGE_LIMIT (length to.world.board.messages) then Stops (Limited (p.lines + 1) MESSAGE_LIMIT) to.lines
+turn_by p (Moves to) = if nat_lt message_limit (length to.world.board.messages)
+    then Stops (Limited (p.lines + 1) message_limit) to.lines
     else Goes to.world to.lines
 
 -- by what a line says
@@ -62,8 +63,8 @@ turn_of p (Says event) = turn_by p (step event p.world)
 
 -- the limits on lines and octets come first
 unfoldable pub turn : Place → Row → Turn
-turn p row = if nat_le LINES_LIMIT p.lines then Stops (Limited (p.lines + 1) LINES_LIMIT) []
-    else if nat_lt OCTETS_LIMIT (p.octets + size row) then Stops (Limited (p.lines + 1) OCTETS_LIMIT) []
+turn p row = if nat_le lines_limit p.lines then Stops (Limited (p.lines + 1) lines_limit) []
+    else if nat_lt octets_limit (p.octets + size row) then Stops (Limited (p.lines + 1) octets_limit) []
     else turn_of p (reading row.text)
 
 -- the place behind a line

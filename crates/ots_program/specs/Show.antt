@@ -1,4 +1,4 @@
--- What `ots show` writes, and how it ends.
+-- What `ots show` answers, and what its sink has taken (our profile).
 use Rattle.std.specs.Prelude.{◌≡◌, ◌⊎◌, ℕ, List, ◌++◌, take, Option, Some}
 use Rattle.giop_frames.specs.declared.fault.FrameFault.{FrameFault}
 use Rattle.giop_frames.specs.declared.fault.FrameFault.TheVariants.{Short}
@@ -6,11 +6,22 @@ use Rattle.giop_frames.specs.declared.framed.Framed.{Framed}
 use Rattle.giop_frames.specs.Stream.{IsBegun, IsCut, IsRefused, IsWhole}
 use Rattle.ots_program.specs.declared.status.Status.{Status}
 use Rattle.ots_program.specs.declared.status.Status.TheVariants as statuses
+use Rattle.ots_program.specs.Answers.{WhereTold}
 use Rattle.ots_program.specs.MessageLine.{message_lines}
+
+-- a status of a show
+abbrev pub OfShow : Status → Type 0
+OfShow statuses.Done = Unit {0}
+OfShow statuses.ReadFault = Unit {0}
+OfShow statuses.WriteFault = Unit {0}
+OfShow (statuses.BadMessage place fault) = Unit {0}
+OfShow statuses.Memory = Unit {0}
+OfShow _ = ⊥
 
 -- behind these messages there is no further one: a part is refused, or the octets end inside a message
 abbrev pub EndsBadly : List Framed → ℕ → FrameFault → List ℕ → Type 0
-EndsBadly messages place fault octets = IsRefused messages place fault octets ⊎ ((fault ≡ Short) × IsCut messages place octets)
+EndsBadly messages place fault octets =
+    IsRefused messages place fault octets ⊎ ((fault ≡ Short) × IsCut messages place octets)
 
 -- How a show of the octets ends, by its status, behind the messages whose lines were written. A fault or want of memory
 -- may cut the lines short.
@@ -21,25 +32,23 @@ Ends _ messages octets = IsBegun messages octets
 
 -- the lines of these messages went out, whole or from the front, by the status
 abbrev pub WritesMessageLines : Status → List Framed → List ℕ → Option (List ℕ) → Type 0
-WritesMessageLines statuses.Done messages before after = after ≡ Some (before ++ message_lines messages)
-WritesMessageLines (statuses.BadMessage place fault) messages before after = after ≡ Some (before ++ message_lines messages)
-WritesMessageLines _ messages before after = (n : ℕ) × (after ≡ Some (before ++ take n (message_lines messages)))
+WritesMessageLines statuses.Done messages before after =
+    after ≡ Some (before ++ message_lines messages)
+WritesMessageLines (statuses.BadMessage place fault) messages before after =
+    after ≡ Some (before ++ message_lines messages)
+WritesMessageLines _ messages before after =
+    (n : ℕ) × (after ≡ Some (before ++ take n (message_lines messages)))
 
--- what a show of these octets wrote with this status
-pub record Shows (status : Status) (octets before : List ℕ) (after : Option (List ℕ)) : Type 0 where
+-- a show of these octets with this status, to a sink that had taken the octets before
+pub record ShowsOctets (status : Status) (octets before : List ℕ) (after : Option (List ℕ)) : Type 0 where
   pub messages : List Framed
   pub ends : Ends status messages octets
   pub writes : WritesMessageLines status messages before after
 
--- a status with which a show breaks off
-abbrev pub StopsShow : Status → Type 0
-StopsShow statuses.ReadFault = Unit {0}
-StopsShow statuses.WriteFault = Unit {0}
-StopsShow (statuses.BadMessage place fault) = Unit {0}
-StopsShow statuses.Memory = Unit {0}
-StopsShow _ = ⊥
-
--- a status of a show
-abbrev pub OfShow : Status → Type 0
-OfShow statuses.Done = Unit {0}
-OfShow status = StopsShow status
+-- A show with this status: the source had these octets left, and the sink had taken the octets before and has taken
+-- those after.
+pub record Shows (status : Status) (left before after : Option (List ℕ)) : Type 0 where
+  -- no other command's status is answered
+  pub of_show : OfShow status
+  -- the sink has taken the lines of the messages that the octets have, up to their end or to the first fault
+  pub writes : WhereTold left before (λ octets taken. ShowsOctets status octets taken after)

@@ -1,13 +1,16 @@
-//! What the program does with its command line: the one entry, generic over its devices.
+//! What the program does with its command line: the one entry, generic over its devices, and how the program ends.
 #![tactic(auto)]
 
 pub use command::{run, run_plain};
 pub use devices::{Devices, Word};
-pub use status::{LINES_LIMIT, OCTETS_LIMIT, Status};
+pub use status::Status;
 
 mod command;
 mod devices;
+mod limits;
 mod message_line;
+mod output;
 mod player;
+mod replay;
 mod show;
 mod status;

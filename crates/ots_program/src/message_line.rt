@@ -1,7 +1,8 @@
 ghost use Rattle.std.specs.Prelude.{◌≡◌, ◌∷◌, ◌++◌, length, take, map, codes, OnErr, OnOk};
 ghost use Rattle.std.specs.List.{flat_map};
 ghost use Rattle.std.specs.Fmt.{decimal};
-ghost use Rattle.ots_program.specs.MessageLine.{message_line, shown, sized, behind_fields, contexts_word, key_word, visible, order_word};
+ghost use Rattle.ots_program.specs.MessageLine.{behind_fields, contexts_word, key_word, message_line, order_word, shown, shown_reply, shown_request, sized, visible};
+ghost use Rattle.ots_program.specs.MessageLineInside.{Adds, KeepsFront};
 
 use cdr_values::Order;
 use giop_frames::{Framed, Message, Reply, Request, ServiceContext, Target};
@@ -14,7 +15,7 @@ pub fn write_message_line(
     lines: &mut Vec<u8>,
     framed: &Framed,
 ) -> Result<(), AllocError>
-    ensures ok { OnOk result (lines.new.items ≡ lines.old.items ++ message_line framed.now) }
+    ensures ok { Adds result lines.old.items lines.new.items (message_line framed.now) }
     ensures err { OnErr result (lines.new.items ≡ lines.old.items) }
 {
     let start = lines.len();
@@ -27,16 +28,17 @@ pub fn write_message_line(
 
 #[tactic(auto, unfolding(crate::specs::MessageLine::message_line))]
 fn write_line(alloc: Global, lines: &mut Vec<u8>, framed: &Framed) -> Result<(), AllocError>
-    ensures ok { OnOk result (lines.new.items ≡ lines.old.items ++ message_line framed.now) }
-    ensures front { OnErr result (take (length lines.old.items) lines.new.items ≡ lines.old.items) }
+    ensures ok { Adds result lines.old.items lines.new.items (message_line framed.now) }
+    ensures front { KeepsFront result lines.old.items lines.new.items }
 {
     write_number(lines, framed.place)?;
     write_message(alloc, lines, framed)
 }
 
 fn write_message(alloc: Global, lines: &mut Vec<u8>, framed: &Framed) -> Result<(), AllocError>
-    ensures ok { OnOk result (lines.new.items ≡ lines.old.items ++ shown framed.now.order framed.now.size framed.now.message) }
-    ensures front { OnErr result (take (length lines.old.items) lines.new.items ≡ lines.old.items) }
+    ensures ok { Adds result lines.old.items lines.new.items
+        (shown framed.now.order framed.now.size framed.now.message) }
+    ensures front { KeepsFront result lines.old.items lines.new.items }
 {
     match &framed.message {
         Message::Request(request) => write_request(alloc, lines, framed.order, request),
@@ -55,8 +57,8 @@ fn write_request(
     order: Order,
     request: &Request,
 ) -> Result<(), AllocError>
-    ensures ok { let r = request.now in OnOk result (lines.new.items ≡ lines.old.items ++ (codes " request " ++ (order_word order ++ (codes " id " ++ (decimal r.id ++ (codes " op " ++ (map visible r.operation ++ (codes " key " ++ (key_word r.target ++ behind_fields r.contexts r.body))))))))) }
-    ensures front { OnErr result (take (length lines.old.items) lines.new.items ≡ lines.old.items) }
+    ensures ok { Adds result lines.old.items lines.new.items (shown_request order request.now) }
+    ensures front { KeepsFront result lines.old.items lines.new.items }
 {
     write_order(lines, b" request ", order)?;
     write_field(lines, b" id ", u64::from(request.id))?;
@@ -66,8 +68,8 @@ fn write_request(
 }
 
 fn write_reply(lines: &mut Vec<u8>, order: Order, reply: &Reply) -> Result<(), AllocError>
-    ensures ok { let r = reply.now in OnOk result (lines.new.items ≡ lines.old.items ++ (codes " reply " ++ (order_word order ++ (codes " id " ++ (decimal r.id ++ (codes " status " ++ (decimal r.status ++ behind_fields r.contexts r.body))))))) }
-    ensures front { OnErr result (take (length lines.old.items) lines.new.items ≡ lines.old.items) }
+    ensures ok { Adds result lines.old.items lines.new.items (shown_reply order reply.now) }
+    ensures front { KeepsFront result lines.old.items lines.new.items }
 {
     write_order(lines, b" reply ", order)?;
     write_field(lines, b" id ", u64::from(reply.id))?;
@@ -77,8 +79,8 @@ fn write_reply(lines: &mut Vec<u8>, order: Order, reply: &Reply) -> Result<(), A
 
 /// Writes the name, the order and the size of a message of which no more is shown.
 fn write_sized(lines: &mut Vec<u8>, name: &[u8], order: Order, size: u32) -> Result<(), AllocError>
-    ensures ok { OnOk result (lines.new.items ≡ lines.old.items ++ sized name.now order size) }
-    ensures front { OnErr result (take (length lines.old.items) lines.new.items ≡ lines.old.items) }
+    ensures ok { Adds result lines.old.items lines.new.items (sized name.now order size) }
+    ensures front { KeepsFront result lines.old.items lines.new.items }
 {
     write_order(lines, name, order)?;
     write_field(lines, b" size ", u64::from(size))?;
@@ -87,8 +89,8 @@ fn write_sized(lines: &mut Vec<u8>, name: &[u8], order: Order, size: u32) -> Res
 }
 
 fn write_order(lines: &mut Vec<u8>, name: &[u8], order: Order) -> Result<(), AllocError>
-    ensures ok { OnOk result (lines.new.items ≡ lines.old.items ++ (name.now ++ order_word order)) }
-    ensures front { OnErr result (take (length lines.old.items) lines.new.items ≡ lines.old.items) }
+    ensures ok { Adds result lines.old.items lines.new.items (name.now ++ order_word order) }
+    ensures front { KeepsFront result lines.old.items lines.new.items }
 {
     lines.extend_from_slice(name)?;
     match order {
@@ -98,8 +100,8 @@ fn write_order(lines: &mut Vec<u8>, name: &[u8], order: Order) -> Result<(), All
 }
 
 fn write_operation(lines: &mut Vec<u8>, operation: &[u8]) -> Result<(), AllocError>
-    ensures ok { OnOk result (lines.new.items ≡ lines.old.items ++ (codes " op " ++ map visible operation.now)) }
-    ensures front { OnErr result (take (length lines.old.items) lines.new.items ≡ lines.old.items) }
+    ensures ok { Adds result lines.old.items lines.new.items (codes " op " ++ map visible operation.now) }
+    ensures front { KeepsFront result lines.old.items lines.new.items }
 {
     lines.extend_from_slice(b" op ")?;
     for octet in operation {
@@ -119,8 +121,8 @@ fn visible_octet(octet: u8) -> u8
 }
 
 fn write_key(alloc: Global, lines: &mut Vec<u8>, target: &Target) -> Result<(), AllocError>
-    ensures ok { OnOk result (lines.new.items ≡ lines.old.items ++ (codes " key " ++ key_word target.now)) }
-    ensures front { OnErr result (take (length lines.old.items) lines.new.items ≡ lines.old.items) }
+    ensures ok { Adds result lines.old.items lines.new.items (codes " key " ++ key_word target.now) }
+    ensures front { KeepsFront result lines.old.items lines.new.items }
 {
     lines.extend_from_slice(b" key ")?;
     match target {
@@ -138,8 +140,8 @@ fn write_behind_fields(
     contexts: &[ServiceContext],
     body: &[u8],
 ) -> Result<(), AllocError>
-    ensures ok { OnOk result (lines.new.items ≡ lines.old.items ++ behind_fields contexts.now body.now) }
-    ensures front { OnErr result (take (length lines.old.items) lines.new.items ≡ lines.old.items) }
+    ensures ok { Adds result lines.old.items lines.new.items (behind_fields contexts.now body.now) }
+    ensures front { KeepsFront result lines.old.items lines.new.items }
 {
     write_contexts(lines, contexts)?;
     write_field(lines, b" body ", body.len() as u64)?;
@@ -148,8 +150,8 @@ fn write_behind_fields(
 }
 
 fn write_contexts(lines: &mut Vec<u8>, contexts: &[ServiceContext]) -> Result<(), AllocError>
-    ensures ok { OnOk result (lines.new.items ≡ lines.old.items ++ (codes " contexts " ++ contexts_word contexts.now)) }
-    ensures front { OnErr result (take (length lines.old.items) lines.new.items ≡ lines.old.items) }
+    ensures ok { Adds result lines.old.items lines.new.items (codes " contexts " ++ contexts_word contexts.now) }
+    ensures front { KeepsFront result lines.old.items lines.new.items }
 {
     match contexts {
         [] => lines.extend_from_slice(b" contexts -"),
@@ -162,8 +164,8 @@ fn write_contexts(lines: &mut Vec<u8>, contexts: &[ServiceContext]) -> Result<()
 
 /// Writes the ids of the contexts that stand behind the first, with a comma before each.
 fn write_other_ids(lines: &mut Vec<u8>, contexts: &[ServiceContext]) -> Result<(), AllocError>
-    ensures ok { OnOk result (lines.new.items ≡ lines.old.items ++ flat_map (λ c. 44 ∷ decimal c.id) contexts.now) }
-    ensures front { OnErr result (take (length lines.old.items) lines.new.items ≡ lines.old.items) }
+    ensures ok { Adds result lines.old.items lines.new.items (flat_map (λ c. 44 ∷ decimal c.id) contexts.now) }
+    ensures front { KeepsFront result lines.old.items lines.new.items }
 {
     for context in contexts {
         write_field(lines, b",", u64::from(context.id))?;
@@ -173,15 +175,15 @@ fn write_other_ids(lines: &mut Vec<u8>, contexts: &[ServiceContext]) -> Result<(
 
 /// Writes a name and a number.
 fn write_field(lines: &mut Vec<u8>, name: &[u8], value: u64) -> Result<(), AllocError>
-    ensures ok { OnOk result (lines.new.items ≡ lines.old.items ++ (name.now ++ decimal value)) }
-    ensures front { OnErr result (take (length lines.old.items) lines.new.items ≡ lines.old.items) }
+    ensures ok { Adds result lines.old.items lines.new.items (name.now ++ decimal value) }
+    ensures front { KeepsFront result lines.old.items lines.new.items }
 {
     lines.extend_from_slice(name)?;
     write_number(lines, value)
 }
 
 fn write_number(lines: &mut Vec<u8>, value: u64) -> Result<(), AllocError>
-    ensures ok { OnOk result (lines.new.items ≡ lines.old.items ++ decimal value) }
+    ensures ok { Adds result lines.old.items lines.new.items (decimal value) }
     ensures same { OnErr result (lines.new.items ≡ lines.old.items) }
 {
     let mut buffer = Buffer::new();

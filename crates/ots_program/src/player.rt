@@ -1,11 +1,11 @@
-ghost use Rattle.std.specs.Prelude.{◌≡◌, ℕ, ◌+◌, ◌<◌, ◌≤◌, List, [], ◌∷◌, ◌++◌, IsOk, IfErr, OnOk};
+ghost use Rattle.std.specs.Prelude.{◌≡◌, ℕ, ◌+◌, ◌<◌, ◌≤◌, List, [], ◌∷◌, IsOk, IfErr, OnOk};
 
-use crate::status::{LINES_LIMIT, OCTETS_LIMIT};
-use ots_world::{ScriptEvent, ScriptFault, World, WorldFault, parse_line};
+use crate::limits::{LINES_LIMIT, OCTETS_LIMIT};
+use ots_world::{ScriptFault, World, WorldFault, parse_line};
 use std::alloc::{AllocError, AllocFailed, Global};
 
 /// Why a replay stops.
-#[derive(Clone, Copy, Debug, PartialEq, Eq)]
+#[derive(Clone, Copy)]
 pub enum Stop {
     /// That line is refused.
     Script(u64),
@@ -66,8 +66,9 @@ pub struct Player {
 }
 
 impl Player {
-    ghost use Rattle.ots_world.specs.Script.{Says, reading};
-    ghost use Rattle.ots_program.specs.Playing.{Plays, left, Passes, StopsAt, Ends, Turns, place_of, row_of};
+    ghost use Rattle.ots_world.specs.Script.{reading};
+    ghost use Rattle.ots_program.specs.Limits.{lines_limit, octets_limit};
+    ghost use Rattle.ots_program.specs.Playing.{Ends, IsFed, Plays, StopsAt, StopsIn, Turns, left, place_of, row_of};
     ghost use Rattle.ots_program.specs.Replay.{replay, size, turn, turn_of};
 
     /// A replay at the start of its script.
@@ -89,11 +90,8 @@ impl Player {
     /// These octets of the script have come.
     pub fn feed(&mut self, piece: &[u8]) -> Result<(), Stop>
         requires plays { Plays self.old }
-        ensures plays { OnOk result (Plays self.new) }
-        ensures passes { OnOk result ((rest : List ℕ) →
-            Passes (left self.old (piece.now ++ rest)) (left self.new rest) self.old.output.items self.new.output.items) }
-        ensures stops { IfErr result (λ stop. (rest : List ℕ) →
-            StopsAt stop (left self.old (piece.now ++ rest)) self.old.output.items self.new.output.items) }
+        ensures fed { OnOk result (IsFed self.old self.new piece.now) }
+        ensures stops { IfErr result (λ stop. StopsIn stop self.old self.new piece.now) }
     {
         for octet in piece {
             self.take(*octet)?;
@@ -127,11 +125,8 @@ impl Player {
     /// The next octet of the script has come.
     fn take(&mut self, octet: u8) -> Result<(), Stop>
         requires plays { Plays self.old }
-        ensures plays { OnOk result (Plays self.new) }
-        ensures passes { OnOk result ((rest : List ℕ) →
-            Passes (left self.old (octet ∷ rest)) (left self.new rest) self.old.output.items self.new.output.items) }
-        ensures stops { IfErr result (λ stop. (rest : List ℕ) →
-            StopsAt stop (left self.old (octet ∷ rest)) self.old.output.items self.new.output.items) }
+        ensures fed { OnOk result (IsFed self.old self.new (octet ∷ [])) }
+        ensures stops { IfErr result (λ stop. StopsIn stop self.old self.new (octet ∷ [])) }
     {
         if self.lines >= LINES_LIMIT {
             return Err(Stop::Limit(self.lines + 1, LINES_LIMIT));
@@ -151,7 +146,8 @@ impl Player {
         requires plays { Plays self.old }
         ensures stands { OnOk result (IsOk self.new.world) }
         ensures ends { OnOk result (Ends (left self.old []) self.old.output.items self.new.output.items) }
-        ensures stops { IfErr result (λ stop. StopsAt stop (left self.old []) self.old.output.items self.new.output.items) }
+        ensures stops { IfErr result (λ stop.
+            StopsAt stop (left self.old []) self.old.output.items self.new.output.items) }
     {
         if self.line.is_empty() {
             return Ok(());
@@ -162,9 +158,10 @@ impl Player {
     /// The next line is whole, with its line feed or without.
     fn take_line(&mut self, ended: bool) -> Result<(), Stop>
         requires plays { Plays self.old }
-        requires lines { self.old.lines < LINES_LIMIT }
-        requires octets { self.old.octets + size (row_of self.old ended) ≤ OCTETS_LIMIT }
-        ensures turned { Turns result (turn (place_of self.old) (row_of self.old ended)) self.new.world self.old.output.items self.new.output.items }
+        requires lines { self.old.lines < lines_limit }
+        requires octets { self.old.octets + size (row_of self.old ended) ≤ octets_limit }
+        ensures turned { Turns result (turn (place_of self.old) (row_of self.old ended))
+            self.new.world self.old.output.items self.new.output.items }
         ensures emptied { OnOk result (self.new.line.items ≡ []) }
         ensures counted { OnOk result (self.new.lines ≡ self.old.lines + 1) }
         ensures measured { OnOk result (self.new.octets ≡ self.old.octets + size (row_of self.old ended)) }
@@ -179,32 +176,21 @@ impl Player {
     /// What the next line says is carried out.
     fn carry_out(&mut self) -> Result<(), Stop>
         requires plays { Plays self.old }
-        requires lines { self.old.lines < LINES_LIMIT }
-        ensures turned { Turns result (turn_of (place_of self.old) (reading self.old.line.items)) self.new.world self.old.output.items self.new.output.items }
+        requires lines { self.old.lines < lines_limit }
+        ensures turned { Turns result (turn_of (place_of self.old) (reading self.old.line.items))
+            self.new.world self.old.output.items self.new.output.items }
         ensures line { self.new.line ≡ self.old.line }
         ensures lines { self.new.lines ≡ self.old.lines }
         ensures octets { self.new.octets ≡ self.old.octets }
     {
         match parse_line(self.alloc, self.line.as_slice()) {
-            Ok(Some(event)) => self.act(&event),
+            Ok(Some(event)) => match self.world.step(&event, &mut self.output) {
+                Ok(()) => Ok(()),
+                Err(fault) => Err(Stop::by_world(fault, self.lines + 1)),
+            },
             Ok(None) => Ok(()),
             Err(ScriptFault::BadLine) => Err(Stop::Script(self.lines + 1)),
             Err(ScriptFault::Memory) => Err(Stop::Memory),
-        }
-    }
-
-    /// The world carries out what the next line says.
-    fn act(&mut self, event: &ScriptEvent) -> Result<(), Stop>
-        requires plays { Plays self.old }
-        requires lines { self.old.lines < LINES_LIMIT }
-        ensures turned { Turns result (turn_of (place_of self.old) (Says event.now)) self.new.world self.old.output.items self.new.output.items }
-        ensures line { self.new.line ≡ self.old.line }
-        ensures lines { self.new.lines ≡ self.old.lines }
-        ensures octets { self.new.octets ≡ self.old.octets }
-    {
-        match self.world.step(event, &mut self.output) {
-            Ok(()) => Ok(()),
-            Err(fault) => Err(Stop::by_world(fault, self.lines + 1)),
         }
     }
 }

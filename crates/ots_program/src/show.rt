@@ -1,14 +1,15 @@
-ghost use Rattle.std.specs.Prelude.{◌≡◌, ◌≢◌, ◌<◌, ◌≤◌, ◌++◌, [], length, None, Some, Err, IfErr, IfSome, OnErr, OnOk};
+ghost use Rattle.std.specs.Prelude.{◌≡◌, ◌≤◌, ◌++◌, [], None, Err, IfErr, OnErr, OnOk};
 ghost use Rattle.giop_frames.specs.Stream.{part_at};
 ghost use Rattle.giop_frames.specs.Held.{place_of};
 ghost use Rattle.ots_outside.specs.Source.{HasRisen};
-ghost use Rattle.ots_program.specs.Answers.{WhereTold};
-ghost use Rattle.ots_program.specs.Show.{Shows, StopsShow};
-ghost use Rattle.ots_program.specs.ShowInside.{BrokeOff, EndsCut, EndsWhole, OfPiece, TellsBreak, TellsPiece, TookPiece, status_by};
+ghost use Rattle.ots_program.specs.Answers.{IsReadToEnd};
+ghost use Rattle.ots_program.specs.Show.{Shows};
+ghost use Rattle.ots_program.specs.ShowInside.{BrokeOff, EndsStream, TellsBreak, TellsPiece, TookPiece, status_by};
 ghost use Rattle.ots_program.specs.MessageLine.{message_line};
+ghost use Rattle.ots_program.specs.MessageLineInside.{Adds};
 
-use crate::command::write_out;
 use crate::message_line::write_message_line;
+use crate::output::write_out;
 use crate::status::Status;
 use giop_frames::{FrameFault, Framed, Stream, a_refusal_stays};
 use ots_outside::{Sink, Source};
@@ -18,51 +19,32 @@ use std::sync::Wait;
 /// How many octets are read at once.
 const PIECE: usize = 8_192;
 
-/// Writes a line for each message of the source. The error is the status with which it breaks off.
+/// Writes a line for each message of the source.
 pub fn show<R: Wait, S: Source, K: Sink>(
     rt: &R,
     alloc: Global,
     source: &mut S,
     sink: &mut K,
-) -> Result<(), Status>
-    ensures whole { OnOk result (WhereTold (S.remaining source.old) (K.taken sink.old) (λ octets before. Shows Status.Done octets before (K.taken sink.new))) }
-    ensures broken { IfErr result (λ status. WhereTold (S.remaining source.old) (K.taken sink.old) (λ octets before. Shows status octets before (K.taken sink.new))) }
-    ensures end { OnOk result (IfSome (S.remaining source.old) (λ octets. S.remaining source.new ≡ Some [])) }
-    ensures stops { IfErr result StopsShow }
-    ensures read_fault { result ≡ Err Status.ReadFault → HasRisen (S.faults source.old) (S.faults source.new) }
-    ensures write_fault { result ≡ Err Status.WriteFault → HasRisen (K.faults sink.old) (K.faults sink.new) }
-{
-    let mut room = vec![in alloc; 0; PIECE]?;
-    show_pieces(rt, alloc, room.as_mut_slice(), source, sink)
-}
-
-/// Writes a line for each message of the source, read piece by piece into the room.
-fn show_pieces<R: Wait, S: Source, K: Sink>(
-    rt: &R,
-    alloc: Global,
-    room: &mut [u8],
-    source: &mut S,
-    sink: &mut K,
-) -> Result<(), Status>
-    requires room { 0 < length room.old }
-    ensures whole { OnOk result (WhereTold (S.remaining source.old) (K.taken sink.old) (λ octets before. Shows Status.Done octets before (K.taken sink.new))) }
-    ensures broken { IfErr result (λ status. WhereTold (S.remaining source.old) (K.taken sink.old) (λ octets before. Shows status octets before (K.taken sink.new))) }
-    ensures end { OnOk result (IfSome (S.remaining source.old) (λ octets. S.remaining source.new ≡ Some [])) }
-    ensures stops { IfErr result StopsShow }
-    ensures read_fault { result ≡ Err Status.ReadFault → HasRisen (S.faults source.old) (S.faults source.new) }
-    ensures write_fault { result ≡ Err Status.WriteFault → HasRisen (K.faults sink.old) (K.faults sink.new) }
+) -> Status
+    ensures shows { Shows result (S.remaining source.old) (K.taken sink.old) (K.taken sink.new) }
+    ensures end { result ≡ Status.Done → IsReadToEnd (S.remaining source.old) (S.remaining source.new) }
+    ensures read_fault { result ≡ Status.ReadFault → HasRisen (S.faults source.old) (S.faults source.new) }
+    ensures write_fault { result ≡ Status.WriteFault → HasRisen (K.faults sink.old) (K.faults sink.new) }
 {
     // The law by which what is refused in a piece is refused in the whole.
     a_refusal_stays();
     let mut stream = Stream::new(alloc);
+    let mut room = [0; PIECE];
     for _ in rt.forever() {
-        let Ok(count) = source.read(room) else {
-            return Err(Status::ReadFault);
+        let Ok(count) = source.read(&mut room) else {
+            return Status::ReadFault;
         };
         if count == 0 {
             return end(&stream);
         }
-        show_piece(alloc, &mut stream, &room[..count], sink)?;
+        if let Err(status) = show_piece(alloc, &mut stream, &room[..count], sink) {
+            return status;
+        }
     }
     unreachable!()
 }
@@ -76,8 +58,8 @@ fn show_piece<K: Sink>(
 ) -> Result<(), Status>
     requires accepts { stream.old.refused ≡ None }
     ensures took { OnOk result (TookPiece stream.old stream.new piece.now (K.taken sink.old) (K.taken sink.new)) }
-    ensures broken { IfErr result (λ status. BrokeOff status stream.old piece.now (K.taken sink.old) (K.taken sink.new)) }
-    ensures read { result ≢ Err Status.ReadFault }
+    ensures broken { IfErr result (λ status.
+        BrokeOff status stream.old piece.now (K.taken sink.old) (K.taken sink.new)) }
     ensures write_fault { result ≡ Err Status.WriteFault → HasRisen (K.faults sink.old) (K.faults sink.new) }
     ensures later { K.faults sink.old ≤ K.faults sink.new }
 {
@@ -98,11 +80,10 @@ fn take_piece(
     requires lines { lines.old.items ≡ [] }
     ensures took { OnOk result (TellsPiece stream.old stream.new piece.now lines.new.items) }
     ensures broken { IfErr result (λ status. TellsBreak status stream.old piece.now lines.new.items) }
-    ensures own { IfErr result OfPiece }
 {
-    let Ok(()) = stream.feed(piece) else {
-        return Err(Status::Memory);
-    };
+    if let Err(fault) = stream.feed(piece) {
+        return Err(refusal(stream, fault));
+    }
     loop {
         match stream.next_framed() {
             Ok(Some(framed)) => tell(alloc, lines, framed)?,
@@ -114,7 +95,7 @@ fn take_piece(
 
 /// Tells the line of a message.
 fn tell(alloc: Global, lines: &mut Vec<u8>, framed: Framed) -> Result<(), Status>
-    ensures ok { OnOk result (lines.new.items ≡ lines.old.items ++ message_line framed) }
+    ensures ok { Adds result lines.old.items lines.new.items (message_line framed) }
     ensures err { OnErr result (lines.new.items ≡ lines.old.items) }
     ensures memory { IfErr result (λ status. status ≡ Status.Memory) }
 {
@@ -124,8 +105,7 @@ fn tell(alloc: Global, lines: &mut Vec<u8>, framed: Framed) -> Result<(), Status
 
 /// The status for a refusal of the stream.
 fn refusal(stream: &Stream, fault: FrameFault) -> Status
-    ensures status { result ≡ status_by (place_of stream.now) fault }
-    ensures own { OfPiece result }
+    ensures { result ≡ status_by (place_of stream.now) fault }
 {
     match fault {
         FrameFault::Memory => Status::Memory,
@@ -134,14 +114,13 @@ fn refusal(stream: &Stream, fault: FrameFault) -> Status
 }
 
 /// The stream has come to its end.
-fn end(stream: &Stream) -> Result<(), Status>
+fn end(stream: &Stream) -> Status
     requires accepts { stream.now.refused ≡ None }
     requires partial { part_at stream.now.rest ≡ Err FrameFault.Short }
-    ensures whole { OnOk result (EndsWhole stream.now) }
-    ensures cut { IfErr result (λ status. EndsCut stream.now status) }
+    ensures { EndsStream result stream.now }
 {
     if stream.unfinished() {
-        return Err(Status::BadMessage(stream.place(), FrameFault::Short));
+        return Status::BadMessage(stream.place(), FrameFault::Short);
     }
-    Ok(())
+    Status::Done
 }

@@ -3,12 +3,10 @@ ghost use Rattle.std.specs.Prelude.{◌≡◌};
 use crate::player::Stop;
 use giop_frames::FrameFault;
 use std::alloc::AllocError;
+use std::fmt;
 
-/// How many lines a script has at most.
-pub const LINES_LIMIT: u64 = 100_000;
-
-/// How many octets a script has at most.
-pub const OCTETS_LIMIT: u64 = 16_777_216;
+#[cfg(test)]
+mod tests;
 
 /// How a run ends.
 #[derive(Clone, Copy, Debug, PartialEq, Eq)]
@@ -33,7 +31,7 @@ pub enum Status {
 }
 
 impl Status {
-    ghost use Rattle.ots_program.specs.Number.{number_of};
+    ghost use Rattle.ots_program.specs.Exit.{number_of};
 
     /// The number of the status, with which the program ends.
     pub fn number(&self) -> u8
@@ -52,8 +50,29 @@ impl Status {
     }
 }
 
+/// What the program says on standard error when it ends: a line, or nothing where all is done.
+impl fmt::Display for Status {
+    ghost use Rattle.std.specs.Prelude.{Some};
+    ghost use Rattle.ots_program.specs.Exit.{complaint_of};
+
+    ghost output = { λ status. Some (complaint_of status) };
+
+    fn fmt<W: fmt::Write>(&self, f: &mut fmt::Formatter<W>) -> fmt::Result {
+        match self {
+            Status::Done => Ok(()),
+            Status::Usage => writeln!(f, "ots: usage"),
+            Status::Script(line) => writeln!(f, "ots: script line {line}"),
+            Status::ReadFault => writeln!(f, "ots: read fault"),
+            Status::WriteFault => writeln!(f, "ots: write fault"),
+            Status::Limit(line, limit) => writeln!(f, "ots: limit {limit} at line {line}"),
+            Status::BadMessage(place, _) => writeln!(f, "ots: bad message at {place}"),
+            Status::Memory => writeln!(f, "ots: out of memory"),
+        }
+    }
+}
+
 impl From<Stop> for Status {
-    ghost use Rattle.ots_program.specs.Answers.{status_of};
+    ghost use Rattle.ots_program.specs.ReplayInside.{status_of};
 
     ghost from_gives = { λ stop status. status ≡ status_of stop };
 

@@ -4,10 +4,10 @@ use Rattle.std.specs.Prelude.{is_none}
 use Rattle.std.specs.List.{slice_get, filter_map, cons_option}
 use Rattle.std.specs.Option.{option_map}
 use Rattle.ots_model.specs.declared.line.Operation.TheVariants as operations
-use Rattle.ots_model.specs.declared.line.Said.TheVariants as says
+use Rattle.ots_model.specs.declared.response.Exception.TheVariants as exceptions
+use Rattle.ots_model.specs.declared.response.Response.TheVariants as responses
 use Rattle.ots_model.specs.declared.line.Line.{Line}
 use Rattle.ots_model.specs.declared.line.Line.TheVariants as lines
-use Rattle.ots_model.specs.Safe.{Stands}
 use Rattle.two_phase.specs.Progress.{Progress, Idle, Polling}
 use Rattle.two_phase.specs.Poll as poll
 use Rattle.two_phase.specs.Poll.{Poll}
@@ -22,7 +22,7 @@ use Rattle.ots_world.proofs.AgreeLists.{each_set, each_push, goes_same, goes_set
 use Rattle.ots_world.proofs.AgreePoll.{poll_same}
 use Rattle.ots_world.proofs.AgreeKnown.{Seat, Tells, IsProgress, AreNamed, Known}
 use Rattle.ots_world.proofs.AgreeGrows.{ResourceGrows, resource_same, TransactionGrows, transaction_same, MessageGrows, Extends, listed_stays, known_grown}
-use Rattle.ots_world.proofs.AgreeAllowed.{polled_of}
+use Rattle.ots_world.proofs.AgreeAllowed.{polled_of, new_is, can_register}
 use Rattle.ots_world.proofs.AgreeSteps.{old_messages, known_quiet, known_sending, known_poll}
 use Rattle.ots_world.proofs.AgreeEffects.{Keeps, keeps_then}
 use Rattle.ots_world.proofs.AgreeTurns.{goes_on_keeps}
@@ -38,6 +38,7 @@ place_kept names b name x not n other at e = elim (thing_cases names name other 
 
 pub known_named : (names : List (List ℕ × Thing)) (b : Board) (h : List Line) (name : List ℕ) (x : Thing) → ((at : ℕ) → x ≡ things.Transaction at → ⊥) → Known names b h → Known (names ++ (name, x) ∷ []) b h
 known_named names b h name x not k = record {
+  laws = k.laws;
   named = record {
     transactions = λ at t e. thing_kept names (name, x) t.name (things.Transaction at) (k.named.transactions at t e);
     resources = λ at r e. thing_kept names (name, x) r.name (things.Resource at) (k.named.resources at r e);
@@ -46,16 +47,17 @@ known_named names b h name x not k = record {
   told = k.told;
   transactions = k.transactions;
   messages = k.messages;
-  safe = k.safe;
+  allowed = k.allowed;
 }
 
 -- a transaction begins
-pub known_opening : (names : List (List ℕ × Thing)) (b : Board) (h : List Line) (name node : List ℕ) (at : ℕ) → Known names b h → thing names name ≡ None → Stands (lines.Top name node) h
-    → Known (names ++ (name, things.Transaction (length b.transactions)) ∷ []) (opening name at b) h
-known_opening names b h name node at k free top =
+pub known_opening : (names : List (List ℕ × Thing)) (b : Board) (h : List Line) (name node : List ℕ) (at : ℕ) → Known names b h → thing names name ≡ None
+    → Known (names ++ (name, things.Transaction (length b.transactions)) ∷ []) (opening name at b) (lines.Top name node ∷ h)
+known_opening names b h name node at k free =
+    let line : Line = lines.Top name node in
     let x = things.Transaction (length b.transactions) in
     let t : Transaction = record { name = name; node = at; registrations = []; commit = None; decision = None; completion = Idle 0 } in
-    known_grown names (names ++ (name, x) ∷ []) h b h (opening name at b) k (record {
+    known_grown names (names ++ (name, x) ∷ []) h b (line ∷ h) (opening name at b) k (record {
       named = record {
         transactions = each_push (λ place (u : Transaction). thing (names ++ (name, x) ∷ []) u.name ≡ Some (things.Transaction place)) b.transactions t
             (λ place u e. thing_kept names (name, x) u.name (things.Transaction place) (k.named.transactions place u e)) (thing_added names name x free);
@@ -68,18 +70,26 @@ known_opening names b h name node at k free top =
         ];
       };
       extends = record {
-        lines = λ line s. s;
+        lines = λ y s. inr s;
         transactions = goes_push TransactionGrows b.transactions t transaction_same;
-        resources = goes_same (ResourceGrows h) b.resources (resource_same h);
+        resources = goes_same (ResourceGrows (line ∷ h)) b.resources (resource_same (line ∷ h));
         messages = goes_same MessageGrows b.messages (λ m. refl);
       };
-      told = λ line s. inl s;
+      told = λ y s. elim s [
+        | inl here ↦ inr (subst (λ (z : Line). Tells (line ∷ h) (opening name at b) z) here (record {
+          at = length b.transactions;
+          t = t;
+          transaction = push_last b.transactions t;
+          transaction_name = refl;
+        }))
+        | inr before ↦ inl before
+      ];
       transactions = λ place u e. elim (push_cases b.transactions place t u e) [
         | inl old ↦ inl old
-        | inr new ↦ inr (rw (new.0, new.1) (record { node = node; top = top; listed = λ index at_resource f. absurd (cc); progress = tt }))
+        | inr new ↦ inr (rw (new.0, new.1) (record { node = node; top = inl refl; listed = λ index at_resource f. absurd (cc); progress = tt }))
       ];
-      messages = old_messages h b (opening name at b) refl;
-      safe = k.safe;
+      messages = old_messages (line ∷ h) b (opening name at b) refl;
+      allowed = (new_is names b h name k free, k.allowed);
     })
 
 -- before the client's commit call, no poll is under way
@@ -178,20 +188,20 @@ known_registration names b h at end_place name end t k there uncalled free =
         | inr kept ↦ inl kept
       ];
       messages = old_messages (line ∷ h) b later refl;
-      safe = (record { one_way = tt; by_decision = tt; to_participant = tt; kept = tt }, k.safe);
+      allowed = (can_register names b h at t name k there (λ p e. unpolled names b h at t p k there uncalled e) free, k.allowed);
     })
 
 -- the client's call, the registration and the answer
 pub registering_known : (names : List (List ℕ × Thing)) (b : Board) (h : List Line) (at end_place : ℕ) (name end : List ℕ) (t : Transaction) → Known names b h → slice_get b.transactions at ≡ Some t → is_none t.commit ≡ true
     → thing names name ≡ None
     → Known (names ++ (name, things.Resource (length b.resources)) ∷ []) (registering at t (made name at end_place) b)
-    (lines.Answered (next_message b) says.Plain ∷ lines.Reg name t.name end ∷ lines.Call (next_message b) operations.RegisterResource t.name ∷ h)
+    (lines.Answered (next_message b) responses.Plain ∷ lines.Reg name t.name end ∷ lines.Call (next_message b) operations.RegisterResource t.name ∷ h)
 registering_known names b h at end_place name end t k there uncalled free =
     let x = things.Resource (length b.resources) in
     let call : Line = lines.Call (next_message b) operations.RegisterResource t.name in
     let reg : Line = lines.Reg name t.name end in
     let on = with_registration at t (made name at end_place) b in
-    known_quiet (names ++ (name, x) ∷ []) (sending (call_message operations.RegisterResource at) on) (reg ∷ call ∷ h) (lines.Answered (next_message b) says.Plain) tt
+    known_quiet (names ++ (name, x) ∷ []) (sending (call_message operations.RegisterResource at) on) (reg ∷ call ∷ h) (lines.Answered (next_message b) responses.Plain) tt
     (known_sending (names ++ (name, x) ∷ []) on (reg ∷ call ∷ h) (call_message operations.RegisterResource at)
     (known_registration names b (call ∷ h) at end_place name end t (known_quiet names b h call tt k) there uncalled free) tt)
 

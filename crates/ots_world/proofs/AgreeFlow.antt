@@ -4,7 +4,7 @@ use Rattle.std.specs.List.{slice_get}
 use Rattle.ots_model.specs.declared.completion.CallNumber.{CallNumber}
 use Rattle.ots_model.specs.declared.completion.Word.{Word}
 use Rattle.ots_model.specs.declared.completion.Word.TheVariants as words
-use Rattle.ots_model.specs.declared.line.Said.{Said}
+use Rattle.ots_model.specs.declared.response.Response.{Response}
 use Rattle.ots_model.specs.declared.line.Line.{Line}
 use Rattle.ots_model.specs.declared.line.Line.TheVariants as lines
 use Rattle.two_phase.specs.Progress as progress
@@ -13,7 +13,7 @@ use Rattle.ots_world.specs.declared.board.Content.{Content}
 use Rattle.ots_world.specs.declared.board.Content.TheVariants.{Call, Request, Reply}
 use Rattle.ots_world.specs.declared.board.Message.{Message}
 use Rattle.ots_world.specs.declared.directory.Thing.{Thing}
-use Rattle.ots_world.specs.Table.{heard_in}
+use Rattle.ots_model.specs.Response.{heard_in}
 use Rattle.ots_world.specs.Board.{Board, Effects, nothing, ◌▹◌, name_at, telling, with_transaction, with_message, settles, goes_on, counted, learns, votes, goes_on_after, hears_of, hears, acts, delivers, lowest, flows}
 use Rattle.ots_world.proofs.AgreeLists.{one_element, set_same}
 use Rattle.ots_world.proofs.AgreeKnown.{Seat, IsRequest, IsReply, IsSaid, IsContent, Known}
@@ -25,7 +25,7 @@ use Rattle.ots_world.proofs.AgreeObeys.{obeyed}
 use Rattle.ots_world.proofs.AgreeHears.{counted_known, counted_after, last_voted, learns_is, learned, settles_keeps}
 
 -- the vote is counted, the outcome fixed or not, and the transaction goes on
-voted_on : (names : List (List ℕ × Thing)) (b : Board) (h : List Line) (at at_resource : ℕ) (r : Resource) (said : Said) → slice_get b.resources at_resource ≡ Some r → Known names b (after (counted r.name said) h)
+voted_on : (names : List (List ℕ × Thing)) (b : Board) (h : List Line) (at at_resource : ℕ) (r : Resource) (said : Response) → slice_get b.resources at_resource ≡ Some r → Known names b (after (counted r.name said) h)
     → Keeps names h (votes at at_resource said b ▹ goes_on at)
 voted_on names b h at at_resource r said there k =
     let say : List ℕ → List Line = λ name. counted name said in
@@ -35,21 +35,21 @@ voted_on names b h at at_resource r said there k =
     keeps_then names h (votes at at_resource said b) (goes_on at)
     (goes_on_keeps names (votes at at_resource said b).board (after (votes at at_resource said b).lines h) at told)
 
-goes_on_then : (names : List (List ℕ × Thing)) (b : Board) (h : List Line) (word : Word) (at at_resource : ℕ) (r : Resource) (said : Said) → slice_get b.resources at_resource ≡ Some r
+goes_on_then : (names : List (List ℕ × Thing)) (b : Board) (h : List Line) (word : Word) (at at_resource : ℕ) (r : Resource) (said : Response) → slice_get b.resources at_resource ≡ Some r
     → Known names b (counted_after word r.name said h) → Keeps names h (goes_on_after word at at_resource said b)
 goes_on_then names b h words.Prepare at at_resource r said there k = voted_on names b h at at_resource r said there k
 goes_on_then names b h words.Commit at at_resource r said there k = goes_on_keeps names b h at k
 goes_on_then names b h words.CommitOnePhase at at_resource r said there k = goes_on_keeps names b h at k
 goes_on_then names b h words.Rollback at at_resource r said there k = goes_on_keeps names b h at k
 
-counted_word : (names : List (List ℕ × Thing)) (b : Board) (h : List Line) (word : Word) (name : List ℕ) (said : Said) → Known names b h → Known names b (counted_after word name said h)
+counted_word : (names : List (List ℕ × Thing)) (b : Board) (h : List Line) (word : Word) (name : List ℕ) (said : Response) → Known names b h → Known names b (counted_after word name said h)
 counted_word names b h words.Prepare name said k = counted_known names b h name said k
 counted_word names b h words.Commit name said k = k
 counted_word names b h words.CommitOnePhase name said k = k
 counted_word names b h words.Rollback name said k = k
 
 -- a request is answered
-answered_keeps : (names : List (List ℕ × Thing)) (b : Board) (h : List Line) (at at_resource : ℕ) (number : CallNumber) (word : Word) (r : Resource) (said : Said) → Known names b h
+answered_keeps : (names : List (List ℕ × Thing)) (b : Board) (h : List Line) (at at_resource : ℕ) (number : CallNumber) (word : Word) (r : Resource) (said : Response) → Known names b h
     → (q : IsRequest h b at number word at_resource) → q.r ≡ r → IsSaid h word said r → Keeps names h (goes_on_after word at at_resource said (learns at number said b))
 answered_keeps names b h at at_resource number word r said k q same so =
     let polled = polled_of names b h at q.t q.p k q.seat.transaction q.polling in
@@ -57,11 +57,11 @@ answered_keeps names b h at at_resource number word r said k q same so =
     let more = counted_after word r.name said h in
     subst (λ (x : Board). Keeps names h (goes_on_after word at at_resource said x)) (sym (learns_is b at number said q.t q.seat.transaction))
     (goes_on_then names (with_transaction at (record q.t { completion = progress.after_answer number (heard_in said) q.t.completion }) b) h word at at_resource r said seat.resource
-    (learned names b more at number said q.t q.p (counted_word names b h word r.name said k) q.seat.transaction q.polling (λ counts none within.
-    last_voted h b at q.index at_resource word number said q.t r q.p seat q.tells counts polled.several so none within)))
+    (learned names b more at number said q.t q.p (counted_word names b h word r.name said k) q.seat.transaction q.polling (λ counts consent within.
+    last_voted k.laws h b at q.index at_resource word number said q.t r q.p seat q.tells counts polled.several so consent within)))
 
 -- a reply is heard
-heard_of : (names : List (List ℕ × Thing)) (b : Board) (h : List Line) (at at_resource place : ℕ) (number : CallNumber) (word : Word) (m : Message) (said : Said) (content : Content) → Known names b h
+heard_of : (names : List (List ℕ × Thing)) (b : Board) (h : List Line) (at at_resource place : ℕ) (number : CallNumber) (word : Word) (m : Message) (said : Response) (content : Content) → Known names b h
     → slice_get b.messages place ≡ Some m → m.content ≡ content → content ≡ Request at number word at_resource
     → ((q : IsRequest h b at number word at_resource) → IsSaid h word said q.r) → Keeps names h (hears_of content said b)
 heard_of names b h at at_resource place number word m said content k there is e so =
@@ -69,7 +69,7 @@ heard_of names b h at at_resource place number word m said content k there is e 
     subst (λ (c : Content). Keeps names h (hears_of c said b)) (sym e)
     (answered_keeps names b h at at_resource number word q.r said k q refl (so q))
 
-pub hears_keeps : (names : List (List ℕ × Thing)) (b : Board) (h : List Line) (request : ℕ) (said : Said) → Known names b h → IsReply h b request said → Keeps names h (hears request said b)
+pub hears_keeps : (names : List (List ℕ × Thing)) (b : Board) (h : List Line) (request : ℕ) (said : Response) → Known names b h → IsReply h b request said → Keeps names h (hears request said b)
 unfolding hears
 hears_keeps names b h request said k y =
     keeps_at names h b.messages (request - 1)

@@ -1,25 +1,26 @@
 -- What is known stays known as more happens.
 use Rattle.std.proofs.Common.{◌≡◌, ℕ, ◌-◌, ◌⊎◌, inl, inr, List, Some, refl, sym, ◌∙◌}
 use Rattle.std.specs.List.{slice_get}
+use Rattle.ots_model.specs.declared.completion.Ground.TheVariants as grounds
 use Rattle.ots_model.specs.declared.completion.Outcome.TheVariants as outcomes
 use Rattle.ots_model.specs.declared.completion.Vote.TheVariants.{VoteCommit, VoteRollback, VoteReadOnly}
 use Rattle.ots_model.specs.declared.completion.Word.{Word}
 use Rattle.ots_model.specs.declared.completion.Word.TheVariants as words
-use Rattle.ots_model.specs.declared.line.Said.{Said}
-use Rattle.ots_model.specs.declared.line.Said.TheVariants as says
-use Rattle.ots_model.specs.declared.line.Operation.{Operation}
-use Rattle.ots_model.specs.declared.line.Operation.TheVariants as operations
+use Rattle.ots_model.specs.declared.response.Response.{Response}
+use Rattle.ots_model.specs.declared.response.Exception.TheVariants as exceptions
+use Rattle.ots_model.specs.declared.response.Response.TheVariants as responses
 use Rattle.ots_model.specs.declared.line.ResourceState.{ResourceState}
 use Rattle.ots_model.specs.declared.line.ResourceState.TheVariants as states
 use Rattle.ots_model.specs.declared.line.Line.{Line}
 use Rattle.ots_model.specs.declared.line.Line.TheVariants as lines
-use Rattle.ots_model.specs.Safe.{Stands, IsSent, HasConsented, Safe}
+use Rattle.ots_model.specs.Safe.{Stands, IsSent, HasConsented}
+use Rattle.ots_model.specs.SafeByLine.{AreAllowed}
 use Rattle.two_phase.specs.Poll.{Poll}
 use Rattle.two_phase.specs.Progress.{Progress, Idle, Polling}
 use Rattle.ots_world.specs.declared.board.Transaction.{Transaction}
 use Rattle.ots_world.specs.declared.board.Resource.{Resource}
 use Rattle.ots_world.specs.declared.board.Stage.{Stage}
-use Rattle.ots_world.specs.declared.board.Stage.TheVariants.{Applied, Undone}
+use Rattle.ots_world.specs.declared.board.Stage.TheVariants.{In}
 use Rattle.ots_world.specs.declared.board.Content.{Content}
 use Rattle.ots_world.specs.declared.board.Content.TheVariants.{Call, Request, Reply}
 use Rattle.ots_world.specs.declared.board.Message.{Message}
@@ -27,14 +28,14 @@ use Rattle.ots_world.specs.declared.directory.Thing.{Thing}
 use Rattle.ots_world.specs.Board.{Board}
 use Rattle.ots_world.proofs.AgreeLists.{Each, Goes}
 use Rattle.ots_world.proofs.AgreePoll.{PollGrows, poll_same, word_grows, rollback_grows}
-use Rattle.ots_world.proofs.AgreeKnown.{IsReady, IsBound, Seat, IsSeated, IsTold, IsIn, Commits, RollsBack, Sends, Changes, Tells, HasVoted, IsPolled, IsProgress, IsListed, IsTransaction, IsRequest, IsSaid, IsReply, IsContent, AreNamed, Known}
+use Rattle.ots_world.proofs.AgreeKnown.{IsMade, IsReady, IsBound, Seat, IsSeated, IsTold, IsIn, Commits, RollsBack, Sends, Changes, Tells, HasVoted, IsPolled, IsProgress, IsListed, IsTransaction, IsRequest, IsSaid, IsReply, IsContent, AreNamed, Known}
 
 -- a resource keeps what was said of it
 pub record ResourceGrows (h : List Line) (r later : Resource) : Type 0 where
   pub name : later.name ≡ r.name
   pub transaction : later.transaction ≡ r.transaction
-  pub applied : r.stage ≡ Applied → later.stage ≡ Applied
-  pub undone : r.stage ≡ Undone → later.stage ≡ Undone
+  pub applied : r.stage ≡ (In states.Applied) → later.stage ≡ (In states.Applied)
+  pub undone : r.stage ≡ (In states.Undone) → later.stage ≡ (In states.Undone)
   pub ready : IsReady r.stage → IsBound h later
 
 pub resource_same : (h : List Line) (r : Resource) → ResourceGrows h r r
@@ -64,7 +65,7 @@ pub record Extends (h : List Line) (b : Board) (h_later : List Line) (later : Bo
   pub resources : Goes (ResourceGrows h_later) b.resources later.resources
   pub messages : Goes MessageGrows b.messages later.messages
 
-pub sent_stays : (h more : List Line) (operation : Operation) (g later : List ℕ) → ((line : Line) → Stands line h → Stands line more) → later ≡ g → IsSent operation g h → IsSent operation later more
+pub sent_stays : (h more : List Line) (operation : Word) (g later : List ℕ) → ((line : Line) → Stands line h → Stands line more) → later ≡ g → IsSent operation g h → IsSent operation later more
 sent_stays h more operation g later grows e s = (s.0, rw e (grows _ s.1))
 
 consented_stays : (h more : List Line) (g later : List ℕ) → ((line : Line) → Stands line h → Stands line more) → later ≡ g → HasConsented g h → HasConsented later more
@@ -73,7 +74,7 @@ consented_stays h more g later grows e (inr s) = inr (rw e (grows _ s))
 
 pub bound_stays : (h more : List Line) (r later : Resource) → ((line : Line) → Stands line h → Stands line more) → ResourceGrows more r later → IsBound h r → IsBound more later
 bound_stays h more r later grows g (inl ready) = g.ready ready
-bound_stays h more r later grows g (inr told) = inr (sent_stays h more operations.Rollback r.name later.name grows g.name told)
+bound_stays h more r later grows g (inr told) = inr (sent_stays h more words.Rollback r.name later.name grows g.name told)
 
 -- a seat stays
 pub record SeatLater (h : List Line) (b : Board) (at index at_resource : ℕ) (t : Transaction) (r : Resource) : Type 0 where
@@ -95,6 +96,11 @@ seat_stays h more b later at index at_resource t t_later r x there g s =
       };
       grows = goes.2;
     }
+
+made_stays : (h more : List Line) (b later : Board) (name : List ℕ) → Extends h b more later → IsMade b name → IsMade later name
+made_stays h more b later name x s =
+    let goes = x.transactions s.at s.t s.transaction in
+    record { at = s.at; t = goes.0; transaction = goes.1; transaction_name = goes.2.name ∙ s.transaction_name }
 
 seated_stays : (h more : List Line) (b later : Board) (resource transaction : List ℕ) → Extends h b more later → IsSeated b resource transaction → IsSeated later resource transaction
 seated_stays h more b later resource transaction x s =
@@ -136,21 +142,20 @@ in_stays h more b later name stage x step s =
     let goes = x.resources s.at s.r s.resource in
     record { at = s.at; r = goes.0; resource = goes.1; resource_name = goes.2.name ∙ s.resource_name; in_stage = step s.r goes.0 goes.2 s.in_stage }
 
-sends_stay : (h more : List Line) (b later : Board) (operation : Operation) (g : List ℕ) → Extends h b more later → Sends h b operation g → Sends more later operation g
-sends_stay h more b later operations.Commit g x s =
-    told_stays h more b later g (Commits h) (Commits more) x (λ p q r r_later grows g_r c. (grows.outcome outcomes.Commit c.0, bound_stays h more r r_later x.lines g_r c.1)) s
-sends_stay h more b later operations.CommitOnePhase g x s = s
-sends_stay h more b later operations.Rollback g x s =
+sends_stay : (h more : List Line) (b later : Board) (operation : Word) (g : List ℕ) → Extends h b more later → Sends h b operation g → Sends more later operation g
+sends_stay h more b later words.Commit g x s =
+    told_stays h more b later g (Commits h) (Commits more) x (λ p q r r_later grows g_r c. (grows.outcome (outcomes.Commit grounds.Record) c.0, bound_stays h more r r_later x.lines g_r c.1)) s
+sends_stay h more b later words.CommitOnePhase g x s = s
+sends_stay h more b later words.Rollback g x s =
     told_stays h more b later g RollsBack RollsBack x (λ p q r r_later grows g_r c. rollback_grows p q grows c) s
-sends_stay h more b later operations.Prepare g x s = tt
-sends_stay h more b later operations.RegisterResource g x s = tt
+sends_stay h more b later words.Prepare g x s = tt
 
 changes_stay : (h more : List Line) (b later : Board) (state : ResourceState) (g : List ℕ) → Extends h b more later → Changes h b state g → Changes more later state g
 changes_stay h more b later states.Applied g x s = (
-  in_stays h more b later g Applied x (λ r r_later grows e. grows.applied e) s.0,
-  sends_stay h more b later operations.Commit g x s.1,
+  in_stays h more b later g (In states.Applied) x (λ r r_later grows e. grows.applied e) s.0,
+  sends_stay h more b later words.Commit g x s.1,
 )
-changes_stay h more b later states.Undone g x s = in_stays h more b later g Undone x (λ r r_later grows e. grows.undone e) s
+changes_stay h more b later states.Undone g x s = in_stays h more b later g (In states.Undone) x (λ r r_later grows e. grows.undone e) s
 changes_stay h more b later states.Prepared g x s = tt
 changes_stay h more b later states.Forgotten g x s = tt
 
@@ -162,7 +167,7 @@ tells_stays h more b later (lines.Reg g t end) x s = seated_stays h more b later
 tells_stays h more b later (lines.Send message operation g) x s = sends_stay h more b later operation g x s
 tells_stays h more b later (lines.State g state) x s = changes_stay h more b later state g x s
 tells_stays h more b later (lines.Up server life) x s = tt
-tells_stays h more b later (lines.Top t node) x s = tt
+tells_stays h more b later (lines.Top t node) x s = made_stays h more b later t x s
 tells_stays h more b later (lines.Call message operation t) x s = tt
 tells_stays h more b later (lines.Answered message said) x s = tt
 tells_stays h more b later (lines.Back message request said) x s = tt
@@ -234,19 +239,17 @@ request_stays h more b later at number word at_resource x k =
       tells = word_grows word number k.index k.p polls.later polls.grows k.tells;
     }
 
-pub said_stays : (h more : List Line) (word : Word) (said : Said) (r later : Resource) → ((line : Line) → Stands line h → Stands line more) → ResourceGrows more r later → IsSaid h word said r → IsSaid more word said later
-said_stays h more words.Prepare (says.Voted VoteCommit) r later grows g s = bound_stays h more r later grows g s
-said_stays h more words.Prepare (says.Voted VoteRollback) r later grows g s = tt
-said_stays h more words.Prepare (says.Voted VoteReadOnly) r later grows g s = tt
-said_stays h more words.Prepare says.Plain r later grows g s = tt
-said_stays h more words.Prepare says.TransactionRolledBack r later grows g s = tt
-said_stays h more words.Prepare says.NotPrepared r later grows g s = tt
-said_stays h more words.Prepare says.ObjectNotExist r later grows g s = tt
+pub said_stays : (h more : List Line) (word : Word) (said : Response) (r later : Resource) → ((line : Line) → Stands line h → Stands line more) → ResourceGrows more r later → IsSaid h word said r → IsSaid more word said later
+said_stays h more words.Prepare (responses.Voted VoteCommit) r later grows g s = bound_stays h more r later grows g s
+said_stays h more words.Prepare (responses.Voted VoteRollback) r later grows g s = tt
+said_stays h more words.Prepare (responses.Voted VoteReadOnly) r later grows g s = tt
+said_stays h more words.Prepare responses.Plain r later grows g s = tt
+said_stays h more words.Prepare (responses.Raised exception) r later grows g s = tt
 said_stays h more words.Commit said r later grows g s = tt
 said_stays h more words.CommitOnePhase said r later grows g s = tt
 said_stays h more words.Rollback said r later grows g s = tt
 
-reply_stays : (h more : List Line) (b later : Board) (request : ℕ) (said : Said) → Extends h b more later → IsReply h b request said → IsReply more later request said
+reply_stays : (h more : List Line) (b later : Board) (request : ℕ) (said : Response) → Extends h b more later → IsReply h b request said → IsReply more later request said
 reply_stays h more b later request said x k =
     let goes = x.messages (request - 1) k.m k.message in
     let grows = x.resources k.at_resource k.r k.resource in
@@ -275,10 +278,11 @@ pub record Grown (names : List (List ℕ × Thing)) (h : List Line) (b : Board) 
   pub told : (line : Line) → Stands line more → Stands line h ⊎ Tells more later line
   pub transactions : Each (λ at t. (slice_get b.transactions at ≡ Some t) ⊎ IsTransaction more later at t) later.transactions
   pub messages : Each (λ at (m : Message). ((old : Message) × (slice_get b.messages at ≡ Some old) × (m.content ≡ old.content)) ⊎ IsContent more later m.content) later.messages
-  pub safe : Safe more
+  pub allowed : AreAllowed more
 
 pub known_grown : (names names_later : List (List ℕ × Thing)) (h : List Line) (b : Board) (more : List Line) (later : Board) → Known names b h → Grown names_later h b more later → Known names_later later more
 known_grown names names_later h b more later k g = record {
+  laws = k.laws;
   named = g.named;
   told = λ line stands. elim (g.told line stands) [
     | inl old ↦ tells_stays h more b later line g.extends (k.told line old)
@@ -292,5 +296,5 @@ known_grown names names_later h b more later k g = record {
     | inl old ↦ rw old.2 (content_stays h more b later old.0.content g.extends (k.messages at old.0 old.1))
     | inr new ↦ new
   ];
-  safe = g.safe;
+  allowed = g.allowed;
 }

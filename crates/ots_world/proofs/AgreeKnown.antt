@@ -8,38 +8,37 @@ use Rattle.ots_model.specs.declared.completion.Outcome.TheVariants as outcomes
 use Rattle.ots_model.specs.declared.completion.Vote.TheVariants.{VoteCommit}
 use Rattle.ots_model.specs.declared.completion.Word.{Word}
 use Rattle.ots_model.specs.declared.completion.Word.TheVariants as words
-use Rattle.ots_model.specs.declared.line.Said.{Said}
-use Rattle.ots_model.specs.declared.line.Said.TheVariants as says
-use Rattle.ots_model.specs.declared.line.Operation.{Operation}
-use Rattle.ots_model.specs.declared.line.Operation.TheVariants as operations
+use Rattle.ots_model.specs.declared.response.Response.{Response}
+use Rattle.ots_model.specs.declared.response.Exception.TheVariants as exceptions
+use Rattle.ots_model.specs.declared.response.Response.TheVariants as responses
 use Rattle.ots_model.specs.declared.line.ResourceState.{ResourceState}
 use Rattle.ots_model.specs.declared.line.ResourceState.TheVariants as states
-use Rattle.ots_model.specs.declared.line.Decided.TheVariants as decided
+use Rattle.ots_model.specs.declared.completion.Ground.TheVariants as grounds
 use Rattle.ots_model.specs.declared.line.Line.{Line}
 use Rattle.ots_model.specs.declared.line.Line.TheVariants as lines
-use Rattle.ots_model.specs.Safe.{Stands, IsSent, IsToldRollback, HasConsented, Safe}
-use Rattle.two_phase.specs.Laws.{RecordStands, IsRollback}
-use Rattle.two_phase.specs.Poll.{Poll, refuser, outcome}
+use Rattle.ots_model.specs.Safe.{Stands, IsSent, IsToldRollback, HasConsented}
+use Rattle.ots_model.specs.SafeByLine.{AreAllowed}
+use Rattle.two_phase.specs.Laws.{RecordStands, AllConsent, IsRollback}
+use Rattle.two_phase.specs.Poll.{Poll, outcome}
 use Rattle.two_phase.specs.Progress.{Progress, Idle, Polling}
 use Rattle.ots_world.specs.declared.board.Transaction.{Transaction}
 use Rattle.ots_world.specs.declared.board.Resource.{Resource}
 use Rattle.ots_world.specs.declared.board.Stage.{Stage}
-use Rattle.ots_world.specs.declared.board.Stage.TheVariants.{Prepared, Applied, Undone}
+use Rattle.ots_world.specs.declared.board.Stage.TheVariants.{In}
 use Rattle.ots_world.specs.declared.board.Content.{Content}
 use Rattle.ots_world.specs.declared.board.Content.TheVariants.{Call, Request, Reply}
 use Rattle.ots_world.specs.declared.board.Message.{Message}
 use Rattle.ots_world.specs.declared.directory.Thing.{Thing}
 use Rattle.ots_world.specs.declared.directory.Thing.TheVariants as things
 use Rattle.ots_world.specs.Named.{thing}
-use Rattle.ots_world.specs.Table.{operation_of}
 use Rattle.ots_world.specs.Board.{Board}
 use Rattle.ots_world.proofs.AgreeLists.{Each}
-use Rattle.ots_world.proofs.AgreePoll.{WordTells}
+use Rattle.ots_world.proofs.AgreePoll.{PollLaws, WordTells}
 
 -- a resource that voted commit, and wasn't told rollback since, is in one of these
 abbrev pub IsReady : Stage → Type 0
-IsReady Prepared = Unit {0}
-IsReady Applied = Unit {0}
+IsReady (In states.Prepared) = Unit {0}
+IsReady (In states.Applied) = Unit {0}
 IsReady _ = ⊥
 
 abbrev pub IsBound : List Line → Resource → Type 0
@@ -63,6 +62,13 @@ pub record IsSeated (b : Board) (resource transaction : List ℕ) : Type 0 where
   pub transaction_name : t.name ≡ transaction
   pub resource_name : r.name ≡ resource
 
+-- a transaction of this name was made
+pub record IsMade (b : Board) (name : List ℕ) : Type 0 where
+  pub at : ℕ
+  pub t : Transaction
+  pub transaction : slice_get b.transactions at ≡ Some t
+  pub transaction_name : t.name ≡ name
+
 -- a resource of this name was told this word by the poll of its transaction
 pub record IsTold (b : Board) (name : List ℕ) (P : Poll → Resource → Type 0) : Type 0 where
   pub at : ℕ
@@ -85,24 +91,25 @@ pub record IsIn (b : Board) (name : List ℕ) (stage : Stage) : Type 0 where
   pub in_stage : r.stage ≡ stage
 
 abbrev pub Commits : List Line → Poll → Resource → Type 0
-Commits h p r = (outcome p ≡ Some outcomes.Commit) × IsBound h r
+Commits h p r = (outcome p ≡ Some (outcomes.Commit grounds.Record)) × IsBound h r
 
 abbrev pub RollsBack : Poll → Resource → Type 0
 RollsBack p r = IsRollback (outcome p)
 
 -- what a line says of what is under way
-abbrev pub Sends : List Line → Board → Operation → List ℕ → Type 0
-Sends h b operations.Commit g = IsTold b g (Commits h)
-Sends h b operations.CommitOnePhase g = ⊥
-Sends h b operations.Rollback g = IsTold b g RollsBack
+abbrev pub Sends : List Line → Board → Word → List ℕ → Type 0
+Sends h b words.Commit g = IsTold b g (Commits h)
+Sends h b words.CommitOnePhase g = ⊥
+Sends h b words.Rollback g = IsTold b g RollsBack
 Sends h b _ g = Unit {0}
 
 abbrev pub Changes : List Line → Board → ResourceState → List ℕ → Type 0
-Changes h b states.Applied g = IsIn b g Applied × IsTold b g (Commits h)
-Changes h b states.Undone g = IsIn b g Undone
+Changes h b states.Applied g = IsIn b g (In states.Applied) × IsTold b g (Commits h)
+Changes h b states.Undone g = IsIn b g (In states.Undone)
 Changes h b _ g = Unit {0}
 
 abbrev pub Tells : List Line → Board → Line → Type 0
+Tells h b (lines.Top t node) = IsMade b t
 Tells h b (lines.Sub t parent) = ⊥
 Tells h b (lines.Imp f superior node) = ⊥
 Tells h b (lines.SubDone t committed) = ⊥
@@ -124,8 +131,8 @@ pub record IsPolled (h : List Line) (b : Board) (at : ℕ) (t : Transaction) (p 
   pub committed : is_none t.commit ≡ false
   pub several : p.one_phase ≡ false
   pub same : length p.participants ≡ length t.registrations
-  pub decided : RecordStands p.stood → Stands (lines.Decide t.name decided.CommitRecord) h
-  pub voted : refuser p ≡ None → (index : ℕ) → index < length p.heard → index < length p.participants → HasVoted h b at index t p
+  pub decided : RecordStands p.stood → Stands (lines.Decide t.name (outcomes.Commit grounds.Record)) h
+  pub voted : AllConsent p → (index : ℕ) → index < length p.heard → index < length p.participants → HasVoted h b at index t p
 
 abbrev pub IsProgress : List Line → Board → ℕ → Transaction → Progress → Type 0
 IsProgress h b at t (Idle room) = Unit {0}
@@ -152,15 +159,15 @@ pub record IsRequest (h : List Line) (b : Board) (at : ℕ) (number : CallNumber
   pub p : Poll
   pub seat : Seat b at index at_resource t r
   pub polling : t.completion ≡ Polling p
-  pub sent : IsSent (operation_of word) r.name h
+  pub sent : IsSent word r.name h
   pub tells : WordTells word number index p
 
 -- what a reply says of the resource that gave it
-abbrev pub IsSaid : List Line → Word → Said → Resource → Type 0
-IsSaid h words.Prepare (says.Voted VoteCommit) r = IsBound h r
+abbrev pub IsSaid : List Line → Word → Response → Resource → Type 0
+IsSaid h words.Prepare (responses.Voted VoteCommit) r = IsBound h r
 IsSaid h _ _ r = Unit {0}
 
-pub record IsReply (h : List Line) (b : Board) (request : ℕ) (said : Said) : Type 0 where
+pub record IsReply (h : List Line) (b : Board) (request : ℕ) (said : Response) : Type 0 where
   pub m : Message
   pub at : ℕ
   pub number : CallNumber
@@ -183,10 +190,11 @@ pub record AreNamed (names : List (List ℕ × Thing)) (b : Board) : Type 0 wher
   pub resources : Each (λ at (r : Resource). thing names r.name ≡ Some (things.Resource at)) b.resources
   pub places : (name : List ℕ) (at : ℕ) → thing names name ≡ Some (things.Transaction at) → (t : Transaction) × (slice_get b.transactions at ≡ Some t) × (t.name ≡ name)
 
--- all that is known
+-- all that is known, and the laws of completions
 pub record Known (names : List (List ℕ × Thing)) (b : Board) (h : List Line) : Type 0 where
+  pub laws : PollLaws
   pub named : AreNamed names b
   pub told : (line : Line) → Stands line h → Tells h b line
   pub transactions : Each (IsTransaction h b) b.transactions
   pub messages : Each (λ at (m : Message). IsContent h b m.content) b.messages
-  pub safe : Safe h
+  pub allowed : AreAllowed h

@@ -1,5 +1,5 @@
 -- What a list holds, as it grows or changes at one place.
-use Rattle.std.proofs.Common.{◌≡◌, ℕ, zero, suc, ◌⊎◌, inl, inr, List, [], ◌∷◌, ◌++◌, length, set, Some, sym, ap, ◌∙◌, refl}
+use Rattle.std.proofs.Common.{◌≡◌, ℕ, ◌<◌, zero, suc, ◌⊎◌, inl, inr, List, [], ◌∷◌, ◌++◌, length, set, Some, sym, ap, ◌∙◌, refl, arith}
 use Rattle.std.specs.List.{slice_get}
 use Rattle.std.proofs.lemmas.Option.{same_Some}
 
@@ -45,6 +45,11 @@ pub push_kept : {A : Type 0} (xs : List A) (k : ℕ) (y u : A) → slice_get xs 
 push_kept [] k y u e = absurd (cc)
 push_kept (z ∷ xs) zero y u e = e
 push_kept (z ∷ xs) (suc k) y u e = push_kept xs k y u e
+
+pub push_before : {A : Type 0} (xs : List A) (y : A) (k : ℕ) → k < length xs → slice_get (xs ++ y ∷ []) k ≡ slice_get xs k
+push_before [] y k l = absurd (omega arith)
+push_before (z ∷ xs) y zero l = refl
+push_before (z ∷ xs) y (suc k) l = push_before xs y k (omega arith)
 
 pub push_last : {A : Type 0} (xs : List A) (y : A) → slice_get (xs ++ y ∷ []) (length xs) ≡ Some y
 push_last [] y = refl

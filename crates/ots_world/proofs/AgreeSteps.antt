@@ -4,10 +4,12 @@ use Rattle.std.specs.Prelude.{is_none}
 use Rattle.std.specs.List.{slice_get}
 use Rattle.ots_model.specs.declared.line.Line.{Line}
 use Rattle.ots_model.specs.declared.line.Line.TheVariants as lines
-use Rattle.ots_model.specs.Safe.{Stands, IsAllowed}
-use Rattle.ots_model.specs.declared.line.Decided.TheVariants as decided
+use Rattle.ots_model.specs.Safe.{Stands}
+use Rattle.ots_model.specs.SafeByLine.{IsAllowed}
+use Rattle.ots_model.specs.declared.completion.Ground.TheVariants as grounds
+use Rattle.ots_model.specs.declared.completion.Outcome.TheVariants as outcomes
 use Rattle.two_phase.specs.Laws.{RecordStands}
-use Rattle.two_phase.specs.Poll.{Poll, refuser}
+use Rattle.two_phase.specs.Poll.{Poll}
 use Rattle.two_phase.specs.Progress.{Progress, Polling}
 use Rattle.ots_world.specs.declared.board.Transaction.{Transaction}
 use Rattle.ots_world.specs.declared.board.Resource.{Resource}
@@ -18,12 +20,13 @@ use Rattle.ots_world.specs.declared.directory.Thing.TheVariants as things
 use Rattle.ots_world.specs.Named.{thing}
 use Rattle.ots_world.specs.Board.{Board, sending, with_transaction, with_resource, with_message, with_record}
 use Rattle.ots_world.proofs.AgreeLists.{Each, each_set, goes_same, goes_set, goes_push, set_cases, set_kept, set_same, push_cases, one_element}
-use Rattle.ots_world.proofs.AgreePoll.{PollGrows}
+use Rattle.ots_world.proofs.AgreePoll.{PollGrows, consent_like}
 use Rattle.ots_world.proofs.AgreeKnown.{Tells, IsPolled, IsProgress, IsTransaction, IsContent, Known}
 use Rattle.ots_world.proofs.AgreeGrows.{ResourceGrows, resource_same, TransactionGrows, transaction_same, MessageGrows, Extends, content_stays, listed_stays, voted_stays, transaction_stays, known_grown}
 
 -- a line that says nothing of what is under way
 abbrev pub IsQuiet : Line → Type 0
+IsQuiet (lines.Top t node) = ⊥
 IsQuiet (lines.Sub t parent) = ⊥
 IsQuiet (lines.Imp f superior node) = ⊥
 IsQuiet (lines.SubDone t committed) = ⊥
@@ -33,22 +36,22 @@ IsQuiet (lines.State g state) = ⊥
 IsQuiet _ = Unit {0}
 
 quiet_line : (x : Line) (h : List Line) (b : Board) → IsQuiet x → IsAllowed x h × Tells (x ∷ h) b x
+quiet_line (lines.Top t node) h b q = absurd q
 quiet_line (lines.Sub t parent) h b q = absurd q
 quiet_line (lines.Imp f superior node) h b q = absurd q
 quiet_line (lines.SubDone t committed) h b q = absurd q
 quiet_line (lines.Reg g t end) h b q = absurd q
 quiet_line (lines.Send message operation g) h b q = absurd q
 quiet_line (lines.State g state) h b q = absurd q
-quiet_line (lines.Up server life) h b q = (record { one_way = tt; by_decision = tt; to_participant = tt; kept = tt }, tt)
-quiet_line (lines.Top t node) h b q = (record { one_way = tt; by_decision = tt; to_participant = tt; kept = tt }, tt)
-quiet_line (lines.Call message operation t) h b q = (record { one_way = tt; by_decision = tt; to_participant = tt; kept = tt }, tt)
-quiet_line (lines.Answered message said) h b q = (record { one_way = tt; by_decision = tt; to_participant = tt; kept = tt }, tt)
-quiet_line (lines.Back message request said) h b q = (record { one_way = tt; by_decision = tt; to_participant = tt; kept = tt }, tt)
-quiet_line (lines.Recv message) h b q = (record { one_way = tt; by_decision = tt; to_participant = tt; kept = tt }, tt)
-quiet_line (lines.Voted g vote) h b q = (record { one_way = tt; by_decision = tt; to_participant = tt; kept = tt }, tt)
-quiet_line (lines.Decide t decided) h b q = (record { one_way = tt; by_decision = tt; to_participant = tt; kept = tt }, tt)
-quiet_line (lines.Learn g decision) h b q = (record { one_way = tt; by_decision = tt; to_participant = tt; kept = tt }, tt)
-quiet_line (lines.Done t) h b q = (record { one_way = tt; by_decision = tt; to_participant = tt; kept = tt }, tt)
+quiet_line (lines.Up server life) h b q = (tt, tt)
+quiet_line (lines.Call message operation t) h b q = (tt, tt)
+quiet_line (lines.Answered message said) h b q = (tt, tt)
+quiet_line (lines.Back message request said) h b q = (tt, tt)
+quiet_line (lines.Recv message) h b q = (tt, tt)
+quiet_line (lines.Voted g vote) h b q = (tt, tt)
+quiet_line (lines.Decide t decided) h b q = (tt, tt)
+quiet_line (lines.Learn g decision) h b q = (tt, tt)
+quiet_line (lines.Done t) h b q = (tt, tt)
 
 pub old_messages : (h : List Line) (b later : Board) → later.messages ≡ b.messages
     → Each (λ at (m : Message). ((old : Message) × (slice_get b.messages at ≡ Some old) × (m.content ≡ old.content)) ⊎ IsContent h later m.content) later.messages
@@ -74,7 +77,7 @@ known_line names b h x k allowed tells = known_grown names names h b (x ∷ h) b
   told = λ line s. elim s [ inl here ↦ inr (subst (λ y. Tells (x ∷ h) b y) here tells) | inr there ↦ inl there ];
   transactions = old_transactions (x ∷ h) b b refl;
   messages = old_messages (x ∷ h) b b refl;
-  safe = (allowed, k.safe);
+  allowed = (allowed, k.allowed);
 })
 
 pub known_quiet : (names : List (List ℕ × Thing)) (b : Board) (h : List Line) (x : Line) → IsQuiet x → Known names b h → Known names b (x ∷ h)
@@ -100,7 +103,7 @@ known_resource names b h at r later k there g = known_grown names names h b h (w
   told = λ line s. inl s;
   transactions = old_transactions h b (with_resource at later b) refl;
   messages = old_messages h b (with_resource at later b) refl;
-  safe = k.safe;
+  allowed = k.allowed;
 })
 
 -- a message changes, but for its content
@@ -119,7 +122,7 @@ known_message names b h at m later k there same = known_grown names names h b h 
     | inl here ↦ inl (m, ap (slice_get b.messages) here.0 ∙ there, ap (λ (y : Message). y.content) here.1 ∙ same)
     | inr old ↦ inl (x, old, refl)
   ];
-  safe = k.safe;
+  allowed = k.allowed;
 })
 
 -- a message goes out
@@ -141,7 +144,7 @@ known_sending names b h m k content = known_grown names names h b h (sending m b
     | inl old ↦ inl (x, old, refl)
     | inr new ↦ inr (subst (λ (y : Message). IsContent h (sending m b) y.content) (sym new.1) (content_stays h h b (sending m b) m.content (extends_sending b h m) content))
   ];
-  safe = k.safe;
+  allowed = k.allowed;
 })
 
 -- an item is recorded
@@ -157,7 +160,7 @@ known_record names b h item k = known_grown names names h b h (with_record item 
   told = λ line s. inl s;
   transactions = old_transactions h b (with_record item b) refl;
   messages = old_messages h b (with_record item b) refl;
-  safe = k.safe;
+  allowed = k.allowed;
 })
 
 -- a transaction changes
@@ -189,7 +192,7 @@ known_transaction names b h at t later k there g new = known_grown names names h
     | inr old ↦ inl old
   ];
   messages = old_messages h b (with_transaction at later b) refl;
-  safe = k.safe;
+  allowed = k.allowed;
 })
 
 -- a transaction with a poll under way or begun
@@ -224,16 +227,15 @@ pub record IsLike (p q : Poll) : Type 0 where
   pub participants : q.participants ≡ p.participants
   pub several : q.one_phase ≡ p.one_phase
   pub heard : q.heard ≡ p.heard
-  pub refuser : refuser q ≡ refuser p
 
 pub polled_like : (h : List Line) (b later : Board) (at : ℕ) (t t_later : Transaction) (p q : Poll) → Extends h b h later → slice_get later.transactions at ≡ Some t_later → TransactionGrows t t_later
-    → t_later.registrations ≡ t.registrations → t_later.commit ≡ t.commit → IsLike p q → (RecordStands q.stood → Stands (lines.Decide t_later.name decided.CommitRecord) h) → IsPolled h b at t p → IsPolled h later at t_later q
+    → t_later.registrations ≡ t.registrations → t_later.commit ≡ t.commit → IsLike p q → (RecordStands q.stood → Stands (lines.Decide t_later.name (outcomes.Commit grounds.Record)) h) → IsPolled h b at t p → IsPolled h later at t_later q
 polled_like h b later at t t_later p q x there g registrations commit like decides k = record {
   committed = ap is_none commit ∙ k.committed;
   several = like.several ∙ k.several;
   same = ap length like.participants ∙ (k.same ∙ ap length (sym registrations));
   decided = decides;
-  voted = λ none index l within.
+  voted = λ consent index l within.
       voted_stays h h b later at index t t_later p q x there g (ap (λ xs. slice_get xs index) like.heard)
-      (k.voted (sym like.refuser ∙ none) index (subst (λ (n : ℕ). index < n) (ap length like.heard) l) (subst (λ (n : ℕ). index < n) (ap length like.participants) within));
+      (k.voted (consent_like p q like.participants like.heard consent) index (subst (λ (n : ℕ). index < n) (ap length like.heard) l) (subst (λ (n : ℕ). index < n) (ap length like.participants) within));
 }

@@ -4,11 +4,13 @@ use Rattle.std.specs.Prelude.{slice_index}
 use Rattle.std.specs.List.{slice_get}
 use Rattle.std.specs.Option.{option_map}
 use Rattle.std.proofs.lemmas.Option.{slice_get-get_or}
+use Rattle.ots_model.specs.declared.completion.Ground.TheVariants as grounds
 use Rattle.ots_model.specs.declared.completion.Outcome.{Outcome}
 use Rattle.ots_model.specs.declared.completion.Outcome.TheVariants as outcomes
 use Rattle.ots_model.specs.declared.completion.Outward.{Outward}
-use Rattle.ots_model.specs.declared.line.Said.{Said}
-use Rattle.ots_model.specs.declared.line.Said.TheVariants as says
+use Rattle.ots_model.specs.declared.response.Response.{Response}
+use Rattle.ots_model.specs.declared.response.Exception.TheVariants as exceptions
+use Rattle.ots_model.specs.declared.response.Response.TheVariants as responses
 use Rattle.ots_model.specs.declared.line.Line.{Line}
 use Rattle.ots_model.specs.declared.line.Line.TheVariants as lines
 use Rattle.two_phase.specs.Progress as progress
@@ -21,10 +23,9 @@ use Rattle.ots_world.specs.declared.board.Resource.{Resource}
 use Rattle.ots_world.specs.declared.board.Content.TheVariants.{Request}
 use Rattle.ots_world.specs.declared.board.Record.TheVariants as records
 use Rattle.ots_world.specs.declared.directory.Thing.{Thing}
-use Rattle.ots_world.specs.Table.{operation_of}
 use Rattle.ots_world.specs.Board.{Board, nothing, next_message, name_at, resource_of, with_transaction, with_record, requests_of, requests, answering, closes, ending, turned, turns, goes_on}
 use Rattle.ots_world.proofs.AgreeLists.{set_same}
-use Rattle.ots_world.proofs.AgreePoll.{PollGrows, WordTells, WordRests, GoesOut, goes_out, goes_out_next, poll_next, next_parts, refuser_next}
+use Rattle.ots_world.proofs.AgreePoll.{PollGrows, WordTells, WordRests, GoesOut, goes_out, goes_out_next, poll_next, next_parts}
 use Rattle.ots_world.proofs.AgreeKnown.{Seat, Known}
 use Rattle.ots_world.proofs.AgreeGrows.{tells_stays}
 use Rattle.ots_world.proofs.AgreeAllowed.{same_poll, polled_of, send_allowed, send_tells}
@@ -37,7 +38,7 @@ requests_keep : (names : List (List ℕ × Thing)) (b : Board) (h : List Line) (
 requests_keep names b h at index at_resource t r p o k s polling g place =
     let tells = subst (λ (i : ℕ). WordTells o.word o.number i p) place g.tells in
     let rests = subst (λ (i : ℕ). WordRests o.word i p) place g.rests in
-    let line : Line = lines.Send (next_message b) (operation_of o.word) r.name in
+    let line : Line = lines.Send (next_message b) o.word r.name in
     let said = known_line names b h line k
     (send_allowed names b h at index at_resource (next_message b) o.number o.word t r p k s polling tells rests)
     (tells_stays h (line ∷ h) b b line (extends_line b h line) (send_tells names b h at index at_resource o.number o.word t r p k s polling tells rests)) in
@@ -73,20 +74,20 @@ requested names b h at t p o k there polling g =
     (requests_keep names b h at g.place place t l.r p o k l.seat polling g refl)
 
 -- the client is answered
-answering_keeps : (names : List (List ℕ × Thing)) (b : Board) (h : List Line) (call : Option ℕ) (said : Said) → Known names b h → Keeps names h (answering call said b)
+answering_keeps : (names : List (List ℕ × Thing)) (b : Board) (h : List Line) (call : Option ℕ) (said : Response) → Known names b h → Keeps names h (answering call said b)
 answering_keeps names b h None said k = k
 answering_keeps names b h (Some message) said k = known_quiet names b h (lines.Answered message said) tt k
 
 -- a transaction ends
-ending_keeps : (names : List (List ℕ × Thing)) (b : Board) (h : List Line) (t : Transaction) (o : Option Outcome) (decision : Option ℕ) → Known names b h → Keeps names h (ending t o decision b)
+ending_keeps : (names : List (List ℕ × Thing)) (b : Board) (h : List Line) (t : Transaction) (o : Option (Outcome ℕ)) (decision : Option ℕ) → Known names b h → Keeps names h (ending t o decision b)
 ending_keeps names b h t None decision k = k
 ending_keeps names b h t (Some outcomes.Unknown) decision k = k
 ending_keeps names b h t (Some (outcomes.Rollback reason)) decision k = answering_keeps names b h t.commit _ k
-ending_keeps names b h t (Some outcomes.Commit) None k = answering_keeps names b h t.commit _ k
-ending_keeps names b h t (Some outcomes.Commit) (Some decision) k =
+ending_keeps names b h t (Some (outcomes.Commit ground)) None k = answering_keeps names b h t.commit _ k
+ending_keeps names b h t (Some (outcomes.Commit ground)) (Some decision) k =
     let line : Line = lines.Done t.name in
-    keeps_then names h (closes t.name decision b) (answering t.commit says.Plain)
-    (answering_keeps names (with_record (records.Done decision) b) (line ∷ h) t.commit says.Plain
+    keeps_then names h (closes t.name decision b) (answering t.commit responses.Plain)
+    (answering_keeps names (with_record (records.Done decision) b) (line ∷ h) t.commit responses.Plain
     (known_record names b (line ∷ h) (records.Done decision) (known_quiet names b h line tt k)))
 
 -- the next word goes out, or the transaction ends
@@ -97,7 +98,7 @@ turns_keep names b h at t None k goes = ending_keeps names b h t (progress.outco
 turns_keep names b h at t (Some o) k goes = goes o refl
 
 like_next : (p : Poll) → IsLike p (poll.after_next p)
-like_next p = let parts = next_parts p in record { participants = parts.2; several = parts.4; heard = parts.1; refuser = refuser_next p }
+like_next p = let n = next_parts p in record { participants = n.participants; several = n.one_phase; heard = n.heard }
 
 -- a poll that goes on
 turned_known : (names : List (List ℕ × Thing)) (b : Board) (h : List Line) (at : ℕ) (t : Transaction) (p : Poll) → Known names b h → slice_get b.transactions at ≡ Some t → t.completion ≡ Polling p
@@ -105,14 +106,14 @@ turned_known : (names : List (List ℕ × Thing)) (b : Board) (h : List Line) (a
 turned_known names b h at t p k there polling =
     let polled = polled_of names b h at t p k there polling in
     known_poll names b h at t (turned t) (poll.after_next p) k there refl refl (ap progress.after_next polling)
-    (λ q e. let same : p ≡ q = same_poll t.completion p q polling e in subst (λ (x : Poll). PollGrows x (poll.after_next p)) same (poll_next p))
+    (λ q e. let same : p ≡ q = same_poll t.completion p q polling e in subst (λ (x : Poll). PollGrows x (poll.after_next p)) same (poll_next k.laws p))
     (λ x. polled_like h b (with_transaction at (turned t) b) at t (turned t) p (poll.after_next p) x (set_same b.transactions at t (turned t) there)
     (record {
       name = refl;
       registered = λ index place e. e;
-      polls = λ q e. let same : p ≡ q = same_poll t.completion p q polling e in record { later = poll.after_next p; is = ap progress.after_next polling; grows = subst (λ (x : Poll). PollGrows x (poll.after_next p)) same (poll_next p) };
+      polls = λ q e. let same : p ≡ q = same_poll t.completion p q polling e in record { later = poll.after_next p; is = ap progress.after_next polling; grows = subst (λ (x : Poll). PollGrows x (poll.after_next p)) same (poll_next k.laws p) };
     })
-    refl refl (like_next p) (λ stands. polled.decided (subst RecordStands (next_parts p).3 stands)) polled)
+    refl refl (like_next p) (λ stands. polled.decided (subst RecordStands (next_parts p).stood stands)) polled)
 
 turned_idle : (t : Transaction) (room : ℕ) → t.completion ≡ Idle room → turned t ≡ t
 turned_idle t room e =
@@ -130,7 +131,7 @@ turned_keeps names b h at t (Polling p) k there e =
     let on = turned_known names b h at t p k there e in
     turns_keep names (with_transaction at (turned t) b) h at (turned t) (poll.next_word p) on (λ o next.
     requested names (with_transaction at (turned t) b) h at (turned t) (poll.after_next p) o on (set_same b.transactions at t (turned t) there) (ap progress.after_next e)
-    (goes_out_next p o (goes_out p o polled.several next)))
+    (goes_out_next k.laws p o (goes_out k.laws p o polled.several next)))
 
 pub goes_on_keeps : (names : List (List ℕ × Thing)) (b : Board) (h : List Line) (at : ℕ) → Known names b h → Keeps names h (goes_on at b)
 unfolding goes_on

@@ -3,14 +3,16 @@ use Rattle.std.proofs.Common.{◌≡◌, ℕ, Bool, true, false, not, ◌&&◌, 
 use Rattle.std.specs.Prelude.{is_none}
 use Rattle.std.specs.List.{slice_get}
 use Rattle.std.proofs.lemmas.Bool.{and_parts, or_left}
-use Rattle.std.proofs.lemmas.List.{reverse-append}
+use Rattle.std.proofs.lemmas.List.{reverse-append, reverse-reverse}
 use Rattle.ots_model.specs.declared.line.Line.{Line}
 use Rattle.ots_model.specs.declared.line.Line.TheVariants as lines
 use Rattle.ots_model.specs.Safe.{AreSafe}
+use Rattle.ots_model.specs.SafeByLine.{AllowedIsSafe}
 use Rattle.ots_world.specs.declared.board.Transaction.{Transaction}
 use Rattle.ots_world.specs.declared.board.Resource.{Resource}
 use Rattle.ots_world.specs.declared.board.Stage.{Stage}
-use Rattle.ots_world.specs.declared.board.Stage.TheVariants.{Fresh, Working, Refused, Prepared, Applied, Undone, Forgotten}
+use Rattle.ots_model.specs.declared.line.ResourceState.TheVariants as states
+use Rattle.ots_world.specs.declared.board.Stage.TheVariants.{Fresh, Working, Refused, In}
 use Rattle.ots_world.specs.declared.directory.Thing.{Thing}
 use Rattle.ots_world.specs.declared.directory.Thing.TheVariants as things
 use Rattle.ots_world.specs.declared.script.ScriptEvent.{ScriptEvent}
@@ -21,6 +23,7 @@ use Rattle.ots_world.specs.World.{World, Step, Stepped, Moves, Names, empty, is_
 use Rattle.ots_world.specs.Agreement.{Reaches, nothing, more}
 use Rattle.ots_world.proofs.AgreeLists.{one_element}
 use Rattle.ots_world.proofs.AgreeKnown.{IsReady, Known}
+use Rattle.ots_world.proofs.AgreePoll.{PollLaws}
 use Rattle.ots_world.proofs.AgreeGrows.{ResourceGrows}
 use Rattle.ots_world.proofs.AgreeSteps.{known_quiet, known_resource}
 use Rattle.ots_world.proofs.AgreeEffects.{after, after-reverse}
@@ -74,8 +77,7 @@ first_of_three a b c e = (and_parts a b ((and_parts (a && b) c e).0)).0
 begins_keep : (node name : List ℕ) (seconds : ℕ) (w : World) (h : List Line) → Knows w h → KnowsThen h (begins node name seconds w)
 unfolding begins
 begins_keep node name seconds w h k = named_keeps h (node_named w node) _ (λ place at. guarded_keeps h _ _ (λ passes.
-    let line : Line = lines.Top name node in
-    known_opening w.names w.board (line ∷ h) name node place (known_quiet w.names w.board h line tt k) (free_is w name (first_of_three _ _ _ passes)) (inl refl)))
+    known_opening w.names w.board h name node place k (free_is w name (first_of_three _ _ _ passes))))
 
 -- the transaction of a name has that name
 name_is : (w : World) (h : List Line) (name : List ℕ) (place : ℕ) (t : Transaction) → Knows w h → transaction_named w name ≡ Some place → slice_get w.board.transactions place ≡ Some t → t.name ≡ name
@@ -103,10 +105,10 @@ fresh_grows h r later Fresh e is name transaction =
 fresh_grows h r later Working e is name transaction =
     record { name = name; transaction = transaction; applied = λ a. absurd (cc); undone = λ a. absurd (cc); ready = λ a. absurd (subst (λ (s : Stage). IsReady s) e a) }
 fresh_grows h r later Refused e is name transaction = absurd (cc)
-fresh_grows h r later Prepared e is name transaction = absurd (cc)
-fresh_grows h r later Applied e is name transaction = absurd (cc)
-fresh_grows h r later Undone e is name transaction = absurd (cc)
-fresh_grows h r later Forgotten e is name transaction = absurd (cc)
+fresh_grows h r later (In states.Prepared) e is name transaction = absurd (cc)
+fresh_grows h r later (In states.Applied) e is name transaction = absurd (cc)
+fresh_grows h r later (In states.Undone) e is name transaction = absurd (cc)
+fresh_grows h r later (In states.Forgotten) e is name transaction = absurd (cc)
 
 put_passes : (a b c d : Bool) → (a && b && c && d) ≡ true → b ≡ true
 put_passes a b c d e = (and_parts a b ((and_parts (a && b) c ((and_parts (a && b && c) d e).0)).0)).1
@@ -153,22 +155,23 @@ no_thing : (name : List ℕ) (x : Thing) → thing [] name ≡ Some x → ⊥
 unfolding thing
 no_thing name x e = absurd (cc)
 
-known_empty : Known [] empty.board []
-known_empty = record {
+known_empty : PollLaws → Known [] empty.board []
+known_empty laws = record {
+  laws = laws;
   named = record { transactions = λ at t e. absurd (cc); resources = λ at r e. absurd (cc); places = λ name at e. absurd (no_thing name (things.Transaction at) e) };
   told = λ line s. absurd s;
   transactions = λ at t e. absurd (cc);
   messages = λ at m e. absurd (cc);
-  safe = tt;
+  allowed = tt;
 }
 
 -- what is known in each world that a script can reach
-reached : (w : World) (told : List Line) → Reaches w told → Knows w (reverse told)
-reached _ _ nothing = known_empty
-reached _ _ (more w told event to before moves) =
-    let k = subst (λ (s : Stepped). KnowsThen (reverse told) s) moves (step_keeps event w (reverse told) (reached w told before)) in
+reached : PollLaws → (w : World) (told : List Line) → Reaches w told → Knows w (reverse told)
+reached laws _ _ nothing = known_empty laws
+reached laws _ _ (more w told event to before moves) =
+    let k = subst (λ (s : Stepped). KnowsThen (reverse told) s) moves (step_keeps event w (reverse told) (reached laws w told before)) in
     subst (λ (h : List Line). Knows to.world h) (after-reverse to.lines (reverse told) ∙ sym (reverse-append told to.lines)) k
 
 -- the lines of a world that a script can reach are safe
-pub reached_safe : (w : World) (told : List Line) → Reaches w told → AreSafe told
-reached_safe w told r = (reached w told r).safe
+pub reached_safe : PollLaws → AllowedIsSafe → (w : World) (told : List Line) → Reaches w told → AreSafe told
+reached_safe laws safe w told r = subst (λ (x : List Line). AreSafe x) (reverse-reverse told) (safe (reverse told) (reached laws w told r).allowed)

@@ -3,20 +3,23 @@ use Rattle.std.proofs.Common.{◌≡◌, ℕ, ◌+◌, ◌-◌, ◌||◌, zero, 
 use Rattle.std.specs.List.{slice_get, list_any}
 use Rattle.ots_model.specs.declared.completion.Word.{Word}
 use Rattle.ots_model.specs.declared.completion.Word.TheVariants as words
+use Rattle.ots_model.specs.declared.completion.Ground.TheVariants as grounds
 use Rattle.ots_model.specs.declared.completion.Outcome.{Outcome}
 use Rattle.ots_model.specs.declared.completion.Outcome.TheVariants as outcomes
 use Rattle.ots_model.specs.declared.completion.Outward.{Outward}
 use Rattle.ots_model.specs.declared.completion.CallNumber.{CallNumber}
-use Rattle.ots_model.specs.declared.line.Said.{Said}
+use Rattle.ots_model.specs.declared.response.Response.{Response}
 use Rattle.ots_model.specs.declared.line.ResourceState.{ResourceState}
 use Rattle.ots_model.specs.declared.line.Line.{Line}
 use Rattle.two_phase.specs.Progress as progress
 use Rattle.ots_world.specs.declared.board.Transaction.{Transaction}
 use Rattle.ots_world.specs.declared.board.Resource.{Resource}
+use Rattle.ots_world.specs.declared.board.Stage.TheVariants.{In}
 use Rattle.ots_world.specs.declared.board.Content.{Content}
 use Rattle.ots_world.specs.declared.board.Content.TheVariants.{Call, Request, Reply}
 use Rattle.ots_world.specs.declared.board.Message.{Message}
-use Rattle.ots_world.specs.Table.{answer_to, change_by, heard_in, stage_of}
+use Rattle.ots_model.specs.Response.{heard_in}
+use Rattle.ots_world.specs.Table.{answer_to, change_by}
 use Rattle.ots_world.specs.Board.{Board, Effects, nothing, ◌▹◌, at_place, with_message, with_transaction, name_at, telling, changed, replies, obeys, requests_of, requests, registered, resource_of, ending, turned, turns, goes_on, recorded, fixed, settles, counted, learns, goes_on_after, hears_of, hears, acts, delivers}
 use Rattle.ots_world.specs.Claim.{holds_cell, is_claim}
 use Rattle.ots_world.specs.Clients.{commits_with, put_into, made}
@@ -84,12 +87,12 @@ at_keeps {A = A} things place act otherwise b some none =
 nothing_keeps : (b : Board) → Keeps b (nothing b)
 nothing_keeps b = λ end cell. refl
 
-replies_keeps : (message : ℕ) (said : Said) (b : Board) → Keeps b (replies message said b)
+replies_keeps : (message : ℕ) (said : Response) (b : Board) → Keeps b (replies message said b)
 unfolding replies
 replies_keeps message said b = λ end cell. refl
 
 changed_keeps : (place : ℕ) (r : Resource) (state : Option ResourceState) (b : Board) → slice_get b.resources place ≡ Some r → Keeps b (changed place r state b)
-changed_keeps place r (Some state) b is = λ end cell. holds-same end cell b.resources place r (record r { stage = stage_of state }) is refl
+changed_keeps place r (Some state) b is = λ end cell. holds-same end cell b.resources place r (record r { stage = In state }) is refl
 changed_keeps place r None b is = λ end cell. refl
 
 obeys_keeps : (message place : ℕ) (word : Word) (b : Board) → Keeps b (obeys message place word b)
@@ -104,9 +107,9 @@ requests_of_keeps : (place resource : ℕ) (o : Outward) (name : Option (List �
 requests_of_keeps place resource o (Some name) b = λ end cell. refl
 requests_of_keeps place resource o None b = λ end cell. refl
 
-ending_keeps : (t : Transaction) (outcome : Option Outcome) (decision : Option ℕ) (b : Board) → Keeps b (ending t outcome decision b)
-ending_keeps t (Some outcomes.Commit) (Some decision) b = λ end cell. refl
-ending_keeps t (Some outcomes.Commit) None b = λ end cell. refl
+ending_keeps : (t : Transaction) (outcome : Option (Outcome ℕ)) (decision : Option ℕ) (b : Board) → Keeps b (ending t outcome decision b)
+ending_keeps t (Some (outcomes.Commit basis)) (Some decision) b = λ end cell. refl
+ending_keeps t (Some (outcomes.Commit basis)) None b = λ end cell. refl
 ending_keeps t (Some (outcomes.Rollback reason)) decision b = λ end cell. refl
 ending_keeps t (Some outcomes.Unknown) decision b = λ end cell. refl
 ending_keeps t None decision b = λ end cell. refl
@@ -122,8 +125,8 @@ goes_on_keeps place b = at_keeps b.transactions place _ (nothing b) b
     (λ t is. turns_keeps place (turned t) (progress.next_word t.completion) (with_transaction place (turned t) b))
     (nothing_keeps b)
 
-fixed_keeps : (t : Transaction) (outcome : Option Outcome) (b : Board) → Keeps b (fixed t outcome b)
-fixed_keeps t (Some outcomes.Commit) b = λ end cell. refl
+fixed_keeps : (t : Transaction) (outcome : Option (Outcome ℕ)) (b : Board) → Keeps b (fixed t outcome b)
+fixed_keeps t (Some (outcomes.Commit basis)) b = λ end cell. refl
 fixed_keeps t (Some (outcomes.Rollback reason)) b = λ end cell. refl
 fixed_keeps t (Some outcomes.Unknown) b = λ end cell. refl
 fixed_keeps t None b = λ end cell. refl
@@ -143,7 +146,7 @@ telling_keeps : (say : List ℕ → List Line) (name : Option (List ℕ)) (b : B
 telling_keeps say (Some name) b = λ end cell. refl
 telling_keeps say None b = λ end cell. refl
 
-learns_resources : (place : ℕ) (number : CallNumber) (said : Said) (b : Board) → (learns place number said b).resources ≡ b.resources
+learns_resources : (place : ℕ) (number : CallNumber) (said : Response) (b : Board) → (learns place number said b).resources ≡ b.resources
 unfolding learns
 learns_resources place number said b =
     let new : Option Transaction → Board = λ o. elim o [
@@ -152,7 +155,7 @@ learns_resources place number said b =
     ] in
     elim (slice_get b.transactions place) as (λ o. (new o).resources ≡ b.resources) [ Some t ↦ refl | None ↦ refl ]
 
-goes_on_after_keeps : (word : Word) (place resource : ℕ) (said : Said) (b : Board) → Keeps b (goes_on_after word place resource said b)
+goes_on_after_keeps : (word : Word) (place resource : ℕ) (said : Response) (b : Board) → Keeps b (goes_on_after word place resource said b)
 goes_on_after_keeps words.Prepare place resource said b =
     let first = telling (λ name. counted name said) (name_at b.resources resource) b in
     let second = first ▹ settles place in
@@ -163,19 +166,19 @@ goes_on_after_keeps words.Commit place resource said b = goes_on_keeps place b
 goes_on_after_keeps words.CommitOnePhase place resource said b = goes_on_keeps place b
 goes_on_after_keeps words.Rollback place resource said b = goes_on_keeps place b
 
-hears_of_keeps : (content : Content) (said : Said) (b : Board) → Keeps b (hears_of content said b)
+hears_of_keeps : (content : Content) (said : Response) (b : Board) → Keeps b (hears_of content said b)
 hears_of_keeps (Request place number word resource) said b =
     λ end cell. goes_on_after_keeps word place resource said (learns place number said b) end cell
     ∙ ap (holds end cell) (learns_resources place number said b)
 hears_of_keeps (Reply request other) said b = nothing_keeps b
 hears_of_keeps (Call operation place) said b = nothing_keeps b
 
-heard_keeps : (awaited : Bool) (request : ℕ) (m : Message) (said : Said) (b : Board)
+heard_keeps : (awaited : Bool) (request : ℕ) (m : Message) (said : Response) (b : Board)
     → Keeps b (cond awaited (hears_of m.content said (with_message (request - 1) (record m { awaited = false }) b)) (nothing b))
 heard_keeps true request m said b = hears_of_keeps m.content said (with_message (request - 1) (record m { awaited = false }) b)
 heard_keeps false request m said b = nothing_keeps b
 
-hears_keeps : (request : ℕ) (said : Said) (b : Board) → Keeps b (hears request said b)
+hears_keeps : (request : ℕ) (said : Response) (b : Board) → Keeps b (hears request said b)
 unfolding hears
 hears_keeps request said b = at_keeps b.messages (request - 1) _ (nothing b) b
     (λ m is. heard_keeps m.awaited request m said b)

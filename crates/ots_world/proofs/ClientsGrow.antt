@@ -2,6 +2,7 @@
 use Rattle.std.proofs.Common.{ℕ, ◌≤◌, List, length, Option, Some, None, arith}
 use Rattle.std.specs.List.{slice_get}
 use Rattle.std.proofs.lemmas.List.{length-append}
+use Rattle.ots_model.specs.declared.completion.Ground.TheVariants as grounds
 use Rattle.ots_model.specs.declared.completion.Outcome.{Outcome}
 use Rattle.ots_model.specs.declared.completion.Outcome.TheVariants as outcomes
 use Rattle.ots_model.specs.declared.completion.Outward.{Outward}
@@ -17,9 +18,9 @@ requests_of_grows : (place resource : ℕ) (o : Outward) (name : Option (List �
 requests_of_grows place resource o (Some name) b = simp length-append (omega arith)
 requests_of_grows place resource o None b = omega arith
 
-ending_grows : (t : Transaction) (outcome : Option Outcome) (decision : Option ℕ) (b : Board) → Grows b (ending t outcome decision b)
-ending_grows t (Some outcomes.Commit) (Some decision) b = omega arith
-ending_grows t (Some outcomes.Commit) None b = omega arith
+ending_grows : (t : Transaction) (outcome : Option (Outcome ℕ)) (decision : Option ℕ) (b : Board) → Grows b (ending t outcome decision b)
+ending_grows t (Some (outcomes.Commit basis)) (Some decision) b = omega arith
+ending_grows t (Some (outcomes.Commit basis)) None b = omega arith
 ending_grows t (Some (outcomes.Rollback reason)) decision b = omega arith
 ending_grows t (Some outcomes.Unknown) decision b = omega arith
 ending_grows t None decision b = omega arith

@@ -9,7 +9,7 @@ use Rattle.ots_model.specs.declared.line.Line.{Line}
 use Rattle.ots_model.specs.Line.{spelling, text_of}
 use Rattle.ots_world.specs.declared.fault.WorldFault.{WorldFault}
 use Rattle.ots_world.specs.declared.fault.WorldFault.TheVariants as faults
-use Rattle.ots_world.specs.declared.fault.TheConstants.{MESSAGE_LIMIT}
+use Rattle.ots_world.specs.Limits.{message_limit}
 use Rattle.ots_world.specs.Board.{Board, Effects, nothing, ◌▹◌, at_place}
 use Rattle.ots_world.specs.Does.{Tells, TellsPart, Does, CannotSend}
 
@@ -82,7 +82,7 @@ does_then e f b before mid first new after (Err faults.Memory) second =
     part_behind e.lines (f e.board).lines before mid after first.1 (subst P first.0 second)
 does_then e f b before mid first new after (Err (faults.Limit n)) second =
     let P : Board → Type 0 = λ x. TellsPart (f x).lines mid after in
-    let Q : Board → Type 0 = λ x. MESSAGE_LIMIT < length (f x).board.messages in
+    let Q : Board → Type 0 = λ x. message_limit < length (f x).board.messages in
     (second.0, subst Q first.0 second.1, part_behind e.lines (f e.board).lines before mid after first.1 (subst P first.0 second.2))
 does_then e f b before mid first new after (Err faults.Names) second = absurd second
 

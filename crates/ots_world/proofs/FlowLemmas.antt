@@ -4,12 +4,13 @@ use Rattle.std.specs.List.{list_any}
 use Rattle.std.proofs.lemmas.List.Quantifiers.{position-Some}
 use Rattle.ots_model.specs.declared.line.Line.{Line}
 use Rattle.ots_model.specs.Line.{text_of}
-use Rattle.ots_model.specs.declared.line.Said.TheVariants as says
+use Rattle.ots_model.specs.declared.response.Exception.TheVariants as exceptions
+use Rattle.ots_model.specs.declared.response.Response.TheVariants as responses
 use Rattle.ots_world.specs.declared.board.Content.TheVariants.{Reply}
 use Rattle.ots_world.specs.declared.board.Message.{Message}
 use Rattle.ots_world.specs.declared.fault.WorldFault.{WorldFault}
 use Rattle.ots_world.specs.declared.fault.WorldFault.TheVariants as faults
-use Rattle.ots_world.specs.declared.fault.TheConstants.{MESSAGE_LIMIT}
+use Rattle.ots_world.specs.Limits.{message_limit}
 use Rattle.ots_world.specs.declared.state.State.{State}
 use Rattle.ots_world.specs.Board.{Board, Effects, nothing, ◌▹◌, AllDelivered, lowest, delivers, flows}
 use Rattle.ots_world.specs.Does.{Does, TellsPart}
@@ -23,7 +24,7 @@ use Rattle.ots_world.proofs.Cells.{delivers_keeps_cells}
 use Rattle.ots_world.specs.Claim.{is_claim, holds_cell}
 
 some_message : Message
-some_message = record { content = Reply 0 says.Plain; delivered = true; awaited = false }
+some_message = record { content = Reply 0 responses.Plain; delivered = true; awaited = false }
 
 -- the place of the lowest message is a place
 pub lowest_within : (b : Board) (place : ℕ) → lowest b ≡ Some place → place < length b.messages
@@ -109,7 +110,7 @@ stops all e told new before mid after faults.Memory board lines text h =
     subst P (sym lines) (part_behind told e.lines before mid after text h)
 stops all e told new before mid after (faults.Limit n) board lines text h =
     let P : List Line → Type 0 = λ x. TellsPart x before after in
-    let Q : Board → Type 0 = λ b. MESSAGE_LIMIT < length b.messages in
+    let Q : Board → Type 0 = λ b. message_limit < length b.messages in
     (h.0, subst Q (sym board) h.1, subst P (sym lines) (part_behind told e.lines before mid after text h.2))
 stops all e told new before mid after faults.Names board lines text h = absurd h
 

@@ -1,15 +1,14 @@
 -- A world's lines stay safe, from what a step says of the world and the lines.
 use Rattle.std.proofs.Common.{◌≡◌, ℕ, ◌⊎◌, List, [], ◌∷◌, ◌++◌, take, drop, Result, Ok, Err, IfErr, OnOk, IsErrOf, refl, sym, ap, subst, ◌∙◌, append_assoc, ⊎_elim}
-use Rattle.std.specs.Prelude.{reverse}
-use Rattle.std.proofs.lemmas.List.{take-append-drop, reverse-append}
+use Rattle.std.proofs.lemmas.List.{take-append-drop}
 use Rattle.ots_model.specs.declared.line.Line.{Line}
-use Rattle.ots_model.specs.Safe.{Safe, AreSafe}
+use Rattle.ots_model.specs.Safe.{AreSafe}
 use Rattle.ots_world.specs.declared.fault.WorldFault.{WorldFault}
 use Rattle.ots_world.specs.declared.fault.WorldFault.TheVariants as faults
 use Rattle.ots_world.specs.declared.script.ScriptEvent.{ScriptEvent}
 use Rattle.ots_world.specs.Agreement.{Reaches, more, Agreement, HasTold, GoesOnSafely}
 use Rattle.ots_world.specs.Standing.{Standing}
-use Rattle.ots_world.specs.Stands.{Moved, Refused, Stopped, Spent}
+use Rattle.ots_world.specs.Stands.{Moved, Refused, Stopped, Spent, IsRefusal, HasStepped}
 use Rattle.ots_world.specs.World.{Stepped, Moves, Names, step}
 use Rattle.ots_world.proofs.DoesLemmas.{append_nil}
 
@@ -45,18 +44,12 @@ moves_on law old event new lines before after h m =
       safe = law m.to.world (lines ++ m.to.lines) reached;
     }
 
--- what stands before safe lines is safe
-behind_is_safe : (newer older : List Line) → Safe (newer ++ older) → Safe older
-behind_is_safe [] older h = h
-behind_is_safe (line ∷ newer) older h = behind_is_safe newer older h.1
-
 -- a front of lines that are safe
 front_is_safe : (lines some : List Line) (k : ℕ) → AreSafe (lines ++ some) → AreSafe (lines ++ take k some)
 front_is_safe lines some k h =
     let front = lines ++ take k some in
     let whole : lines ++ some ≡ front ++ drop k some = ap (λ x. lines ++ x) (sym (take-append-drop k some)) ∙ sym (append_assoc lines (take k some) (drop k some)) in
-    let P : List Line → Type 0 = λ x. Safe x in
-    behind_is_safe (reverse (drop k some)) (reverse front) (subst P (ap reverse whole ∙ reverse-append front (drop k some)) h)
+    λ before behind is. h before (behind ++ drop k some) (whole ∙ (ap (λ x. x ++ drop k some) is ∙ append_assoc before behind (drop k some)))
 
 -- the world stopped in the midst of the line
 pub stops_midway : Agreement → (old : Standing) (event : ScriptEvent) (fault : WorldFault) (new : Standing) (lines : List Line) (before after : List ℕ)
@@ -80,13 +73,17 @@ stops_midway law old event fault new lines before after h s = by (step event s.w
         record { further = []; told = s.refused is ∙ sym (append_nil before); has_told = subst Q (sym s.now) safe; safe = safe }
 
 -- whatever a step answers
-pub goes_on_safely : Agreement → (old : Standing) (event : ScriptEvent) (new : Standing) (lines : List Line) (before after : List ℕ)
+goes_on_by : Agreement → (old : Standing) (event : ScriptEvent) (new : Standing) (lines : List Line) (before after : List ℕ)
     → (r : Result (Unit {0}) WorldFault) → HasTold old lines → OnOk r (Moved old event new before after)
     → (IsErrOf r faults.Names → Refused old event new before after)
-    → IfErr r (λ fault. (fault ≡ faults.Names) ⊎ Stopped old event fault new before after ⊎ Spent old fault new before after)
+    → IfErr r (λ fault. IsRefusal old event fault new before after)
     → GoesOnSafely lines new before after
-goes_on_safely law old event new lines before after (Ok _) h moved names stopped = moves_on law old event new lines before after h moved
-goes_on_safely law old event new lines before after (Err fault) h moved names stopped =
+goes_on_by law old event new lines before after (Ok _) h moved names stopped = moves_on law old event new lines before after h moved
+goes_on_by law old event new lines before after (Err fault) h moved names stopped =
     ⊎_elim (λ is. let r = names (ap Err is) in stays law old new lines before after h r.now r.told)
     (λ rest. ⊎_elim (λ s. stops_midway law old event fault new lines before after h s)
     (λ s. stays law old new lines before after h s.now s.told) rest) stopped
+
+pub goes_on_safely : Agreement → (old : Standing) (event : ScriptEvent) (new : Standing) (lines : List Line) (before after : List ℕ)
+    → (r : Result (Unit {0}) WorldFault) → HasTold old lines → HasStepped old event new before after r → GoesOnSafely lines new before after
+goes_on_safely law old event new lines before after r h s = goes_on_by law old event new lines before after r h s.moved s.names s.stopped

@@ -5,12 +5,14 @@ use Rattle.std.proofs.lemmas.List.{length-set}
 use Rattle.std.proofs.lemmas.Option.{none-some, slice_get-get_or}
 use Rattle.ots_model.specs.declared.completion.Word.{Word}
 use Rattle.ots_model.specs.declared.completion.Word.TheVariants as words
+use Rattle.ots_model.specs.declared.completion.Ground.TheVariants as grounds
 use Rattle.ots_model.specs.declared.completion.Outcome.{Outcome}
 use Rattle.ots_model.specs.declared.completion.Outcome.TheVariants as outcomes
 use Rattle.ots_model.specs.declared.completion.Outward.{Outward}
 use Rattle.ots_model.specs.declared.completion.CallNumber.{CallNumber}
-use Rattle.ots_model.specs.declared.line.Said.{Said}
-use Rattle.ots_model.specs.declared.line.Said.TheVariants as says
+use Rattle.ots_model.specs.declared.response.Response.{Response}
+use Rattle.ots_model.specs.declared.response.Exception.TheVariants as exceptions
+use Rattle.ots_model.specs.declared.response.Response.TheVariants as responses
 use Rattle.ots_model.specs.declared.line.ResourceState.{ResourceState}
 use Rattle.ots_model.specs.declared.line.Line.{Line}
 use Rattle.ots_model.specs.declared.line.Line.TheVariants as lines
@@ -20,7 +22,8 @@ use Rattle.ots_world.specs.declared.board.Resource.{Resource}
 use Rattle.ots_world.specs.declared.board.Content.{Content}
 use Rattle.ots_world.specs.declared.board.Content.TheVariants.{Call, Request, Reply}
 use Rattle.ots_world.specs.declared.board.Message.{Message}
-use Rattle.ots_world.specs.Table.{answer_to, change_by, heard_in}
+use Rattle.ots_model.specs.Response.{heard_in}
+use Rattle.ots_world.specs.Table.{answer_to, change_by}
 use Rattle.ots_world.specs.Board.{Board, Effects, nothing, ◌▹◌, at_place, with_message, with_transaction, name_at, telling, changed, replies, obeys, requests_of, requests, registered, resource_of, ending, turned, turns, goes_on, recorded, fixed, settles, counted, learns, votes, goes_on_after, hears_of, hears, acts, delivers, lowest, flows, AllDelivered}
 
 -- these messages, each of them delivered at least where it was, and perhaps others behind them
@@ -101,7 +104,7 @@ at_extends {A = A} things place act otherwise b some none =
     let P : Option A → Type 0 = λ o. (slice_get things place ≡ o → Extends b (elim o [ Some thing ↦ act thing | None ↦ otherwise ])) in
     (elim (slice_get things place) as P [ Some thing ↦ λ is. some thing is | None ↦ λ is. none ]) refl
 
-pub replies_extends : (message : ℕ) (said : Said) (b : Board) → Extends b (replies message said b)
+pub replies_extends : (message : ℕ) (said : Response) (b : Board) → Extends b (replies message said b)
 unfolding replies
 replies_extends message said b = later_behind b.messages _
 
@@ -124,9 +127,9 @@ pub requests_extends : (place : ℕ) (t : Transaction) (o : Outward) (b : Board)
 unfolding requests
 requests_extends place t o b = requests_of_extends place (resource_of t o.registration) o (registered b t o.registration) b
 
-pub ending_extends : (t : Transaction) (outcome : Option Outcome) (decision : Option ℕ) (b : Board) → Extends b (ending t outcome decision b)
-ending_extends t (Some outcomes.Commit) (Some decision) b = later_same b.messages
-ending_extends t (Some outcomes.Commit) None b = later_same b.messages
+pub ending_extends : (t : Transaction) (outcome : Option (Outcome ℕ)) (decision : Option ℕ) (b : Board) → Extends b (ending t outcome decision b)
+ending_extends t (Some (outcomes.Commit basis)) (Some decision) b = later_same b.messages
+ending_extends t (Some (outcomes.Commit basis)) None b = later_same b.messages
 ending_extends t (Some (outcomes.Rollback reason)) decision b = later_same b.messages
 ending_extends t (Some outcomes.Unknown) decision b = later_same b.messages
 ending_extends t None decision b = later_same b.messages
@@ -142,8 +145,8 @@ goes_on_extends place b = at_extends b.transactions place _ (nothing b) b
     (λ t is. turns_extends place (turned t) (progress.next_word t.completion) (with_transaction place (turned t) b))
     (nothing_extends b)
 
-fixed_extends : (t : Transaction) (outcome : Option Outcome) (b : Board) → Extends b (fixed t outcome b)
-fixed_extends t (Some outcomes.Commit) b = later_same b.messages
+fixed_extends : (t : Transaction) (outcome : Option (Outcome ℕ)) (b : Board) → Extends b (fixed t outcome b)
+fixed_extends t (Some (outcomes.Commit basis)) b = later_same b.messages
 fixed_extends t (Some (outcomes.Rollback reason)) b = later_same b.messages
 fixed_extends t (Some outcomes.Unknown) b = later_same b.messages
 fixed_extends t None b = later_same b.messages
@@ -163,7 +166,7 @@ telling_extends : (say : List ℕ → List Line) (name : Option (List ℕ)) (b :
 telling_extends say (Some name) b = later_same b.messages
 telling_extends say None b = later_same b.messages
 
-pub learns_messages : (place : ℕ) (number : CallNumber) (said : Said) (b : Board) → (learns place number said b).messages ≡ b.messages
+pub learns_messages : (place : ℕ) (number : CallNumber) (said : Response) (b : Board) → (learns place number said b).messages ≡ b.messages
 unfolding learns
 learns_messages place number said b =
     let new : Option Transaction → Board = λ o. elim o [
@@ -172,12 +175,12 @@ learns_messages place number said b =
     ] in
     elim (slice_get b.transactions place) as (λ o. (new o).messages ≡ b.messages) [ Some t ↦ refl | None ↦ refl ]
 
-votes_extends : (place resource : ℕ) (said : Said) (b : Board) → Extends b (votes place resource said b)
+votes_extends : (place resource : ℕ) (said : Response) (b : Board) → Extends b (votes place resource said b)
 votes_extends place resource said b =
     let first = telling (λ name. counted name said) (name_at b.resources resource) b in
     then_extends b first (settles place) (telling_extends _ (name_at b.resources resource) b) (settles_extends place first.board)
 
-pub goes_on_after_extends : (word : Word) (place resource : ℕ) (said : Said) (b : Board) → Extends b (goes_on_after word place resource said b)
+pub goes_on_after_extends : (word : Word) (place resource : ℕ) (said : Response) (b : Board) → Extends b (goes_on_after word place resource said b)
 goes_on_after_extends words.Prepare place resource said b =
     let first = votes place resource said b in
     then_extends b first (goes_on place) (votes_extends place resource said b) (goes_on_extends place first.board)
@@ -185,21 +188,21 @@ goes_on_after_extends words.Commit place resource said b = goes_on_extends place
 goes_on_after_extends words.CommitOnePhase place resource said b = goes_on_extends place b
 goes_on_after_extends words.Rollback place resource said b = goes_on_extends place b
 
-hears_of_extends : (content : Content) (said : Said) (b : Board) → Extends b (hears_of content said b)
+hears_of_extends : (content : Content) (said : Response) (b : Board) → Extends b (hears_of content said b)
 hears_of_extends (Request place number word resource) said b =
     let P : List Message → Type 0 = λ messages. Later messages (goes_on_after word place resource said (learns place number said b)).board.messages in
     subst P (learns_messages place number said b) (goes_on_after_extends word place resource said (learns place number said b))
 hears_of_extends (Reply request other) said b = nothing_extends b
 hears_of_extends (Call operation place) said b = nothing_extends b
 
-heard_extends : (awaited : Bool) (request : ℕ) (m : Message) (said : Said) (b : Board) → slice_get b.messages (request - 1) ≡ Some m
+heard_extends : (awaited : Bool) (request : ℕ) (m : Message) (said : Response) (b : Board) → slice_get b.messages (request - 1) ≡ Some m
     → Extends b (cond awaited (hears_of m.content said (with_message (request - 1) (record m { awaited = false }) b)) (nothing b))
 heard_extends true request m said b is =
     let first = with_message (request - 1) (record m { awaited = false }) b in
     later_then b.messages first.messages _ (later_at b.messages (request - 1) m _ is (λ h. h)) (hears_of_extends m.content said first)
 heard_extends false request m said b is = nothing_extends b
 
-pub hears_extends : (request : ℕ) (said : Said) (b : Board) → Extends b (hears request said b)
+pub hears_extends : (request : ℕ) (said : Response) (b : Board) → Extends b (hears request said b)
 unfolding hears
 hears_extends request said b = at_extends b.messages (request - 1) _ (nothing b) b
     (λ m is. heard_extends m.awaited request m said b is)
@@ -233,7 +236,7 @@ delivers_keeps place b within all =
           let more : place + 1 ≤ length first.messages = rw length-set (omega arith) in
           later_delivered (place + 1) first.messages _ more (acts_extends (place + 1) m.content first)
           (delivered_at place b.messages (record m { delivered = true }) within refl all)
-      | None ↦ λ is. absurd (none-some _ (sym is ∙ slice_get-get_or b.messages place (record { content = Reply 0 says.Plain; delivered = true; awaited = true }) within))
+      | None ↦ λ is. absurd (none-some _ (sym is ∙ slice_get-get_or b.messages place (record { content = Reply 0 responses.Plain; delivered = true; awaited = true }) within))
     ]) refl
 
 flowed_extends : (n : ℕ) (o : Option ℕ) (b : Board) → ((place : ℕ) → Extends b (delivers place b ▹ flows n))

@@ -2,7 +2,9 @@
 use Rattle.std.proofs.Common.{◌≡◌, ℕ, ◌<◌, ◌&&◌, ◌||◌, ◌==◌, not, nat_lt, Bool, true, false, List, [], ◌∷◌, ◌++◌, length, Option, Some, None, Result, Ok, Err, MatchResult, IsErrOf, OnOk, Bor, is_none, refl, sym, ap, subst, ◌∙◌, arith}
 use Rattle.std.specs.List.{slice_get, list_any}
 use Rattle.std.specs.Option.{option_copied}
-use Rattle.std.proofs.lemmas.Option.{slice_get_read, slice_get_past}
+use Rattle.std.proofs.lemmas.Option.{slice_get_read, slice_get_past, same_Some}
+use Rattle.std.proofs.lemmas.Bool.{and_parts}
+use borrow.Author.Tests.{ltb-true}
 use Rattle.std.proofs.lemmas.Bool.Decides.{nat_tests}
 use Rattle.std.proofs.lemmas.List.{length-append}
 use Rattle.ots_model.specs.declared.line.Line.{Line}
@@ -14,7 +16,7 @@ use Rattle.ots_world.specs.declared.directory.Thing.TheVariants as things
 use Rattle.ots_world.specs.declared.fault.WorldFault.{WorldFault}
 use Rattle.ots_world.specs.declared.fault.WorldFault.TheVariants as faults
 use Rattle.ots_world.specs.declared.state.State.{State}
-use Rattle.ots_world.specs.declared.state.TheConstants.{TRANSACTION_LIMIT}
+use Rattle.ots_world.specs.Limits.{registration_limit, transaction_limit}
 use Rattle.ots_world.specs.Board.{Board, Effects, with_resource}
 use Rattle.ots_world.specs.Claim.{is_claim}
 use Rattle.ots_world.specs.Clients.{opening, made, registering, put_into, refusing, commits_with}
@@ -184,7 +186,7 @@ end_made-world name w ends names h n d =
 
 -- whether a transaction can begin
 abbrev pub can_begin : World → List ℕ → ℕ → Bool
-can_begin w name seconds = is_free w name && seconds == 0 && nat_lt (length w.board.transactions) TRANSACTION_LIMIT
+can_begin w name seconds = is_free w name && seconds == 0 && nat_lt (length w.board.transactions) transaction_limit
 
 pub begins-no_node : (node name : List ℕ) (seconds : ℕ) (w : World) → node_named w node ≡ None → begins node name seconds w ≡ Names
 unfolding begins
@@ -354,3 +356,10 @@ registered-world transaction end name place at t w board names number b n d = cc
 pub registers_more : (transaction end name : List ℕ) (place at : ℕ) (t : Transaction) (w : World)
     → length w.board.messages < length (registers_with place t at transaction end name w).world.board.messages
 registers_more transaction end name place at t w = simp length-append (omega arith)
+
+-- a transaction that can take a further registration has room for it
+pub room_is : (ts : List Transaction) (place : ℕ) (r t : Transaction) → slice_get ts place ≡ Some r → slice_get ts place ≡ Some t → can_take r ≡ true → length t.registrations < registration_limit
+room_is ts place r t at_r at_t takes =
+    let same : r ≡ t = same_Some r t (sym at_r ∙ at_t) in
+    subst (λ (x : Transaction). length x.registrations < registration_limit) same
+    (ltb-true (length r.registrations) registration_limit (and_parts (is_none r.commit) _ takes).1)

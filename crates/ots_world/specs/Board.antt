@@ -12,24 +12,25 @@ use Rattle.ots_model.specs.declared.completion.Reason.{Reason}
 use Rattle.ots_model.specs.declared.completion.Reason.TheVariants as reasons
 use Rattle.ots_model.specs.declared.completion.Stood.TheVariants.{Stands}
 use Rattle.ots_model.specs.declared.completion.Outward.{Outward}
-use Rattle.ots_model.specs.declared.line.Said.{Said}
-use Rattle.ots_model.specs.declared.line.Said.TheVariants as says
+use Rattle.ots_model.specs.declared.response.Response.{Response}
+use Rattle.ots_model.specs.declared.response.Exception.TheVariants as exceptions
+use Rattle.ots_model.specs.declared.response.Response.TheVariants as responses
 use Rattle.ots_model.specs.declared.line.ResourceState.{ResourceState}
-use Rattle.ots_model.specs.declared.line.Cause.{Cause}
-use Rattle.ots_model.specs.declared.line.Cause.TheVariants as causes
-use Rattle.ots_model.specs.declared.line.Decided.TheVariants as told
+use Rattle.ots_model.specs.declared.completion.Ground.TheVariants as grounds
 use Rattle.ots_model.specs.declared.line.Line.{Line}
 use Rattle.ots_model.specs.declared.line.Line.TheVariants as lines
 use Rattle.two_phase.specs.Progress as progress
 use Rattle.two_phase.specs.Progress.{Progress}
 use Rattle.ots_world.specs.declared.board.Transaction.{Transaction}
 use Rattle.ots_world.specs.declared.board.Resource.{Resource}
+use Rattle.ots_world.specs.declared.board.Stage.TheVariants.{In}
 use Rattle.ots_world.specs.declared.board.Content.{Content}
 use Rattle.ots_world.specs.declared.board.Content.TheVariants.{Call, Request, Reply}
 use Rattle.ots_world.specs.declared.board.Message.{Message}
 use Rattle.ots_world.specs.declared.board.Record.{Record}
 use Rattle.ots_world.specs.declared.board.Record.TheVariants as records
-use Rattle.ots_world.specs.Table.{answer_to, change_by, stage_of, operation_of, heard_in}
+use Rattle.ots_model.specs.Response.{heard_in}
+use Rattle.ots_world.specs.Table.{answer_to, change_by}
 
 -- what is under way: transactions and resources in the order of their making, every message ever sent, and the journal
 pub record Board : Type 0 where
@@ -96,14 +97,14 @@ telling say None b = nothing b
 
 -- a resource in a new state, where it is in one
 abbrev pub changed : ℕ → Resource → Option ResourceState → Board → Effects
-changed place r (Some state) b = record { board = with_resource place (record r { stage = stage_of state }) b; lines = lines.State r.name state ∷ [] }
+changed place r (Some state) b = record { board = with_resource place (record r { stage = In state }) b; lines = lines.State r.name state ∷ [] }
 changed place r None b = nothing b
 
 -- the reply to a message goes out
-unfoldable pub replies : ℕ → Said → Board → Effects
-replies message said b = record {
-  board = sending (record { content = Reply message said; delivered = false; awaited = false }) b;
-  lines = lines.Back (next_message b) message said ∷ [];
+unfoldable pub replies : ℕ → Response → Board → Effects
+replies message response b = record {
+  board = sending (record { content = Reply message response; delivered = false; awaited = false }) b;
+  lines = lines.Back (next_message b) message response ∷ [];
 }
 
 -- a resource is told a word by a message, and answers
@@ -116,7 +117,7 @@ obeys message place word b = at_place b.resources place
 abbrev pub requests_of : ℕ → ℕ → Outward → Option (List ℕ) → Board → Effects
 requests_of place resource o (Some name) b = record {
   board = sending (record { content = Request place o.number o.word resource; delivered = false; awaited = true }) b;
-  lines = lines.Send (next_message b) (operation_of o.word) name ∷ [];
+  lines = lines.Send (next_message b) o.word name ∷ [];
 }
 requests_of place resource o None b = nothing b
 
@@ -124,23 +125,23 @@ unfoldable pub requests : ℕ → Transaction → Outward → Board → Effects
 requests place t o b = requests_of place (resource_of t o.registration) o (registered b t o.registration) b
 
 -- the line that answers the client, where it has called
-abbrev pub answered : Option ℕ → Said → List Line
-answered (Some message) said = lines.Answered message said ∷ []
-answered None said = []
+abbrev pub answered : Option ℕ → Response → List Line
+answered (Some message) response = lines.Answered message response ∷ []
+answered None response = []
 
 -- the client is answered
-abbrev pub answering : Option ℕ → Said → Board → Effects
-answering call said b = record { board = b; lines = answered call said }
+abbrev pub answering : Option ℕ → Response → Board → Effects
+answering call response b = record { board = b; lines = answered call response }
 
 -- the decision on a transaction is recorded as done
 abbrev pub closes : List ℕ → ℕ → Board → Effects
 closes name decision b = record { board = with_record (records.Done decision) b; lines = lines.Done name ∷ [] }
 
 -- A transaction ends: after a commit by record, that is recorded as done. Then the client is answered.
-abbrev pub ending : Transaction → Option Outcome → Option ℕ → Board → Effects
-ending t (Some outcomes.Commit) (Some decision) b = closes t.name decision b ▹ answering t.commit says.Plain
-ending t (Some outcomes.Commit) None b = answering t.commit says.Plain b
-ending t (Some (outcomes.Rollback reason)) _ b = answering t.commit says.TransactionRolledBack b
+abbrev pub ending : Transaction → Option (Outcome ℕ) → Option ℕ → Board → Effects
+ending t (Some (outcomes.Commit basis)) (Some decision) b = closes t.name decision b ▹ answering t.commit responses.Plain
+ending t (Some (outcomes.Commit basis)) None b = answering t.commit responses.Plain b
+ending t (Some (outcomes.Rollback reason)) _ b = answering t.commit (responses.Raised exceptions.TransactionRolledBack) b
 ending t _ _ b = nothing b
 
 -- the transaction, its completion having been asked for its next word
@@ -158,15 +159,15 @@ goes_on place b = at_place b.transactions place
     (nothing b)
 
 -- a reason, with the name of the registration that it speaks of
-abbrev pub naming : (List ℕ → Cause) → Option (List ℕ) → Option Cause
+abbrev pub naming : (List ℕ → Reason (List ℕ)) → Option (List ℕ) → Option (Reason (List ℕ))
 naming cause name = option_map cause name
 
-unfoldable pub cause_of : Board → Transaction → Reason → Option Cause
-cause_of b t (reasons.Vote g) = naming causes.Vote (registered b t g)
-cause_of b t (reasons.PrepareLost g) = naming causes.PrepareLost (registered b t g)
-cause_of b t (reasons.PrepareStarved g) = naming causes.PrepareStarved (registered b t g)
-cause_of b t (reasons.PrepareFault g) = naming causes.PrepareFault (registered b t g)
-cause_of b t (reasons.JournalFull used need) = Some (causes.JournalFull used need)
+unfoldable pub cause_of : Board → Transaction → Reason ℕ → Option (Reason (List ℕ))
+cause_of b t (reasons.Vote g) = naming reasons.Vote (registered b t g)
+cause_of b t (reasons.PrepareLost g) = naming reasons.PrepareLost (registered b t g)
+cause_of b t (reasons.PrepareStarved g) = naming reasons.PrepareStarved (registered b t g)
+cause_of b t (reasons.PrepareFault g) = naming reasons.PrepareFault (registered b t g)
+cause_of b t (reasons.JournalFull used need) = Some (reasons.JournalFull used need)
 
 -- a transaction whose outcome waits for the decision record gets it: it is the next item of the journal
 abbrev pub recorded : ℕ → Transaction → Board → Effects
@@ -175,17 +176,17 @@ recorded place t b = record {
     decision = Some (length b.records);
     completion = progress.after_decided (Stands (length b.records)) t.completion;
   }) b);
-  lines = lines.Decide t.name told.CommitRecord ∷ [];
+  lines = lines.Decide t.name (outcomes.Commit grounds.Record) ∷ [];
 }
 
 -- a rollback is told with its cause
-abbrev pub decided_lines : List ℕ → Option Cause → List Line
-decided_lines name (Some cause) = lines.Decide name (told.Rollback cause) ∷ []
+abbrev pub decided_lines : List ℕ → Option (Reason (List ℕ)) → List Line
+decided_lines name (Some cause) = lines.Decide name (outcomes.Rollback cause) ∷ []
 decided_lines name None = []
 
 -- an outcome that needs no record is told
-abbrev pub fixed : Transaction → Option Outcome → Board → Effects
-fixed t (Some outcomes.Commit) b = record { board = b; lines = lines.Decide t.name told.CommitNone ∷ [] }
+abbrev pub fixed : Transaction → Option (Outcome ℕ) → Board → Effects
+fixed t (Some (outcomes.Commit basis)) b = record { board = b; lines = lines.Decide t.name (outcomes.Commit basis) ∷ [] }
 fixed t (Some (outcomes.Rollback reason)) b = record { board = b; lines = decided_lines t.name (cause_of b t reason) }
 fixed t _ b = nothing b
 
@@ -196,42 +197,42 @@ settles place b = at_place b.transactions place
     (nothing b)
 
 -- the vote is counted
-abbrev pub counted : List ℕ → Said → List Line
-counted name (says.Voted vote) = lines.Voted name vote ∷ []
+abbrev pub counted : List ℕ → Response → List Line
+counted name (responses.Voted vote) = lines.Voted name vote ∷ []
 counted name _ = []
 
 -- a transaction hears the answer to a word
-unfoldable pub learns : ℕ → CallNumber → Said → Board → Board
-learns place number said b = elim (slice_get b.transactions place) [
-  | Some t ↦ with_transaction place (record t { completion = progress.after_answer number (heard_in said) t.completion }) b
+unfoldable pub learns : ℕ → CallNumber → Response → Board → Board
+learns place number response b = elim (slice_get b.transactions place) [
+  | Some t ↦ with_transaction place (record t { completion = progress.after_answer number (heard_in response) t.completion }) b
   | None ↦ b
 ]
 
 -- the answer to prepare: the vote is counted, and the outcome is fixed or not
-abbrev pub votes : ℕ → ℕ → Said → Board → Effects
-votes place resource said b = telling (λ name. counted name said) (name_at b.resources resource) b ▹ settles place
+abbrev pub votes : ℕ → ℕ → Response → Board → Effects
+votes place resource response b = telling (λ name. counted name response) (name_at b.resources resource) b ▹ settles place
 
 -- what comes of the answer to a request, by the word that was told
-abbrev pub goes_on_after : Word → ℕ → ℕ → Said → Board → Effects
-goes_on_after words.Prepare place resource said b = votes place resource said b ▹ goes_on place
-goes_on_after _ place resource said b = goes_on place b
+abbrev pub goes_on_after : Word → ℕ → ℕ → Response → Board → Effects
+goes_on_after words.Prepare place resource response b = votes place resource response b ▹ goes_on place
+goes_on_after _ place resource response b = goes_on place b
 
 -- a request is answered
-abbrev pub hears_of : Content → Said → Board → Effects
-hears_of (Request place number word resource) said b = goes_on_after word place resource said (learns place number said b)
-hears_of (Reply request other) said b = nothing b
-hears_of (Call operation place) said b = nothing b
+abbrev pub hears_of : Content → Response → Board → Effects
+hears_of (Request place number word resource) response b = goes_on_after word place resource response (learns place number response b)
+hears_of (Reply request other) response b = nothing b
+hears_of (Call operation place) response b = nothing b
 
 -- a reply is heard where its request is still waited for
-unfoldable pub hears : ℕ → Said → Board → Effects
-hears request said b = at_place b.messages (request - 1)
-    (λ m. if m.awaited then hears_of m.content said (with_message (request - 1) (record m { awaited = false }) b) else nothing b)
+unfoldable pub hears : ℕ → Response → Board → Effects
+hears request response b = at_place b.messages (request - 1)
+    (λ m. if m.awaited then hears_of m.content response (with_message (request - 1) (record m { awaited = false }) b) else nothing b)
     (nothing b)
 
 -- a message reaches its receiver
 abbrev pub acts : ℕ → Content → Board → Effects
 acts message (Request place number word resource) b = obeys message resource word b
-acts message (Reply request said) b = hears request said b
+acts message (Reply request response) b = hears request response b
 acts message (Call operation place) b = nothing b
 
 -- the message at a place is delivered

@@ -4,7 +4,7 @@ use Rattle.ots_model.specs.declared.line.Line.{Line}
 use Rattle.ots_model.specs.Line.{text_of}
 use Rattle.ots_world.specs.declared.fault.WorldFault.{WorldFault}
 use Rattle.ots_world.specs.declared.fault.WorldFault.TheVariants as faults
-use Rattle.ots_world.specs.declared.fault.TheConstants.{MESSAGE_LIMIT}
+use Rattle.ots_world.specs.Limits.{message_limit}
 use Rattle.ots_world.specs.Board.{Board, Effects}
 
 -- these lines were told, whole
@@ -20,11 +20,11 @@ TellsPart lines before after = (k : ℕ) × (after ≡ before ++ text_of (take k
 abbrev pub Does : Effects → Board → List ℕ → List ℕ → Result (Unit {0}) WorldFault → Type 0
 Does e board before after (Ok _) = (board ≡ e.board) × Tells e.lines before after
 Does e board before after (Err faults.Memory) = TellsPart e.lines before after
-Does e board before after (Err (faults.Limit n)) = (n ≡ MESSAGE_LIMIT) × (MESSAGE_LIMIT < length e.board.messages) × TellsPart e.lines before after
+Does e board before after (Err (faults.Limit n)) = (n ≡ message_limit) × (message_limit < length e.board.messages) × TellsPart e.lines before after
 Does e board before after (Err faults.Names) = ⊥
 
 -- why a message can't go out: memory ran out, or it would be one too many
 abbrev pub CannotSend : Board → WorldFault → Type 0
 CannotSend b faults.Memory = Unit {0}
-CannotSend b (faults.Limit n) = (n ≡ MESSAGE_LIMIT) × (MESSAGE_LIMIT ≤ length b.messages)
+CannotSend b (faults.Limit n) = (n ≡ message_limit) × (message_limit ≤ length b.messages)
 CannotSend b faults.Names = ⊥

@@ -1,6 +1,8 @@
+pub mod Limits
 pub mod Script
 pub mod Table
 pub mod Board
+pub mod BoardInside
 pub mod Does
 pub mod Clients
 pub mod Named

@@ -20,7 +20,7 @@ use Rattle.ots_world.specs.declared.script.Relation.{Relation}
 use Rattle.ots_world.specs.declared.script.Relation.TheVariants as relations
 use Rattle.ots_world.specs.declared.script.Image.{Image}
 use Rattle.ots_world.specs.declared.script.Image.TheVariants as images
-use Rattle.ots_world.specs.declared.script.TheConstants.{LINE_LIMIT, FLOW_LIMIT, IMAGE_LIMIT}
+use Rattle.ots_world.specs.Limits.{line_limit, flow_limit, image_limit}
 
 -- a name
 unfoldable pub name : List ℕ → Option (List ℕ)
@@ -61,9 +61,9 @@ relation word = if bytes_eq word (codes "same") then Some relations.Same
     else if bytes_eq word (codes "descendant") then Some relations.Descendant
     else if bytes_eq word (codes "related") then Some relations.Related else None
 
--- octets in hexadecimal, of either case, not too many
+-- octets, as an even number of hexadecimal digits of either case: one octet at least, and not too many
 abbrev pub octets_of : Result (List ℕ) FromHexError → Option (List ℕ)
-octets_of (Ok octets) = if nat_le (length octets) IMAGE_LIMIT then Some octets else None
+octets_of (Ok octets) = if nat_le 1 (length octets) && nat_le (length octets) image_limit then Some octets else None
 octets_of (Err e) = None
 
 -- what stands of what was written and not synced
@@ -95,7 +95,7 @@ event_of_one word a =
     else if bytes_eq word (codes "hash") then of_one events.Hash (name a)
     else if bytes_eq word (codes "crash") then of_one events.Crash (name a)
     else if bytes_eq word (codes "restart") then of_one events.Restart (name a)
-    else if bytes_eq word (codes "flow") then of_one events.Flow (number_within 1 (FLOW_LIMIT + 1) a)
+    else if bytes_eq word (codes "flow") then of_one events.Flow (number_within 1 (flow_limit + 1) a)
     else if bytes_eq word (codes "deliver") then of_one events.Deliver (number a)
     else if bytes_eq word (codes "lose") then of_one events.Lose (number a)
     else if bytes_eq word (codes "giveup") then of_one events.GiveUp (number a)
@@ -170,7 +170,7 @@ words line = slice_split (λ b. b == 32) line
 
 -- the meaning of a line, without its line feed
 unfoldable pub reading : List ℕ → Reading
-reading line = if nat_lt LINE_LIMIT (length line) then Bad else if is_blank line then Blank
+reading line = if nat_lt line_limit (length line) then Bad else if is_blank line then Blank
     else says (event_of (words line))
 
 -- the answer of a reader of lines, unless memory ran out

@@ -1,8 +1,8 @@
 -- What a world is before and after a line of a script, by what the line is answered.
-use Rattle.std.specs.Prelude.{◌≡◌, ℕ, ◌<◌, ◌≤◌, List, length, Result, Ok, Err}
+use Rattle.std.specs.Prelude.{◌≡◌, ℕ, ◌<◌, ◌≤◌, ◌⊎◌, List, length, Result, Ok, Err, IsErrOf, IfErr, OnOk}
 use Rattle.ots_world.specs.declared.fault.WorldFault.{WorldFault}
 use Rattle.ots_world.specs.declared.fault.WorldFault.TheVariants as faults
-use Rattle.ots_world.specs.declared.fault.TheConstants.{MESSAGE_LIMIT}
+use Rattle.ots_world.specs.Limits.{message_limit}
 use Rattle.ots_world.specs.declared.script.ScriptEvent.{ScriptEvent}
 use Rattle.ots_world.specs.Standing.{Standing}
 use Rattle.ots_world.specs.World.{World, Step, Stepped, Moves, Names, step}
@@ -10,7 +10,7 @@ use Rattle.ots_world.specs.Does.{Tells, TellsPart}
 
 -- more messages than a script may send
 abbrev pub IsTooLong : World → Type 0
-IsTooLong w = MESSAGE_LIMIT < length w.board.messages
+IsTooLong w = message_limit < length w.board.messages
 
 -- the line moved the world on, and its lines were told
 pub record Moved (old : Standing) (event : ScriptEvent) (new : Standing) (before after : List ℕ) : Type 0 where
@@ -19,7 +19,7 @@ pub record Moved (old : Standing) (event : ScriptEvent) (new : Standing) (before
   pub to : Step
   pub moves : step event world ≡ Moves to
   pub now : new ≡ Ok to.world
-  pub within : length to.world.board.messages ≤ MESSAGE_LIMIT
+  pub within : length to.world.board.messages ≤ message_limit
   pub told : Tells to.lines before after
 
 -- the line is refused for its names, and nothing has changed
@@ -49,11 +49,32 @@ pub record Spent (old : Standing) (fault : WorldFault) (new : Standing) (before 
 abbrev pub Overflows : Standing → ScriptEvent → Type 0
 Overflows old event = (w : World) → old ≡ Ok w → (to : Step) × (step event w ≡ Moves to) × IsTooLong to.world
 
+-- why a limit is answered: the world has answered it before, or the line would send too many messages
+abbrev pub PassesLimit : Standing → ScriptEvent → ℕ → Type 0
+PassesLimit old event n = (old ≡ Err (faults.Limit n)) ⊎ ((n ≡ message_limit) × Overflows old event)
+
+-- a refusal is about names, or the world stops with it, or had stopped with it before
+abbrev pub IsRefusal : Standing → ScriptEvent → WorldFault → Standing → List ℕ → List ℕ → Type 0
+IsRefusal old event fault new before after = (fault ≡ faults.Names) ⊎ Stopped old event fault new before after ⊎ Spent old fault new before after
+
+-- What a world has done with a line of a script, by what it answers.
+pub record HasStepped (old : Standing) (event : ScriptEvent) (new : Standing) (before after : List ℕ) (result : Result (Unit {0}) WorldFault) : Type 0 where
+  -- the world after the line, and the lines that tell it, are the definition's
+  pub moved : OnOk result (Moved old event new before after)
+  -- a line is refused for its names where the definition refuses it
+  pub names : IsErrOf result faults.Names → Refused old event new before after
+  -- any other refusal is answered for good, whole lines having been told
+  pub stopped : IfErr result (λ fault. IsRefusal old event fault new before after)
+  -- a limit is answered only where it is passed
+  pub limit : (n : ℕ) → result ≡ Err (faults.Limit n) → PassesLimit old event n
+  -- what the world answers for good it answers again
+  pub spent : (fault : WorldFault) → old ≡ Err fault → result ≡ Err fault
+
 -- What a call that carries out a line has done, by what it answers: the line moves the world on or is refused.
 abbrev pub Carries : Stepped → World → World → List ℕ → List ℕ → Result (Unit {0}) WorldFault → Type 0
 Carries (Moves to) old new before after (Ok _) = (new ≡ to.world) × Tells to.lines before after
 Carries (Moves to) old new before after (Err faults.Memory) = TellsPart to.lines before after
-Carries (Moves to) old new before after (Err (faults.Limit n)) = (n ≡ MESSAGE_LIMIT) × IsTooLong to.world × TellsPart to.lines before after
+Carries (Moves to) old new before after (Err (faults.Limit n)) = (n ≡ message_limit) × IsTooLong to.world × TellsPart to.lines before after
 Carries (Moves to) old new before after (Err faults.Names) = ⊥
 Carries Names old new before after (Err faults.Names) = (new ≡ old) × (after ≡ before)
 Carries Names old new before after (Ok _) = ⊥

@@ -3,7 +3,8 @@ use Rattle.std.specs.Prelude.{ℕ, ◌++◌, Bool, true, false, not, ◌&&◌, �
 use Rattle.std.specs.List.{slice_get, list_any}
 use Rattle.std.specs.Option.{option_and_then}
 use Rattle.ots_model.specs.declared.line.Operation.TheVariants as operations
-use Rattle.ots_model.specs.declared.line.Said.TheVariants as says
+use Rattle.ots_model.specs.declared.response.Exception.TheVariants as exceptions
+use Rattle.ots_model.specs.declared.response.Response.TheVariants as responses
 use Rattle.ots_model.specs.declared.line.Line.{Line}
 use Rattle.ots_model.specs.declared.line.Line.TheVariants as lines
 use Rattle.ots_world.specs.declared.board.Transaction.{Transaction}
@@ -13,7 +14,7 @@ use Rattle.ots_world.specs.declared.directory.Thing.TheVariants as things
 use Rattle.ots_world.specs.Named.{thing, as_node, as_end, as_transaction, as_resource}
 use Rattle.ots_world.specs.declared.script.ScriptEvent.{ScriptEvent}
 use Rattle.ots_world.specs.declared.script.ScriptEvent.TheVariants as events
-use Rattle.ots_world.specs.declared.state.TheConstants.{TRANSACTION_LIMIT, REGISTRATION_LIMIT}
+use Rattle.ots_world.specs.Limits.{transaction_limit, registration_limit}
 use Rattle.ots_world.specs.Board.{Board, Effects, next_message, with_resource, flows}
 use Rattle.ots_world.specs.Claim.{holds_cell}
 use Rattle.ots_world.specs.Clients.{opening, made, registering, is_open, is_fresh, is_working, are_touched, commits_with, put_into, refusing}
@@ -94,7 +95,7 @@ makes_end name w = guarded (is_free w name && length w.ends == 0) (record {
 -- `begin N T 0`
 unfoldable pub begins : List ℕ → List ℕ → ℕ → World → Stepped
 begins node name seconds w = with_named (node_named w node) (λ place.
-    guarded (is_free w name && seconds == 0 && nat_lt (length w.board.transactions) TRANSACTION_LIMIT) (record {
+    guarded (is_free w name && seconds == 0 && nat_lt (length w.board.transactions) transaction_limit) (record {
       world = named name (things.Transaction (length w.board.transactions)) (record w { board = opening name place w.board });
       lines = lines.Top name node ∷ [];
     }))
@@ -102,19 +103,19 @@ begins node name seconds w = with_named (node_named w node) (λ place.
 -- the lines of a registration, by the number of the client's call
 abbrev pub registered_lines : ℕ → List ℕ → List ℕ → List ℕ → List Line
 registered_lines message transaction end name = lines.Call message operations.RegisterResource transaction
-    ∷ lines.Reg name transaction end ∷ lines.Answered message says.Plain ∷ []
+    ∷ lines.Reg name transaction end ∷ lines.Answered message responses.Plain ∷ []
 
 -- the resource is registered as the last of its transaction
 abbrev pub registers_with : ℕ → Transaction → ℕ → List ℕ → List ℕ → List ℕ → World → Step
 registers_with place t end transaction_name end_name name w = record {
   world = named name (things.Resource (length w.board.resources)) (record w { board = registering place t (made name place end) w.board });
   lines = lines.Call (next_message w.board) operations.RegisterResource transaction_name
-      ∷ lines.Reg name transaction_name end_name ∷ lines.Answered (next_message w.board) says.Plain ∷ [];
+      ∷ lines.Reg name transaction_name end_name ∷ lines.Answered (next_message w.board) responses.Plain ∷ [];
 }
 
 -- whether a transaction can take a further registration: before its commit line and up to the limit
 abbrev pub can_take : Transaction → Bool
-can_take t = is_none t.commit && nat_lt (length t.registrations) REGISTRATION_LIMIT
+can_take t = is_none t.commit && nat_lt (length t.registrations) registration_limit
 
 -- `register T E G`
 unfoldable pub registers : List ℕ → List ℕ → List ℕ → World → Stepped

@@ -1,13 +1,21 @@
 ghost use Rattle.ots_world.specs.Agreement.{Agreement};
 ghost use Rattle.ots_world.specs.AgreementExamples.{AgreementExamples};
 
+use ots_model::allowed_lines_are_safe;
+use two_phase::{an_outcome_awaits_all, an_outcome_stays, words_go_rightly};
+
 /// Agreement is a law of the definitions: the lines of each world that a script can reach are safe.
 pub fn lines_agree()
     ensures { Agreement }
-{}
+{
+    an_outcome_stays();
+    an_outcome_awaits_all();
+    words_go_rightly();
+    allowed_lines_are_safe();
+}
 
-/// The law speaks of something: scripts can reach a world in which a transaction commits, and one in which it is rolled
-/// back, with the lines told there. The function does nothing: its contract is the law.
+/// The law speaks of something: two given lists of lines are told by worlds that a script can reach. In one a transaction
+/// commits, in the other it is rolled back. The function does nothing: its contract is the law.
 pub fn agreement_is_met()
     ensures { AgreementExamples }
 {}

@@ -3,13 +3,14 @@ ghost use Rattle.std.specs.Prelude.{◌≡◌, ℕ, ◌+◌, ◌-◌, ◌<◌, �
 ghost use Rattle.ots_model.specs.declared.line.Line.TheVariants.{Decide};
 ghost use Rattle.ots_world.specs.Board.{answered, AllDelivered};
 ghost use Rattle.ots_world.specs.Does.{Tells, TellsPart};
+ghost use Rattle.ots_world.specs.Limits.{registration_limit};
 ghost use Rattle.ots_world.specs.declared.fault.WorldFault.TheVariants.{Memory};
 
 use crate::fault::{MESSAGE_LIMIT, WorldFault, tell};
-use crate::table::{answer_to, change_by, heard_in, operation_of, stage_of};
+use crate::table::{answer_to, change_by};
 use ots_model::{
-    CallNumber, Cause, Decided, Line, Name, Operation, Outcome, Outward, Reason, ResourceState,
-    Said, Stood, Word,
+    CallNumber, Exception, Ground, Line, Name, Operation, Outcome, Outward, Reason, ResourceState,
+    Response, Stood, Word,
 };
 use std::alloc::{AllocError, Global};
 use std::marker::Model;
@@ -18,7 +19,7 @@ use two_phase::Completion;
 mod clients;
 
 /// Where a resource stands.
-#[derive(Clone, Copy, Debug, PartialEq, Eq)]
+#[derive(Clone, Copy)]
 pub enum Stage {
     /// Nothing was put.
     Fresh,
@@ -26,25 +27,19 @@ pub enum Stage {
     Working,
     /// It is to vote rollback.
     Refused,
-    /// It has voted commit and waits for the outcome.
-    Prepared,
-    /// Its put is stored.
-    Applied,
-    /// Its put is dropped.
-    Undone,
-    /// It is known no more.
-    Forgotten,
+    /// It was told a word, and is in this state.
+    In(ResourceState),
 }
 
 /// A value for a cell.
-#[derive(Clone, Copy, Debug, PartialEq, Eq)]
+#[derive(Clone, Copy)]
 pub struct Put {
     pub cell: u64,
     pub value: u64,
 }
 
 /// A resource of an end, registered with a transaction. Both are places in the world's lists.
-#[derive(Clone, Copy, Debug)]
+#[derive(Clone, Copy)]
 pub struct Resource {
     pub name: Name,
     pub transaction: u32,
@@ -54,7 +49,7 @@ pub struct Resource {
 }
 
 /// The resources registered with a transaction, in order, as places in the world's list.
-#[derive(Debug, Drop)]
+#[derive(Drop)]
 pub struct Registrations {
     resources: Vec<u32>,
 }
@@ -65,6 +60,11 @@ impl Model for Registrations {
     ghost Value = { List ℕ };
 
     ghost view = { λ r. r.resources.items };
+
+    ghost use Rattle.std.specs.Prelude.{length, ◌≤◌};
+    ghost use Rattle.ots_world.specs.Limits.{registration_limit};
+
+    ghost invariant = { λ r. length r.resources.items ≤ registration_limit };
 }
 
 /// A top-level transaction of a node.
@@ -81,7 +81,7 @@ pub struct Transaction {
 }
 
 /// What a message says. Transactions and resources are places in the world's lists, messages are numbers.
-#[derive(Clone, Copy, Debug, PartialEq, Eq)]
+#[derive(Clone, Copy)]
 pub enum Content {
     /// A client calls a transaction.
     Call {
@@ -98,12 +98,12 @@ pub enum Content {
     /// The answer to a request.
     Reply {
         request: u32,
-        said: Said,
+        response: Response,
     },
 }
 
 /// A message that was sent.
-#[derive(Clone, Copy, Debug, PartialEq, Eq)]
+#[derive(Clone, Copy)]
 pub struct Message {
     pub content: Content,
     pub delivered: bool,
@@ -112,7 +112,7 @@ pub struct Message {
 }
 
 /// An item of a node's journal.
-#[derive(Clone, Copy, Debug, PartialEq, Eq)]
+#[derive(Clone, Copy)]
 pub enum Record {
     /// The transaction commits.
     Decision { transaction: u32 },
@@ -148,6 +148,7 @@ impl Registrations {
 
     /// A further one.
     pub fn push(&mut self, resource: u32) -> Result<(), AllocError>
+        requires { length self.old < registration_limit }
         ensures ok { OnOk result (self.new ≡ self.old ++ resource ∷ []) }
         ensures err { OnErr result (self.new ≡ self.old) }
     {
@@ -157,7 +158,8 @@ impl Registrations {
 
     /// The resources, in order.
     pub fn resources(&self) -> &[u32]
-        ensures { result.now ≡ self.now }
+        ensures resources { result.now ≡ self.now }
+        ensures few { length self.now ≤ registration_limit }
     {
         self.resources.as_slice()
     }
@@ -174,9 +176,8 @@ impl Registrations {
 }
 
 impl Model for Board {
-    ghost use Rattle.std.specs.Prelude.{◌≤◌, length};
-    ghost use Rattle.ots_world.specs.declared.fault.TheConstants.{MESSAGE_LIMIT};
     ghost use Rattle.ots_world.specs.Board as board;
+    ghost use Rattle.ots_world.specs.BoardInside.{IsWithin};
 
     ghost Value = { board.Board };
 
@@ -187,7 +188,7 @@ impl Model for Board {
       records = b.records.items;
     } };
 
-    ghost invariant = { λ b. length b.messages.items ≤ MESSAGE_LIMIT };
+    ghost invariant = { IsWithin };
 }
 
 impl Board {
@@ -228,12 +229,17 @@ impl Board {
     }
 
     /// The reply to a message goes out.
-    fn reply(&mut self, lines: &mut Vec<u8>, message: u32, said: Said) -> Result<(), WorldFault>
-        ensures does { Does (board.replies message said self.old) self.new lines.old.items lines.new.items result }
+    fn reply(
+        &mut self,
+        lines: &mut Vec<u8>,
+        message: u32,
+        response: Response,
+    ) -> Result<(), WorldFault>
+        ensures does { Does (board.replies message response self.old) self.new lines.old.items lines.new.items result }
     {
         let content = Content::Reply {
             request: message,
-            said,
+            response,
         };
         let number = self.send(Message {
             content,
@@ -245,7 +251,7 @@ impl Board {
             &[Line::Back {
                 message: number,
                 request: message,
-                said,
+                response,
             }],
         )
     }
@@ -257,16 +263,15 @@ impl Board {
         place: u32,
         change: Option<ResourceState>,
     ) -> Result<(), WorldFault>
+        requires there { place < length self.old.resources }
         ensures does { (r : Resource) → slice_get self.old.resources place ≡ Some r →
             Does (board.changed place r change self.old) self.new lines.old.items lines.new.items result }
     {
         let Some(state) = change else {
             return Ok(());
         };
-        let Some(resource) = self.resources.get_mut(place as usize) else {
-            return Ok(());
-        };
-        resource.stage = stage_of(state);
+        let resource = &mut self.resources[place as usize];
+        resource.stage = Stage::In(state);
         let name = resource.name;
         tell(
             lines,
@@ -302,12 +307,11 @@ impl Board {
         place: u32,
         outward: &Outward,
     ) -> Result<(), WorldFault>
+        requires there { place < length self.old.transactions }
         ensures does { (t : Transaction) → slice_get self.old.transactions place ≡ Some t →
             Does (board.requests place t outward.now self.old) self.new lines.old.items lines.new.items result }
     {
-        let Some(transaction) = self.transactions.get(place as usize) else {
-            return Ok(());
-        };
+        let transaction = &self.transactions[place as usize];
         let resource = transaction.registrations.place_of(outward.registration);
         let Some(name) = self.name_at(resource) else {
             return Ok(());
@@ -323,12 +327,11 @@ impl Board {
             delivered: false,
             awaited: true,
         })?;
-        let operation = operation_of(outward.word);
         tell(
             lines,
             &[Line::Send {
                 message,
-                operation,
+                word: outward.word,
                 registration: name,
             }],
         )
@@ -349,26 +352,29 @@ impl Board {
 
     /// The transaction at a place ends, where its outcome is known.
     fn end(&mut self, lines: &mut Vec<u8>, place: u32) -> Result<(), WorldFault>
+        requires there { place < length self.old.transactions }
         ensures does { (t : Transaction) → slice_get self.old.transactions place ≡ Some t →
             Does (board.ending t (progress.outcome t.completion) t.decision self.old) self.new lines.old.items lines.new.items result }
     {
-        let Some(transaction) = self.transactions.get(place as usize) else {
-            return Ok(());
-        };
+        let transaction = &self.transactions[place as usize];
         let Some(outcome) = transaction.completion.outcome() else {
             return Ok(());
         };
         let name = transaction.name;
         let commit = transaction.commit;
         match outcome {
-            Outcome::Commit => match transaction.decision {
+            Outcome::Commit(_) => match transaction.decision {
                 Some(decision) => {
                     self.close(lines, name, decision)?;
-                    answer(lines, commit, Said::Plain)
+                    answer(lines, commit, Response::Plain)
                 }
-                None => answer(lines, commit, Said::Plain),
+                None => answer(lines, commit, Response::Plain),
             },
-            Outcome::Rollback(_) => answer(lines, commit, Said::TransactionRolledBack),
+            Outcome::Rollback(_) => answer(
+                lines,
+                commit,
+                Response::Raised(Exception::TransactionRolledBack),
+            ),
             Outcome::Unknown => Ok(()),
         }
     }
@@ -388,28 +394,31 @@ impl Board {
 
     /// The name of a transaction's registration, counted from 1.
     fn registered(&self, place: u32, registration: u32) -> Option<Name>
+        requires there { place < length self.now.transactions }
         ensures name { (t : Transaction) → slice_get self.now.transactions place ≡ Some t → result ≡ board.registered self.now t registration }
     {
-        let transaction = self.transactions.get(place as usize)?;
+        let transaction = &self.transactions[place as usize];
         self.name_at(transaction.registrations.place_of(registration))
     }
 
     /// The reason for the rollback of the transaction at a place, with the name that it speaks of.
     #[tactic(auto, unfolding(crate::specs::Board::cause_of))]
-    fn cause_of(&self, place: u32, reason: Reason) -> Option<Cause>
+    fn cause_of(&self, place: u32, reason: Reason) -> Option<Reason<Name>>
+        requires there { place < length self.now.transactions }
         ensures cause { (t : Transaction) → slice_get self.now.transactions place ≡ Some t → result ≡ board.cause_of self.now t reason }
     {
         match reason {
-            Reason::Vote(g) => self.registered(place, g).map(Cause::Vote),
-            Reason::PrepareLost(g) => self.registered(place, g).map(Cause::PrepareLost),
-            Reason::PrepareStarved(g) => self.registered(place, g).map(Cause::PrepareStarved),
-            Reason::PrepareFault(g) => self.registered(place, g).map(Cause::PrepareFault),
-            Reason::JournalFull(used, need) => Some(Cause::JournalFull(used, need)),
+            Reason::Vote(g) => self.registered(place, g).map(Reason::Vote),
+            Reason::PrepareLost(g) => self.registered(place, g).map(Reason::PrepareLost),
+            Reason::PrepareStarved(g) => self.registered(place, g).map(Reason::PrepareStarved),
+            Reason::PrepareFault(g) => self.registered(place, g).map(Reason::PrepareFault),
+            Reason::JournalFull(used, need) => Some(Reason::JournalFull(used, need)),
         }
     }
 
     /// The decision record of the transaction at a place is the next item of the journal.
     fn record(&mut self, lines: &mut Vec<u8>, place: u32) -> Result<(), WorldFault>
+        requires there { place < length self.old.transactions }
         ensures does { (t : Transaction) → slice_get self.old.transactions place ≡ Some t →
             Does (board.recorded place t self.old) self.new lines.old.items lines.new.items result }
     {
@@ -417,13 +426,11 @@ impl Board {
             return Err(WorldFault::Memory);
         };
         self.records.push(Record::Decision { transaction: place })?;
-        let Some(transaction) = self.transactions.get_mut(place as usize) else {
-            return Ok(());
-        };
+        let transaction = &mut self.transactions[place as usize];
         transaction.decision = Some(decision);
         transaction.completion.decided(Stood::Stands(decision));
         let name = transaction.name;
-        tell_decided(lines, name, Decided::CommitRecord)
+        tell_decided(lines, name, Outcome::Commit(Ground::Record))
     }
 
     /// An outcome of the transaction at a place that needs no record is told.
@@ -433,20 +440,18 @@ impl Board {
         place: u32,
         outcome: Option<Outcome>,
     ) -> Result<(), WorldFault>
+        requires there { place < length self.now.transactions }
         ensures does { (t : Transaction) → slice_get self.now.transactions place ≡ Some t →
             Does (board.fixed t outcome self.now) self.now lines.old.items lines.new.items result }
     {
-        let Some(transaction) = self.transactions.get(place as usize) else {
-            return Ok(());
-        };
         let Some(outcome) = outcome else {
             return Ok(());
         };
-        let name = transaction.name;
+        let name = self.transactions[place as usize].name;
         match outcome {
-            Outcome::Commit => tell_decided(lines, name, Decided::CommitNone),
+            Outcome::Commit(basis) => tell_decided(lines, name, Outcome::Commit(basis)),
             Outcome::Rollback(reason) => match self.cause_of(place, reason) {
-                Some(cause) => tell_decided(lines, name, Decided::Rollback(cause)),
+                Some(cause) => tell_decided(lines, name, Outcome::Rollback(cause)),
                 None => Ok(()),
             },
             Outcome::Unknown => Ok(()),
@@ -468,12 +473,17 @@ impl Board {
     }
 
     /// The vote of the resource at a place is counted, where the answer is one.
-    fn count(&self, lines: &mut Vec<u8>, resource: u32, said: Said) -> Result<(), WorldFault>
-        ensures does { Does (board.telling (λ name. board.counted name said) (board.name_at self.now.resources resource) self.now)
+    fn count(
+        &self,
+        lines: &mut Vec<u8>,
+        resource: u32,
+        response: Response,
+    ) -> Result<(), WorldFault>
+        ensures does { Does (board.telling (λ name. board.counted name response) (board.name_at self.now.resources resource) self.now)
             self.now lines.old.items lines.new.items result }
     {
-        match (self.name_at(resource), said) {
-            (Some(registration), Said::Voted(vote)) => tell(
+        match (self.name_at(resource), response) {
+            (Some(registration), Response::Voted(vote)) => tell(
                 lines,
                 &[Line::Voted { registration, vote }],
             ),
@@ -482,13 +492,13 @@ impl Board {
     }
 
     /// The transaction at a place hears the answer to a word.
-    fn learn(&mut self, place: u32, number: &CallNumber, said: Said)
-        ensures learns { self.new ≡ board.learns place number.now said self.old }
+    fn learn(&mut self, place: u32, number: &CallNumber, response: Response)
+        ensures learns { self.new ≡ board.learns place number.now response self.old }
     {
         let Some(transaction) = self.transactions.get_mut(place as usize) else {
             return;
         };
-        transaction.completion.answer(number, &heard_in(said));
+        transaction.completion.answer(number, &response.heard());
     }
 
     /// The answer of the resource to prepare is a vote for the transaction at a place.
@@ -497,11 +507,11 @@ impl Board {
         lines: &mut Vec<u8>,
         place: u32,
         resource: u32,
-        said: Said,
+        response: Response,
     ) -> Result<(), WorldFault>
-        ensures does { Does (board.votes place resource said self.old) self.new lines.old.items lines.new.items result }
+        ensures does { Does (board.votes place resource response self.old) self.new lines.old.items lines.new.items result }
     {
-        self.count(lines, resource, said)?;
+        self.count(lines, resource, response)?;
         self.settle(lines, place)
     }
 
@@ -512,13 +522,13 @@ impl Board {
         word: Word,
         place: u32,
         resource: u32,
-        said: Said,
+        response: Response,
     ) -> Result<(), WorldFault>
-        ensures does { Does (board.goes_on_after word place resource said self.old) self.new lines.old.items lines.new.items result }
+        ensures does { Does (board.goes_on_after word place resource response self.old) self.new lines.old.items lines.new.items result }
     {
         match word {
             Word::Prepare => {
-                self.take_vote(lines, place, resource, said)?;
+                self.take_vote(lines, place, resource, response)?;
                 self.go_on(lines, place)
             }
             _ => self.go_on(lines, place),
@@ -526,8 +536,13 @@ impl Board {
     }
 
     /// A reply is heard where its request is still waited for.
-    fn hear(&mut self, lines: &mut Vec<u8>, request: u32, said: Said) -> Result<(), WorldFault>
-        ensures does { Does (board.hears request said self.old) self.new lines.old.items lines.new.items result }
+    fn hear(
+        &mut self,
+        lines: &mut Vec<u8>,
+        request: u32,
+        response: Response,
+    ) -> Result<(), WorldFault>
+        ensures does { Does (board.hears request response self.old) self.new lines.old.items lines.new.items result }
     {
         let Some(message) = self.messages.get_mut(request.saturating_sub(1) as usize) else {
             return Ok(());
@@ -545,8 +560,8 @@ impl Board {
         else {
             return Ok(());
         };
-        self.learn(transaction, &number, said);
-        self.go_on_after(lines, word, transaction, resource, said)
+        self.learn(transaction, &number, response);
+        self.go_on_after(lines, word, transaction, resource, response)
     }
 
     /// A message reaches its receiver.
@@ -555,7 +570,7 @@ impl Board {
     {
         match content {
             Content::Request { word, resource, .. } => self.obey(lines, message, resource, word),
-            Content::Reply { request, said } => self.hear(lines, request, said),
+            Content::Reply { request, response } => self.hear(lines, request, response),
             Content::Call { .. } => Ok(()),
         }
     }
@@ -592,26 +607,30 @@ fn lowest_in(messages: &[Message]) -> Option<usize>
 }
 
 /// The client is answered, where it has called.
-fn answer(lines: &mut Vec<u8>, call: Option<u32>, said: Said) -> Result<(), WorldFault>
-    ensures told { MatchResult result (λ _. Tells (answered call said) lines.old.items lines.new.items)
-        (λ fault. (fault ≡ Memory) × TellsPart (answered call said) lines.old.items lines.new.items) }
+fn answer(lines: &mut Vec<u8>, call: Option<u32>, response: Response) -> Result<(), WorldFault>
+    ensures told { MatchResult result (λ _. Tells (answered call response) lines.old.items lines.new.items)
+        (λ fault. (fault ≡ Memory) × TellsPart (answered call response) lines.old.items lines.new.items) }
 {
     match call {
-        Some(message) => tell(lines, &[Line::Answered { message, said }]),
+        Some(message) => tell(lines, &[Line::Answered { message, response }]),
         None => Ok(()),
     }
 }
 
 /// The decision on a transaction is told.
-fn tell_decided(lines: &mut Vec<u8>, transaction: Name, decided: Decided) -> Result<(), WorldFault>
-    ensures told { MatchResult result (λ _. Tells (Decide transaction decided ∷ []) lines.old.items lines.new.items)
-        (λ fault. (fault ≡ Memory) × TellsPart (Decide transaction decided ∷ []) lines.old.items lines.new.items) }
+fn tell_decided(
+    lines: &mut Vec<u8>,
+    transaction: Name,
+    outcome: Outcome<Name>,
+) -> Result<(), WorldFault>
+    ensures told { MatchResult result (λ _. Tells (Decide transaction outcome ∷ []) lines.old.items lines.new.items)
+        (λ fault. (fault ≡ Memory) × TellsPart (Decide transaction outcome ∷ []) lines.old.items lines.new.items) }
 {
     tell(
         lines,
         &[Line::Decide {
             transaction,
-            decided,
+            outcome,
         }],
     )
 }

@@ -7,7 +7,7 @@ use std::collections::HashSet;
 use std::marker::Model;
 
 /// A cell of an end that some resource has put.
-#[derive(Clone, Copy, Debug, PartialEq, Eq, Hash)]
+#[derive(Clone, Copy, PartialEq, Eq, Hash)]
 pub struct Claim {
     pub end: u32,
     pub cell: u64,

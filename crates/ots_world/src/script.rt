@@ -50,11 +50,11 @@ pub enum Image {
     Old,
     /// What was written.
     New,
-    /// These octets, over and over.
+    /// These octets.
     Octets(Octets),
 }
 
-/// What one line of a script does.
+/// What one line of a script says. A world refuses those that it doesn't accept yet.
 #[derive(Debug, Drop)]
 pub enum ScriptEvent {
     /// `node N`: a node is made.

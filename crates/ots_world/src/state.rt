@@ -1,7 +1,7 @@
 ghost use Rattle.std.specs.Prelude.{◌≡◌, ℕ, ◌≤◌, ◌==◌, ◌&&◌, nat_lt, length, take, slice_get, Some, IsErrOf, OnOk, MatchResult};
 ghost use Rattle.ots_world.specs.Clients as clients;
 ghost use Rattle.ots_world.specs.Does.{Tells, TellsPart};
-ghost use Rattle.ots_world.specs.declared.fault.TheConstants.{MESSAGE_LIMIT};
+ghost use Rattle.ots_world.specs.Limits.{message_limit, transaction_limit};
 ghost use Rattle.ots_world.specs.Stands.{Carries};
 ghost use Rattle.ots_world.specs.World as world;
 ghost use Rattle.ots_world.specs.declared.fault.WorldFault.TheVariants as faults;
@@ -11,7 +11,7 @@ use crate::claims::Claims;
 use crate::directory::{Directory, Thing};
 use crate::fault::{MESSAGE_LIMIT, WorldFault, tell};
 use crate::script::ScriptEvent;
-use ots_model::{Line, Name, Operation, Said};
+use ots_model::{Line, Name, Operation, Response};
 use std::alloc::Global;
 
 /// How many transactions a node has at most.
@@ -192,7 +192,7 @@ impl State {
 
     /// Whether a transaction of that name and that time limit can begin.
     fn can_begin(&self, name: &Name, seconds: u32) -> bool
-        ensures { result ≡ (world.is_free (shown self.now) name.now && seconds == 0 && nat_lt (length self.now.board.transactions) TRANSACTION_LIMIT) }
+        ensures { result ≡ (world.is_free (shown self.now) name.now && seconds == 0 && nat_lt (length self.now.board.transactions) transaction_limit) }
     {
         self.is_free(name) && seconds == 0 && self.board.transactions().len() < TRANSACTION_LIMIT
     }
@@ -220,9 +220,7 @@ impl State {
         if !self.can_register(resource, registering) {
             return Err(WorldFault::Names);
         }
-        let Ok(added) = u32::try_from(self.board.resources().len()) else {
-            return Err(WorldFault::Memory);
-        };
+        let added = self.board.next_resource();
         let message = self.board.register(place, made(resource, place, at))?;
         self.names.name(resource, Thing::Resource(added))?;
         tell_registered(lines, message, transaction, end, resource)
@@ -411,7 +409,7 @@ impl State {
     /// How many messages were sent: no more than may be.
     pub fn sent(&self) -> usize
         ensures count { result ≡ length (shown self.now).board.messages }
-        ensures within { result ≤ MESSAGE_LIMIT }
+        ensures within { result ≤ message_limit }
     {
         self.board.sent()
     }
@@ -464,7 +462,7 @@ fn tell_registered(
             },
             Line::Answered {
                 message,
-                said: Said::Plain,
+                response: Response::Plain,
             },
         ],
     )

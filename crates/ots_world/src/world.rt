@@ -1,9 +1,8 @@
-ghost use Rattle.std.specs.Prelude.{◌≡◌, ◌≢◌, ℕ, List, ◌⊎◌, Ok, Err, IsErrOf, IfErr, OnOk, MatchResult};
+ghost use Rattle.std.specs.Prelude.{◌≡◌, List, Ok, Err, MatchResult};
 ghost use Rattle.ots_world.specs.World.{empty};
 ghost use Rattle.ots_model.specs.declared.line.Line.{Line};
 ghost use Rattle.ots_world.specs.Agreement.{HasTold, GoesOnSafely};
-ghost use Rattle.ots_world.specs.Stands.{Moved, Refused, Stopped, Spent, Overflows};
-ghost use Rattle.ots_world.specs.declared.fault.TheConstants.{MESSAGE_LIMIT};
+ghost use Rattle.ots_world.specs.Stands.{HasStepped};
 
 use crate::agreement::lines_agree;
 use crate::fault::WorldFault;
@@ -43,21 +42,12 @@ impl World {
 
     /// Carries out one line of a script, and tells what happened at the end of `lines`.
     pub fn step(&mut self, event: &ScriptEvent, lines: &mut Vec<u8>) -> Result<(), WorldFault>
-        // The world after the line, and the lines that tell it, are the definition's.
-        ensures moved { OnOk result (Moved self.old event.now self.new lines.old.items lines.new.items) }
-
-        // A line is refused for its names where the definition refuses it.
-        ensures names { IsErrOf result WorldFault.Names → Refused self.old event.now self.new lines.old.items lines.new.items }
-
-        // Any other refusal is answered for good, whole lines having been told.
-        ensures stopped { IfErr result (λ fault. (fault ≡ WorldFault.Names)
-            ⊎ Stopped self.old event.now fault self.new lines.old.items lines.new.items
-            ⊎ Spent self.old fault self.new lines.old.items lines.new.items) }
-        ensures limit { (n : ℕ) → result ≡ Err (WorldFault.Limit n) → (self.old ≡ Err (WorldFault.Limit n)) ⊎ ((n ≡ MESSAGE_LIMIT) × Overflows self.old event.now) }
-        ensures spent { (fault : _) → self.old ≡ Err fault → result ≡ Err fault }
+        // The world after the line, and the lines that tell it, are the definition's; or the line is refused.
+        ensures stepped { HasStepped self.old event.now self.new lines.old.items lines.new.items result }
 
         // The lines so far are safe, and stay so, whatever the answer.
-        ensures agreement { (lines_so_far : List Line) → HasTold self.old lines_so_far → GoesOnSafely lines_so_far self.new lines.old.items lines.new.items }
+        ensures agreement { (told : List Line) → HasTold self.old told →
+            GoesOnSafely told self.new lines.old.items lines.new.items }
     {
         lines_agree();
         self.carry_out(event, lines)
@@ -65,13 +55,7 @@ impl World {
 
     /// What `step` does, agreement apart.
     fn carry_out(&mut self, event: &ScriptEvent, lines: &mut Vec<u8>) -> Result<(), WorldFault>
-        ensures moved { OnOk result (Moved self.old event.now self.new lines.old.items lines.new.items) }
-        ensures names { IsErrOf result WorldFault.Names → Refused self.old event.now self.new lines.old.items lines.new.items }
-        ensures stopped { IfErr result (λ fault. (fault ≡ WorldFault.Names)
-            ⊎ Stopped self.old event.now fault self.new lines.old.items lines.new.items
-            ⊎ Spent self.old fault self.new lines.old.items lines.new.items) }
-        ensures limit { (n : ℕ) → result ≡ Err (WorldFault.Limit n) → (self.old ≡ Err (WorldFault.Limit n)) ⊎ ((n ≡ MESSAGE_LIMIT) × Overflows self.old event.now) }
-        ensures spent { (fault : _) → self.old ≡ Err fault → result ≡ Err fault }
+        ensures stepped { HasStepped self.old event.now self.new lines.old.items lines.new.items result }
     {
         if let Some(fault) = self.fault {
             return Err(fault);

@@ -17,6 +17,7 @@ use Rattle.ots_model.specs.declared.completion.Outward.{Outward}
 use Rattle.ots_model.specs.declared.completion.Receipt.{Receipt}
 use Rattle.ots_model.specs.declared.completion.Stood.{Stood}
 use Rattle.ots_model.specs.declared.completion.Word.TheVariants as words
+use Rattle.ots_model.specs.declared.completion.Ground.TheVariants.{Nobody}
 use Rattle.two_phase.specs.declared.plan.Planned.{Planned}
 use Rattle.two_phase.specs.Judged.{judged, first_word}
 use Rattle.two_phase.specs.Plan.{plan_from}
@@ -85,7 +86,7 @@ abbrev pub called : Poll → Planned → Outward
 called p x = record { number = next_number p; registration = suc x.place; to = x.to; word = x.word; receipt = receipt_of x.word p.stood (suc x.place) }
 
 -- what goes out next, and what is kept then
-pub record GoesOut (p : Poll) (fixed : Option Outcome) (some_commit : Bool) (front : List Planned) (x : Planned) (spare : List (List ℕ)) : Type 0 where
+pub record GoesOut (p : Poll) (fixed : Option (Outcome ℕ)) (some_commit : Bool) (front : List Planned) (x : Planned) (spare : List (List ℕ)) : Type 0 where
   pub word : next_word p ≡ Some (called p x)
   pub after : after_next p ≡ put_out p
   pub follows : Follows (put_out p) fixed some_commit front spare
@@ -107,7 +108,7 @@ unfolding after_next
 after_next_none p e = ap (λ b. record p { is_out = b }) (ap (λ o. p.is_out || is_some o) e ∙ or_nothing p.is_out)
 
 -- the last of the planned words goes out
-pub goes_out : (p : Poll) (fixed : Option Outcome) (some_commit : Bool) (front ahead : List Planned) (x : Planned) (spare : List (List ℕ))
+pub goes_out : (p : Poll) (fixed : Option (Outcome ℕ)) (some_commit : Bool) (front ahead : List Planned) (x : Planned) (spare : List (List ℕ))
     → Follows p fixed some_commit ahead spare → ahead ≡ front ++ x ∷ [] → p.is_out ≡ false → GoesOut p fixed some_commit front x spare
 goes_out p fixed some_commit front ahead x spare f split e =
     let address = addressed p.participants in
@@ -135,7 +136,7 @@ pub record StaysIn (p : Poll) : Type 0 where
   pub word : next_word p ≡ None
   pub after : after_next p ≡ p
 
-pub nothing_ahead : (p : Poll) (fixed : Option Outcome) (some_commit : Bool) (ahead : List Planned) (spare : List (List ℕ))
+pub nothing_ahead : (p : Poll) (fixed : Option (Outcome ℕ)) (some_commit : Bool) (ahead : List Planned) (spare : List (List ℕ))
     → Follows p fixed some_commit ahead spare → ahead ≡ [] → p.is_out ≡ false → StaysIn p
 unfolding next_word
 nothing_ahead p fixed some_commit ahead spare f none e =
@@ -151,11 +152,11 @@ one_is_out p e =
     record { word = word; after = after_next_none p word }
 
 -- how far a completion has come
-pub few_heard : (p : Poll) (fixed : Option Outcome) (some_commit : Bool) (ahead : List Planned) (spare : List (List ℕ))
+pub few_heard : (p : Poll) (fixed : Option (Outcome ℕ)) (some_commit : Bool) (ahead : List Planned) (spare : List (List ℕ))
     → Follows p fixed some_commit ahead spare → length p.heard ≤ 2 * length p.participants
 few_heard p fixed some_commit ahead spare f = omega (arith, f.sent_within, sent_least p, length-errands p)
 
-pub fewer_heard : (p : Poll) (fixed : Option Outcome) (some_commit : Bool) (ahead : List Planned) (spare : List (List ℕ))
+pub fewer_heard : (p : Poll) (fixed : Option (Outcome ℕ)) (some_commit : Bool) (ahead : List Planned) (spare : List (List ℕ))
     → Follows p fixed some_commit ahead spare → p.is_out ≡ true → length p.heard < 2 * length p.participants
 fewer_heard p fixed some_commit ahead spare f e = omega (arith, f.sent_within, sent_out p e, length-errands p)
 
@@ -169,7 +170,7 @@ same_within : (p : Poll) (h : Heard) → p.is_out ≡ true → errands (pushed p
 same_within p h e kept l = omega (arith, sent_out p e, length_push p.heard h, ap length kept)
 
 -- an answer behind the one that fixed the outcome
-pub answered_later : (p : Poll) (h : Heard) (o : Outcome) (some_commit : Bool) (ahead : List Planned) (spare : List (List ℕ))
+pub answered_later : (p : Poll) (h : Heard) (o : Outcome ℕ) (some_commit : Bool) (ahead : List Planned) (spare : List (List ℕ))
     → Follows p (Some o) some_commit ahead spare → p.is_out ≡ true → Follows (pushed p h) (Some o) some_commit ahead spare
 answered_later p h o some_commit ahead spare f e =
     let kept = errands_kept p h o (sym f.is_fixed) in
@@ -184,7 +185,7 @@ answered_later p h o some_commit ahead spare f e =
     }
 
 -- an answer to commit_one_phase
-pub answered_alone : (p : Poll) (h : Heard) (o : Outcome) (some_commit : Bool) (ahead : List Planned) (spare : List (List ℕ))
+pub answered_alone : (p : Poll) (h : Heard) (o : Outcome ℕ) (some_commit : Bool) (ahead : List Planned) (spare : List (List ℕ))
     → Follows p None some_commit ahead spare → p.is_out ≡ true → decides_alone p ≡ true → Some o ≡ outcome_alone (h ∷ [])
     → Follows (pushed p h) (Some o) some_commit ahead spare
 answered_alone p h o some_commit ahead spare f e single said =
@@ -234,7 +235,7 @@ answered_open p h n some_commit ahead spare f e several count said =
     }
 
 -- an answer to prepare that fixes the outcome, which is then planned to be told
-pub answered_last : (p : Poll) (h : Heard) (n : ℕ) (o : Outcome) (some_commit after : Bool) (ahead planned : List Planned) (spare left : List (List ℕ))
+pub answered_last : (p : Poll) (h : Heard) (n : ℕ) (o : Outcome ℕ) (some_commit after : Bool) (ahead planned : List Planned) (spare left : List (List ℕ))
     → Follows p None some_commit ahead spare → p.is_out ≡ true → decides_alone p ≡ false → n ≡ length p.heard + 1
     → judged h n (length p.participants) (some_commit || is_commit_vote h) ≡ Some o
     → reverse planned ≡ plan_from (λ place. is_told o (slice_get (p.heard ++ h ∷ []) place)) (telling o) 0 spare
@@ -288,7 +289,7 @@ wanted_from p w =
     and_from _ _ (and_from _ _ (and_from _ _ (and_from _ _ (ap not w.several) (ap is_none w.unfound)) (le-leb _ _ w.all_heard)) w.commits) (ap is_none w.unasked)
 
 voted_all : (p : Poll) → decides_alone p ≡ false → refuser p ≡ None → length p.participants ≤ length p.heard
-    → outcome p ≡ cond (list_any is_commit_vote (replies p)) (outcome_by_record p.stood) (Some outcomes.Commit)
+    → outcome p ≡ cond (list_any is_commit_vote (replies p)) (outcome_by_record p.stood) (Some (outcomes.Commit Nobody))
 voted_all p several unfound l =
     outcome_voted p several ∙ (votes_all p unfound ∙ cond-false (ltb (length p.heard) (length p.participants)) None _ (le-ltb _ _ l))
 
@@ -296,7 +297,7 @@ voted_all p several unfound l =
 pub wanted_open : (p : Poll) → wants_decision p ≡ true → outcome p ≡ None
 wanted_open p e =
     let w = wanted_parts p e in
-    voted_all p w.several w.unfound w.all_heard ∙ (cond-true _ (outcome_by_record p.stood) (Some outcomes.Commit) w.commits ∙ ap outcome_by_record w.unasked)
+    voted_all p w.several w.unfound w.all_heard ∙ (cond-true _ (outcome_by_record p.stood) (Some (outcomes.Commit Nobody)) w.commits ∙ ap outcome_by_record w.unasked)
 
 pub wanted_unasked : (p : Poll) → wants_decision p ≡ true → p.stood ≡ None
 wanted_unasked p e = (wanted_parts p e).unasked
@@ -306,15 +307,7 @@ wanted_heard p e = (wanted_parts p e).all_heard
 
 outcome_alone_open : (hs : List Heard) → outcome_alone hs ≡ None → hs ≡ []
 outcome_alone_open [] e = refl
-outcome_alone_open (hears.Done ∷ hs) e = absurd (cc)
-outcome_alone_open (hears.RolledBack ∷ hs) e = absurd (cc)
-outcome_alone_open (hears.Voted v ∷ hs) e = absurd (cc)
-outcome_alone_open (hears.Heuristic d ∷ hs) e = absurd (cc)
-outcome_alone_open (hears.NotPrepared ∷ hs) e = absurd (cc)
-outcome_alone_open (hears.NoObject ∷ hs) e = absurd (cc)
-outcome_alone_open (hears.Other ∷ hs) e = absurd (cc)
-outcome_alone_open (hears.Lost ∷ hs) e = absurd (cc)
-outcome_alone_open (hears.Starved ∷ hs) e = absurd (cc)
+outcome_alone_open (h ∷ hs) e = absurd (cc)
 
 several_heard : (p : Poll) → outcome p ≡ None → length p.participants ≤ length p.heard → decides_alone p ≡ false
 several_heard p e l = elim (cases_Bool (decides_alone p)) [
@@ -329,12 +322,12 @@ pub wanted_by : (p : Poll) → outcome p ≡ None → p.stood ≡ None → lengt
 wanted_by p unfixed unasked l =
     let several = several_heard p unfixed l in
     let unfound = refuser_open p several unfixed in
-    let by_votes : cond (list_any is_commit_vote (replies p)) (outcome_by_record None) (Some outcomes.Commit) ≡ None =
-    ap (λ o. cond (list_any is_commit_vote (replies p)) (outcome_by_record o) (Some outcomes.Commit)) (sym unasked) ∙ (sym (voted_all p several unfound l) ∙ unfixed) in
+    let by_votes : cond (list_any is_commit_vote (replies p)) (outcome_by_record None) (Some (outcomes.Commit Nobody)) ≡ None =
+    ap (λ o. cond (list_any is_commit_vote (replies p)) (outcome_by_record o) (Some (outcomes.Commit Nobody))) (sym unasked) ∙ (sym (voted_all p several unfound l) ∙ unfixed) in
     let commits : list_any is_commit_vote (replies p) ≡ true = elim (cases_Bool (list_any is_commit_vote (replies p))) [
       | inl h ↦ h
       | inr h ↦
-          let fixed : Some outcomes.Commit ≡ None = sym (cond-false _ (outcome_by_record None) (Some outcomes.Commit) h) ∙ by_votes in
+          let fixed : Some (outcomes.Commit Nobody) ≡ None = sym (cond-false _ (outcome_by_record None) (Some (outcomes.Commit Nobody)) h) ∙ by_votes in
           absurd (cc)
     ] in
     wanted_from p (record { several = several; unfound = unfound; all_heard = l; commits = commits; unasked = unasked })
@@ -368,14 +361,14 @@ pub outcome_ruled : (p : Poll) (stood : Stood) → wants_decision p ≡ true →
 outcome_ruled p stood e =
     let w = wanted_parts p e in
     voted_all (ruled p stood) (alone_ruled p stood ∙ w.several) (refuser_ruled p stood ∙ w.unfound) w.all_heard
-    ∙ cond-true _ (outcome_by_record (Some stood)) (Some outcomes.Commit) (ap (list_any is_commit_vote) (replies_ruled p stood) ∙ w.commits)
+    ∙ cond-true _ (outcome_by_record (Some stood)) (Some (outcomes.Commit Nobody)) (ap (list_any is_commit_vote) (replies_ruled p stood) ∙ w.commits)
 
 -- all words sent are answered where a decision is wanted
 record IsHeard (p : Poll) : Type 0 where
   asked : asked_count p ≡ length p.heard
   sent_is : sent p ≡ length p.heard
 
-wanted_all_heard : (p : Poll) (fixed : Option Outcome) (some_commit : Bool) (ahead : List Planned) (spare : List (List ℕ))
+wanted_all_heard : (p : Poll) (fixed : Option (Outcome ℕ)) (some_commit : Bool) (ahead : List Planned) (spare : List (List ℕ))
     → Follows p fixed some_commit ahead spare → wants_decision p ≡ true → IsHeard p
 wanted_all_heard p fixed some_commit ahead spare f e =
     let w = wanted_parts p e in
@@ -385,7 +378,7 @@ wanted_all_heard p fixed some_commit ahead spare f e =
     record { asked = omega (arith, f.sent_within, sent_least p, sent_words, count, all, w.all_heard); sent_is = omega (arith, f.sent_within, sent_least p, sent_words, count, all, w.all_heard) }
 
 -- the journal's answer leaves the outcome open
-pub ruled_open : (p : Poll) (stood : Stood) (fixed : Option Outcome) (some_commit : Bool) (ahead : List Planned) (spare : List (List ℕ))
+pub ruled_open : (p : Poll) (stood : Stood) (fixed : Option (Outcome ℕ)) (some_commit : Bool) (ahead : List Planned) (spare : List (List ℕ))
     → Follows p fixed some_commit ahead spare → wants_decision p ≡ true → outcome_by_record (Some stood) ≡ None
     → Follows (ruled p stood) None some_commit ahead spare
 ruled_open p stood fixed some_commit ahead spare f e said =
@@ -404,7 +397,7 @@ ruled_open p stood fixed some_commit ahead spare f e said =
     }
 
 -- the journal's answer fixes the outcome, which is then planned to be told
-pub ruled_fixed : (p : Poll) (stood : Stood) (o : Outcome) (fixed : Option Outcome) (some_commit after : Bool) (ahead planned : List Planned) (spare left : List (List ℕ))
+pub ruled_fixed : (p : Poll) (stood : Stood) (o : Outcome ℕ) (fixed : Option (Outcome ℕ)) (some_commit after : Bool) (ahead planned : List Planned) (spare left : List (List ℕ))
     → Follows p fixed some_commit ahead spare → wants_decision p ≡ true → outcome_by_record (Some stood) ≡ Some o
     → reverse planned ≡ plan_from (λ place. is_told o (slice_get p.heard place)) (telling o) 0 spare
     → Follows (ruled p stood) (Some o) after planned left
@@ -436,24 +429,24 @@ unfolding decides_alone
 alone_begun participants asked first one_phase = refl
 
 begun_votes : (participants : List (List ℕ)) (asked : Bool) (first : CallNumber) (one_phase : Bool)
-    → cond (ltb 0 (length participants)) None (cond (list_any is_commit_vote (replies (begun participants asked first one_phase))) None (Some outcomes.Commit)) ≡ cond (eqb (length participants) 0) (Some outcomes.Commit) None
+    → cond {A = Option (Outcome ℕ)} (ltb 0 (length participants)) None (cond (list_any is_commit_vote (replies (begun participants asked first one_phase))) None (Some (outcomes.Commit Nobody))) ≡ cond (eqb (length participants) 0) (Some (outcomes.Commit Nobody)) None
 unfolding replies
 begun_votes [] asked first one_phase = refl
 begun_votes (x ∷ xs) asked first one_phase =
     cond-true (ltb 0 (suc (length xs))) None _ (lt-ltb 0 (suc (length xs)) (omega arith))
-    ∙ sym (cond-false (eqb (suc (length xs)) 0) (Some outcomes.Commit) None (ne_eqb (suc (length xs)) 0 (λ e. omega arith)))
+    ∙ sym (cond-false (eqb (suc (length xs)) 0) (Some (outcomes.Commit Nobody)) None (ne_eqb (suc (length xs)) 0 (λ e. omega arith)))
 
 -- an empty list has an outcome at the start, and no other has
 outcome_begun : (participants : List (List ℕ)) (asked : Bool) (first : CallNumber) (one_phase : Bool)
-    → outcome (begun participants asked first one_phase) ≡ cond (eqb (length participants) 0) (Some outcomes.Commit) None
+    → outcome (begun participants asked first one_phase) ≡ cond (eqb (length participants) 0) (Some (outcomes.Commit Nobody)) None
 outcome_begun participants asked first one_phase =
     let p = begun participants asked first one_phase in
     elim (cases_Bool (decides_alone p)) [
-      | inl single ↦ outcome_single p single ∙ ap (λ n. cond (eqb n 0) (Some outcomes.Commit) None) (sym (alone_one p single))
+      | inl single ↦ outcome_single p single ∙ ap (λ n. cond (eqb n 0) (Some (outcomes.Commit Nobody)) None) (sym (alone_one p single))
       | inr several ↦ outcome_voted p several ∙ (votes_all p (refuser_begun participants asked first one_phase) ∙ begun_votes participants asked first one_phase)
     ]
 
-tellings_nobody : (p : Poll) (o : Outcome) → p.participants ≡ [] → tellings p o ≡ []
+tellings_nobody : (p : Poll) (o : Outcome ℕ) → p.participants ≡ [] → tellings p o ≡ []
 unfolding tellings places
 tellings_nobody p o e =
     ap (λ (xs : List (List ℕ)). map (λ (place : ℕ). let e : Errand = record { word = telling o; place = place } in e) (filter (λ place. is_told o (ballot p place)) (map (λ (x : ℕ × List ℕ). x.0) (enumerate_from 0 xs)))) e
@@ -463,15 +456,15 @@ errands_begun : (participants : List (List ℕ)) (asked : Bool) (first : CallNum
     → errands (begun participants asked first one_phase) ≡ preparings (begun participants asked first one_phase)
 errands_begun [] asked first one_phase several =
     let p = begun [] asked first one_phase in
-    errands_fixed p outcomes.Commit several (outcome_begun [] asked first one_phase)
-    ∙ (ap (λ xs. preparings p ++ xs) (tellings_nobody p outcomes.Commit refl) ∙ append-nil (preparings p))
+    errands_fixed p (outcomes.Commit Nobody) several (outcome_begun [] asked first one_phase)
+    ∙ (ap (λ xs. preparings p ++ xs) (tellings_nobody p (outcomes.Commit Nobody) refl) ∙ append-nil (preparings p))
 errands_begun (x ∷ xs) asked first one_phase several =
     errands_open (begun (x ∷ xs) asked first one_phase) several
-    (outcome_begun (x ∷ xs) asked first one_phase ∙ cond-false (eqb (suc (length xs)) 0) (Some outcomes.Commit) None (ne_eqb (suc (length xs)) 0 (λ e. omega arith)))
+    (outcome_begun (x ∷ xs) asked first one_phase ∙ cond-false (eqb (suc (length xs)) 0) (Some (outcomes.Commit Nobody)) None (ne_eqb (suc (length xs)) 0 (λ e. omega arith)))
 
 -- what is kept at the start, where each is sent this word first
-pub follows_begun : (participants : List (List ℕ)) (asked : Bool) (first : CallNumber) (one_phase : Bool) (fixed : Option Outcome) (ahead : List Planned)
-    → fixed ≡ cond (eqb (length participants) 0) (Some outcomes.Commit) None
+pub follows_begun : (participants : List (List ℕ)) (asked : Bool) (first : CallNumber) (one_phase : Bool) (fixed : Option (Outcome ℕ)) (ahead : List Planned)
+    → fixed ≡ cond (eqb (length participants) 0) (Some (outcomes.Commit Nobody)) None
     → reverse ahead ≡ plan_from (λ _. true) (first_word (length participants) one_phase) 0 participants
     → Follows (begun participants asked first one_phase) fixed false ahead participants
 follows_begun participants asked first one_phase fixed ahead is plan =
@@ -507,14 +500,14 @@ some_told None true e h n = cc
 some_told None false e h n = cc
 some_told (Some x) b e h n = cc
 
-pub wants_when : (p : Poll) (fixed : Option Outcome) (some_commit : Bool) (ahead : List Planned) (spare : List (List ℕ)) (n k : ℕ)
+pub wants_when : (p : Poll) (fixed : Option (Outcome ℕ)) (some_commit : Bool) (ahead : List Planned) (spare : List (List ℕ)) (n k : ℕ)
     → Follows p fixed some_commit ahead spare → fixed ≡ None → p.stood ≡ None → n ≡ length p.participants → k ≡ length p.heard → leb n k ≡ wants_decision p
 wants_when p fixed some_commit ahead spare n k f unfixed unasked all heard = elim (cases_Bool (leb n k)) [
   | inl h ↦ h ∙ sym (wanted_by p (sym f.is_fixed ∙ unfixed) unasked (omega (arith, leb-true n k h)))
   | inr h ↦ h ∙ sym (false_from_ne_true (wants_decision p) (λ e. omega (arith, leb-false n k h, wanted_heard p e)))
 ]
 
-pub wants_not : (p : Poll) (fixed : Option Outcome) (some_commit : Bool) (ahead : List Planned) (spare : List (List ℕ))
+pub wants_not : (p : Poll) (fixed : Option (Outcome ℕ)) (some_commit : Bool) (ahead : List Planned) (spare : List (List ℕ))
     → Follows p fixed some_commit ahead spare → (fixed ≡ None → p.stood ≡ None → ⊥) → false ≡ wants_decision p
 wants_not p fixed some_commit ahead spare f h =
     sym (false_from_ne_true (wants_decision p) (λ e. h (f.is_fixed ∙ wanted_open p e) (wanted_unasked p e)))
@@ -549,7 +542,7 @@ answer_not_same p number expected h k same is count says e =
     sym (cond-false _ (pushed p h) p (and_right p.is_out _ (ap (same_number number) (sym counted) ∙ (sym says ∙ e))))
 
 -- what was judged, by what was kept
-pub judged_is : (p : Poll) (h : Heard) (n all : ℕ) (some_commit after : Bool) (said : Option Outcome) → after ≡ (some_commit || is_commit_vote h) → all ≡ length p.participants
+pub judged_is : (p : Poll) (h : Heard) (n all : ℕ) (some_commit after : Bool) (said : Option (Outcome ℕ)) → after ≡ (some_commit || is_commit_vote h) → all ≡ length p.participants
     → said ≡ judged h n all after → judged h n (length p.participants) (some_commit || is_commit_vote h) ≡ said
 judged_is p h n all some_commit after said more size says = sym (says ∙ (ap (judged h n all) more ∙ ap (λ k. judged h n k (some_commit || is_commit_vote h)) size))
 
@@ -567,7 +560,7 @@ some_is None b e h = absurd (cc)
 some_is (Some x) b e h = (x, refl)
 
 -- where a decision is wanted, a reference is spared for each
-pub spare_wanted : (p : Poll) (fixed : Option Outcome) (some_commit : Bool) (ahead : List Planned) (spare : List (List ℕ))
+pub spare_wanted : (p : Poll) (fixed : Option (Outcome ℕ)) (some_commit : Bool) (ahead : List Planned) (spare : List (List ℕ))
     → Follows p fixed some_commit ahead spare → wants_decision p ≡ true → length spare ≡ length p.participants
 spare_wanted p fixed some_commit ahead spare f e = ap length (f.spare_whole (f.is_fixed ∙ wanted_open p e))
 
@@ -580,6 +573,6 @@ unfolding after_decided
 decided_idle p stood e = sym (cond-false (wants_decision p) (ruled p stood) p e)
 
 -- what `then_some` gives where the list is empty
-pub fixed_at_start : (fixed : Option Outcome) (none_there : Bool) (n : ℕ) → fixed ≡ then_some none_there outcomes.Commit → none_there ≡ eqb n 0 → fixed ≡ cond (eqb n 0) (Some outcomes.Commit) None
-fixed_at_start fixed true n is none = is ∙ sym (cond-true (eqb n 0) (Some outcomes.Commit) None (sym none))
-fixed_at_start fixed false n is none = is ∙ sym (cond-false (eqb n 0) (Some outcomes.Commit) None (sym none))
+pub fixed_at_start : (fixed : Option (Outcome ℕ)) (none_there : Bool) (n : ℕ) → fixed ≡ then_some none_there (outcomes.Commit Nobody) → none_there ≡ eqb n 0 → fixed ≡ cond (eqb n 0) (Some (outcomes.Commit Nobody)) None
+fixed_at_start fixed true n is none = is ∙ sym (cond-true (eqb n 0) (Some (outcomes.Commit Nobody)) None (sym none))
+fixed_at_start fixed false n is none = is ∙ sym (cond-false (eqb n 0) (Some (outcomes.Commit Nobody)) None (sym none))

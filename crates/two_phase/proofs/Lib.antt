@@ -4,3 +4,5 @@ pub mod Votes
 pub mod Words
 pub mod Keeping
 pub mod Lawful
+pub mod Named
+pub mod Ends

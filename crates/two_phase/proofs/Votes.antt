@@ -13,8 +13,10 @@ use Rattle.ots_model.specs.declared.completion.Heard.{Heard}
 use Rattle.ots_model.specs.declared.completion.Heard.TheVariants as hears
 use Rattle.ots_model.specs.declared.completion.Outcome.{Outcome}
 use Rattle.ots_model.specs.declared.completion.Outcome.TheVariants as outcomes
+use Rattle.ots_model.specs.Outcome.{by_answer, reason_of}
+use Rattle.ots_model.specs.declared.completion.Ground.TheVariants.{Nobody}
 use Rattle.two_phase.specs.Judged.{judged}
-use Rattle.two_phase.specs.Poll.{Poll, consents, is_commit_vote, reason_of, replies, refuser, asked_count, decides_alone, outcome_alone, outcome_by_record, outcome_by_votes, outcome}
+use Rattle.two_phase.specs.Poll.{Poll, consents, is_commit_vote, replies, refuser, asked_count, decides_alone, outcome_alone, outcome_by_record, outcome_by_votes, outcome}
 use Rattle.two_phase.proofs.Positions.{position-append, position_push}
 
 -- the poll after one more answer
@@ -83,7 +85,7 @@ unfolding outcome_by_votes
 votes_found p r e = rw (e, outcome_by_votes) refl
 
 pub votes_all : (p : Poll) → refuser p ≡ None
-    → outcome_by_votes p ≡ cond (ltb (length p.heard) (length p.participants)) None (cond (list_any is_commit_vote (replies p)) (outcome_by_record p.stood) (Some outcomes.Commit))
+    → outcome_by_votes p ≡ cond (ltb (length p.heard) (length p.participants)) None (cond (list_any is_commit_vote (replies p)) (outcome_by_record p.stood) (Some (outcomes.Commit Nobody)))
 unfolding outcome_by_votes
 votes_all p e = rw (e, outcome_by_votes) refl
 
@@ -114,7 +116,7 @@ pub or_nothing : (b : Bool) → (b || false) ≡ b
 or_nothing true = refl
 or_nothing false = refl
 
-either_open : (a b : Bool) (o : Option Outcome) → cond a None (cond b None o) ≡ cond (a || b) None o
+either_open : (a b : Bool) (o : Option (Outcome ℕ)) → cond a None (cond b None o) ≡ cond (a || b) None o
 either_open true b o = refl
 either_open false b o = refl
 
@@ -140,17 +142,17 @@ outcome_asked p h n single e l unasked count =
           let unfound : refuser (pushed p h) ≡ None = after ∙ ap (λ b. cond (not b) (Some (length p.heard)) None) good in
           let long : length (p.heard ++ h ∷ []) ≡ n = length_push p.heard h ∙ sym count in
           let commits : list_any is_commit_vote (replies (pushed p h)) ≡ some_commit = ap (list_any is_commit_vote) (replies_pushed p h l) ∙ commit_pushed p.heard h in
-          voted ∙ (votes_all (pushed p h) unfound ∙ (rw (long, commits, unasked) (either_open (ltb n all) some_commit (Some outcomes.Commit))
-          ∙ sym (cond-true (consents h) (cond (ltb n all || some_commit) None (Some outcomes.Commit)) (Some (outcomes.Rollback (reason_of n h))) good)))
+          voted ∙ (votes_all (pushed p h) unfound ∙ (rw (long, commits, unasked) (either_open (ltb n all) some_commit (Some (outcomes.Commit Nobody)))
+          ∙ sym (cond-true (consents h) (cond (ltb n all || some_commit) None (Some (outcomes.Commit Nobody))) (Some (outcomes.Rollback (reason_of n h))) good)))
       | inr bad ↦
           let found : refuser (pushed p h) ≡ Some (length p.heard) = after ∙ ap (λ b. cond (not b) (Some (length p.heard)) None) bad in
           let next : suc (length p.heard) ≡ n = omega arith in
           voted ∙ (votes_found (pushed p h) (length p.heard) found ∙ (rw (slice_get_last p.heard h, next) refl
-          ∙ sym (cond-false (consents h) (cond (ltb n all || some_commit) None (Some outcomes.Commit)) (Some (outcomes.Rollback (reason_of n h))) bad)))
+          ∙ sym (cond-false (consents h) (cond (ltb n all || some_commit) None (Some (outcomes.Commit Nobody))) (Some (outcomes.Rollback (reason_of n h))) bad)))
     ]
 
 -- how many were asked, once an answer to prepare has fixed the outcome
-pub asked_fixed : (p : Poll) (h : Heard) (o : Outcome) → decides_alone p ≡ false → outcome p ≡ None → length p.heard < length p.participants → outcome (pushed p h) ≡ Some o
+pub asked_fixed : (p : Poll) (h : Heard) (o : Outcome ℕ) → decides_alone p ≡ false → outcome p ≡ None → length p.heard < length p.participants → outcome (pushed p h) ≡ Some o
     → asked_count (pushed p h) ≡ length p.heard + 1
 asked_fixed p h o single e l fixed =
     let after = refuser_early p h (refuser_open p single e) l in
@@ -175,7 +177,7 @@ pub asked_open : (p : Poll) → decides_alone p ≡ false → outcome p ≡ None
 asked_open p single e = asked_all p (refuser_open p single e)
 
 -- a fixed outcome stays, and so does how many were asked
-pub asked_within : (p : Poll) (o : Outcome) → decides_alone p ≡ false → outcome p ≡ Some o → asked_count p ≤ length p.heard
+pub asked_within : (p : Poll) (o : Outcome ℕ) → decides_alone p ≡ false → outcome p ≡ Some o → asked_count p ≤ length p.heard
 asked_within p o single fixed = elim (cases_option (refuser p)) [
   | inl unfound ↦ elim (cases_lt (length p.heard) (length p.participants)) [
     | inl more ↦
@@ -186,35 +188,27 @@ asked_within p o single fixed = elim (cases_option (refuser p)) [
   | inr found ↦ omega (arith, asked_found p found.0 found.1, (refuser_within p found.0 found.1).0)
 ]
 
-pub refuser_kept : (p : Poll) (h : Heard) (o : Outcome) → decides_alone p ≡ false → outcome p ≡ Some o → refuser (pushed p h) ≡ refuser p
+pub refuser_kept : (p : Poll) (h : Heard) (o : Outcome ℕ) → decides_alone p ≡ false → outcome p ≡ Some o → refuser (pushed p h) ≡ refuser p
 refuser_kept p h o single fixed = elim (cases_option (refuser p)) [
   | inl unfound ↦ refuser_late p h (omega (arith, asked_within p o single fixed, asked_all p unfound))
   | inr found ↦ refuser_found p h found.0 found.1 ∙ sym found.1
 ]
 
-pub asked_kept : (p : Poll) (h : Heard) (o : Outcome) → decides_alone p ≡ false → outcome p ≡ Some o → asked_count (pushed p h) ≡ asked_count p
+pub asked_kept : (p : Poll) (h : Heard) (o : Outcome ℕ) → decides_alone p ≡ false → outcome p ≡ Some o → asked_count (pushed p h) ≡ asked_count p
 asked_kept p h o single fixed = elim (cases_option (refuser p)) [
   | inl unfound ↦ asked_all (pushed p h) (refuser_kept p h o single fixed ∙ unfound) ∙ sym (asked_all p unfound)
   | inr found ↦ asked_found (pushed p h) found.0 (refuser_kept p h o single fixed ∙ found.1) ∙ sym (asked_found p found.0 found.1)
 ]
 
-outcome_alone_kept : (hs : List Heard) (h : Heard) (o : Outcome) → outcome_alone hs ≡ Some o → outcome_alone (hs ++ h ∷ []) ≡ Some o
-outcome_alone_kept [] h o e = cc
-outcome_alone_kept (hears.Done ∷ hs) h o e = e
-outcome_alone_kept (hears.RolledBack ∷ hs) h o e = e
-outcome_alone_kept (hears.Voted v ∷ hs) h o e = e
-outcome_alone_kept (hears.Heuristic d ∷ hs) h o e = e
-outcome_alone_kept (hears.NotPrepared ∷ hs) h o e = e
-outcome_alone_kept (hears.NoObject ∷ hs) h o e = e
-outcome_alone_kept (hears.Other ∷ hs) h o e = e
-outcome_alone_kept (hears.Lost ∷ hs) h o e = e
-outcome_alone_kept (hears.Starved ∷ hs) h o e = e
+outcome_alone_kept : (hs : List Heard) (h : Heard) (o : Outcome ℕ) → outcome_alone hs ≡ Some o → outcome_alone (hs ++ h ∷ []) ≡ Some o
+outcome_alone_kept [] h o e = absurd (cc)
+outcome_alone_kept (first ∷ hs) h o e = e
 
 replies_late : (p : Poll) (h : Heard) → length p.participants ≤ length p.heard → replies (pushed p h) ≡ replies p
 unfolding replies
 replies_late p h l = take-append-le (length p.participants) p.heard (h ∷ []) l
 
-votes_kept : (p : Poll) (h : Heard) (o : Outcome) → decides_alone p ≡ false → outcome p ≡ Some o → outcome_by_votes (pushed p h) ≡ outcome_by_votes p
+votes_kept : (p : Poll) (h : Heard) (o : Outcome ℕ) → decides_alone p ≡ false → outcome p ≡ Some o → outcome_by_votes (pushed p h) ≡ outcome_by_votes p
 votes_kept p h o single fixed =
     let kept = refuser_kept p h o single fixed in
     elim (cases_option (refuser p)) [
@@ -223,7 +217,7 @@ votes_kept p h o single fixed =
           let long = length_push p.heard h in
           votes_all (pushed p h) (kept ∙ unfound)
           ∙ (cond-false (ltb (length (p.heard ++ h ∷ [])) (length p.participants)) None _ (le-ltb _ _ (omega arith))
-          ∙ (ap (λ rs. cond (list_any is_commit_vote rs) (outcome_by_record p.stood) (Some outcomes.Commit)) (replies_late p h last)
+          ∙ (ap (λ rs. cond (list_any is_commit_vote rs) (outcome_by_record p.stood) (Some (outcomes.Commit Nobody))) (replies_late p h last)
           ∙ sym (votes_all p unfound ∙ cond-false (ltb (length p.heard) (length p.participants)) None _ (le-ltb _ _ last))))
       | inr found ↦
           votes_found (pushed p h) found.0 (kept ∙ found.1)
@@ -231,7 +225,7 @@ votes_kept p h o single fixed =
           ∙ sym (votes_found p found.0 found.1))
     ]
 
-pub outcome_kept : (p : Poll) (h : Heard) (o : Outcome) → outcome p ≡ Some o → outcome (pushed p h) ≡ Some o
+pub outcome_kept : (p : Poll) (h : Heard) (o : Outcome ℕ) → outcome p ≡ Some o → outcome (pushed p h) ≡ Some o
 outcome_kept p h o fixed = elim (cases_Bool (decides_alone p)) [
   | inl single ↦ outcome_single (pushed p h) (alone_pushed p h ∙ single) ∙ outcome_alone_kept p.heard h o (sym (outcome_single p single) ∙ fixed)
   | inr several ↦ outcome_voted (pushed p h) (alone_pushed p h ∙ several) ∙ (votes_kept p h o several fixed ∙ (sym (outcome_voted p several) ∙ fixed))

@@ -26,7 +26,7 @@ pub errands_alone : (p : Poll) → decides_alone p ≡ true → errands p ≡ re
 unfolding errands
 errands_alone p single = rw single refl
 
-pub errands_fixed : (p : Poll) (o : Outcome) → decides_alone p ≡ false → outcome p ≡ Some o → errands p ≡ preparings p ++ tellings p o
+pub errands_fixed : (p : Poll) (o : Outcome ℕ) → decides_alone p ≡ false → outcome p ≡ Some o → errands p ≡ preparings p ++ tellings p o
 unfolding errands
 errands_fixed p o several fixed = rw (several, fixed) refl
 
@@ -47,14 +47,14 @@ ballot_same p h e l place =
       | inr unasked ↦ cond-false (ltb place (asked_count p)) _ None (le-ltb _ _ unasked) ∙ sym (cond-false (ltb place (asked_count p)) _ None (le-ltb _ _ unasked))
     ]
 
-tellings_same : (p : Poll) (h : Heard) (o : Outcome) → asked_count (pushed p h) ≡ asked_count p → asked_count p ≤ length p.heard → tellings (pushed p h) o ≡ tellings p o
+tellings_same : (p : Poll) (h : Heard) (o : Outcome ℕ) → asked_count (pushed p h) ≡ asked_count p → asked_count p ≤ length p.heard → tellings (pushed p h) o ≡ tellings p o
 unfolding tellings places
 tellings_same p h o e l =
     ap (map (with_word (telling o)))
     (filter_agree (λ place. is_told o (ballot (pushed p h) place)) (λ place. is_told o (ballot p place)) (λ place. ap (is_told o) (ballot_same p h e l place)) (map (λ (x : ℕ × List ℕ). x.0) (enumerate_from 0 p.participants)))
 
 -- once the outcome is fixed, the words stay
-pub errands_kept : (p : Poll) (h : Heard) (o : Outcome) → outcome p ≡ Some o → errands (pushed p h) ≡ errands p
+pub errands_kept : (p : Poll) (h : Heard) (o : Outcome ℕ) → outcome p ≡ Some o → errands (pushed p h) ≡ errands p
 errands_kept p h o fixed = elim (cases_Bool (decides_alone p)) [
   | inl single ↦ errands_alone (pushed p h) (alone_pushed p h ∙ single) ∙ sym (errands_alone p single)
   | inr several ↦
@@ -107,7 +107,7 @@ plan_addressed wants word front (to ∷ others) place e =
     (rw (← add-one place) (rw (← append_assoc front (to ∷ []) others) behind))
 
 -- the plan of telling an outcome is that of the poll, where all that were asked have answered and nothing further
-pub tellings_planned : (p : Poll) (o : Outcome) → asked_count p ≡ length p.heard
+pub tellings_planned : (p : Poll) (o : Outcome ℕ) → asked_count p ≡ length p.heard
     → map (λ (a : Planned). Some a) (plan_from (λ place. is_told o (slice_get p.heard place)) (telling o) 0 p.participants) ≡ map (addressed p.participants) (tellings p o)
 unfolding tellings places ballot
 tellings_planned p o e =
@@ -140,7 +140,7 @@ asked_few p = elim (cases_option (refuser p)) [
   | inr found ↦ omega (arith, asked_found p found.0 found.1, (refuser_within p found.0 found.1).1)
 ]
 
-length-tellings : (p : Poll) (o : Outcome) → length (tellings p o) ≤ length p.participants
+length-tellings : (p : Poll) (o : Outcome ℕ) → length (tellings p o) ≤ length p.participants
 unfolding tellings
 length-tellings p o =
     omega (
@@ -165,7 +165,7 @@ length-errands p = elim (cases_Bool (decides_alone p)) [
 ]
 
 -- where all that were asked have answered, only the tellings are left
-pub errands_left : (p : Poll) (o : Outcome) → decides_alone p ≡ false → outcome p ≡ Some o → asked_count p ≡ length p.heard
+pub errands_left : (p : Poll) (o : Outcome ℕ) → decides_alone p ≡ false → outcome p ≡ Some o → asked_count p ≡ length p.heard
     → (drop (length p.heard) (errands p) ≡ tellings p o) × (length p.heard ≤ length (errands p))
 errands_left p o several fixed e =
     let long : length (preparings p) ≡ length p.heard = length-preparings p (asked_few p) ∙ e in (

@@ -23,10 +23,14 @@ abbrev pub RecordStands : Option Stood → Type 0
 RecordStands (Some (answers.Stands place)) = Unit {0}
 RecordStands _ = ⊥
 
+-- each answer to prepare so far lets the asking go on
+abbrev pub AllConsent : Poll → Type 0
+AllConsent p = IsTrue (list_all consents (replies p))
+
 -- each participant has consented, one of them by VoteCommit, and a decision record stands
 pub record IsAgreed (p : Poll) : Type 0 where
   pub all_answered : length p.participants ≤ length p.heard
-  pub all_consent : IsTrue (list_all consents (replies p))
+  pub all_consent : AllConsent p
   pub one_waits : IsTrue (list_any is_commit_vote (replies p))
   pub record_stands : RecordStands p.stood
 
@@ -36,6 +40,6 @@ MayCommit (Idle room) = ⊥
 MayCommit (Polling p) = IsAgreed p
 
 -- the outcome is fixed, and it is rollback
-abbrev pub IsRollback : Option Outcome → Type 0
+abbrev pub IsRollback : Option (Outcome ℕ) → Type 0
 IsRollback (Some (outcomes.Rollback reason)) = Unit {0}
 IsRollback _ = ⊥

@@ -1,6 +1,7 @@
 pub mod Poll
 pub mod Progress
 pub mod Laws
+pub mod LawsOfPolls
 pub mod Judged
 pub mod Plan
 pub mod RoomInside

@@ -10,8 +10,9 @@ use Rattle.ots_model.specs.declared.completion.Heard.TheVariants as hears
 use Rattle.ots_model.specs.declared.completion.Vote.TheVariants.{VoteCommit, VoteRollback, VoteReadOnly}
 use Rattle.ots_model.specs.declared.completion.Word.{Word}
 use Rattle.ots_model.specs.declared.completion.Word.TheVariants as words
-use Rattle.ots_model.specs.declared.completion.Reason.{Reason}
+use Rattle.ots_model.specs.Outcome.{Polled, Recorded, by_answer, reason_of}
 use Rattle.ots_model.specs.declared.completion.Reason.TheVariants as reasons
+use Rattle.ots_model.specs.declared.completion.Ground.TheVariants.{Record, Nobody}
 use Rattle.ots_model.specs.declared.completion.Outcome.{Outcome}
 use Rattle.ots_model.specs.declared.completion.Outcome.TheVariants as outcomes
 use Rattle.ots_model.specs.declared.completion.Receipt.{Receipt}
@@ -58,13 +59,6 @@ abbrev pub is_commit_vote : Heard → Bool
 is_commit_vote (hears.Voted VoteCommit) = true
 is_commit_vote _ = false
 
--- why an answer to the prepare of this registration ends the asking
-abbrev pub reason_of : ℕ → Heard → Reason
-reason_of registration (hears.Voted vote) = reasons.Vote registration
-reason_of registration hears.Lost = reasons.PrepareLost registration
-reason_of registration hears.Starved = reasons.PrepareStarved registration
-reason_of registration _ = reasons.PrepareFault registration
-
 -- the answers, as far as they can be answers to prepare
 unfoldable pub replies : Poll → List Heard
 replies p = take (length p.participants) p.heard
@@ -90,44 +84,46 @@ unfoldable pub wants_record : Poll → Bool
 wants_record p = not (decides_alone p) && is_none (refuser p) && nat_le (length p.participants) (length p.heard) && list_any is_commit_vote (replies p)
 
 -- what the answer to commit_one_phase says of the outcome
-abbrev pub outcome_alone : List Heard → Option Outcome
+abbrev pub outcome_alone : List Heard → Option (Outcome ℕ)
 outcome_alone [] = None
-outcome_alone (hears.Done ∷ _) = Some outcomes.Commit
-outcome_alone (hears.RolledBack ∷ _) = Some (outcomes.Rollback (reasons.Vote 1))
-outcome_alone (_ ∷ _) = Some outcomes.Unknown
+outcome_alone (h ∷ others) = Some (by_answer h)
 
 -- what the journal's answer says of it
-abbrev pub outcome_by_record : Option Stood → Option Outcome
+abbrev pub outcome_by_record : Option Stood → Option (Outcome ℕ)
 outcome_by_record None = None
-outcome_by_record (Some (answers.Stands place)) = Some outcomes.Commit
+outcome_by_record (Some (answers.Stands place)) = Some (outcomes.Commit Record)
 outcome_by_record (Some (answers.Full used need)) = Some (outcomes.Rollback (reasons.JournalFull used need))
 outcome_by_record (Some (answers.Unsure why)) = None
 
 -- what the votes, and then the journal's answer, say of it
-unfoldable pub outcome_by_votes : Poll → Option Outcome
+unfoldable pub outcome_by_votes : Poll → Option (Outcome ℕ)
 outcome_by_votes p = elim (refuser p) [
   | Some place ↦ option_map (λ h. outcomes.Rollback (reason_of (suc place) h)) (slice_get p.heard place)
   | None ↦ if nat_lt (length p.heard) (length p.participants) then None
-      else if list_any is_commit_vote (replies p) then outcome_by_record p.stood else Some outcomes.Commit
+      else if list_any is_commit_vote (replies p) then outcome_by_record p.stood else Some (outcomes.Commit Nobody)
 ]
 
 -- the outcome, as soon as it is fixed: without a record that stands it is rollback, unless all votes are read-only
-unfoldable pub outcome : Poll → Option Outcome
+unfoldable pub outcome : Poll → Option (Outcome ℕ)
 outcome p = if decides_alone p then outcome_alone p.heard else outcome_by_votes p
+
+-- the participant has answered its prepare with a vote for commit
+abbrev pub has_voted_commit : Option Heard → Bool
+has_voted_commit None = false
+has_voted_commit (Some h) = is_commit_vote h
 
 -- whether the outcome is told to a participant, by its answer to prepare: commit to those that voted commit; rollback
 -- to all but those that need no further word
-abbrev pub is_told : Outcome → Option Heard → Bool
-is_told outcomes.Commit (Some h) = is_commit_vote h
-is_told outcomes.Commit None = false
+abbrev pub is_told : Outcome ℕ → Option Heard → Bool
+is_told (outcomes.Commit basis) ballot = has_voted_commit ballot
 is_told (outcomes.Rollback reason) (Some (hears.Voted VoteRollback)) = false
 is_told (outcomes.Rollback reason) (Some (hears.Voted VoteReadOnly)) = false
 is_told (outcomes.Rollback reason) _ = true
 is_told outcomes.Unknown _ = false
 
 -- the word that tells an outcome
-abbrev pub telling : Outcome → Word
-telling outcomes.Commit = words.Commit
+abbrev pub telling : Outcome ℕ → Word
+telling (outcomes.Commit basis) = words.Commit
 telling _ = words.Rollback
 
 -- a word and the place of the participant that it goes to
@@ -140,7 +136,7 @@ unfoldable pub places : Poll → List ℕ
 places p = map (λ e. e.0) (enumerate_from 0 p.participants)
 
 -- the words by which an outcome is told
-unfoldable pub tellings : Poll → Outcome → List Errand
+unfoldable pub tellings : Poll → Outcome ℕ → List Errand
 tellings p fixed = map (λ place. record { word = telling fixed; place = place }) (filter (λ place. is_told fixed (ballot p place)) (places p))
 
 -- the words prepare
@@ -195,3 +191,25 @@ wants_decision p = wants_record p && is_none p.stood
 -- the journal's answer, where it is wanted
 unfoldable pub after_decided : Stood → Poll → Poll
 after_decided stood p = if wants_decision p then record p { stood = Some stood } else p
+
+-- the registrations that have voted commit, where the first answer is that of this registration
+abbrev pub commit_voters : ℕ → List Heard → List ℕ
+commit_voters g [] = []
+commit_voters g (h ∷ others) = if is_commit_vote h then g ∷ commit_voters (suc g) others else commit_voters (suc g) others
+
+-- the registrations that the decision record names: those that have voted commit, in list order
+unfoldable pub named : Poll → List ℕ
+named p = commit_voters 1 (replies p)
+
+-- the decision record, with what the journal answered to it
+abbrev pub recorded : Poll → Stood → Recorded
+recorded p stood = record { names = named p; stood = stood }
+
+-- what the outcome follows from
+abbrev pub polled : Poll → Polled
+polled p = record {
+  participants = length p.participants;
+  alone = decides_alone p;
+  answers = replies p;
+  recorded = option_map (recorded p) p.stood;
+}

@@ -1,4 +1,5 @@
-use Rattle.std.specs.Prelude.{ℕ, ◌≤◌, max, Bool, false, List, Option, None}
+use Rattle.std.specs.Prelude.{ℕ, ◌≤◌, max, Bool, false, List, [], Option, Some, None}
+use Rattle.ots_model.specs.Outcome.{HasOutcome}
 use Rattle.ots_model.specs.declared.completion.CallNumber.{CallNumber}
 use Rattle.ots_model.specs.declared.completion.Heard.{Heard}
 use Rattle.ots_model.specs.declared.completion.Outcome.{Outcome}
@@ -47,6 +48,21 @@ abbrev pub after_decided : Stood → Progress → Progress
 after_decided stood (Idle room) = Idle room
 after_decided stood (Polling p) = Polling (poll.after_decided stood p)
 
-abbrev pub outcome : Progress → Option Outcome
+abbrev pub outcome : Progress → Option (Outcome ℕ)
 outcome (Idle room) = None
 outcome (Polling p) = poll.outcome p
+
+-- the registrations that the decision record names
+abbrev pub named : Progress → List ℕ
+named (Idle room) = []
+named (Polling p) = poll.named p
+
+-- how it ends, by what was answered and recorded; one that hasn't started doesn't end
+abbrev pub EndsIn : Progress → Outcome ℕ → Type 0
+EndsIn (Idle room) o = ⊥
+EndsIn (Polling p) o = HasOutcome (poll.polled p) o
+
+-- the outcome where it ends, and none while it doesn't
+abbrev pub IsEnd : Progress → Option (Outcome ℕ) → Type 0
+IsEnd progress None = (o : Outcome ℕ) → ¬ (EndsIn progress o)
+IsEnd progress (Some o) = EndsIn progress o

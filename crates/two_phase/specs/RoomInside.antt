@@ -3,7 +3,6 @@ use Rattle.two_phase.specs.declared.room.Room.TheInside.{Inside}
 
 -- there is room for that many participants: two words to each, and three copies of each reference
 pub record IsRoom (r : Inside) : Type 0 where
-  pub few : r.size < 2 ^ 30
   pub blanks : 3 * r.size ≤ vec_len r.blanks
   pub participants_empty : r.participants.items ≡ []
   pub participants_room : r.size ≤ vec_capacity r.participants

@@ -1,11 +1,12 @@
-ghost use Rattle.std.specs.Prelude.{◌≡◌, ℕ, ◌+◌, ◌^◌, ◌<◌, length, IfOk, IfSome, OnOk, OnErr};
+ghost use Rattle.std.specs.Prelude.{◌≡◌, ℕ, ◌+◌, ◌^◌, ◌<◌, ◌≤◌, ◌↔◌, length, Contains, IsTrue, IfOk, IfSome, OnOk, OnErr};
 ghost use Rattle.ots_model.specs.declared.completion.Heard.TheVariants.{Lost};
 ghost use Rattle.two_phase.specs.Poll.{Poll};
 ghost use Rattle.ots_model.specs.declared.completion.Word.{Word};
 ghost use Rattle.two_phase.specs.Laws.{IsOut, answered, MayCommit, IsRollback};
-ghost use Rattle.two_phase.specs.Progress.{Idle, Polling, HasRoom, started, after_reserve, next_word, after_next, after_answer, wants_decision, after_decided, outcome};
+ghost use Rattle.two_phase.specs.Progress.{Idle, Polling, HasRoom, started, after_reserve, next_word, after_next, after_answer, wants_decision, after_decided, named, outcome, IsEnd};
+ghost use Rattle.ots_model.specs.Limits.{registration_limit};
 
-use crate::room::{PARTICIPANT_LIMIT, Room};
+use crate::room::Room;
 use crate::round::Round;
 use ots_model::{CallNumber, Heard, Outcome, Outward, RefBytes, Stood};
 use std::alloc::{AllocError, Global};
@@ -45,9 +46,10 @@ impl Completion {
     }
 
     /// Takes room for so many participants and for all words to them, where it hasn't started. Want of memory leaves it
-    /// as it was, and 2^30 participants or more are never granted.
+    /// as it was.
     pub fn reserve(&mut self, participants: u32) -> Result<(), AllocError>
-        ensures ok { IfOk result (λ _. (room : ℕ) → self.old ≡ Idle room → HasRoom self.new participants × HasRoom self.new room) }
+        ensures ok { IfOk result (λ _. (room : ℕ) → self.old ≡ Idle room →
+            HasRoom self.new participants × HasRoom self.new room) }
         ensures reserved { OnOk result (self.new ≡ after_reserve participants self.old) }
         ensures err { OnErr result (self.new ≡ self.old) }
         ensures started { (p : Poll) → self.old ≡ Polling p → self.new ≡ self.old }
@@ -58,10 +60,11 @@ impl Completion {
         }
     }
 
-    /// Begins, and takes no memory. `first` is the number of the first word. Where `one_phase` is false a single
+    /// Begins. It needs no memory. `first` is the number of the first word. Where `one_phase` is false a single
     /// participant is sent prepare as well.
     pub fn start(&mut self, list: &[RefBytes], asked: bool, first: CallNumber, one_phase: bool)
         requires room { HasRoom self.old (length list.now) }
+        requires few { length list.now ≤ registration_limit }
         requires serial { first.serial < 2 ^ 31 }
         ensures started { self.new ≡ started list.now asked first one_phase }
     {
@@ -79,12 +82,10 @@ impl Completion {
         first: CallNumber,
         one_phase: bool,
     ) -> Result<Completion, AllocError>
+        requires few { length list.now ≤ registration_limit }
         requires serial { first.serial < 2 ^ 31 }
         ensures started { IfOk result (λ c. c ≡ started list.now asked first one_phase) }
     {
-        if list.len() >= PARTICIPANT_LIMIT as usize {
-            return Err(AllocError);
-        }
         let mut completion = Completion::idle(alloc);
         completion.reserve(list.len() as u32)?;
         completion.start(list, asked, first, one_phase);
@@ -143,9 +144,22 @@ impl Completion {
         }
     }
 
+    /// Whether the decision record names this registration: it has voted commit.
+    pub fn is_named(&self, registration: u32) -> bool
+        ensures named { IsTrue result ↔ Contains (named self.now) registration }
+    {
+        match &self.state {
+            State::Idle(_) => false,
+            State::Underway(round) => round.is_named(registration),
+        }
+    }
+
     /// How the transaction ends, as soon as that is fixed.
     pub fn outcome(&self) -> Option<Outcome>
         ensures outcome { result ≡ outcome self.now }
+
+        // The same by what was answered and recorded: commit where all agreed, else rollback by its first cause.
+        ensures end { IsEnd self.now result }
     {
         match &self.state {
             State::Idle(_) => None,

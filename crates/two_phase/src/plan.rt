@@ -29,7 +29,8 @@ impl Plan {
         requires few { vec_len self.old.spare ≤ 2 ^ 30 }
         ensures plan { reverse self.new.ahead.items ≡ plan_from (λ _. true) word 0 self.old.spare.items }
         ensures spare { self.new.spare.items ≡ [] }
-        ensures capacity { (vec_capacity self.new.ahead ≡ vec_capacity self.old.ahead) × (vec_capacity self.new.spare ≡ vec_capacity self.old.spare) }
+        ensures capacity { (vec_capacity self.new.ahead ≡ vec_capacity self.old.ahead)
+            × (vec_capacity self.new.spare ≡ vec_capacity self.old.spare) }
     {
         self.ahead.clear();
         while let Some(to) = self.spare.pop() {
@@ -42,7 +43,8 @@ impl Plan {
     pub fn tell(&mut self, outcome: Outcome, heard: &[Heard])
         requires room { vec_len self.old.spare ≤ vec_capacity self.old.ahead }
         requires few { vec_len self.old.spare ≤ 2 ^ 30 }
-        ensures plan { reverse self.new.ahead.items ≡ plan_from (λ place. poll.is_told outcome (slice_get heard.now place)) (poll.telling outcome) 0 self.old.spare.items }
+        ensures plan { reverse self.new.ahead.items
+            ≡ plan_from (λ place. poll.is_told outcome (slice_get heard.now place)) (poll.telling outcome) 0 self.old.spare.items }
         ensures capacity { vec_capacity self.new.ahead ≡ vec_capacity self.old.ahead }
     {
         let word = telling(outcome);

@@ -1,6 +1,6 @@
 // Memory that was taken before a completion starts.
 ghost use Rattle.std.specs.Prelude.{◌≡◌, ℕ, ◌+◌, ◌*◌, ◌^◌, ◌<◌, ◌≤◌, [], ◌++◌, length, max, OnOk, OnErr, vec_len, vec_capacity};
-ghost use Rattle.ots_model.specs.declared.octets.TheConstants.{REFERENCE_LIMIT};
+ghost use Rattle.ots_model.specs.Limits.{reference_limit};
 
 use crate::plan::{Plan, Planned};
 use ots_model::{Heard, REFERENCE_LIMIT, RefBytes};
@@ -8,14 +8,11 @@ use std::alloc::{AllocError, Global};
 use std::marker::Model;
 use std::mem;
 
-/// There is never room for so many participants.
-pub(crate) const PARTICIPANT_LIMIT: u32 = 1 << 30;
-
 /// An empty buffer with room for any reference.
 #[derive(Drop)]
 pub(crate) struct Blank {
     octets: Vec<u8>,
-    ghost room: { (octets.items ≡ []) × (REFERENCE_LIMIT ≤ vec_capacity octets) },
+    ghost room: { (octets.items ≡ []) × (reference_limit ≤ vec_capacity octets) },
 }
 
 impl Blank {
@@ -25,7 +22,7 @@ impl Blank {
         })
     }
 
-    /// A copy of the reference, which takes no memory.
+    /// A copy of the reference, which needs no memory.
     fn filled(self, reference: &RefBytes) -> RefBytes
         ensures { result ≡ reference.now }
     {
@@ -35,7 +32,7 @@ impl Blank {
     }
 }
 
-/// Copies the references, and takes no memory.
+/// Copies the references. It needs no memory.
 pub(crate) fn copy_all(list: &[RefBytes], blanks: &mut Vec<Blank>, copies: &mut Vec<RefBytes>)
     requires blanks { length list.now ≤ vec_len blanks.old }
     requires room { vec_len copies.old + length list.now ≤ vec_capacity copies.old }
@@ -72,7 +69,7 @@ impl Model for Room {
 }
 
 impl Room {
-    /// No room, which takes no memory.
+    /// No room, which needs no memory.
     pub fn new(alloc: Global) -> Room
         ensures { result ≡ 0 }
     {
@@ -104,9 +101,6 @@ impl Room {
     {
         if participants <= self.size {
             return Ok(());
-        }
-        if participants >= PARTICIPANT_LIMIT {
-            return Err(AllocError);
         }
         let count = participants as usize;
         self.participants.reserve(count)?;

@@ -1,14 +1,16 @@
 // A completion under way.
-ghost use Rattle.std.specs.Prelude.{◌≡◌, ℕ, ◌+◌, ◌*◌, ◌^◌, ◌<◌, ◌≤◌, ◌&&◌, ◌==◌, length};
+ghost use Rattle.std.specs.Prelude.{◌≡◌, ℕ, ◌+◌, ◌*◌, ◌^◌, ◌<◌, ◌≤◌, ◌&&◌, ◌==◌, ◌↔◌, length, Contains, IsTrue};
+ghost use Rattle.ots_model.specs.Limits.{registration_limit};
 ghost use Rattle.two_phase.specs.Poll as poll;
 ghost use Rattle.two_phase.specs.Judged as poll_after;
 
 use crate::plan::{Plan, Planned};
 use crate::room::{Room, copy_all};
 use crate::verdict::{
-    consents, has_commit, is_same, outcome_alone, outcome_by_record, reason_of, receipt_of,
+    ballot, consents, has_commit, has_voted_commit, is_same, outcome_alone, outcome_by_record,
+    reason_of, receipt_of,
 };
-use ots_model::{CallNumber, Heard, Outcome, Outward, RefBytes, Stood, Word};
+use ots_model::{CallNumber, Ground, Heard, Outcome, Outward, RefBytes, Stood, Word};
 use std::marker::Model;
 
 /// What was told and heard of a completion, with what follows from that: the outcome, whether some vote was for commit,
@@ -60,12 +62,12 @@ fn judged(heard: Heard, answers: u32, participants: usize, some_commit: bool) ->
     } else if (answers as usize) < participants || some_commit {
         None
     } else {
-        Some(Outcome::Commit)
+        Some(Outcome::Commit(Ground::Nobody))
     }
 }
 
 impl Round {
-    /// Begins, and takes no memory.
+    /// Begins. It needs no memory.
     pub fn start(
         room: Room,
         list: &[RefBytes],
@@ -74,6 +76,7 @@ impl Round {
         one_phase: bool,
     ) -> Round
         requires room { length list.now ≤ room }
+        requires few { length list.now ≤ registration_limit }
         requires serial { first.serial < 2 ^ 31 }
         ensures { result ≡ poll.begun list.now asked first one_phase }
     {
@@ -96,7 +99,7 @@ impl Round {
             heard,
             is_out: false,
             stood: None,
-            outcome: list.is_empty().then_some(Outcome::Commit),
+            outcome: list.is_empty().then_some(Outcome::Commit(Ground::Nobody)),
             some_commit: false,
             plan,
         }
@@ -171,6 +174,15 @@ impl Round {
         if let Some(outcome) = self.outcome {
             self.plan.tell(outcome, &self.heard);
         }
+    }
+
+    /// Whether the decision record names this registration.
+    pub fn is_named(&self, registration: u32) -> bool
+        ensures { IsTrue result ↔ Contains (poll.named self.now) registration }
+    {
+        registration > 0
+            && registration as usize <= self.participants.len()
+            && has_voted_commit(ballot(&self.heard, registration as usize - 1))
     }
 
     /// How the transaction ends, as soon as that is fixed.

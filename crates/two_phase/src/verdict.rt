@@ -1,9 +1,10 @@
 // What one answer says, and what an outcome asks for.
 ghost use Rattle.std.specs.Prelude.{◌≡◌, Some, ◌||◌, ◌∷◌, []};
 ghost use Rattle.std.specs.List.{slice_get};
+ghost use Rattle.ots_model.specs.Outcome as outcome;
 ghost use Rattle.two_phase.specs.Poll as poll;
 
-use ots_model::{CallNumber, Heard, Outcome, Reason, Receipt, Stood, Vote, Word};
+use ots_model::{CallNumber, Ground, Heard, Outcome, Reason, Receipt, Stood, Vote, Word};
 
 /// Whether an answer to prepare lets the asking go on.
 pub(crate) fn consents(heard: Heard) -> bool
@@ -21,7 +22,7 @@ pub(crate) fn has_commit(before: bool, heard: Heard) -> bool
 
 /// Why an answer to the prepare of this registration ends the asking.
 pub(crate) fn reason_of(registration: u32, heard: Heard) -> Reason
-    ensures { result ≡ poll.reason_of registration heard }
+    ensures { result ≡ outcome.reason_of registration heard }
 {
     match heard {
         Heard::Voted(_) => Reason::Vote(registration),
@@ -33,10 +34,10 @@ pub(crate) fn reason_of(registration: u32, heard: Heard) -> Reason
 
 /// What the answer to commit_one_phase says of the outcome.
 pub(crate) fn outcome_alone(heard: Heard) -> Outcome
-    ensures { Some result ≡ poll.outcome_alone (heard ∷ []) }
+    ensures { result ≡ outcome.by_answer heard }
 {
     match heard {
-        Heard::Done => Outcome::Commit,
+        Heard::Done => Outcome::Commit(Ground::OnePhase),
         Heard::RolledBack => Outcome::Rollback(Reason::Vote(1)),
         _ => Outcome::Unknown,
     }
@@ -47,7 +48,7 @@ pub(crate) fn outcome_by_record(stood: Stood) -> Option<Outcome>
     ensures { result ≡ poll.outcome_by_record (Some stood) }
 {
     match stood {
-        Stood::Stands(_) => Some(Outcome::Commit),
+        Stood::Stands(_) => Some(Outcome::Commit(Ground::Record)),
         Stood::Full(used, need) => Some(Outcome::Rollback(Reason::JournalFull(used, need))),
         Stood::Unsure(_) => None,
     }
@@ -60,12 +61,19 @@ pub(crate) fn ballot(heard: &[Heard], place: usize) -> Option<Heard>
     heard.get(place).copied()
 }
 
+/// Whether that answer to prepare is a vote for commit.
+pub(crate) fn has_voted_commit(ballot: Option<Heard>) -> bool
+    ensures { result ≡ poll.has_voted_commit ballot }
+{
+    matches!(ballot, Some(Heard::Voted(Vote::VoteCommit)))
+}
+
 /// Whether the outcome is told to a participant with this answer to prepare.
 pub(crate) fn is_told(outcome: Outcome, ballot: Option<Heard>) -> bool
     ensures { result ≡ poll.is_told outcome ballot }
 {
     match outcome {
-        Outcome::Commit => matches!(ballot, Some(Heard::Voted(Vote::VoteCommit))),
+        Outcome::Commit(_) => has_voted_commit(ballot),
         Outcome::Rollback(_) => !matches!(
             ballot,
             Some(Heard::Voted(Vote::VoteRollback | Vote::VoteReadOnly))
@@ -79,7 +87,7 @@ pub(crate) fn telling(outcome: Outcome) -> Word
     ensures { result ≡ poll.telling outcome }
 {
     match outcome {
-        Outcome::Commit => Word::Commit,
+        Outcome::Commit(_) => Word::Commit,
         _ => Word::Rollback,
     }
 }

@@ -1,154 +1,76 @@
 use super::*;
-use std::alloc::Global;
-use std::process::Abort;
+use crate::completion::Ground;
+use crate::response::Exception;
 use std::test::Fail;
+
+/// Each line, and how it is spelled.
+macro_rules! assert_spelled {
+    ($rt:ident; $($line:expr => $words:literal,)+) => {
+        let mut text = Vec::new($rt.alloc());
+        for line in [$($line),+] {
+            line.write(&mut text)?;
+        }
+        assert_eq!($rt; text.as_slice(), concat!($($words, "\n"),+).as_bytes());
+    };
+}
 
 fn name(octets: &[u8]) -> Result<Name, &'static str> {
     Name::new(octets).ok_or("no name")
 }
 
-fn check(rt: &impl Abort, alloc: Global, lines: &[Line], expected: &[u8]) -> Result<(), Fail> {
-    let mut text = Vec::new(alloc);
-    for line in lines {
-        line.write(&mut text)?;
+#[test]
+fn each_line(rt: HostRuntime) -> Result<(), Fail> {
+    let (t, u, n) = (name(b"t1")?, name(b"u1")?, name(b"n1")?);
+    let (g, e) = (name(b"g1")?, name(b"e1")?);
+    assert_spelled! { rt;
+        Line::Up { server: n, life: 1 } => "up n1 1",
+        Line::Top { transaction: t, node: n } => "top t1 n1",
+        Line::Sub { transaction: u, parent: t } => "sub u1 t1",
+        Line::Imp { subordinate: u, superior: t, node: n } => "imp u1 t1 n1",
+        Line::Reg { resource: g, transaction: t, end: e } => "reg g1 t1 e1",
+        Line::Call { message: 1, operation: Operation::RegisterResource, transaction: t } => "call 1 register_resource t1",
+        Line::Call { message: 2, operation: Operation::Commit, transaction: t } => "call 2 commit t1",
+        Line::Call { message: 3, operation: Operation::Rollback, transaction: t } => "call 3 rollback t1",
+        Line::Send { message: 4, word: Word::Prepare, registration: g } => "send 4 prepare g1",
+        Line::Send { message: 5, word: Word::Commit, registration: g } => "send 5 commit g1",
+        Line::Send { message: 6, word: Word::CommitOnePhase, registration: g } => "send 6 commit_one_phase g1",
+        Line::Send { message: 7, word: Word::Rollback, registration: g } => "send 7 rollback g1",
+        Line::Back { message: 10, request: 4, response: Response::Voted(Vote::VoteCommit) } => "back 10 4 VoteCommit",
+        Line::Recv { message: 10 } => "recv 10",
+        Line::Voted { registration: g, vote: Vote::VoteCommit } => "vote g1 VoteCommit",
+        Line::SubDone { transaction: u, committed: true } => "subdone u1 committed",
+        Line::SubDone { transaction: u, committed: false } => "subdone u1 rolledback",
+        Line::State { resource: g, state: ResourceState::Prepared } => "state g1 prepared",
+        Line::State { resource: g, state: ResourceState::Applied } => "state g1 applied",
+        Line::State { resource: g, state: ResourceState::Undone } => "state g1 undone",
+        Line::State { resource: g, state: ResourceState::Forgotten } => "state g1 forgotten",
+        Line::Learn { registration: g, decision: Decision::Commit } => "learn g1 commit",
+        Line::Learn { registration: g, decision: Decision::Rollback } => "learn g1 rollback",
+        Line::Done { transaction: t } => "done t1",
     }
-    assert_eq!(rt; text.as_slice(), expected);
     Ok(())
 }
 
 #[test]
-fn lines_of_what_is_made(rt: HostRuntime) -> Result<(), Fail> {
-    let (t1, t2, n1, n2) = (name(b"t1")?, name(b"t2")?, name(b"n1")?, name(b"n2")?);
-    let (u1, e1, g1) = (name(b"u1")?, name(b"e1")?, name(b"g1")?);
-    let lines = [
-        Line::Up {
-            server: n1,
-            life: 1,
-        },
-        Line::Top {
-            transaction: t1,
-            node: n1,
-        },
-        Line::Sub {
-            transaction: t2,
-            parent: t1,
-        },
-        Line::Imp {
-            subordinate: u1,
-            superior: t1,
-            node: n2,
-        },
-        Line::Reg {
-            resource: g1,
-            transaction: t1,
-            end: e1,
-        },
-    ];
-    check(
-        &rt,
-        rt.alloc(),
-        &lines,
-        b"up n1 1
-top t1 n1
-sub t2 t1
-imp u1 t1 n2
-reg g1 t1 e1
-",
-    )
-}
-
-#[test]
-fn lines_of_calls_and_words(rt: HostRuntime) -> Result<(), Fail> {
-    let (t1, g1) = (name(b"t1")?, name(b"g1")?);
-    let lines = [
-        Line::Call {
-            message: 3,
-            operation: Operation::Commit,
-            transaction: t1,
-        },
-        Line::Answered {
-            message: 3,
-            said: Said::TransactionRolledBack,
-        },
-        Line::Send {
-            message: 4,
-            operation: Operation::Prepare,
-            registration: g1,
-        },
-        Line::Back {
-            message: 5,
-            request: 4,
-            said: Said::Voted(Vote::VoteCommit),
-        },
-        Line::Recv { message: 5 },
-    ];
-    check(
-        &rt,
-        rt.alloc(),
-        &lines,
-        b"call 3 commit t1
-ans 3 TRANSACTION_ROLLEDBACK
-send 4 prepare g1
-back 5 4 VoteCommit
-recv 5
-",
-    )
-}
-
-#[test]
-fn lines_of_votes_and_decisions(rt: HostRuntime) -> Result<(), Fail> {
-    let (t1, t3, g1, g2) = (name(b"t1")?, name(b"t3")?, name(b"g1")?, name(b"g2")?);
-    let lines = [
-        Line::Voted {
-            registration: g1,
-            vote: Vote::VoteCommit,
-        },
-        Line::Decide {
-            transaction: t1,
-            decided: Decided::CommitRecord,
-        },
-        Line::Decide {
-            transaction: t1,
-            decided: Decided::Rollback(Cause::Vote(g2)),
-        },
-        Line::SubDone {
-            transaction: t3,
-            committed: true,
-        },
-    ];
-    check(
-        &rt,
-        rt.alloc(),
-        &lines,
-        b"vote g1 VoteCommit
-decide t1 commit record
-decide t1 rollback Vote g2
-subdone t3 committed
-",
-    )
-}
-
-#[test]
-fn lines_of_endings(rt: HostRuntime) -> Result<(), Fail> {
-    let (t1, g1) = (name(b"t1")?, name(b"g1")?);
-    let lines = [
-        Line::State {
-            resource: g1,
-            state: ResourceState::Applied,
-        },
-        Line::Learn {
-            registration: g1,
-            decision: Decision::Rollback,
-        },
-        Line::Done { transaction: t1 },
-    ];
-    check(
-        &rt,
-        rt.alloc(),
-        &lines,
-        b"state g1 applied
-learn g1 rollback
-done t1
-",
-    )
+fn each_answer_and_outcome(rt: HostRuntime) -> Result<(), Fail> {
+    let (t, g) = (name(b"t1")?, name(b"g1")?);
+    assert_spelled! { rt;
+        Line::Answered { message: 1, response: Response::Plain } => "ans 1 ok",
+        Line::Answered { message: 1, response: Response::Voted(Vote::VoteCommit) } => "ans 1 VoteCommit",
+        Line::Answered { message: 1, response: Response::Voted(Vote::VoteRollback) } => "ans 1 VoteRollback",
+        Line::Answered { message: 1, response: Response::Voted(Vote::VoteReadOnly) } => "ans 1 VoteReadOnly",
+        Line::Answered { message: 1, response: Response::Raised(Exception::TransactionRolledBack) } => "ans 1 TRANSACTION_ROLLEDBACK",
+        Line::Answered { message: 1, response: Response::Raised(Exception::NotPrepared) } => "ans 1 NotPrepared",
+        Line::Answered { message: 1, response: Response::Raised(Exception::ObjectNotExist) } => "ans 1 OBJECT_NOT_EXIST",
+        Line::Decide { transaction: t, outcome: Outcome::Commit(Ground::Record) } => "decide t1 commit record",
+        Line::Decide { transaction: t, outcome: Outcome::Commit(Ground::OnePhase) } => "decide t1 commit phase",
+        Line::Decide { transaction: t, outcome: Outcome::Commit(Ground::Nobody) } => "decide t1 commit none",
+        Line::Decide { transaction: t, outcome: Outcome::Rollback(Reason::Vote(g)) } => "decide t1 rollback Vote g1",
+        Line::Decide { transaction: t, outcome: Outcome::Rollback(Reason::PrepareLost(g)) } => "decide t1 rollback PrepareLost g1",
+        Line::Decide { transaction: t, outcome: Outcome::Rollback(Reason::PrepareStarved(g)) } => "decide t1 rollback PrepareStarved g1",
+        Line::Decide { transaction: t, outcome: Outcome::Rollback(Reason::PrepareFault(g)) } => "decide t1 rollback PrepareFault g1",
+        Line::Decide { transaction: t, outcome: Outcome::Rollback(Reason::JournalFull(8, 9)) } => "decide t1 rollback JournalFull 8 9",
+        Line::Decide { transaction: t, outcome: Outcome::Unknown } => "decide t1 unknown",
+    }
+    Ok(())
 }

@@ -13,7 +13,7 @@ use std::process::Abort;
 use std::test::Fail;
 
 /// The message in front of the octets, which has so many of them.
-fn decoded(rt: &impl Abort, alloc: Global, bytes: &[u8], used: usize) -> Result<Message, Fail>
+pub fn decoded(rt: &impl Abort, alloc: Global, bytes: &[u8], used: usize) -> Result<Message, Fail>
     requires { length bytes.now < 2 ^ 31 }
 {
     let decoded = decode(alloc, bytes)?;
@@ -43,7 +43,8 @@ fn reply(rt: &impl Abort, alloc: Global, words: &str) -> Result<Reply, Fail> {
     }
 }
 
-fn key<'a>(rt: &impl Abort, target: &'a Target) -> &'a [u8] {
+/// The key of a target.
+pub fn key<'a>(rt: &impl Abort, target: &'a Target) -> &'a [u8] {
     match target {
         Target::Key(key) => key.bytes(),
         other => panic!(rt; "{other:?}"),
@@ -232,12 +233,13 @@ fn with_behind(alloc: Global, behind: u8) -> Result<Vec<u8>, AllocError>
     Ok(bytes)
 }
 
-/// The body of a Request.
-fn body_of(rt: &impl Abort, alloc: Global, bytes: &[u8]) -> Result<Octets, Fail>
+/// The body of a Request or of a Reply.
+pub fn body_of(rt: &impl Abort, alloc: Global, bytes: &[u8]) -> Result<Octets, Fail>
     requires { length bytes.now < 2 ^ 31 }
 {
     match decoded(rt, alloc, bytes, bytes.len())? {
         Message::Request(request) => Ok(request.body),
+        Message::Reply(reply) => Ok(reply.body),
         other => panic!(rt; "{other:?}"),
     }
 }

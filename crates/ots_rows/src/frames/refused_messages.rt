@@ -1,9 +1,10 @@
 ghost use Rattle.std.specs.Prelude.{◌<◌, ◌≤◌, ◌^◌, ◌+◌, ◌≡◌, [], IfOk, length};
 ghost use Rattle.giop_frames.specs.Encode.{octets_in, octets_in_contexts};
 
+use super::reading::{body_of, decoded, key};
 use super::writing::{reply, request, with_contexts, write};
 use cdr_values::CdrFault;
-use giop_frames::{Contexts, FrameFault, Locate, Message, ServiceContext, Target, decode};
+use giop_frames::{Contexts, FrameFault, Locate, Message, Request, ServiceContext, Target, decode};
 use ots_model::Octets;
 use std::alloc::{AllocError, Global};
 use std::process::Abort;
@@ -73,6 +74,14 @@ fn fields_are_refused(rt: HostRuntime) {
         (
             b"GIOP\x01\x02\0\0\0\0\0\x16\0\0\0\x04\x03\0\0\0\0\0\0\0\0\0\0\0\0\0\0\x02hi",
             field(28, CdrFault::BadString(28)),
+        ),
+        (
+            b"GIOP\x01\x02\0\x03\0\0\0\x18\0\0\0\x04\0\x02..\0\0\0\0\0\0\0\x01\0...\0\x01\0\x01",
+            too_long(29, 65_537),
+        ),
+        (
+            b"GIOP\x01\x02\0\x03\0\0\0\x18\0\0\0\x04\0\x02..\0\0\0\0\0\0\0\x01\0...\0\x01\0\0",
+            field(36, CdrFault::Short(36)),
         ),
     ];
     for (bytes, fault) in cases {
@@ -170,13 +179,15 @@ fn reply_octets(alloc: Global, body: &[u8]) -> Result<Vec<u8>, Fail>
     Ok(into)
 }
 
-/// A Reply with this body is written: 65,536 octets stand behind its header.
+/// A Reply with this body is written and read: 65,536 octets stand behind its header.
 fn check_largest(rt: &impl Abort, alloc: Global, body: &[u8]) -> Result<(), Fail>
     requires { length body.now < 2 ^ 31 }
 {
     let octets = reply_octets(alloc, body)?;
     assert_eq!(rt; octets.len(), 65_548);
     assert!(rt; octets.starts_with(b"GIOP\x01\x02\0\x01\0\x01\0\0"));
+    let found = body_of(rt, alloc, &octets)?;
+    assert_eq!(rt; found.bytes(), body);
     Ok(())
 }
 
@@ -197,36 +208,50 @@ fn empty(alloc: Global) -> ServiceContext
     }
 }
 
-/// 17 contexts of no octets.
-fn contexts(a: Global) -> Result<Contexts, AllocError>
-    ensures { IfOk result (λ contexts. length contexts + octets_in_contexts contexts ≤ 1000) }
+/// So many contexts of no octets.
+fn contexts(alloc: Global, count: u8) -> Result<Contexts, AllocError>
+    ensures { IfOk result (λ contexts. length contexts + octets_in_contexts contexts ≤ 255) }
 {
-    let contexts = vec![in a;
-        empty(a),
-        empty(a),
-        empty(a),
-        empty(a),
-        empty(a),
-        empty(a),
-        empty(a),
-        empty(a),
-        empty(a),
-        empty(a),
-        empty(a),
-        empty(a),
-        empty(a),
-        empty(a),
-        empty(a),
-        empty(a),
-        empty(a),
-    ]?;
+    let mut contexts = Vec::new(alloc);
+    for _ in 0..count {
+        contexts.push(empty(alloc))?;
+    }
     Ok(Contexts::from_vec(contexts))
+}
+
+/// A Request with this key and so many contexts.
+fn with_so_many(alloc: Global, key: &[u8], count: u8) -> Result<Message, AllocError>
+    requires { length key.now ≤ 1000 }
+    ensures { IfOk result (λ message. octets_in message < 2 ^ 31) }
+{
+    let without = request(alloc, 4, key, b"commit", b"")?;
+    Ok(with_contexts(without, contexts(alloc, count)?))
 }
 
 #[test]
 fn more_contexts_are_not_written(rt: HostRuntime) -> Result<(), Fail> {
-    let contexts = contexts(rt.alloc())?;
-    let without = request(rt.alloc(), 4, b"", b"commit", b"")?;
-    let message = with_contexts(without, contexts);
+    let message = with_so_many(rt.alloc(), b"", 17)?;
     not_written(&rt, rt.alloc(), message, too_long(39, 17))
+}
+
+/// The Request that is read where this message is written.
+fn read_again(rt: &impl Abort, alloc: Global, message: Message) -> Result<Request, Fail>
+    requires { octets_in message < 2 ^ 31 }
+{
+    let mut bytes = Vec::new(alloc);
+    write(alloc, &message, &mut bytes)?;
+    assert!(rt; bytes.len() <= 1000);
+    match decoded(rt, alloc, &bytes, bytes.len())? {
+        Message::Request(request) => Ok(request),
+        other => panic!(rt; "{other:?}"),
+    }
+}
+
+#[test]
+fn the_longest_key_and_the_most_contexts_are_written_and_read(rt: HostRuntime) -> Result<(), Fail> {
+    let message = with_so_many(rt.alloc(), &[7; 256], 16)?;
+    let found = read_again(&rt, rt.alloc(), message)?;
+    assert_eq!(rt; key(&rt, &found.target).len(), 256);
+    assert_eq!(rt; found.contexts.items().len(), 16);
+    Ok(())
 }

@@ -1,6 +1,6 @@
 ghost use Rattle.std.specs.Prelude.{◌≤◌, length};
 
-use super::{Part, append, feed, next_framed, next_message, stream_of};
+use super::{Part, append, feed, next_framed, next_message, standing, stream_of};
 use cdr_values::{CdrFault, Order};
 use giop_frames::{FrameFault, Kind, Message, Stream};
 use std::alloc::Global;
@@ -111,10 +111,10 @@ fn single_parts_are_refused(rt: HostRuntime) -> Result<(), Fail> {
     Ok(())
 }
 
-#[test]
-fn a_ninth_unfinished_message_is_refused(rt: HostRuntime) -> Result<(), Fail> {
-    let mut bytes = Vec::new(rt.alloc());
-    for id in 0..9 {
+/// The first parts of so many Replies, the first of them of number 0.
+fn first_parts(alloc: Global, count: u32) -> Result<Vec<u8>, Fail> {
+    let mut bytes = Vec::new(alloc);
+    for id in 0..count {
         let numbers = [id, 0, 0];
         let part = Part {
             numbers: &numbers,
@@ -122,28 +122,65 @@ fn a_ninth_unfinished_message_is_refused(rt: HostRuntime) -> Result<(), Fail> {
         };
         append(&mut bytes, Order::Little, &part)?;
     }
+    Ok(bytes)
+}
+
+#[test]
+fn a_ninth_unfinished_message_is_refused(rt: HostRuntime) -> Result<(), Fail> {
+    let bytes = first_parts(rt.alloc(), 9)?;
     let mut stream = stream_of(rt.alloc(), &bytes)?;
     check(&rt, &mut stream, FrameFault::BadFragment, 192);
     Ok(())
 }
 
+/// The last part of the Reply of this number.
+fn append_last(into: &mut Vec<u8>, order: Order, id: u32, rest: &[u8]) -> Result<(), Fail>
+    requires { length rest.now ≤ 65536 }
+{
+    let numbers = [id];
+    let last = Part {
+        more: false,
+        kind: Kind::Fragment,
+        numbers: &numbers,
+        rest,
+    };
+    append(into, order, &last)
+}
+
 #[test]
-fn larger_joined_octets_are_refused(rt: HostRuntime) -> Result<(), Fail> {
-    let rest = vec![in rt.alloc(); 0; 65_520]?;
+fn eight_messages_may_be_unfinished(rt: HostRuntime) -> Result<(), Fail> {
+    let mut bytes = first_parts(rt.alloc(), 8)?;
+    for id in 0..8 {
+        append_last(&mut bytes, Order::Little, id, b"")?;
+    }
+    let mut stream = stream_of(rt.alloc(), &bytes)?;
+    for _ in 0..8_u8 {
+        assert!(rt; next_message(&mut stream)?.is_some());
+    }
+    assert_eq!(rt; standing(&stream), (320, false));
+    Ok(())
+}
+
+/// A Reply in two parts: 65,532 octets of it are in the first, and these in the other.
+fn joined(alloc: Global, behind: &[u8]) -> Result<Stream, Fail>
+    requires { length behind.now ≤ 65536 }
+{
+    let rest = vec![in alloc; 0; 65_520]?;
     let part = Part {
         rest: &rest,
         ..FIRST
     };
-    let mut bytes = Vec::new(rt.alloc());
+    let mut bytes = Vec::new(alloc);
     append(&mut bytes, Order::Big, &part)?;
-    let last = Part {
-        more: false,
-        kind: Kind::Fragment,
-        numbers: &[1],
-        rest: b"12345",
-    };
-    append(&mut bytes, Order::Big, &last)?;
-    let mut stream = stream_of(rt.alloc(), &bytes)?;
+    append_last(&mut bytes, Order::Big, 1, behind)?;
+    stream_of(alloc, &bytes)
+}
+
+#[test]
+fn larger_joined_octets_are_refused(rt: HostRuntime) -> Result<(), Fail> {
+    let mut stream = joined(rt.alloc(), b"12345")?;
     check(&rt, &mut stream, FrameFault::TooLarge(65_537), 65_544);
+    let mut stream = joined(rt.alloc(), b"1234")?;
+    assert!(rt; next_message(&mut stream)?.is_some());
     Ok(())
 }

@@ -1,7 +1,8 @@
-ghost use Rattle.std.specs.Prelude.{◌≡◌, ℕ, ◌+◌, ◌-◌, ◌<◌, ◌≤◌, List, [], ◌∷◌, ◌++◌, length, slice_get, Option, Some, IfOk, IfErr, OnOk, OnErr};
+ghost use Rattle.std.specs.Prelude.{◌≡◌, ℕ, ◌+◌, ◌-◌, ◌<◌, ◌≤◌, List, [], ◌∷◌, ◌++◌, length, slice_get, Option, Some, IfOk, IfErr, OnOk, OnErr, vec_len};
 ghost use Rattle.ots_world.specs.Board as board;
 ghost use Rattle.ots_world.specs.Clients as clients;
 ghost use Rattle.ots_world.specs.Does.{Does, CannotSend};
+ghost use Rattle.ots_world.specs.Limits.{message_limit, registration_limit, transaction_limit};
 ghost use Rattle.ots_world.specs.declared.fault.WorldFault.TheVariants.{Memory};
 
 use crate::board::{Board, Content, Message, Registrations, Resource, Stage, Transaction};
@@ -28,19 +29,25 @@ impl Board {
     /// How many messages were sent: no more than may be.
     pub fn sent(&self) -> usize
         ensures count { result ≡ length self.now.messages }
-        ensures within { result ≤ MESSAGE_LIMIT }
+        ensures within { result ≤ message_limit }
     {
         self.messages.len()
     }
 
+    /// The place of the next resource: there are no more resources than messages.
+    pub fn next_resource(&self) -> u32
+        ensures { result ≡ length self.now.resources }
+    {
+        self.resources.len() as u32
+    }
+
     /// A transaction of the node at a place is made. Its place is the answer.
     pub fn open(&mut self, alloc: Global, name: &Name, node: u32) -> Result<u32, WorldFault>
+        requires few { length self.old.transactions < transaction_limit }
         ensures ok { IfOk result (λ place. (place ≡ length self.old.transactions) × (self.new ≡ clients.opening name.now node self.old)) }
         ensures err { IfErr result (λ fault. fault ≡ Memory) }
     {
-        let Ok(place) = u32::try_from(self.transactions.len()) else {
-            return Err(WorldFault::Memory);
-        };
+        let place = self.transactions.len() as u32;
         self.transactions.push(Transaction {
             name: *name,
             node,
@@ -54,6 +61,8 @@ impl Board {
 
     /// A resource is registered as the last of the transaction at a place. The number of the client's call is the answer.
     pub fn register(&mut self, place: u32, resource: Resource) -> Result<u32, WorldFault>
+        requires there { place < length self.old.transactions }
+        requires few { (t : Transaction) → slice_get self.old.transactions place ≡ Some t → length t.registrations < registration_limit }
         ensures ok { (t : Transaction) → slice_get self.old.transactions place ≡ Some t →
             IfOk result (λ number. (number ≡ board.next_message self.old) × (self.new ≡ clients.registering place t resource self.old)) }
         ensures err { IfErr result (λ fault. CannotSend self.old fault) }
@@ -61,16 +70,12 @@ impl Board {
         if self.messages.len() >= MESSAGE_LIMIT {
             return Err(WorldFault::Limit(MESSAGE_LIMIT as u64));
         }
-        let Ok(added) = u32::try_from(self.resources.len()) else {
-            return Err(WorldFault::Memory);
-        };
-        self.resources.push(resource)?;
-        let Some(transaction) = self.transactions.get_mut(place as usize) else {
-            return Err(WorldFault::Memory);
-        };
-        transaction.registrations.push(added)?;
+        let added = self.next_resource();
         self.messages
             .push(call(Operation::RegisterResource, place))?;
+        self.resources.push(resource)?;
+        let transaction = &mut self.transactions[place as usize];
+        transaction.registrations.push(added)?;
         Ok(self.messages.len() as u32)
     }
 
@@ -117,15 +122,14 @@ impl Board {
         transaction: &Transaction,
     ) -> Result<Vec<RefBytes>, WorldFault>
         ensures ok { IfOk result (λ list. list.items ≡ clients.participants self.now transaction.now) }
+        ensures few { IfOk result (λ list. vec_len list ≤ registration_limit) }
         ensures err { IfErr result (λ fault. fault ≡ Memory) }
     {
         let mut list = Vec::new(alloc);
         for place in transaction.registrations.resources() {
             if let Some(resource) = self.resources.get(*place as usize) {
-                match RefBytes::new(alloc, resource.name.octets()) {
-                    Ok(reference) => list.push(reference)?,
-                    Err(_) => return Err(WorldFault::Memory),
-                }
+                let name = resource.name.octets().to_vec(alloc)?;
+                list.push(RefBytes::from_vec(name))?;
             }
         }
         Ok(list)
@@ -138,20 +142,17 @@ impl Board {
         lines: &mut Vec<u8>,
         place: u32,
     ) -> Result<(), WorldFault>
+        requires there { place < length self.old.transactions }
         ensures does { (t : Transaction) → slice_get self.old.transactions place ≡ Some t →
             Does (clients.commits_with place t self.old) self.new lines.old.items lines.new.items result }
     {
-        let Some(transaction) = self.transactions.get(place as usize) else {
-            return Err(WorldFault::Memory);
-        };
+        let transaction = &self.transactions[place as usize];
         let name = transaction.name;
         let list = self.participants(alloc, transaction)?;
         let first = first_number(place);
         let completion = Completion::begin(alloc, list.as_slice(), false, first, false)?;
         let message = self.send(call(Operation::Commit, place))?;
-        let Some(transaction) = self.transactions.get_mut(place as usize) else {
-            return Err(WorldFault::Memory);
-        };
+        let transaction = &mut self.transactions[place as usize];
         transaction.commit = Some(message);
         transaction.completion = completion;
         let operation = Operation::Commit;

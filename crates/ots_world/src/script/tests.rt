@@ -1,4 +1,4 @@
-use crate::script::{LINE_LIMIT, ScriptEvent, ScriptFault, parse_line};
+use crate::script::{Image, ScriptEvent, ScriptFault, parse_line};
 use ots_model::Decision;
 use std::test::Fail;
 
@@ -24,7 +24,10 @@ fn refuses_lines_outside_the_grammar(rt: HostRuntime) {
         "flow 1000001",
         "commit t1 2",
         "stop n1 0 old",
+        "stop n1 1 ",
+        "stop n1 1 a",
         "stop n1 1 abc",
+        "stop n1 1 ag",
         "fail n1 0",
         "tick n1 007",
         "choose g1 perhaps",
@@ -40,7 +43,12 @@ fn refuses_lines_outside_the_grammar(rt: HostRuntime) {
 fn passes_over_empty_lines_and_comments(rt: HostRuntime) -> Result<(), Fail> {
     assert!(rt; parse_line(rt.alloc(), b"")?.is_none());
     assert!(rt; parse_line(rt.alloc(), b"# node  n1")?.is_none());
-    let mut line = vec![in rt.alloc(); b'#'; LINE_LIMIT]?;
+    Ok(())
+}
+
+#[test]
+fn reads_lines_of_65_536_octets_at_most(rt: HostRuntime) -> Result<(), Fail> {
+    let mut line = vec![in rt.alloc(); b'#'; 65_536]?;
     assert!(rt; parse_line(rt.alloc(), &line)?.is_none());
     line.push(b'#')?;
     assert_eq!(rt;
@@ -119,5 +127,51 @@ fn reads_the_parts_of_a_line(rt: HostRuntime) -> Result<(), Fail> {
         }
         other => panic!(rt; "{other:?}"),
     }
+    Ok(())
+}
+
+#[test]
+fn reads_octets_of_either_case(rt: HostRuntime) -> Result<(), Fail> {
+    let lines = [
+        ("stop n1 1 0f", "[15]"),
+        ("stop n1 1 0F", "[15]"),
+        ("stop n1 1 00aBBa", "[0, 171, 186]"),
+    ];
+    for (line, octets) in lines {
+        let event = parse_line(rt.alloc(), line.as_bytes())?.ok_or("nothing was read")?;
+        match event {
+            ScriptEvent::Stop {
+                image: Image::Octets(image),
+                ..
+            } => {
+                let shown = format!(in rt.alloc(); "{:?}", image.bytes())?;
+                assert_eq!(rt; shown.as_str(), octets, "{line}");
+            }
+            other => panic!(rt; "{other:?}"),
+        }
+    }
+    Ok(())
+}
+
+#[test]
+fn reads_images_up_to_the_limit(rt: HostRuntime) -> Result<(), Fail> {
+    let mut line = Vec::new(rt.alloc());
+    line.extend_from_slice(b"stop n1 1 ")?;
+    for _ in 0..30_000 {
+        line.extend_from_slice(b"a7")?;
+    }
+    let event = parse_line(rt.alloc(), &line)?.ok_or("nothing was read")?;
+    match event {
+        ScriptEvent::Stop {
+            image: Image::Octets(image),
+            ..
+        } => assert_eq!(rt; image.bytes().len(), 30_000),
+        other => panic!(rt; "{other:?}"),
+    }
+    line.extend_from_slice(b"a7")?;
+    assert_eq!(rt;
+        parse_line(rt.alloc(), &line).err(),
+        Some(ScriptFault::BadLine)
+    );
     Ok(())
 }

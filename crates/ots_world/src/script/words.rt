@@ -4,8 +4,8 @@ ghost use Rattle.std.specs.Option.{option_map_or};
 ghost use Rattle.std.specs.Str.Parse.{digits_value};
 ghost use Rattle.hex.specs.Hex.{decode_of};
 ghost use Rattle.ots_model.specs.Name.{is_digit};
+ghost use Rattle.ots_world.specs.Limits.{flow_limit};
 ghost use Rattle.ots_world.specs.Script.{Gives, decision, flag, image, name, number, number_within, octets_of, relation, whose, words};
-ghost use Rattle.ots_world.specs.declared.script.TheConstants.{FLOW_LIMIT};
 
 use crate::script::{FLOW_LIMIT, IMAGE_LIMIT, Image, Relation, ScriptFault, Whose};
 use hex::FromHexError;
@@ -81,7 +81,7 @@ pub(super) fn seconds(word: &[u8]) -> Option<u32>
 // How many messages are to be delivered.
 #[tactic(auto, unfolding(crate::specs::Script::number_within))]
 pub(super) fn quantity(word: &[u8]) -> Option<u32>
-    ensures { result ≡ number_within 1 (FLOW_LIMIT + 1) word.now }
+    ensures { result ≡ number_within 1 (flow_limit + 1) word.now }
 {
     seconds(word).filter(|n| matches!(*n, 1..=FLOW_LIMIT))
 }
@@ -155,12 +155,12 @@ pub(super) fn image(alloc: Global, word: &[u8]) -> Result<Image, ScriptFault>
     }
 }
 
-// The octets that the word spells in hexadecimal, where they are not too many.
+// The octets that the word spells in hexadecimal, where there is one at least and they are not too many.
 fn octets(alloc: Global, word: &[u8]) -> Result<Octets, ScriptFault>
     ensures { Gives result (octets_of (decode_of word.now)) }
 {
     match hex::decode(alloc, word) {
-        Ok(octets) if octets.len() <= IMAGE_LIMIT => Ok(Octets::from_vec(octets)),
+        Ok(octets) if matches!(octets.len(), 1..=IMAGE_LIMIT) => Ok(Octets::from_vec(octets)),
         Err(FromHexError::OutOfMemory) => Err(ScriptFault::Memory),
         _ => Err(ScriptFault::BadLine),
     }

@@ -1,5 +1,5 @@
 use super::Completion;
-use ots_model::{CallNumber, Heard, Outcome, Reason, RefBytes, Stood, Vote, Word};
+use ots_model::{CallNumber, Ground, Heard, Outcome, Reason, RefBytes, Stood, Vote, Word};
 use std::alloc::Global;
 use std::process::Abort;
 use std::test::Fail;
@@ -28,17 +28,20 @@ struct Case {
     outcome: Option<Outcome>,
 }
 
-fn references(alloc: Global, count: u32) -> Result<Vec<RefBytes>, Fail> {
+/// A completion of so many participants, at most 64.
+fn begin(alloc: Global, count: u32, one_phase: bool) -> Result<Completion, Fail> {
     let mut list = Vec::new(alloc);
     for _participant in 0..count {
         list.push(RefBytes::new(alloc, b"a participant")?)?;
     }
-    Ok(list)
+    if list.len() > 64 {
+        return Err("too many participants".into());
+    }
+    Ok(Completion::begin(alloc, &list, false, FIRST, one_phase)?)
 }
 
 fn check(rt: &impl Abort, alloc: Global, case: &Case) -> Result<(), Fail> {
-    let list = references(alloc, case.participants)?;
-    let mut completion = Completion::begin(alloc, &list, false, FIRST, case.one_phase)?;
+    let mut completion = begin(alloc, case.participants, case.one_phase)?;
     let mut words = Vec::new(alloc);
     for heard in case.answers {
         if let Some(outward) = completion.next() {
@@ -67,7 +70,7 @@ fn a_commit_needs_every_vote_and_its_record(rt: HostRuntime) -> Result<(), Fail>
                 (Word::Commit, 1),
                 (Word::Commit, 2),
             ],
-            outcome: Some(Outcome::Commit),
+            outcome: Some(Outcome::Commit(Ground::Record)),
         },
         Case {
             participants: 2,
@@ -127,7 +130,7 @@ fn a_lost_vote_rolls_back_and_read_only_ones_commit(rt: HostRuntime) -> Result<(
             stood: Stood::Stands(4),
             answers: &[READ_ONLY, READ_ONLY],
             words: &[(Word::Prepare, 1), (Word::Prepare, 2)],
-            outcome: Some(Outcome::Commit),
+            outcome: Some(Outcome::Commit(Ground::Nobody)),
         },
     ];
     for case in &cases {
@@ -175,5 +178,51 @@ fn stale_numbers_change_nothing(rt: HostRuntime) -> Result<(), Fail> {
     assert_eq!(rt; completion.outcome(), None);
     completion.lost(&outward.number);
     assert_eq!(rt; completion.outcome(), Some(Outcome::Unknown));
+    Ok(())
+}
+
+#[test]
+fn as_many_participants_as_there_may_be(rt: HostRuntime) -> Result<(), Fail> {
+    let mut completion = begin(rt.alloc(), 64, false)?;
+    for place in 0..64 {
+        let outward = completion.next().ok_or("no word")?;
+        let heard = if place % 2 == 0 { COMMIT } else { READ_ONLY };
+        completion.answer(&outward.number, &heard);
+    }
+    assert!(rt; completion.wants_decision());
+    completion.decided(Stood::Stands(4));
+    for registration in 1..65 {
+        let has_voted_commit = registration % 2 == 1;
+        assert_eq!(rt; completion.is_named(registration), has_voted_commit);
+        if has_voted_commit {
+            let outward = completion.next().ok_or("no word")?;
+            assert_eq!(rt; outward.registration, registration);
+            completion.answer(&outward.number, &Heard::Done);
+        }
+    }
+    assert!(rt; completion.next().is_none());
+    Ok(())
+}
+
+/// Where the N-th allocation is made to fail, this shows that nothing behind `reserve` asks for memory.
+#[test]
+fn what_comes_behind_reserve_needs_no_memory(rt: HostRuntime) -> Result<(), Fail> {
+    let Ok(one) = RefBytes::new(rt.alloc(), b"one") else {
+        return Ok(());
+    };
+    let Ok(other) = RefBytes::new(rt.alloc(), b"other") else {
+        return Ok(());
+    };
+    let mut completion = Completion::idle(rt.alloc());
+    if completion.reserve(2).is_err() {
+        return Ok(());
+    }
+    completion.start(&[one, other], false, FIRST, false);
+    for heard in [COMMIT, COMMIT, Heard::Done, Heard::Done] {
+        let outward = completion.next().ok_or("no word")?;
+        completion.answer(&outward.number, &heard);
+        completion.decided(Stood::Stands(4));
+    }
+    assert_eq!(rt; completion.outcome(), Some(Outcome::Commit(Ground::Record)));
     Ok(())
 }

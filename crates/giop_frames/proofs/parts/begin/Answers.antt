@@ -2,6 +2,7 @@ use Rattle.std.proofs.Common.{◌≡◌, ◌<◌, ◌∙◌, arith, length, None
 use Rattle.std.proofs.lemmas.Result.{err_from_is_err_and}
 use Rattle.giop_frames.specs.Stream.{Part, id_of, numbered, opening}
 use Rattle.giop_frames.specs.StreamInside.{IsAt}
+use Rattle.giop_frames.specs.Limits.{unfinished_limit}
 use Rattle.giop_frames.proofs.Loops.{fails_from, fails_on}
 use Rattle.giop_frames.proofs.Judging.{opening_short, opening_at, opening_free}
 use Rattle.giop_frames.proofs.parts.begin.Goals as goal
@@ -23,7 +24,7 @@ returns-in_err-begun-clause-refused c =
     let part : Part = record { header = c.args.header; content = c.args.content.now } in
     let messages = c.args.unfinished.now.items in
     let free : numbered (id_of part) messages ≡ None = rw (← c.in_ok-id.ensures.1, ← c.deref.ensures.value) c.in_default.ensures.none in
-    let room : length messages < 8 = omega arith in
+    let room : length messages < unfinished_limit = omega arith in
     let judged = opening_free messages part c.in_ok-id.ensures.0 free room in
     let p = err_from_is_err_and c.from_residual-in_err-begun.result c.from_residual-in_err-begun.ensures.1 in
     rw (p.1, p.2) (fails_on c.in_err-begun.field-0.0 _ (opening messages part) (λ e. judged ∙ e) c.in_err-begun.ensures.refused)
@@ -32,5 +33,5 @@ pub returns-clause-says : goal.returns-clause-says
 returns-clause-says c =
     let part : Part = record { header = c.args.header; content = c.args.content.now } in
     let free : numbered (id_of part) c.args.unfinished.now.items ≡ None = rw (← c.in_ok-id.ensures.1, ← c.deref.ensures.value) c.in_default.ensures.none in
-    let room : length c.args.unfinished.now.items < 8 = omega arith in
+    let room : length c.args.unfinished.now.items < unfinished_limit = omega arith in
     opening_free c.args.unfinished.now.items part c.in_ok-id.ensures.0 free room ∙ c.in_ok-begun.ensures.sound

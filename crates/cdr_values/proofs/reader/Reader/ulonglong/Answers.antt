@@ -1,18 +1,8 @@
 use Rattle.std.proofs.Common.{ℕ}
 use Rattle.cdr_values.specs.Value.{ULongLong}
-use Rattle.cdr_values.specs.Reading.{Reads, number_at}
-use Rattle.cdr_values.proofs.Given.{found_from_gives, same_from_gives}
-use Rattle.cdr_values.proofs.Standing.{reads_from, stands_from}
-use Rattle.cdr_values.proofs.Numbers.{number_found, number_only}
+use Rattle.cdr_values.specs.Reading.{ulonglong_at}
+use Rattle.cdr_values.proofs.Exact.{gives_value, ulonglong_exact}
 use Rattle.cdr_values.proofs.reader.Reader.ulonglong.Goals as goal
 
-pub returns-clause-found : goal.returns-clause-found
-returns-clause-found c =
-    let old = c.args.self.now in
-    let new = c.next_ulonglong.new.self in
-    found_from_gives (λ (x : ℕ). x) c.next_ulonglong.result new old (number_at 8 old) (λ (x : ℕ). Reads old (ULongLong x) new) (λ x e. let f = number_found 8 x old new e in reads_from (ULongLong x) old f.0 new f.1 f.2) c.next_ulonglong.ensures
-
-pub returns-clause-only : goal.returns-clause-only
-returns-clause-only c x behind h =
-    let old = c.args.self.now in
-    same_from_gives c.next_ulonglong.result c.next_ulonglong.new.self old (number_at 8 old) x behind (number_only 8 x old behind h.spelled.bare (stands_from (ULongLong x) old behind h) h.spelled.is_bare) c.next_ulonglong.ensures
+pub returns : goal.returns
+returns c = gives_value ULongLong ulonglong_at (λ (n : ℕ). n) c.next_ulonglong.result c.args.self.now c.next_ulonglong.new.self ulonglong_exact c.next_ulonglong.ensures

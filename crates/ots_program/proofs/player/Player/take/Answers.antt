@@ -1,6 +1,7 @@
 use Rattle.std.proofs.Common.{arith}
 use Rattle.ots_program.specs.Playing.{place_of}
-use Rattle.ots_program.proofs.Turned.{StopsAt-past_lines, StopsAt-past_octets, Passes-fed, StopsAt-fed}
+use Rattle.ots_program.proofs.Fed.{IsFed-line}
+use Rattle.ots_program.proofs.Turned.{StopsAt-past_lines, StopsAt-past_octets, StopsAt-fed}
 use Rattle.ots_program.proofs.player.Player.take.Goals as goal
 
 pub returns-then-self-ge-LINES_LIMIT-clause-stops : goal.returns-then-self-ge-LINES_LIMIT-clause-stops
@@ -11,9 +12,9 @@ pub returns-then-self-len-ge-OCTETS_LIMIT-clause-stops : goal.returns-then-self-
 returns-then-self-len-ge-OCTETS_LIMIT-clause-stops c =
     λ rest. StopsAt-past_octets (place_of c.args.self.now) c.args.self.now.line.items c.args.octet rest c.args.self.now.output.items c.requires.plays.one_line c.if-self-ge-LINES_LIMIT.false (omega arith)
 
-pub returns-then-octet-eq10-clause-passes : goal.returns-then-octet-eq10-clause-passes
-returns-then-octet-eq10-clause-passes c =
-    Passes-fed c.take_line.result c.args.self.now c.take_line.new.self c.args.octet _ _ c.requires.plays.one_line c.if-octet-eq10.true c.take_line.ensures.turned c.take_line.ensures.emptied c.take_line.ensures.counted c.take_line.ensures.measured
+pub returns-then-octet-eq10-clause-fed : goal.returns-then-octet-eq10-clause-fed
+returns-then-octet-eq10-clause-fed c =
+    IsFed-line c.take_line.result c.args.self.now c.take_line.new.self c.args.octet c.requires.plays (omega arith) (omega arith) c.if-octet-eq10.true c.take_line.ensures.turned c.take_line.ensures.emptied c.take_line.ensures.counted c.take_line.ensures.measured
 
 pub returns-then-octet-eq10-clause-stops : goal.returns-then-octet-eq10-clause-stops
 returns-then-octet-eq10-clause-stops c =

@@ -27,8 +27,8 @@ returns-in_err-tell c =
     let p = err_from_is_err_and r.result r.ensures.1 in
     let number = c.in_ok-message.ensures.ok.0 in record {
       does = λ t is.
-          let same : c.in-Some.transaction.now ≡ t = grind (arith, common_steps, gets) in
-          let told : Call c.in_ok-message.message operations.Commit c.in-Some.transaction.now.name ∷ [] ≡ (commit_call c.args.place t b).lines = cc in
+          let same : c.index-transaction.result.now ≡ t = grind (arith, common_steps, gets) in
+          let told : Call c.in_ok-message.message operations.Commit c.index-transaction.result.now.name ∷ [] ≡ (commit_call c.args.place t b).lines = cc in
           commit_stops c.args.place t b _ _ _ _ _ _ told c.in_err-tell.ensures.told (p.1 ∙ ap Err p.2);
     }
 
@@ -42,11 +42,11 @@ returns c =
     let begun = c.in_ok-completion.ensures.started ∙ ap (λ n. started c.as_slice.result.now false n false) c.first_number-first.ensures
     ∙ ap (λ l. started l false (first_number c.args.place) false) list in record {
       does = λ t is.
-          let same : c.in-Some.transaction.now ≡ t = grind (arith, common_steps, gets) in
-          let found : c.in-Some-get_mut.transaction.now ≡ t = grind (arith, common_steps, gets) in
-          let told : Call c.in_ok-message.message operations.Commit c.in-Some.transaction.now.name ∷ [] ≡ (commit_call c.args.place t b).lines = cc in
+          let same : c.index-transaction.result.now ≡ t = grind (arith, common_steps, gets) in
+          let found : c.index_mut-transaction.result.now ≡ t = grind (arith, common_steps, gets) in
+          let told : Call c.in_ok-message.message operations.Commit c.index-transaction.result.now.name ∷ [] ≡ (commit_call c.args.place t b).lines = cc in
           commit_goes_on c.args.place t b _ _ _ _ _ _ _ told
-          (commit_board c.args.place t b c.in-Some-get_mut.transaction.now (the_view c.self-2.inside) c.in_ok-message.message
+          (commit_board c.args.place t b c.index_mut-transaction.result.now (the_view c.self-2.inside) c.in_ok-message.message
           c.in_ok-completion.completion called found number
           (begun ∙ ap (λ u. started (participants b u) false (first_number c.args.place) false) same))
           c.in_ok-tell.ensures.told c.go_on.ensures.does;

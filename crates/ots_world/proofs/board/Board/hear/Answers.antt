@@ -4,7 +4,7 @@ use Rattle.std.proofs.lemmas.Option.{gets}
 use Rattle.std.proofs.lemmas.Grind.{common_steps}
 use Rattle.ots_model.specs.declared.completion.CallNumber.{CallNumber}
 use Rattle.ots_model.specs.declared.completion.Word.{Word}
-use Rattle.ots_model.specs.declared.line.Said.{Said}
+use Rattle.ots_model.specs.declared.response.Response.{Response}
 use Rattle.ots_world.specs.declared.board.Message.{Message}
 use Rattle.ots_world.specs.declared.board.Content.{Content}
 use Rattle.ots_world.specs.declared.board.Content.TheVariants.{Call, Request, Reply}
@@ -14,17 +14,17 @@ use Rattle.ots_world.proofs.DoesLemmas.{does_nothing, does_at, does_nothing_at, 
 use Rattle.ots_world.proofs.board.Board.hear.Goals as goal
 
 -- what is heard, by the place of the request
-hears_from : ℕ → Said → Board → Effects
+hears_from : ℕ → Response → Board → Effects
 hears_from place said b = at_place b.messages place
     (λ m. if m.awaited then hears_of m.content said (with_message place (record m { awaited = false }) b) else nothing b)
     (nothing b)
 
-hears_is : (request place : ℕ) (said : Said) (b : Board) → place ≡ request - 1 → hears_from place said b ≡ hears request said b
+hears_is : (request place : ℕ) (said : Response) (b : Board) → place ≡ request - 1 → hears_from place said b ≡ hears request said b
 unfolding hears hears_from
 hears_is request place said b at = ap (λ p. hears_from p said b) at
 
 -- no other content is a request
-hears_nothing : (content : Content) (said : Said) (b : Board)
+hears_nothing : (content : Content) (said : Response) (b : Board)
     → ((place : ℕ) (number : CallNumber) (word : Word) (resource : ℕ) → content ≡ Request place number word resource → ⊥) → nothing b ≡ hears_of content said b
 hears_nothing (Request place number word resource) said b other = absurd (other place number word resource refl)
 hears_nothing (Reply request answer) said b other = refl
@@ -39,8 +39,8 @@ returns-in_default c =
     let b = c.args.self.now in
     let ls = c.args.lines.now.items in
     let none : slice_get b.messages c.saturating_sub.result ≡ None = grind (arith, common_steps, gets) in
-    let e = hears_is c.args.request c.saturating_sub.result c.args.said b c.saturating_sub.ensures in
-    let h = does_same (hears_from c.saturating_sub.result c.args.said b) (hears c.args.request c.args.said b) b ls ls (Ok tt) e
+    let e = hears_is c.args.request c.saturating_sub.result c.args.response b c.saturating_sub.ensures in
+    let h = does_same (hears_from c.saturating_sub.result c.args.response b) (hears c.args.request c.args.response b) b ls ls (Ok tt) e
     (does_nothing_at b.messages c.saturating_sub.result _ b ls none) in
     record { does = (c.self.view_is ∙ h.0, h.1) }
 
@@ -53,9 +53,9 @@ returns-then-not-message c =
     let n = c.in-Some.message.now in
     let some : slice_get b.messages place ≡ Some n = grind (arith, common_steps, gets) in
     let kept = ap (λ x. holding x (the_view c.self.inside)) (set_same (the_view c.self.inside).messages place n (ap (λ x. slice_get x.messages place) c.self.view_is ∙ some)) in
-    let first = hears_of n.content c.args.said (with_message place (record n { awaited = false }) b) in
-    let e = hears_is c.args.request place c.args.said b c.saturating_sub.ensures in
-    let h = does_same (hears_from place c.args.said b) (hears c.args.request c.args.said b) b ls ls (Ok tt) e
+    let first = hears_of n.content c.args.response (with_message place (record n { awaited = false }) b) in
+    let e = hears_is c.args.request place c.args.response b c.saturating_sub.ensures in
+    let h = does_same (hears_from place c.args.response b) (hears c.args.request c.args.response b) b ls ls (Ok tt) e
     (does_at b.messages place _ (nothing b) n b ls ls (Ok tt) some
     (does_same (nothing b) (cond n.awaited first (nothing b)) b ls ls (Ok tt) (ap (λ w. cond w first (nothing b)) (sym c.if-not-message.true)) (does_nothing b ls))) in
     record { does = (kept ∙ c.self.view_is ∙ h.0, h.1) }
@@ -69,10 +69,10 @@ returns-in_default-content c =
     let n = c.in-Some.message.now in
     let some : slice_get b.messages place ≡ Some n = grind (arith, common_steps, gets) in
     let new = with_message place (record n { awaited = false }) b in
-    let first = hears_of n.content c.args.said new in
-    let e = hears_is c.args.request place c.args.said b c.saturating_sub.ensures in
-    let none = hears_nothing n.content c.args.said new c.in_default-content.not-Request ∙ ap (λ w. cond w first (nothing b)) (sym c.if-not-message.false) in
-    let h = does_same (hears_from place c.args.said b) (hears c.args.request c.args.said b) new ls ls (Ok tt) e
+    let first = hears_of n.content c.args.response new in
+    let e = hears_is c.args.request place c.args.response b c.saturating_sub.ensures in
+    let none = hears_nothing n.content c.args.response new c.in_default-content.not-Request ∙ ap (λ w. cond w first (nothing b)) (sym c.if-not-message.false) in
+    let h = does_same (hears_from place c.args.response b) (hears c.args.request c.args.response b) new ls ls (Ok tt) e
     (does_at b.messages place _ (nothing b) n new ls ls (Ok tt) some
     (does_same (nothing new) (cond n.awaited first (nothing b)) new ls ls (Ok tt) none (does_nothing new ls))) in
     record { does = (ap (λ x. with_message place (record n { awaited = false }) x) c.self.view_is ∙ h.0, h.1) }
@@ -81,7 +81,7 @@ pub returns : goal.returns
 unfolding hears_from
 returns c =
     let b = c.args.self.now in
-    let said = c.args.said in
+    let said = c.args.response in
     let place = c.saturating_sub.result in
     let n = c.in-Some.message.now in
     let r = c.in-Request in

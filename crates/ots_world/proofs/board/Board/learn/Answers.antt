@@ -5,18 +5,18 @@ use Rattle.std.proofs.lemmas.Grind.{common_steps}
 use Rattle.two_phase.specs.Progress as progress
 use Rattle.two_phase.specs.Progress.{Progress}
 use Rattle.ots_model.specs.declared.completion.CallNumber.{CallNumber}
-use Rattle.ots_model.specs.declared.line.Said.{Said}
+use Rattle.ots_model.specs.declared.response.Response.{Response}
 use Rattle.ots_world.specs.declared.board.Transaction.{Transaction}
-use Rattle.ots_world.specs.Table.{heard_in}
+use Rattle.ots_model.specs.Response.{heard_in}
 use Rattle.ots_world.specs.Board.{Board, with_transaction, learns}
 use Rattle.ots_world.proofs.board.Board.learn.Goals as goal
 
 -- what is learned, by what stands at the place
-learnt : ℕ → CallNumber → Said → Board → Option Transaction → Board
+learnt : ℕ → CallNumber → Response → Board → Option Transaction → Board
 learnt place number said b (Some t) = with_transaction place (record t { completion = progress.after_answer number (heard_in said) t.completion }) b
 learnt place number said b None = b
 
-learnt_is : (place : ℕ) (number : CallNumber) (said : Said) (b : Board) → learnt place number said b (slice_get b.transactions place) ≡ learns place number said b
+learnt_is : (place : ℕ) (number : CallNumber) (said : Response) (b : Board) → learnt place number said b (slice_get b.transactions place) ≡ learns place number said b
 unfolding learns learnt
 learnt_is place number said b = refl
 
@@ -25,7 +25,7 @@ unfolding learnt
 returns-in_default c =
     let b = c.args.self.now in
     let none : slice_get b.transactions c.args.place ≡ None = grind (arith, common_steps, gets) in
-    record { learns = c.self.view_is ∙ ap (λ o. learnt c.args.place c.args.number.now c.args.said b o) (sym none) ∙ learnt_is c.args.place c.args.number.now c.args.said b }
+    record { learns = c.self.view_is ∙ ap (λ o. learnt c.args.place c.args.number.now c.args.response b o) (sym none) ∙ learnt_is c.args.place c.args.number.now c.args.response b }
 
 pub returns : goal.returns
 unfolding learnt
@@ -37,6 +37,6 @@ returns c =
     record {
       learns = ap (λ b. with_transaction place (record n { completion = c.answer.new.self }) b) c.self.view_is
           ∙ ap (λ p. with_transaction place (record n { completion = p }) b) c.answer.ensures.after
-          ∙ ap (λ h. with_transaction place (record n { completion = progress.after_answer c.args.number.now h n.completion }) b) c.heard_in.ensures
-          ∙ ap (λ o. learnt place c.args.number.now c.args.said b o) (sym some) ∙ learnt_is place c.args.number.now c.args.said b;
+          ∙ ap (λ h. with_transaction place (record n { completion = progress.after_answer c.args.number.now h n.completion }) b) c.heard.ensures
+          ∙ ap (λ o. learnt place c.args.number.now c.args.response b o) (sym some) ∙ learnt_is place c.args.number.now c.args.response b;
     }

@@ -18,13 +18,13 @@ unfolding requests
 requests_is place o b t resource name at is =
     ap (λ n. requests_of place resource o n b) (sym is) ∙ ap (λ r. requests_of place r o (name_at b.resources r) b) at
 
-pub returns-in_default-name_at : goal.returns-in_default-name_at
-returns-in_default-name_at c = record {
+pub returns-in_default : goal.returns-in_default
+returns-in_default c = record {
   does = λ t is.
       let b = c.args.self.now in
-      let same : c.in-Some.transaction.now ≡ t = grind (arith, common_steps, gets) in
+      let same : c.index-transaction.result.now ≡ t = grind (arith, common_steps, gets) in
       let at = c.place_of-resource.ensures ∙ ap (λ x. resource_of x c.args.outward.now.registration) same in
-      let e = requests_is c.args.place c.args.outward.now b t c.place_of-resource.result None at (sym c.name_at.ensures.name ∙ c.in_default-name_at.is) in
+      let e = requests_is c.args.place c.args.outward.now b t c.place_of-resource.result None at (sym c.name_at.ensures.name ∙ c.in_default.is) in
       rw (← e) (does_nothing b c.args.lines.now.items);
 }
 
@@ -32,11 +32,11 @@ pub returns-in_err-message : goal.returns-in_err-message
 returns-in_err-message c = record {
   does = λ t is.
       let b = c.args.self.now in
-      let same : c.in-Some.transaction.now ≡ t = grind (arith, common_steps, gets) in
+      let same : c.index-transaction.result.now ≡ t = grind (arith, common_steps, gets) in
       let at = c.place_of-resource.ensures ∙ ap (λ x. resource_of x c.args.outward.now.registration) same in
-      let e = requests_is c.args.place c.args.outward.now b t c.place_of-resource.result (Some c.in-Some-name_at.name) at (sym c.name_at.ensures.name ∙ c.in-Some-name_at.is) in
+      let e = requests_is c.args.place c.args.outward.now b t c.place_of-resource.result (Some c.in-Some.name) at (sym c.name_at.ensures.name ∙ c.in-Some.is) in
       let p = err_from_is_err_and c.from_residual.result c.from_residual.ensures.1 in
-      does_same _ _ _ _ _ _ e (cannot_send_err (requests_of c.args.place c.place_of-resource.result c.args.outward.now (Some c.in-Some-name_at.name) b) b
+      does_same _ _ _ _ _ _ e (cannot_send_err (requests_of c.args.place c.place_of-resource.result c.args.outward.now (Some c.in-Some.name) b) b
       _ _ _ _ c.in_err-message.ensures.err (simp length-append (omega arith)) (p.1 ∙ ap Err p.2));
 }
 
@@ -44,11 +44,10 @@ pub returns : goal.returns
 returns c = record {
   does = λ t is.
       let b = c.args.self.now in
-      let same : c.in-Some.transaction.now ≡ t = grind (arith, common_steps, gets) in
+      let same : c.index-transaction.result.now ≡ t = grind (arith, common_steps, gets) in
       let at = c.place_of-resource.ensures ∙ ap (λ x. resource_of x c.args.outward.now.registration) same in
-      let e = requests_is c.args.place c.args.outward.now b t c.place_of-resource.result (Some c.in-Some-name_at.name) at (sym c.name_at.ensures.name ∙ c.in-Some-name_at.is) in
+      let e = requests_is c.args.place c.args.outward.now b t c.place_of-resource.result (Some c.in-Some.name) at (sym c.name_at.ensures.name ∙ c.in-Some.is) in
       does_same _ _ _ _ _ _ e (told_last _ _ _ _ _ _ c.in_ok-message.ensures.ok.1
-      (ap (λ n. Send n c.operation_of-operation.result c.in-Some-name_at.name ∷ []) c.in_ok-message.ensures.ok.0
-      ∙ ap (λ o. Send (next_message b) o c.in-Some-name_at.name ∷ []) c.operation_of-operation.ensures)
+      (ap (λ n. Send n c.args.outward.now.word c.in-Some.name ∷ []) c.in_ok-message.ensures.ok.0)
       c.tell.ensures.told);
 }

@@ -9,7 +9,7 @@ pub returns-in_err-count : goal.returns-in_err-count
 returns-in_err-count c =
     let b = c.args.self.now in
     let p = err_from_is_err_and c.from_residual.result c.from_residual.ensures.1 in
-    let first = telling (λ name. counted name c.args.said) (name_at b.resources c.args.resource) b in
+    let first = telling (λ name. counted name c.args.response) (name_at b.resources c.args.resource) b in
     record {
       does = does_stop_err first (settles c.args.place) _ _ _ _ _ _ (grows first.board (settles c.args.place first.board) (settles_extends c.args.place first.board))
           c.count.ensures.does c.in_err-count.was (p.1 ∙ ap Err p.2);
@@ -18,5 +18,5 @@ returns-in_err-count c =
 pub returns : goal.returns
 returns c =
     let b = c.args.self.now in
-    let first = telling (λ name. counted name c.args.said) (name_at b.resources c.args.resource) b in
+    let first = telling (λ name. counted name c.args.response) (name_at b.resources c.args.resource) b in
     record { does = does_then_ok first (settles c.args.place) b _ _ _ _ _ _ c.count.ensures.does c.in_ok-count.was c.settle.ensures.does }

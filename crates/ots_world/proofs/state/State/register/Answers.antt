@@ -4,7 +4,7 @@ use Rattle.std.proofs.lemmas.Result.{err_from_is_err_and}
 use Rattle.ots_world.specs.StateInside.{shown}
 use Rattle.ots_world.specs.Clients.{registering}
 use Rattle.ots_world.specs.World.{registers_with, registered_lines}
-use Rattle.ots_world.proofs.StateLemmas.{carries_names, carries_memory, carries_cannot_send, carries_told, free-thing, both, read_at, registers-no_transaction, registers-no_end, registers-no_thing, registers-refused, registers-moves, registers_more, on_ok_always, registered-world, registered_indexed}
+use Rattle.ots_world.proofs.StateLemmas.{carries_names, carries_memory, carries_cannot_send, carries_told, free-thing, both, read_at, registers-no_transaction, registers-no_end, registers-no_thing, registers-refused, registers-moves, registers_more, on_ok_always, registered-world, registered_indexed, room_is}
 use Rattle.ots_world.proofs.state.State.register.Goals as goal
 
 pub returns-in_default-clause-carries : goal.returns-in_default-clause-carries
@@ -29,14 +29,6 @@ returns-then-not-can_register-clause-carries c =
     (sym c.transaction_named.ensures ∙ c.in-Some-Some.is-0) (sym c.end_named.ensures ∙ c.in-Some-Some.is-1) c.in-Some.registering.now
     (read_at _ _ _ _ c.transactions.ensures c.get.ensures.lookup.3 ∙ ap option_copied c.in-Some.is)
     (sym c.can_register.ensures ∙ c.if-not-can_register.true))
-
-pub returns-in_default-try_from-clause-carries : goal.returns-in_default-try_from-clause-carries
-returns-in_default-try_from-clause-carries c =
-    carries_memory _ _ _ _ _ _ (registers-moves c.args.transaction.now c.args.end.now c.args.resource.now (shown c.args.self.now) c.in-Some-Some.place c.in-Some-Some.at
-    (sym c.transaction_named.ensures ∙ c.in-Some-Some.is-0) (sym c.end_named.ensures ∙ c.in-Some-Some.is-1) c.in-Some.registering.now
-    (read_at _ _ _ _ c.transactions.ensures c.get.ensures.lookup.3 ∙ ap option_copied c.in-Some.is)
-    (sym c.can_register.ensures ∙ c.if-not-can_register.false))
-    refl
 
 pub returns-in_err-message-clause-carries : goal.returns-in_err-message-clause-carries
 returns-in_err-message-clause-carries c =
@@ -75,9 +67,9 @@ returns-clause-carries c =
     (registers-moves c.args.transaction.now c.args.end.now c.args.resource.now w c.in-Some-Some.place c.in-Some-Some.at
     (sym c.transaction_named.ensures ∙ c.in-Some-Some.is-0) (sym c.end_named.ensures ∙ c.in-Some-Some.is-1) t found
     (sym c.can_register.ensures ∙ c.if-not-can_register.false))
-    (registered-world c.args.transaction.now c.args.end.now c.args.resource.now c.in-Some-Some.place c.in-Some-Some.at t w _ _ c.in-Ok.added
+    (registered-world c.args.transaction.now c.args.end.now c.args.resource.now c.in-Some-Some.place c.in-Some-Some.at t w _ _ c.next_resource-added.result
     (sent.1 ∙ ap (λ r. registering c.in-Some-Some.place t r c.args.self.now.board) c.made.ensures)
-    (c.in-Ok.ensures.1 ∙ ap length c.resources.ensures) c.in_ok-name.ensures.ok)
+    c.next_resource-added.ensures c.in_ok-name.ensures.ok)
     (ap (λ n. registered_lines n c.args.transaction.now c.args.end.now c.args.resource.now) sent.0) c.tell_registered.ensures.told
 
 pub returns-clause-indexed : goal.returns-clause-indexed
@@ -88,3 +80,9 @@ returns-clause-indexed c =
     on_ok_always c.tell_registered.result
     (registered_indexed c.args.self.now _ c.in-Some-Some.place t c.args.resource.now c.in-Some-Some.place c.in-Some-Some.at c.requires refl refl
     (sent.1 ∙ ap (λ r. registering c.in-Some-Some.place t r c.args.self.now.board) c.made.ensures))
+
+pub register-requires-clause-few : goal.register-requires-clause-few
+register-requires-clause-few c = λ t there.
+    room_is c.args.self.now.board.transactions c.in-Some-Some.place c.in-Some.registering.now t
+    (read_at _ _ _ _ c.transactions.ensures c.get.ensures.lookup.3 ∙ ap option_copied c.in-Some.is) there
+    (both _ _ (sym c.can_register.ensures ∙ c.if-not-can_register.false)).1

@@ -1,4 +1,4 @@
-use Rattle.std.proofs.Common.{◌≡◌, ◌+◌, None, ap, ◌∙◌, arith}
+use Rattle.std.proofs.Common.{◌≡◌, ◌+◌, None, Some, ap, ◌∙◌, arith}
 use Rattle.two_phase.specs.RoundInside.{shown}
 use Rattle.two_phase.proofs.Keeping.{none_is, some_is, few_heard, fewer_heard, answer_counts, answer_not_out, answer_not_same, answered_later, answered_alone, answered_open, answered_last, judged_is, alone_is}
 use Rattle.two_phase.proofs.round.Round.answer.Goals as goal
@@ -52,7 +52,7 @@ invariant_of-self-then-decides_alone c =
     let single = alone_is (shown a) c.decides_alone.result c.len-2.result c.decides_alone.ensures (c.len-2.ensures ∙ a.participants.ok.0) ∙ c.if-decides_alone.true in
     record {
       follows = rw c.push_reserved.ensures.items
-          (answered_alone (shown a) c.args.heard c.outcome_alone.result a.some_commit a.plan.ahead.items a.plan.spare.items (rw unfixed at c.self.invariant.follows) c.if-not-self.false single c.outcome_alone.ensures);
+          (answered_alone (shown a) c.args.heard c.outcome_alone.result a.some_commit a.plan.ahead.items a.plan.spare.items (rw unfixed at c.self.invariant.follows) c.if-not-self.false single (ap (λ x. Some x) c.outcome_alone.ensures));
       few = c.self.invariant.few;
       serial = c.self.invariant.serial;
       ahead_room = c.self.invariant.ahead_room;

@@ -16,7 +16,7 @@ invariant_of-result c =
           (follows_begun list c.args.asked c.args.first c.args.one_phase c.then_some.result c.ask.new.self.ahead.items
           (fixed_at_start c.then_some.result c.is_empty.result (length list) c.then_some.ensures c.is_empty.ensures)
           (c.ask.ensures.plan ∙ (ap (λ w. plan_from (λ _. true) w 0 c.copy_all-2.new.copies.items) c.first_word.ensures ∙ ap (plan_from (λ _. true) _ 0) asked)));
-      few = omega (arith, long, c.requires.room, c.room.view_is, room.few);
+      few = omega (arith, long, c.requires.few);
       serial = c.requires.serial;
       ahead_room = omega (arith, long, c.requires.room, c.room.view_is, room.ahead_room, c.ask.ensures.capacity.0);
       heard_room = omega (arith, long, c.requires.room, c.room.view_is, room.heard_room);

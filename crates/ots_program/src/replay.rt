@@ -1,0 +1,72 @@
+ghost use Rattle.std.specs.Prelude.{◌≡◌, ◌≢◌, ◌≤◌, [], Err, IfErr, OnOk};
+ghost use Rattle.ots_outside.specs.Source.{HasRisen};
+ghost use Rattle.ots_program.specs.Answers.{IsReadToEnd, Replays};
+ghost use Rattle.ots_program.specs.Playing.{left};
+ghost use Rattle.ots_program.specs.ReplayInside.{BreaksOff, Halts, IsReady, PlaysPiece};
+
+use crate::output::write_out;
+use crate::player::Player;
+use crate::status::Status;
+use ots_outside::{Sink, Source};
+use ots_world::lines_agree;
+use std::alloc::Global;
+
+/// How many octets are read at once.
+const PIECE: usize = 16_384;
+
+/// Replays the script on the source. Its lines go to the sink.
+pub fn replay<S: Source, K: Sink>(alloc: Global, source: &mut S, sink: &mut K) -> Status
+    ensures replays { Replays result (S.remaining source.old) (K.taken sink.old) (K.taken sink.new) }
+    ensures end { result ≡ Status.Done → IsReadToEnd (S.remaining source.old) (S.remaining source.new) }
+    ensures read_fault { result ≡ Status.ReadFault → HasRisen (S.faults source.old) (S.faults source.new) }
+    ensures write_fault { result ≡ Status.WriteFault → HasRisen (K.faults sink.old) (K.faults sink.new) }
+{
+    // The law by which the lines are safe.
+    lines_agree();
+    let mut player = Player::new(alloc);
+    let mut room = [0; PIECE];
+    loop {
+        let Ok(count) = source.read(&mut room) else {
+            return Status::ReadFault;
+        };
+        if count == 0 {
+            return finish(player, sink);
+        }
+        if let Err(status) = play(&mut player, &room[..count], sink) {
+            return status;
+        }
+    }
+}
+
+/// Plays a piece of the script. The error is the status with which the replay breaks off.
+fn play<K: Sink>(player: &mut Player, piece: &[u8], sink: &mut K) -> Result<(), Status>
+    requires ready { IsReady player.old }
+    ensures plays { OnOk result (PlaysPiece player.old player.new piece.now (K.taken sink.old) (K.taken sink.new)) }
+    ensures breaks_off { IfErr result (λ status.
+        BreaksOff status player.old piece.now (K.taken sink.old) (K.taken sink.new)) }
+    ensures write_fault { result ≡ Err Status.WriteFault → HasRisen (K.faults sink.old) (K.faults sink.new) }
+    ensures later { K.faults sink.old ≤ K.faults sink.new }
+{
+    let played = player.feed(piece);
+    write_out(&mut player.output, sink)?;
+    played?;
+    Ok(())
+}
+
+/// Plays what stands behind the last line feed, and ends the replay.
+fn finish<K: Sink>(player: Player, sink: &mut K) -> Status
+    requires ready { IsReady player }
+    ensures halts { Halts result (left player []) (K.taken sink.old) (K.taken sink.new) }
+    ensures read { result ≢ Status.ReadFault }
+    ensures write_fault { result ≡ Status.WriteFault → HasRisen (K.faults sink.old) (K.faults sink.new) }
+    ensures later { K.faults sink.old ≤ K.faults sink.new }
+{
+    let (mut output, ended) = player.finish();
+    if let Err(status) = write_out(&mut output, sink) {
+        return status;
+    }
+    match ended {
+        Ok(()) => Status::Done,
+        Err(stop) => stop.into(),
+    }
+}

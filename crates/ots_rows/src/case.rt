@@ -1,0 +1,147 @@
+ghost use Rattle.std.specs.Prelude.{◌≡◌, false};
+ghost use Rattle.ots_program.specs.Words.{IsShow};
+
+use crate::input;
+use crate::pieces::Pieces;
+use ots_outside::{Failure, MemSink, MemSource};
+use ots_program::{Devices, Word, run, run_plain};
+use std::alloc::Global;
+use std::io;
+use std::io::{ErrorKind, Write};
+use std::sync::Wait;
+
+/// How a case is run.
+#[derive(Drop)]
+pub struct Case {
+    words: Vec<Word>,
+    /// How many octets a read gives at most.
+    most: usize,
+    failing_reads: Vec<u64>,
+    failing_writes: Vec<Failure>,
+    hex: bool,
+    /// How many octets the input lacks at its end.
+    cut: usize,
+    /// It is run on each front of its input.
+    pub fronts: bool,
+    /// How many lines are shown at most.
+    last: usize,
+    plain: bool,
+}
+
+impl Case {
+    /// The case with this first line.
+    pub fn of(alloc: Global, head: &str) -> io::Result<Case> {
+        let mut parts = head.split('|');
+        let mut words = Vec::new(alloc);
+        for word in parts.next().unwrap_or("").split_whitespace() {
+            words.push(Word::new(word.as_bytes().to_vec(alloc)?))?;
+        }
+        let mut case = Case {
+            words,
+            most: usize::MAX,
+            failing_reads: Vec::new(alloc),
+            failing_writes: Vec::new(alloc),
+            hex: false,
+            cut: 0,
+            fronts: false,
+            last: usize::MAX,
+            plain: false,
+        };
+        for part in parts {
+            let part: Vec<&str> = part.split_whitespace().collect(alloc)?;
+            case.take_part(part.as_slice())?;
+        }
+        Ok(case)
+    }
+
+    fn take_part(&mut self, part: &[&str]) -> io::Result<()> {
+        match part {
+            ["pieces", most] => self.most = number(most)?,
+            ["fail", "read", call] => self.failing_reads.push(number(call)? as u64)?,
+            ["fail", "write", call, "taken", taken] => self.failing_writes.push(Failure {
+                call: number(call)? as u64,
+                taken: number(taken)?,
+            })?,
+            ["hex"] => self.hex = true,
+            ["cut", count] => self.cut = number(count)?,
+            ["fronts"] => self.fronts = true,
+            ["last", count] => self.last = number(count)?,
+            ["plain"] => self.plain = true,
+            ["#", ..] => {}
+            _ => return Err(ErrorKind::InvalidInput.into()),
+        }
+        Ok(())
+    }
+
+    /// The input that these lines make.
+    pub fn input(&self, alloc: Global, lines: &[&str]) -> io::Result<Vec<u8>> {
+        let text = input::text(alloc, lines)?;
+        let mut input = if self.hex {
+            input::octets(alloc, text.as_str())?
+        } else {
+            text.into_bytes()
+        };
+        input.truncate(input.len().saturating_sub(self.cut));
+        Ok(input)
+    }
+
+    /// Runs the case on this input, and tells what came.
+    pub fn told<R: Wait>(&self, rt: &R, alloc: Global, input: &[u8]) -> io::Result<Vec<u8>> {
+        let source = MemSource::new(input.to_vec(alloc)?, self.failing_reads.clone()?);
+        let mut devices = Devices {
+            source: Pieces {
+                source,
+                most: self.most,
+            },
+            sink: MemSink::new(alloc, self.failing_writes.clone()?),
+        };
+        let words = self.words.as_slice();
+        let status = if self.plain && !is_show(words) {
+            run_plain(alloc, words, &mut devices.source, &mut devices.sink)
+        } else {
+            run(rt, alloc, words, &mut devices)
+        };
+        let mut told = self.shown(alloc, devices.sink.octets())?;
+        let number = status.number();
+        let reads = devices.source.source.faults();
+        let writes = devices.sink.faults();
+        write!(
+            told,
+            "-- {number} {status:?}, faults {reads} {writes}\n{status}"
+        )?;
+        Ok(told)
+    }
+
+    /// The last lines of what was written.
+    fn shown(&self, alloc: Global, text: &[u8]) -> io::Result<Vec<u8>> {
+        let lines = text.split_inclusive(|octet| *octet == b'\n');
+        let lines: Vec<&[u8]> = lines.collect(alloc)?;
+        let count = lines.len();
+        let mut shown = Vec::new(alloc);
+        if self.last < count {
+            writeln!(shown, ".. {} octets in {count} lines", text.len())?;
+        }
+        for line in &lines.as_slice()[count - count.min(self.last)..] {
+            shown.extend_from_slice(line)?;
+        }
+        if text.last().is_some_and(|octet| *octet != b'\n') {
+            shown.extend_from_slice(b"\\\n")?;
+        }
+        Ok(shown)
+    }
+}
+
+/// Whether these words ask for a show.
+fn is_show(words: &[Word]) -> bool
+    ensures { result ≡ false → ¬ (IsShow words.now) }
+{
+    match words {
+        [word] => word.bytes() == b"show".as_slice(),
+        _ => false,
+    }
+}
+
+/// The number that a word is.
+pub fn number(word: &str) -> io::Result<usize> {
+    word.parse().map_err(|_| ErrorKind::InvalidInput.into())
+}
