@@ -10,7 +10,7 @@ use Rattle.ots_model.specs.declared.line.Line.{Line}
 use Rattle.ots_model.specs.declared.line.Line.TheVariants as lines
 use Rattle.ots_model.specs.Safe as safe
 use Rattle.ots_model.specs.Safe.{Stands, IsFamily, TakesPart, IsCommittedUp, IsForParticipants, AreSafe}
-use Rattle.ots_model.specs.SafeExamples.{node, end, top, below, low, one, other, tell, applied, undone, consents, records, registered, voted, decided, told, told_alone, half_voted, goes_on, nested, nested_twice, joined}
+use Rattle.ots_model.specs.SafeExamples.{node, end, top, below, low, one, other, tell, applied, undone, consents, records, voted, decided, told, told_alone, half_voted, goes_on, nested, nested_twice, joined}
 use Rattle.ots_model.proofs.SafeTests.{line_at, stands, any, initial, makes_family, ends, decides, votes_for, not_family, not_registered, registered_at, top_at}
 use Rattle.ots_model.proofs.SafePassing.{under_top}
 use Rattle.ots_model.proofs.SafeRefusing.{agrees, commits_one, unrecorded, vote_open, part_of_top, unready, still_active, never_told}

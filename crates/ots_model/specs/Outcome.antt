@@ -1,7 +1,7 @@
 -- How a transaction ends (Transaction Service, the operations of interface Resource; that the failure of the only
 -- participant leaves the outcome unknown, and what a decision record names, are our profile). Registrations are named by
 -- their place in the list of participants, counted from 1.
-use Rattle.std.specs.Prelude.{◌≡◌, ◌≢◌, ℕ, ◌<◌, ◌⊎◌, suc, Bool, true, false, List, Option, Some, Contains}
+use Rattle.std.specs.Prelude.{◌≡◌, ℕ, ◌<◌, suc, Bool, true, false, List, Option, Some, Contains}
 use Rattle.std.specs.List.{slice_get}
 use Rattle.ots_model.specs.declared.completion.Heard.{Heard}
 use Rattle.ots_model.specs.declared.completion.Heard.TheVariants as hears

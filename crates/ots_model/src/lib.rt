@@ -10,6 +10,7 @@ pub use name::{NAME_LIMIT, Name};
 pub use octets::{Octets, REFERENCE_LIMIT, RefBytes, RefFault};
 pub use response::{Exception, Response};
 pub use safety::{allowed_lines_are_safe, safety_refuses};
+pub use service::{Endpoint, Join, RetryKey, Status};
 
 mod completion;
 mod line;
@@ -18,4 +19,5 @@ mod octets;
 mod piece;
 mod response;
 mod safety;
+mod service;
 mod words;

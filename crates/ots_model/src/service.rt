@@ -1,0 +1,57 @@
+use crate::octets::Octets;
+
+/// How a transaction stands (`Status` of module CosTransactions), with the standard's numbers.
+#[derive(Clone, Copy, Debug, PartialEq, Eq)]
+pub enum Status {
+    /// StatusActive: it is going on.
+    Active = 0,
+    /// StatusMarkedRollback: it can only be rolled back.
+    MarkedRollback = 1,
+    /// StatusPrepared: it waits for the outcome of its superior.
+    Prepared = 2,
+    /// StatusCommitted.
+    Committed = 3,
+    /// StatusRolledBack.
+    RolledBack = 4,
+    /// StatusUnknown: nobody can tell at present.
+    Unknown = 5,
+    /// StatusNoTransaction: there is none.
+    NoTransaction = 6,
+    /// StatusPreparing: its participants are asked for their votes.
+    Preparing = 7,
+    /// StatusCommitting: its participants are told to commit.
+    Committing = 8,
+    /// StatusRollingBack: its participants are told to roll back.
+    RollingBack = 9,
+}
+
+/// What the dispositions of several participants make together, beside what was decided.
+#[derive(Clone, Copy, Debug, PartialEq, Eq)]
+pub enum Join {
+    /// Each did as was decided, as far as anything is known.
+    Nothing,
+    /// All did the other thing than they were told.
+    Opposite,
+    /// Some updates were committed and others rolled back (HeuristicMixed).
+    Mixed,
+    /// What became of some updates isn't known, and all known ones agree (HeuristicHazard).
+    Hazard,
+}
+
+/// What names a call of a client, so that a repeat of it is known (our profile).
+#[derive(Clone, Copy, Debug, PartialEq, Eq)]
+pub struct RetryKey {
+    /// The client.
+    pub client: u64,
+    /// The call, among those of its client.
+    pub number: u64,
+}
+
+/// Where a server listens (ProfileBody of IIOP).
+#[derive(Drop)]
+pub struct Endpoint {
+    /// The name or the address of its machine, as octets of text.
+    pub host: Octets,
+    /// Its TCP port.
+    pub port: u16,
+}
