@@ -3,6 +3,7 @@ use Rattle.std.specs.Prelude.{◌≡◌, ℕ, ◌<◌, List, [], ◌∷◌, ◌+
 use Rattle.ots_model.specs.declared.line.Line.{Line}
 use Rattle.ots_model.specs.Line.{spelling, text_of}
 use Rattle.ots_model.specs.Safe.{AreSafe}
+use Rattle.ots_outside.specs.Source.{HasRisen}
 use Rattle.ots_program.specs.declared.status.Status.{Status}
 use Rattle.ots_program.specs.declared.status.Status.TheVariants as statuses
 use Rattle.ots_program.specs.Replay.{Replay, Ending, Completed, Refused, Limited, replay}
@@ -10,6 +11,18 @@ use Rattle.ots_program.specs.Replay.{Replay, Ending, Completed, Refused, Limited
 -- the source was read to its end, where it tells its octets
 abbrev pub IsReadToEnd : Option (List ℕ) → Option (List ℕ) → Type 0
 IsReadToEnd before after = IfSome before (λ octets. after ≡ Some [])
+
+-- Done comes only where the source was read to its end
+abbrev pub IsDoneAtEnd : Status → Option (List ℕ) → Option (List ℕ) → Type 0
+IsDoneAtEnd status before after = status ≡ statuses.Done → IsReadToEnd before after
+
+-- ReadFault comes only where the source's count of faults rose
+abbrev pub HasReadFault : Status → ℕ → ℕ → Type 0
+HasReadFault status before after = status ≡ statuses.ReadFault → HasRisen before after
+
+-- WriteFault comes only where the sink's count of faults rose
+abbrev pub HasWriteFault : Status → ℕ → ℕ → Type 0
+HasWriteFault status before after = status ≡ statuses.WriteFault → HasRisen before after
 
 -- where the source tells its octets and the sink what it has taken
 abbrev pub WhereTold : Option (List ℕ) → Option (List ℕ) → (List ℕ → List ℕ → Type 0) → Type 0

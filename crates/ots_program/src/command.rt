@@ -1,8 +1,7 @@
-ghost use Rattle.std.specs.Prelude.{◌≡◌, ◌≢◌, ◌↔◌, None, Some};
-ghost use Rattle.ots_outside.specs.Source.{HasRisen};
-ghost use Rattle.ots_program.specs.Answers.{IsReadToEnd, Replays};
+ghost use Rattle.std.specs.Prelude.{◌≡◌};
+ghost use Rattle.ots_program.specs.Answers.{HasReadFault, HasWriteFault, IsDoneAtEnd, Replays};
 ghost use Rattle.ots_program.specs.Show.{Shows};
-ghost use Rattle.ots_program.specs.Words.{IsReplay, IsShow, command_of};
+ghost use Rattle.ots_program.specs.Words.{IsReplay, IsShow, IsUsage, command_of};
 
 use crate::devices::{Devices, Word};
 use crate::replay::replay;
@@ -48,7 +47,7 @@ pub fn run<R: Wait, S: Source, K: Sink>(
     devices: &mut Devices<S, K>,
 ) -> Status
     // Usage comes exactly where the words are no command line, and then the devices are as they were.
-    ensures usage { (result ≡ Status.Usage) ↔ (command_of words.now ≡ None) }
+    ensures usage { IsUsage result words.now }
     ensures idle { result ≡ Status.Usage → devices.new ≡ devices.old }
 
     // What each command answers and writes, by the octets of the source.
@@ -58,14 +57,11 @@ pub fn run<R: Wait, S: Source, K: Sink>(
         Shows result (S.remaining devices.old.source) (K.taken devices.old.sink) (K.taken devices.new.sink) }
 
     // Done comes once the source was read to its end.
-    ensures end { result ≡ Status.Done →
-        IsReadToEnd (S.remaining devices.old.source) (S.remaining devices.new.source) }
+    ensures end { IsDoneAtEnd result (S.remaining devices.old.source) (S.remaining devices.new.source) }
 
     // A fault of a device comes only where that device has failed.
-    ensures read_fault { result ≡ Status.ReadFault →
-        HasRisen (S.faults devices.old.source) (S.faults devices.new.source) }
-    ensures write_fault { result ≡ Status.WriteFault →
-        HasRisen (K.faults devices.old.sink) (K.faults devices.new.sink) }
+    ensures read_fault { HasReadFault result (S.faults devices.old.source) (S.faults devices.new.source) }
+    ensures write_fault { HasWriteFault result (K.faults devices.old.sink) (K.faults devices.new.sink) }
 {
     let Some(command) = Command::of(words) else {
         return Status::Usage;
@@ -86,7 +82,7 @@ pub fn run_plain<S: Source, K: Sink>(
     requires plain { ¬ (IsShow words.now) }
 
     // Usage comes exactly where the words are no command line, and then the devices are as they were.
-    ensures usage { (result ≡ Status.Usage) ↔ (command_of words.now ≡ None) }
+    ensures usage { IsUsage result words.now }
     ensures idle_source { result ≡ Status.Usage → source.new ≡ source.old }
     ensures idle_sink { result ≡ Status.Usage → sink.new ≡ sink.old }
 
@@ -95,11 +91,11 @@ pub fn run_plain<S: Source, K: Sink>(
         Replays result (S.remaining source.old) (K.taken sink.old) (K.taken sink.new) }
 
     // Done comes once the source was read to its end.
-    ensures end { result ≡ Status.Done → IsReadToEnd (S.remaining source.old) (S.remaining source.new) }
+    ensures end { IsDoneAtEnd result (S.remaining source.old) (S.remaining source.new) }
 
     // A fault of a device comes only where that device has failed.
-    ensures read_fault { result ≡ Status.ReadFault → HasRisen (S.faults source.old) (S.faults source.new) }
-    ensures write_fault { result ≡ Status.WriteFault → HasRisen (K.faults sink.old) (K.faults sink.new) }
+    ensures read_fault { HasReadFault result (S.faults source.old) (S.faults source.new) }
+    ensures write_fault { HasWriteFault result (K.faults sink.old) (K.faults sink.new) }
 {
     match Command::of(words) {
         Some(Command::Replay) => replay(alloc, source, sink),

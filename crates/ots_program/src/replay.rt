@@ -1,6 +1,6 @@
 ghost use Rattle.std.specs.Prelude.{◌≡◌, ◌≢◌, ◌≤◌, [], Err, IfErr, OnOk};
 ghost use Rattle.ots_outside.specs.Source.{HasRisen};
-ghost use Rattle.ots_program.specs.Answers.{IsReadToEnd, Replays};
+ghost use Rattle.ots_program.specs.Answers.{HasReadFault, HasWriteFault, IsDoneAtEnd, Replays};
 ghost use Rattle.ots_program.specs.Playing.{left};
 ghost use Rattle.ots_program.specs.ReplayInside.{BreaksOff, Halts, IsReady, PlaysPiece};
 
@@ -17,9 +17,9 @@ const PIECE: usize = 16_384;
 /// Replays the script on the source. Its lines go to the sink.
 pub fn replay<S: Source, K: Sink>(alloc: Global, source: &mut S, sink: &mut K) -> Status
     ensures replays { Replays result (S.remaining source.old) (K.taken sink.old) (K.taken sink.new) }
-    ensures end { result ≡ Status.Done → IsReadToEnd (S.remaining source.old) (S.remaining source.new) }
-    ensures read_fault { result ≡ Status.ReadFault → HasRisen (S.faults source.old) (S.faults source.new) }
-    ensures write_fault { result ≡ Status.WriteFault → HasRisen (K.faults sink.old) (K.faults sink.new) }
+    ensures end { IsDoneAtEnd result (S.remaining source.old) (S.remaining source.new) }
+    ensures read_fault { HasReadFault result (S.faults source.old) (S.faults source.new) }
+    ensures write_fault { HasWriteFault result (K.faults sink.old) (K.faults sink.new) }
 {
     // The law by which the lines are safe.
     lines_agree();
@@ -58,7 +58,7 @@ fn finish<K: Sink>(player: Player, sink: &mut K) -> Status
     requires ready { IsReady player }
     ensures halts { Halts result (left player []) (K.taken sink.old) (K.taken sink.new) }
     ensures read { result ≢ Status.ReadFault }
-    ensures write_fault { result ≡ Status.WriteFault → HasRisen (K.faults sink.old) (K.faults sink.new) }
+    ensures write_fault { HasWriteFault result (K.faults sink.old) (K.faults sink.new) }
     ensures later { K.faults sink.old ≤ K.faults sink.new }
 {
     let (mut output, ended) = player.finish();

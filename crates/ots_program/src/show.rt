@@ -2,7 +2,7 @@ ghost use Rattle.std.specs.Prelude.{◌≡◌, ◌≤◌, ◌++◌, [], None, Er
 ghost use Rattle.giop_frames.specs.Stream.{part_at};
 ghost use Rattle.giop_frames.specs.Held.{place_of};
 ghost use Rattle.ots_outside.specs.Source.{HasRisen};
-ghost use Rattle.ots_program.specs.Answers.{IsReadToEnd};
+ghost use Rattle.ots_program.specs.Answers.{HasReadFault, HasWriteFault, IsDoneAtEnd};
 ghost use Rattle.ots_program.specs.Show.{Shows};
 ghost use Rattle.ots_program.specs.ShowInside.{BrokeOff, EndsStream, TellsBreak, TellsPiece, TookPiece, status_by};
 ghost use Rattle.ots_program.specs.MessageLine.{message_line};
@@ -27,9 +27,9 @@ pub fn show<R: Wait, S: Source, K: Sink>(
     sink: &mut K,
 ) -> Status
     ensures shows { Shows result (S.remaining source.old) (K.taken sink.old) (K.taken sink.new) }
-    ensures end { result ≡ Status.Done → IsReadToEnd (S.remaining source.old) (S.remaining source.new) }
-    ensures read_fault { result ≡ Status.ReadFault → HasRisen (S.faults source.old) (S.faults source.new) }
-    ensures write_fault { result ≡ Status.WriteFault → HasRisen (K.faults sink.old) (K.faults sink.new) }
+    ensures end { IsDoneAtEnd result (S.remaining source.old) (S.remaining source.new) }
+    ensures read_fault { HasReadFault result (S.faults source.old) (S.faults source.new) }
+    ensures write_fault { HasWriteFault result (K.faults sink.old) (K.faults sink.new) }
 {
     // The law by which what is refused in a piece is refused in the whole.
     a_refusal_stays();
