@@ -32,3 +32,7 @@ pub record Gives (left : List ℕ) (places n : ℕ) (piece : List ℕ) (after : 
 -- where the source told what it had left, the read gave of that
 abbrev pub GivesOf : Option (List ℕ) → ℕ → ℕ → List ℕ → Option (List ℕ) → Type 0
 GivesOf before places n piece after = IfSome before (λ left. Gives left places n piece after)
+
+-- a read that succeeded gave so many octets to the piece, of those that were left where the source told them
+abbrev pub GivesTo : {E : Type 0} → Result ℕ E → List ℕ → List ℕ → Option (List ℕ) → Option (List ℕ) → Type 0
+GivesTo result piece filled before after = IfOk result (λ n. GivesOf before (length piece) n filled after)

@@ -1,7 +1,8 @@
--- What contracts see of the adapters over std::io (our profile).
+-- What contracts see of the adapters over std::io and std::fs (our profile).
 use Rattle.std.specs.Prelude.{ℕ}
 use Rattle.ots_outside.specs.declared.streams.StdSource.{StdSource}
 use Rattle.ots_outside.specs.declared.streams.StdSink.{StdSink}
+use Rattle.ots_outside.specs.declared.file_disk.FileDisk.{FileDisk}
 
 -- the reader that the source reads from
 abbrev pub source_reader : {R : Type 0} → StdSource R → R
@@ -18,3 +19,7 @@ sink_writer sink = sink.writer
 -- how many writes have failed
 abbrev pub sink_faults : {W : Type 0} → StdSink W → ℕ
 sink_faults sink = sink.faults
+
+-- how many calls have failed
+abbrev pub file_disk_faults : FileDisk → ℕ
+file_disk_faults disk = disk.faults

@@ -1,11 +1,18 @@
-//! What lies outside of the program, as traits that count their faults: where octets come from and where they go.
+//! What lies outside of the program, as traits that count their faults: where octets come
+//! from, where they go, and disks that outlast a crash.
 #![tactic(auto)]
 
+pub use disk::{Disk, DiskRefusal};
+pub use file_disk::FileDisk;
+pub use mem_disk::{MemDisk, SureDisk};
 pub use memory::{Failure, MemSink, MemSource};
 pub use sink::Sink;
 pub use source::{Failed, Source};
 pub use streams::{StdSink, StdSource};
 
+mod disk;
+mod file_disk;
+mod mem_disk;
 mod memory;
 mod sink;
 mod source;

@@ -1,5 +1,5 @@
-ghost use Rattle.std.specs.Prelude.{◌≡◌, ℕ, ◌≤◌, List, Option, length, IfOk, OnErr};
-ghost use Rattle.ots_outside.specs.Source.{CountsWithin, GivesOf, HasRisen, raised};
+ghost use Rattle.std.specs.Prelude.{◌≡◌, ℕ, ◌≤◌, List, Option, OnErr};
+ghost use Rattle.ots_outside.specs.Source.{CountsWithin, GivesTo, HasRisen, raised};
 
 /// A call to the outside failed.
 #[derive(Clone, Copy, Debug, PartialEq, Eq)]
@@ -28,7 +28,7 @@ pub trait Source {
     /// Reads some octets into the front of the piece, and says how many. 0 is the end, where the piece isn't empty.
     fn read(&mut self, into: &mut [u8]) -> Result<usize, Failed>
         ensures count { CountsWithin result into.old }
-        ensures octets { IfOk result (λ n. GivesOf (remaining self.old) (length into.old) n into.new (remaining self.new)) }
+        ensures octets { GivesTo result into.old into.new (remaining self.old) (remaining self.new) }
         ensures untouched { OnErr result (remaining self.new ≡ remaining self.old) }
         ensures cause { OnErr result (HasRisen (faults self.old) (faults self.new)) }
         ensures later { faults self.old ≤ faults self.new };

@@ -1,0 +1,124 @@
+ghost use Rattle.std.specs.Prelude.{◌≡◌, ◌≤◌, IsErrOf, OnErr};
+ghost use Rattle.ots_outside.specs.declared.disk.DiskRefusal.TheVariants.{Failed as DiskFailed};
+ghost use Rattle.ots_outside.specs.Source.{CountsFault, HasRisen};
+
+use crate::disk::{Disk, DiskRefusal};
+use crate::source::Failed;
+use std::fs::File;
+use std::io;
+use std::os::unix::fs::FileExt;
+
+/// A disk over a file. Each failure that it answers counts as one fault. It tells nothing of its octets.
+#[derive(Drop)]
+pub struct FileDisk {
+    file: File,
+    folder: Option<File>,
+    faults: u64,
+}
+
+impl FileDisk {
+    ghost use Rattle.ots_outside.specs.Streams.{file_disk_faults};
+
+    /// A disk over this file, which is open for reading and writing, without faults. Where the file was just made, `folder`
+    /// is what it was made in: the first sync that succeeds syncs it too.
+    pub fn new(file: File, folder: Option<File>) -> FileDisk
+        ensures faults { file_disk_faults result ≡ 0 }
+    {
+        FileDisk {
+            file,
+            folder,
+            faults: 0,
+        }
+    }
+
+    /// How many calls have failed.
+    pub fn faults(&self) -> u64
+        ensures { result ≡ file_disk_faults self.now }
+    {
+        self.faults
+    }
+
+    /// The answer of a call to the file, with its failure counted.
+    fn counted<T: Drop>(&mut self, answer: io::Result<T>) -> Result<T, DiskRefusal>
+        ensures cause { OnErr result (HasRisen (file_disk_faults self.old) (file_disk_faults self.new)) }
+        ensures later { file_disk_faults self.old ≤ file_disk_faults self.new }
+        ensures faults { CountsFault result (file_disk_faults self.old) (file_disk_faults self.new) }
+    {
+        match answer {
+            Ok(value) => Ok(value),
+            Err(_) => {
+                Failed::counted(&mut self.faults);
+                Err(DiskRefusal::Failed)
+            }
+        }
+    }
+}
+
+impl Disk for FileDisk {
+    ghost use Rattle.std.specs.Prelude.{None};
+    ghost use Rattle.ots_outside.specs.Streams.{file_disk_faults};
+
+    ghost faults = { file_disk_faults };
+
+    ghost told = { λ _. None };
+
+    fn len(&mut self) -> Result<u64, DiskRefusal>
+        // What each disk promises.
+        ensures cause { IsErrOf result DiskFailed → HasRisen (file_disk_faults self.old) (file_disk_faults self.new) }
+        ensures later { file_disk_faults self.old ≤ file_disk_faults self.new }
+
+        // A refusal counts as one fault, and an Ok as none.
+        ensures faults { CountsFault result (file_disk_faults self.old) (file_disk_faults self.new) }
+    {
+        let length = self.file.metadata().map(|data| data.len());
+        self.counted(length)
+    }
+
+    fn read_at(&mut self, place: u64, into: &mut [u8]) -> Result<(), DiskRefusal>
+        // What each disk promises.
+        ensures cause { IsErrOf result DiskFailed → HasRisen (file_disk_faults self.old) (file_disk_faults self.new) }
+        ensures later { file_disk_faults self.old ≤ file_disk_faults self.new }
+
+        // A refusal counts as one fault, and an Ok as none.
+        ensures faults { CountsFault result (file_disk_faults self.old) (file_disk_faults self.new) }
+    {
+        let read = self.file.read_exact_at(into, place);
+        self.counted(read)
+    }
+
+    fn write_at(&mut self, place: u64, bytes: &[u8]) -> Result<(), DiskRefusal>
+        // What each disk promises.
+        ensures cause { IsErrOf result DiskFailed → HasRisen (file_disk_faults self.old) (file_disk_faults self.new) }
+        ensures later { file_disk_faults self.old ≤ file_disk_faults self.new }
+
+        // A refusal counts as one fault, and an Ok as none.
+        ensures faults { CountsFault result (file_disk_faults self.old) (file_disk_faults self.new) }
+    {
+        let written = self.file.write_all_at(bytes, place);
+        self.counted(written)
+    }
+
+    fn sync(&mut self) -> Result<(), DiskRefusal>
+        // What each disk promises.
+        ensures cause { IsErrOf result DiskFailed → HasRisen (file_disk_faults self.old) (file_disk_faults self.new) }
+        ensures later { file_disk_faults self.old ≤ file_disk_faults self.new }
+
+        // A refusal counts as one fault, and an Ok as none.
+        ensures faults { CountsFault result (file_disk_faults self.old) (file_disk_faults self.new) }
+    {
+        let synced = sync_both(&self.file, &self.folder);
+        if synced.is_ok() {
+            self.folder = None;
+        }
+        self.counted(synced)
+    }
+}
+
+/// Syncs the file, and its folder where that is to be synced too.
+fn sync_both(file: &File, folder: &Option<File>) -> io::Result<()> {
+    file.sync_all()?;
+    match folder {
+        Some(folder) => folder.sync_all(),
+        None => Ok(()),
+    }
+}
