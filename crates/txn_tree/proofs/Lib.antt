@@ -1,0 +1,3 @@
+pub mod Lineages
+pub mod Sound
+pub mod Deepest

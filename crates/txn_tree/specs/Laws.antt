@@ -1,0 +1,28 @@
+-- What the definitions of trees say (nested transactions, and interface Coordinator of module CosTransactions).
+use Rattle.std.specs.Prelude.{◌≡◌, ℕ, ◌<◌, ◌==◌, ◌&&◌, ◌||◌, Bool, false, List, length}
+use Rattle.std.specs.Option.{option_map_or}
+use Rattle.txn_tree.specs.Rows.{parent, state, IsTree, is_ancestor, is_committed, is_committed_up}
+use Rattle.txn_tree.specs.Calls.{created, ended, marked}
+use Rattle.txn_tree.specs.declared.row.Row.{Row}
+
+-- a is an ancestor of b exactly where it is b, or an ancestor of b's parent
+abbrev pub AncestryFollowsParents : Type 0
+AncestryFollowsParents = (rows : List Row) → IsTree rows → (a b : ℕ) → b < length rows
+    → is_ancestor rows a b ≡ ((b == a) || option_map_or (λ p. is_ancestor rows a p) (parent rows b) false)
+
+-- a branch is committed up to another one exactly where it is that one, or it was committed and its parent is
+-- committed up to it
+abbrev pub CommitFollowsParents : Type 0
+CommitFollowsParents = (rows : List Row) → IsTree rows → (above b : ℕ) → b < length rows
+    → is_committed_up rows above b
+    ≡ ((b == above) || (option_map_or is_committed (state rows b) false
+    && option_map_or (λ p. is_committed_up rows above p) (parent rows b) false))
+
+-- each call leaves the rows of a tree
+pub record StayTrees (rows : List Row) (b : ℕ) : Type 0 where
+  pub with_a_child : IsTree (created rows b)
+  pub with_an_end : (committed : Bool) → IsTree (ended rows b committed)
+  pub with_a_mark : IsTree (marked rows b)
+
+abbrev pub TreesStayTrees : Type 0
+TreesStayTrees = (rows : List Row) → IsTree rows → (b : ℕ) → b < length rows → StayTrees rows b

@@ -1,0 +1,5 @@
+pub mod Limits
+pub mod Rows
+pub mod Calls
+pub mod TreeInside
+pub mod Laws

@@ -1,0 +1,18 @@
+// Laws of the definitions: these functions do nothing, and their contracts are the laws.
+ghost use Rattle.txn_tree.specs.Laws.{AncestryFollowsParents, CommitFollowsParents, TreesStayTrees};
+
+/// A transaction is an ancestor of another exactly where it is that one, or an ancestor of its parent.
+pub fn ancestry_follows_parents()
+    ensures { AncestryFollowsParents }
+{}
+
+/// A transaction is committed up to another exactly where it is that one, or it was committed and its parent is committed
+/// up to it.
+pub fn commit_follows_parents()
+    ensures { CommitFollowsParents }
+{}
+
+/// The rows of a tree are those of a tree after each call.
+pub fn trees_stay_trees()
+    ensures { TreesStayTrees }
+{}
