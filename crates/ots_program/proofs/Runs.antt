@@ -10,7 +10,7 @@ use Rattle.ots_world.specs.Agreement.{Agreement}
 use Rattle.ots_program.specs.declared.player.Player.{Player}
 use Rattle.ots_program.specs.declared.status.Status.{Status}
 use Rattle.ots_program.specs.declared.status.Status.TheVariants as statuses
-use Rattle.ots_program.specs.Answers.{IsReadToEnd, Replays, TakesFront, TakesLines, Tells, WhereTold, Writes}
+use Rattle.ots_program.specs.Answers.{IsReadToEnd, Replays, TakesFront, TakesLines, Writes}
 use Rattle.ots_program.specs.Playing.{left}
 use Rattle.ots_program.specs.Replay.{Replay, replay}
 use Rattle.ots_program.specs.ReplayInside.{Advances, BreaksOff, Halts, PlaysPiece}
@@ -91,14 +91,6 @@ TakesFront-written statuses.ReadFault r taken after h = h
 TakesFront-written statuses.WriteFault r taken after h = h
 TakesFront-written statuses.Memory r taken after h = h
 
-Replays-tells : (status : Status) (octets : List ℕ) (script before after : Option (List ℕ)) → IfSome script (λ all. all ≡ octets) → Halts status (replay octets) before after → IfSome script (λ all. Tells status (replay all).ending)
-Replays-tells status octets None before after e h = tt
-Replays-tells status octets (Some all) before after e h = rw e h.tells
-
-Replays-writes : (status : Status) (octets : List ℕ) (script before after : Option (List ℕ)) → IfSome script (λ all. all ≡ octets) → Halts status (replay octets) before after → WhereTold script before (λ all taken. Writes status (replay all) taken after)
-Replays-writes status octets None before after e h = tt
-Replays-writes status octets (Some all) before after e h = rw e h.writes
-
 Replays-safe : Agreement → (status : Status) (octets : List ℕ) (before after : Option (List ℕ)) → Halts status (replay octets) before after → IfSome before (λ taken. TakesFront ((replay octets).lines ++ (replay octets).further) taken after)
 Replays-safe law status octets None after h = tt
 Replays-safe law status octets (Some taken) after h = TakesFront-written status (replay octets) taken after h.writes
@@ -107,8 +99,10 @@ Replays-safe law status octets (Some taken) after h = TakesFront-written status 
 Replays-halted : Agreement → (status : Status) (octets : List ℕ) (script before after : Option (List ℕ)) → IfSome script (λ all. all ≡ octets) → Halts status (replay octets) before after → Replays status script before after
 Replays-halted law status octets script before after e h = record {
   of_replay = h.of_replay;
-  tells = Replays-tells status octets script before after e h;
-  writes = Replays-writes status octets script before after e h;
+  octets = octets;
+  of_source = e;
+  tells = h.tells;
+  writes = h.writes;
   safe = IfSome-safely law octets before after (Replays-safe law status octets before after h);
 }
 

@@ -67,7 +67,7 @@ SafeBehind-rows law p (row ∷ others) told r =
     (λ world lines reached. SafeBehind-rows law (behind p row world) others (told ++ lines) reached)
 
 -- what a replay tells is safe
-replay-safe : Agreement → (octets : List ℕ) → AreSafe ((replay octets).lines ++ (replay octets).further)
+pub replay-safe : Agreement → (octets : List ℕ) → AreSafe ((replay octets).lines ++ (replay octets).further)
 replay-safe law octets = SafeBehind-rows law start (rows octets) [] agreement.nothing
 
 -- a front of safe lines is safe
@@ -123,12 +123,11 @@ cut n (line ∷ all) = elim (low_or_high n (length (spelling line))) [
 ]
 
 -- a front of the text of what a replay tells
-TakesSafely-front : Agreement → (octets before : List ℕ) (after : Option (List ℕ)) → TakesFront ((replay octets).lines ++ (replay octets).further) before after → TakesSafely before after
+TakesSafely-front : Agreement → (octets before : List ℕ) (after : Option (List ℕ)) → TakesFront ((replay octets).lines ++ (replay octets).further) before after → TakesSafely octets before after
 TakesSafely-front law octets before after h =
     let all = (replay octets).lines ++ (replay octets).further in
     let k = cut h.0 all in
     record {
-      octets = octets;
       lines = k.lines;
       others = k.others;
       of_replay = k.split;
@@ -139,6 +138,6 @@ TakesSafely-front law octets before after h =
     }
 
 -- what was taken is safe
-pub IfSome-safely : Agreement → (octets : List ℕ) (before after : Option (List ℕ)) → IfSome before (λ taken. TakesFront ((replay octets).lines ++ (replay octets).further) taken after) → IfSome before (λ taken. TakesSafely taken after)
+pub IfSome-safely : Agreement → (octets : List ℕ) (before after : Option (List ℕ)) → IfSome before (λ taken. TakesFront ((replay octets).lines ++ (replay octets).further) taken after) → IfSome before (λ taken. TakesSafely octets taken after)
 IfSome-safely law octets None after h = tt
 IfSome-safely law octets (Some taken) after h = TakesSafely-front law octets taken after h

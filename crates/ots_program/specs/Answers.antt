@@ -67,9 +67,8 @@ IsPart octets [] = octets ≡ []
 IsPart octets (line ∷ others) = (n : ℕ) × (n < length (spelling line)) × (octets ≡ take n (spelling line))
 
 -- The sink has taken whole lines, which are safe, and then maybe a part of the next one. They are what the replay of
--- some octets tells first.
-pub record TakesSafely (before : List ℕ) (after : Option (List ℕ)) : Type 0 where
-  pub octets : List ℕ
+-- these octets tells first.
+pub record TakesSafely (octets before : List ℕ) (after : Option (List ℕ)) : Type 0 where
   pub lines : List Line
   pub others : List Line
   pub of_replay : (replay octets).lines ++ (replay octets).further ≡ lines ++ others
@@ -83,9 +82,16 @@ pub record TakesSafely (before : List ℕ) (after : Option (List ℕ)) : Type 0 
 pub record Replays (status : Status) (left before after : Option (List ℕ)) : Type 0 where
   -- no other command's status is answered
   pub of_replay : OfReplay status
-  -- the status tells how the replay of the source's octets ends
-  pub tells : IfSome left (λ octets. Tells status (replay octets).ending)
-  -- the sink has taken the lines of that replay
-  pub writes : WhereTold left before (λ octets taken. Writes status (replay octets) taken after)
-  -- where the sink tells what it has taken, the whole lines are safe, whatever the source and the status
-  pub safe : IfSome before (λ taken. TakesSafely taken after)
+  -- these octets were replayed, which are all of the source's where it tells them
+  pub octets : List ℕ
+  pub of_source : IfSome left (λ all. all ≡ octets)
+  -- the status tells how their replay ends
+  pub tells : Tells status (replay octets).ending
+  -- the sink has taken the lines of that replay, where it tells what it has taken
+  pub writes : IfSome before (λ taken. Writes status (replay octets) taken after)
+  -- and the whole lines among what it has taken are safe, whatever the status
+  pub safe : IfSome before (λ taken. TakesSafely octets taken after)
+
+-- all that a replay tells is safe, whatever the octets
+abbrev pub ReplaysAreSafe : Type 0
+ReplaysAreSafe = (octets : List ℕ) → AreSafe ((replay octets).lines ++ (replay octets).further)

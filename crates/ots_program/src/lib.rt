@@ -3,10 +3,12 @@
 
 pub use command::{run, run_plain};
 pub use devices::{Devices, Word};
+pub use laws::replays_are_safe;
 pub use status::Status;
 
 mod command;
 mod devices;
+mod laws;
 mod limits;
 mod message_line;
 mod output;
