@@ -19,15 +19,15 @@ use Rattle.giop_frames.proofs.Numbered.{cases_bool, extended_here, extended_on, 
 other_number : (a b c : ℕ) → (a == b) ≡ true → (b == c) ≡ false → (a == c) ≡ false
 other_number a b c e f = ap (λ (x : ℕ). x == c) (eqb-true a b e) ∙ f
 
-other_way : (a b : ℕ) → (a == b) ≡ false → (b == a) ≡ false
+pub other_way : (a b : ℕ) → (a == b) ≡ false → (b == a) ≡ false
 other_way a b e = elim (cases_bool (b == a)) [ inl t ↦ absurd (eqb-false a b e (sym (eqb-true b a t))) | inr f ↦ f ]
 
 -- ---- one step of a look-up
 
-numbered_here : (id : ℕ) (u : Unfinished) (others : List Unfinished) → (u.id == id) ≡ true → numbered id (u ∷ others) ≡ Some u
+pub numbered_here : (id : ℕ) (u : Unfinished) (others : List Unfinished) → (u.id == id) ≡ true → numbered id (u ∷ others) ≡ Some u
 numbered_here id u others e = rw e refl
 
-numbered_on : (id : ℕ) (u : Unfinished) (others : List Unfinished) → (u.id == id) ≡ false → numbered id (u ∷ others) ≡ numbered id others
+pub numbered_on : (id : ℕ) (u : Unfinished) (others : List Unfinished) → (u.id == id) ≡ false → numbered id (u ∷ others) ≡ numbered id others
 numbered_on id u others e = rw e refl
 
 -- ---- a look-up in a list that is changed
@@ -72,7 +72,7 @@ last_apart id (v ∷ others) u apart = ap (λ (x : Option Unfinished). cond (v.i
 
 -- ---- no two unfinished messages have one number
 
-abbrev AreApart : List Unfinished → Type 0
+abbrev pub AreApart : List Unfinished → Type 0
 AreApart [] = Unit {0}
 AreApart (u ∷ others) = (numbered u.id others ≡ None) × AreApart others
 
@@ -93,7 +93,7 @@ without_still id (u ∷ others) h =
     ]
 
 -- what a look-up passed over has another number
-passed_over : (id : ℕ) (u : Unfinished) (others : List Unfinished) → numbered id (u ∷ others) ≡ None → ((u.id == id) ≡ false) × (numbered id others ≡ None)
+pub passed_over : (id : ℕ) (u : Unfinished) (others : List Unfinished) → numbered id (u ∷ others) ≡ None → ((u.id == id) ≡ false) × (numbered id others ≡ None)
 passed_over id u others none =
     elim (cases_bool (u.id == id)) [
       | inl e ↦ let some : Some u ≡ None = sym (numbered_here id u others e) ∙ none in absurd cc
@@ -122,36 +122,36 @@ none_or None b e = refl
 none_or (Some x) b e = absurd cc
 
 -- a first part that goes on has a number that is free
-opened_free : (messages : List Unfinished) (p : Part) (answer : Option Framed) → opening messages p ≡ Ok answer → numbered (id_of p) messages ≡ None
+pub opened_free : (messages : List Unfinished) (p : Part) (answer : Option Framed) → opening messages p ≡ Ok answer → numbered (id_of p) messages ≡ None
 opened_free messages p answer e =
     let taken : Bool = is_some (numbered (id_of p) messages) || nat_le unfinished_limit (length messages) in
     let a = guard_ok (ltb (length p.content) 4) without_id (cond taken (Err BadFragment) (so_far (message_of p.header.order p.header.kind p.content))) answer e in
     let b = guard_ok taken BadFragment (so_far (message_of p.header.order p.header.kind p.content)) answer a.1 in
     none_or (numbered (id_of p) messages) (nat_le unfinished_limit (length messages)) b.0
 
-judged_opening : (messages : List Unfinished) (place : ℕ) (p : Part) → is_fragment p.header.kind ≡ false → p.header.more ≡ true → judged messages place p ≡ opening messages p
+pub judged_opening : (messages : List Unfinished) (place : ℕ) (p : Part) → is_fragment p.header.kind ≡ false → p.header.more ≡ true → judged messages place p ≡ opening messages p
 unfolding judged
 judged_opening messages place p f m = rw (f, m) refl
 
-number_free : (messages : List Unfinished) (place : ℕ) (p : Part) (answer : Option Framed) → is_fragment p.header.kind ≡ false → p.header.more ≡ true → judged messages place p ≡ Ok answer → numbered (id_of p) messages ≡ None
+pub number_free : (messages : List Unfinished) (place : ℕ) (p : Part) (answer : Option Framed) → is_fragment p.header.kind ≡ false → p.header.more ≡ true → judged messages place p ≡ Ok answer → numbered (id_of p) messages ≡ None
 number_free messages place p answer f m e = opened_free messages p answer (sym (judged_opening messages place p f m) ∙ e)
 
 -- the message that a part begins
-abbrev first : ℕ → Part → Unfinished
+abbrev pub first : ℕ → Part → Unfinished
 first place p = record { id = id_of p; place = place; header = p.header; content = p.content }
 
 -- ---- what stands after a part
 
-after_piece : (place : ℕ) (p : Part) (messages : List Unfinished) → is_fragment p.header.kind ≡ true → p.header.more ≡ true → after place p messages ≡ extended (id_of p) (drop 4 p.content) messages
+pub after_piece : (place : ℕ) (p : Part) (messages : List Unfinished) → is_fragment p.header.kind ≡ true → p.header.more ≡ true → after place p messages ≡ extended (id_of p) (drop 4 p.content) messages
 after_piece place p messages f m = rw (f, m) refl
 
-after_end : (place : ℕ) (p : Part) (messages : List Unfinished) → is_fragment p.header.kind ≡ true → p.header.more ≡ false → after place p messages ≡ without (id_of p) messages
+pub after_end : (place : ℕ) (p : Part) (messages : List Unfinished) → is_fragment p.header.kind ≡ true → p.header.more ≡ false → after place p messages ≡ without (id_of p) messages
 after_end place p messages f m = rw (f, m) refl
 
-after_first : (place : ℕ) (p : Part) (messages : List Unfinished) → is_fragment p.header.kind ≡ false → p.header.more ≡ true → after place p messages ≡ messages ++ first place p ∷ []
+pub after_first : (place : ℕ) (p : Part) (messages : List Unfinished) → is_fragment p.header.kind ≡ false → p.header.more ≡ true → after place p messages ≡ messages ++ first place p ∷ []
 after_first place p messages f m = rw (f, m) refl
 
-after_whole : (place : ℕ) (p : Part) (messages : List Unfinished) → is_fragment p.header.kind ≡ false → p.header.more ≡ false → after place p messages ≡ messages
+pub after_whole : (place : ℕ) (p : Part) (messages : List Unfinished) → is_fragment p.header.kind ≡ false → p.header.more ≡ false → after place p messages ≡ messages
 after_whole place p messages f m = rw (f, m) refl
 
 -- one number has one message still
@@ -168,7 +168,7 @@ apart_after messages place p answer said h =
       ]
     ]
 
-all_apart : (parts : List Part) → AreTaken parts → AreApart (unfinished parts)
+pub all_apart : (parts : List Part) → AreTaken parts → AreApart (unfinished parts)
 all_apart [] t = tt
 all_apart (p ∷ older) t = apart_after (unfinished older) (offset older) p t.0 t.1 (all_apart older t.2)
 

@@ -17,3 +17,4 @@ pub mod Holding
 pub mod Further
 pub mod Cuts
 pub mod Joining
+pub mod Belonging

@@ -5,6 +5,7 @@ pub mod Message
 pub mod Content
 pub mod Decode
 pub mod Stream
+pub mod SeveralParts
 pub mod StreamInside
 pub mod Skim
 pub mod Held

@@ -12,6 +12,7 @@ pub use laws::{
 };
 pub use message::{Contexts, Locate, Located, Message, Reply, Request, ServiceContext, Target};
 pub use stream::Stream;
+pub use stream_laws::parts_belong_to_messages;
 
 mod content;
 mod decoding;
@@ -26,4 +27,5 @@ mod parts;
 mod sizes;
 mod skim;
 mod stream;
+mod stream_laws;
 mod unfinished;

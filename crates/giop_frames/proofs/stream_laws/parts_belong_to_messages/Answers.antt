@@ -1,0 +1,22 @@
+use Rattle.std.proofs.Common.{List, sym, subst}
+use Rattle.giop_frames.specs.declared.framed.Framed.{Framed}
+use Rattle.giop_frames.specs.SeveralParts.{AreEnded}
+use Rattle.giop_frames.proofs.Belonging.{all_ends, belongs_to_one, earliest_told, few, opens}
+use Rattle.giop_frames.proofs.stream_laws.parts_belong_to_messages.Goals as goal
+
+pub returns-clause-one : goal.returns-clause-one
+returns-clause-one c octets rest messages newer older p s f = belongs_to_one newer older p s.taken f
+
+pub returns-clause-ended : goal.returns-clause-ended
+returns-clause-ended c octets rest parts messages s =
+    let Ends : List Framed → Type 0 = λ ms. AreEnded parts ms in
+    subst Ends (sym s.messages_are) (all_ends parts s.taken)
+
+pub returns-clause-unended : goal.returns-clause-unended
+returns-clause-unended c octets rest parts messages s = opens parts s.taken
+
+pub returns-clause-few : goal.returns-clause-few
+returns-clause-few c octets rest parts messages s = few parts s.taken
+
+pub returns-clause-earliest : goal.returns-clause-earliest
+returns-clause-earliest c octets rest parts messages s = earliest_told parts s.taken
