@@ -1,0 +1,5 @@
+pub mod Limits
+pub mod Layout
+pub mod Reading
+pub mod Journal
+pub mod Laws

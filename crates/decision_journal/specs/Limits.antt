@@ -1,0 +1,10 @@
+-- The limits of a journal, each a number (our profile).
+use Rattle.std.specs.Prelude.{ℕ}
+
+-- how many octets an area has at most: 64 MB
+abbrev pub area_limit : ℕ
+area_limit = 67108864
+
+-- how many decisions and prepared records stand at most
+abbrev pub standing_limit : ℕ
+standing_limit = 8192
