@@ -207,27 +207,22 @@ pub showing_more : (script left next before now after : Option (List ℕ)) (h ne
 showing_more None left next before now after h new places n room s gives t = tt
 showing_more (Some octets) left next before now after h new places n room s gives t = more octets left next before now after h new places n room s gives t
 
--- what a show of these octets wrote, where the sink tells it
-abbrev pub ShowsTold : Status → List ℕ → Option (List ℕ) → Option (List ℕ) → Type 0
-ShowsTold status octets before after = IfSome before (λ taken. ShowsOctets status octets taken after)
-
-told : (status : Status) (octets : List ℕ) (messages : List Framed) (before after : Option (List ℕ)) → Ends status messages octets → IfSome before (λ taken. WritesMessageLines status messages taken after) → ShowsTold status octets before after
-told status octets messages None after ends writes = tt
-told status octets messages (Some taken) after ends writes = record { messages = messages; ends = ends; writes = writes }
+told : (status : Status) (octets : List ℕ) (messages : List Framed) (before after : Option (List ℕ)) → Ends status messages octets → IfSome before (λ taken. WritesMessageLines status messages taken after) → ShowsOctets status octets before after
+told status octets messages before after ends writes = record { messages = messages; ends = ends; writes = writes }
 
 -- a status that comes without a further octet
-begun_shows : (status : Status) (octets : List ℕ) (left before now : Option (List ℕ)) (h : Held) → ((messages : List Framed) → IsBegun messages octets → Ends status messages octets) → Showing octets left before now h → ShowsTold status octets before now
+begun_shows : (status : Status) (octets : List ℕ) (left before now : Option (List ℕ)) (h : Held) → ((messages : List Framed) → IsBegun messages octets → Ends status messages octets) → Showing octets left before now h → ShowsOctets status octets before now
 begun_shows status octets left before now h ends s =
     let begun : IsBegun s.messages octets = subst (λ (x : List ℕ). IsBegun s.messages x) (sym s.whole) (begun_on s.read s.rest s.messages (held_begun s.read s.messages h s.holds)) in
     told status octets s.messages before now (ends s.messages begun) (written status s.messages (message_lines s.messages) before now refl s.taken)
 
-read_failed : (script left before now : Option (List ℕ)) (h : Held) → IfSome script (λ octets. Showing octets left before now h) → IfSome script (λ octets. ShowsTold statuses.ReadFault octets before now)
+read_failed : (script left before now : Option (List ℕ)) (h : Held) → IfSome script (λ octets. Showing octets left before now h) → IfSome script (λ octets. ShowsOctets statuses.ReadFault octets before now)
 read_failed None left before now h s = tt
 read_failed (Some octets) left before now h s = begun_shows statuses.ReadFault octets left before now h (λ messages b. b) s
 
 -- reading failed
 pub showing_failed : (script left before now : Option (List ℕ)) (h : Held) → IfSome script (λ octets. Showing octets left before now h) → Shows statuses.ReadFault script before now
-showing_failed script left before now h s = record { of_show = tt; writes = read_failed script left before now h s }
+showing_failed script left before now h s = record { of_show = tt; shows = read_failed script left before now h s }
 
 abbrev no_octets : List ℕ
 no_octets = []
@@ -244,7 +239,7 @@ read_to_end None left next before now h places n room s gives none place = tt
 read_to_end (Some octets) left next before now h places n room s gives none place = (nothing_left octets left next before now h places n room s gives none place).1
 
 ended_told : (status : Status) (octets : List ℕ) (left next before now : Option (List ℕ)) (h : Held) (places n : ℕ) (room : List ℕ) → Showing octets left before now h → IfSome left (λ l. Gives l places n room next) → n ≡ 0 → 0 < places → EndsStream status h
-    → ShowsTold status octets before now
+    → ShowsOctets status octets before now
 ended_told statuses.Done octets left next before now h places n room s gives none place ends =
     let all = nothing_left octets left next before now h places n room s gives none place in
     let whole : IsWhole s.messages octets = subst (λ (x : List ℕ). IsWhole s.messages x) (sym all.0) (ends s.read s.messages s.holds) in
@@ -271,7 +266,7 @@ OfShow-ended (statuses.Limit line number) h ends = absurd ends
 OfShow-ended statuses.Memory h ends = absurd ends
 
 ended_writes : (status : Status) (script left next before now : Option (List ℕ)) (h : Held) (places n : ℕ) (room : List ℕ) → IfSome script (λ octets. Showing octets left before now h) → IfSome left (λ l. Gives l places n room next) → n ≡ 0 → 0 < places → EndsStream status h
-    → IfSome script (λ octets. ShowsTold status octets before now)
+    → IfSome script (λ octets. ShowsOctets status octets before now)
 ended_writes status None left next before now h places n room s gives none place ends = tt
 ended_writes status (Some octets) left next before now h places n room s gives none place ends = ended_told status octets left next before now h places n room s gives none place ends
 
@@ -279,7 +274,7 @@ ended_writes status (Some octets) left next before now h places n room s gives n
 pub showing_ended : (status : Status) (script left next before now : Option (List ℕ)) (h : Held) (places n : ℕ) (room : List ℕ) → IfSome script (λ octets. Showing octets left before now h) → IfSome left (λ l. Gives l places n room next) → n ≡ 0 → 0 < places → EndsStream status h
     → Shows status script before now
 showing_ended status script left next before now h places n room s gives none place ends =
-    record { of_show = OfShow-ended status h ends; writes = ended_writes status script left next before now h places n room s gives none place ends }
+    record { of_show = OfShow-ended status h ends; shows = ended_writes status script left next before now h places n room s gives none place ends }
 
 -- a law: octets that are refused are refused with more of them too
 abbrev pub RefusalGoesOn : Type 0
@@ -316,7 +311,7 @@ broke_writes : (status : Status) (messages more : List Framed) (before now after
 broke_writes status messages more None now after t w stops = tt
 broke_writes status messages more (Some taken) now after t w stops = ahead status messages more taken now after t w stops
 
-broke : RefusalGoesOn → (status : Status) (octets : List ℕ) (left next before now after : Option (List ℕ)) (h : Held) (places n : ℕ) (room : List ℕ) → Showing octets left before now h → IfSome left (λ l. Gives l places n room next) → BrokeOff status h (take n room) now after → ShowsTold status octets before after
+broke : RefusalGoesOn → (status : Status) (octets : List ℕ) (left next before now after : Option (List ℕ)) (h : Held) (places n : ℕ) (room : List ℕ) → Showing octets left before now h → IfSome left (λ l. Gives l places n room next) → BrokeOff status h (take n room) now after → ShowsOctets status octets before after
 broke law status octets left next before now after h places n room s gives b =
     let g : Gives s.rest places n room next = rw s.left_is at gives in
     let whole : octets ≡ (s.read ++ take n room) ++ drop n s.rest = s.whole ∙ ap (λ (x : List ℕ). s.read ++ x) (sym (take-append-drop n s.rest) ∙ ap (λ (x : List ℕ). x ++ drop n s.rest) (sym g.octets)) ∙ sym (append_assoc s.read (take n room) (drop n s.rest)) in
@@ -324,7 +319,7 @@ broke law status octets left next before now after h places n room s gives b =
     told status octets (s.messages ++ b.messages) before after ends (broke_writes status s.messages b.messages before now after s.taken b.writes b.stops)
 
 broke_told : RefusalGoesOn → (status : Status) (script left next before now after : Option (List ℕ)) (h : Held) (places n : ℕ) (room : List ℕ) → IfSome script (λ octets. Showing octets left before now h) → IfSome left (λ l. Gives l places n room next) → BrokeOff status h (take n room) now after
-    → IfSome script (λ octets. ShowsTold status octets before after)
+    → IfSome script (λ octets. ShowsOctets status octets before after)
 broke_told law status None left next before now after h places n room s gives b = tt
 broke_told law status (Some octets) left next before now after h places n room s gives b = broke law status octets left next before now after h places n room s gives b
 
@@ -342,7 +337,7 @@ OfShow-stopped (statuses.Limit line number) stops = absurd stops
 pub showing_broke : RefusalGoesOn → (status : Status) (script left next before now after : Option (List ℕ)) (h : Held) (places n : ℕ) (room : List ℕ) → IfSome script (λ octets. Showing octets left before now h) → IfSome left (λ l. Gives l places n room next) → BrokeOff status h (take n room) now after
     → Shows status script before after
 showing_broke law status script left next before now after h places n room s gives b =
-    record { of_show = OfShow-stopped status b.stops; writes = broke_told law status script left next before now after h places n room s gives b }
+    record { of_show = OfShow-stopped status b.stops; shows = broke_told law status script left next before now after h places n room s gives b }
 
 -- ---- the end of the stream
 

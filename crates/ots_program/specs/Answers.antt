@@ -24,10 +24,6 @@ HasReadFault status before after = status ≡ statuses.ReadFault → HasRisen be
 abbrev pub HasWriteFault : Status → ℕ → ℕ → Type 0
 HasWriteFault status before after = status ≡ statuses.WriteFault → HasRisen before after
 
--- where the source tells its octets and the sink what it has taken
-abbrev pub WhereTold : Option (List ℕ) → Option (List ℕ) → (List ℕ → List ℕ → Type 0) → Type 0
-WhereTold left taken P = IfSome left (λ octets. IfSome taken (λ before. P octets before))
-
 -- a status of a replay
 abbrev pub OfReplay : Status → Type 0
 OfReplay statuses.Done = Unit {0}

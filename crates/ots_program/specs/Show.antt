@@ -1,12 +1,11 @@
 -- What `ots show` answers, and what its sink has taken (our profile).
-use Rattle.std.specs.Prelude.{◌≡◌, ◌⊎◌, ℕ, List, ◌++◌, take, Option, Some}
+use Rattle.std.specs.Prelude.{◌≡◌, ◌⊎◌, ℕ, List, ◌++◌, take, Option, Some, IfSome}
 use Rattle.giop_frames.specs.declared.fault.FrameFault.{FrameFault}
 use Rattle.giop_frames.specs.declared.fault.FrameFault.TheVariants.{Short}
 use Rattle.giop_frames.specs.declared.framed.Framed.{Framed}
 use Rattle.giop_frames.specs.Stream.{IsBegun, IsCut, IsRefused, IsWhole}
 use Rattle.ots_program.specs.declared.status.Status.{Status}
 use Rattle.ots_program.specs.declared.status.Status.TheVariants as statuses
-use Rattle.ots_program.specs.Answers.{WhereTold}
 use Rattle.ots_program.specs.MessageLine.{message_lines}
 
 -- a status of a show
@@ -39,16 +38,18 @@ WritesMessageLines (statuses.BadMessage place fault) messages before after =
 WritesMessageLines _ messages before after =
     (n : ℕ) × (after ≡ Some (before ++ take n (message_lines messages)))
 
--- a show of these octets with this status, to a sink that had taken the octets before
-pub record ShowsOctets (status : Status) (octets before : List ℕ) (after : Option (List ℕ)) : Type 0 where
+-- a show of these octets with this status: it ended so behind some messages, whose lines went out, where the sink tells
+-- what it has taken
+pub record ShowsOctets (status : Status) (octets : List ℕ) (before after : Option (List ℕ)) : Type 0 where
   pub messages : List Framed
   pub ends : Ends status messages octets
-  pub writes : WritesMessageLines status messages before after
+  pub writes : IfSome before (λ taken. WritesMessageLines status messages taken after)
 
 -- A show with this status: the source had these octets left, and the sink had taken the octets before and has taken
 -- those after.
 pub record Shows (status : Status) (left before after : Option (List ℕ)) : Type 0 where
   -- no other command's status is answered
   pub of_show : OfShow status
-  -- the sink has taken the lines of the messages that the octets have, up to their end or to the first fault
-  pub writes : WhereTold left before (λ octets taken. ShowsOctets status octets taken after)
+  -- where the source tells its octets, the show went up to their end or to the first fault, and wrote the lines of their
+  -- messages
+  pub shows : IfSome left (λ octets. ShowsOctets status octets before after)
