@@ -318,26 +318,26 @@ first_open since [] = inr refl
 first_open since (p ∷ before) =
     elim (first_open (since ++ p ∷ []) before) [
       | inl h ↦ inl (record {
-          first = h.first;
-          before = h.before;
-          after_it = h.after_it;
-          stand = sym (append_assoc since (p ∷ []) before) ∙ h.stand;
-          unended = h.unended;
-          none_before = h.none_before;
-          others = h.others ++ opened p before since;
-          list_is = ap (λ (us : List Unfinished). us ++ opened p before since) h.list_is;
-        })
+        first = h.first;
+        before = h.before;
+        after_it = h.after_it;
+        stand = sym (append_assoc since (p ∷ []) before) ∙ h.stand;
+        unended = h.unended;
+        none_before = h.none_before;
+        others = h.others ++ opened p before since;
+        list_is = ap (λ (us : List Unfinished). us ++ opened p before since) h.list_is;
+      })
       | inr none ↦ elim (cases_bool (is_open p since)) [
         | inl o ↦ inl (record {
-            first = p;
-            before = before;
-            after_it = since;
-            stand = refl;
-            unended = o;
-            none_before = none;
-            others = [];
-            list_is = ap (λ (us : List Unfinished). us ++ opened p before since) none ∙ opened_is p before since true o;
-          })
+          first = p;
+          before = before;
+          after_it = since;
+          stand = refl;
+          unended = o;
+          none_before = none;
+          others = [];
+          list_is = ap (λ (us : List Unfinished). us ++ opened p before since) none ∙ opened_is p before since true o;
+        })
         | inr o ↦ inr (ap (λ (us : List Unfinished). us ++ opened p before since) none ∙ opened_is p before since false o)
       ]
     ]
@@ -346,12 +346,17 @@ pub earliest_told : (parts : List Part) → AreTaken parts → IsEarliestPlace p
 earliest_told parts t =
     let place : List Unfinished → ℕ = λ us. earliest (offset parts) us in
     elim (first_open [] parts) [
-      | inl h ↦ inl (h.first, h.before, h.after_it, record {
+      | inl h ↦ inl (
+        h.first,
+        h.before,
+        h.after_it,
+        record {
           stand = h.stand;
           unended = h.unended;
           none_before = h.none_before;
           place_is = ap place (opens parts t ∙ h.list_is);
-        })
+        },
+      )
       | inr none ↦ inr (none, ap place (opens parts t ∙ none))
     ]
 
@@ -550,11 +555,14 @@ piece_says_none p older answer t m e =
 
 pub all_ends : (parts : List Part) → AreTaken parts → AreEnded parts (messages_of parts)
 all_ends [] t = refl
-all_ends (p ∷ older) t =
-    (messages_of older, all_ends older t.2, elim (cases_bool p.header.more) [
-      | inl m ↦ inl (m, ap (λ (j : Judgement). messages_of older ++ given j) (t.1 ∙ ap (λ (x : Option Framed). Ok x) (piece_says_none p older t.0 t.2 m t.1)) ∙ append-nil (messages_of older))
-      | inr m ↦ inr (m, ends_next p older t.0 (messages_of older) t.2 m t.1)
-    ])
+all_ends (p ∷ older) t = (
+  messages_of older,
+  all_ends older t.2,
+  elim (cases_bool p.header.more) [
+    | inl m ↦ inl (m, ap (λ (j : Judgement). messages_of older ++ given j) (t.1 ∙ ap (λ (x : Option Framed). Ok x) (piece_says_none p older t.0 t.2 m t.1)) ∙ append-nil (messages_of older))
+    | inr m ↦ inr (m, ends_next p older t.0 (messages_of older) t.2 m t.1)
+  ],
+)
 
 -- ---- a Fragment is a part of one message
 
@@ -641,10 +649,14 @@ taken_behind (q ∷ newer) parts t = taken_behind newer parts t.2
 -- a Fragment that was taken is a part of exactly one message
 pub belongs_to_one : (newer older : List Part) (p : Part) → AreTaken (newer ++ p ∷ older) → is_fragment p.header.kind ≡ true
     → (first : Part) × (before : List Part) × (between : List Part) × IsPartOf p older first before between
-      × ((f : Part) (b c : List Part) → IsPartOf p older f b c → (f ≡ first) × (b ≡ before) × (c ≡ between))
+    × ((f : Part) (b c : List Part) → IsPartOf p older f b c → (f ≡ first) × (b ≡ before) × (c ≡ between))
 belongs_to_one newer older p t f =
     let here = taken_behind newer (p ∷ older) t in
     let c = fragment_continues older p here.0 here.2 f here.1 in
-    let b = found (id_of p) older c.message c.is in
-    (b.first, b.before, b.since, belongs p older c.message b,
-      λ other before between h. unique (id_of p) older b.since b.first b.before between other before here.2 b.stand b.unended b.numbered_so h.stand h.unended h.numbered)
+    let b = found (id_of p) older c.message c.is in (
+      b.first,
+      b.before,
+      b.since,
+      belongs p older c.message b,
+      λ other before between h. unique (id_of p) older b.since b.first b.before between other before here.2 b.stand b.unended b.numbered_so h.stand h.unended h.numbered,
+    )

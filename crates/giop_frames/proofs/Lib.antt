@@ -18,3 +18,4 @@ pub mod Further
 pub mod Cuts
 pub mod Joining
 pub mod Belonging
+pub mod Kept

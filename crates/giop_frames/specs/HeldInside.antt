@@ -21,6 +21,10 @@ pub record AreShort (messages : List Unfinished) : Type 0 where
   pub few : length messages ≤ unfinished_limit
   pub short : AllByRecursion (λ u. length u.content ≤ size_limit) messages
 
+-- of a buffer from whose front so many octets were taken, the octets that are held are at least as many
+abbrev pub IsMostlyHeld : ℕ → List ℕ → Type 0
+IsMostlyHeld taken buffer = taken + taken ≤ length buffer
+
 -- a call judged the part at this place, and these are the unfinished messages behind it
 pub record Judges (place : ℕ) (p : Part) (result : Result (Option Framed) FrameFault)
     (old new : List Unfinished) : Type 0 where

@@ -5,6 +5,10 @@ use Rattle.std.specs.Prelude.{ℕ}
 abbrev pub size_limit : ℕ
 size_limit = 65536
 
+-- the octets of a part, its header included, of which one octet is still to come
+abbrev pub partial_limit : ℕ
+partial_limit = 65547
+
 -- the service contexts of a message
 abbrev pub context_limit : ℕ
 context_limit = 16

@@ -112,7 +112,7 @@ BelongsToOne =
     (octets rest : List ℕ) (messages : List Framed) (newer older : List Part) (p : Part)
     → Splits octets (newer ++ p ∷ older) messages rest → is_fragment p.header.kind ≡ true
     → (first : Part) × (before : List Part) × (between : List Part) × IsPartOf p older first before between
-      × ((f : Part) (b c : List Part) → IsPartOf p older f b c → (f ≡ first) × (b ≡ before) × (c ≡ between))
+    × ((f : Part) (b c : List Part) → IsPartOf p older f b c → (f ≡ first) × (b ≡ before) × (c ≡ between))
 
 -- the messages given are those whose last part is there, in the order of their last parts
 abbrev pub GivesEnded : Type 0

@@ -1,7 +1,9 @@
 ghost use Rattle.std.specs.Prelude.{◌≡◌, ◌↔◌, ◌+◌, ◌<◌, ◌≤◌, ◌^◌, [], length, drop, Option, None, Some, Ok, Err, IfSome, IsTrue, OnErr, OnOk};
 ghost use Rattle.giop_frames.specs.Fault.{IfRefused};
 ghost use Rattle.giop_frames.specs.Held.{Held, Holds, GivesNext, HasCome, HasGiven, HasGivenFramed, IsUnfinished, place_of};
-ghost use Rattle.giop_frames.specs.HeldInside.{Takes, remembering};
+ghost use Rattle.giop_frames.specs.Limits.{partial_limit};
+ghost use Rattle.giop_frames.specs.Stream.{part_at};
+ghost use Rattle.giop_frames.specs.HeldInside.{IsMostlyHeld, Takes, remembering};
 
 use crate::fault::FrameFault;
 use crate::framed::Framed;
@@ -28,7 +30,7 @@ pub struct Stream {
 impl Model for Stream {
     ghost use Rattle.std.specs.Prelude.{◌≤◌, length, drop};
     ghost use Rattle.giop_frames.specs.Held.{Held};
-    ghost use Rattle.giop_frames.specs.HeldInside.{AreShort};
+    ghost use Rattle.giop_frames.specs.HeldInside.{AreShort, IsMostlyHeld};
 
     ghost Value = { Held };
 
@@ -39,7 +41,7 @@ impl Model for Stream {
       refused = s.refused;
     } };
 
-    ghost invariant = { λ s. (s.start ≤ length s.buffer.items) × AreShort s.messages.items };
+    ghost invariant = { λ s. IsMostlyHeld s.start s.buffer.items × AreShort s.messages.items };
 }
 
 /// What a stream found at its place.
@@ -79,7 +81,6 @@ impl Stream {
         if let Some(fault) = self.refused {
             return Err(fault);
         }
-        self.compact();
         self.buffer.extend_from_slice(piece)?;
         Ok(())
     }
@@ -134,15 +135,14 @@ impl Stream {
         !self.messages.is_empty() || !behind(&self.buffer, self.start).is_empty()
     }
 
-    /// Moves what is left to the front, where what was taken is the larger part.
-    fn compact(&mut self)
-        ensures { self.new ≡ self.old }
+    /// How many octets its buffer keeps: those that are held of no whole part, and at most as many of parts that were
+    /// taken. The joined octets of unfinished messages are kept beside it.
+    pub fn kept(&self) -> usize
+        ensures held { length self.now.rest ≤ result }
+        ensures few { result ≤ length self.now.rest + length self.now.rest }
+        ensures partial { part_at self.now.rest ≡ Err FrameFault.Short → result ≤ partial_limit + partial_limit }
     {
-        if self.start > self.buffer.len() / 2 {
-            self.buffer.rotate_left(self.start);
-            self.buffer.truncate(self.buffer.len() - self.start);
-            self.start = 0;
-        }
+        self.buffer.len()
     }
 
     /// A refusal other than want of memory is answered for good.
@@ -166,11 +166,26 @@ impl Stream {
         let content = content_of(header, rest);
         let framed = judge(self.alloc, &mut self.messages, self.place, header, content)?;
         let length = HEADER_LENGTH + header.size as usize;
-        self.start += length;
+        self.start = give_back(&mut self.buffer, self.start + length);
         self.place = self.place.saturating_add(length as u64);
         let Some(framed) = framed else {
             return Ok(Taken::Piece);
         };
         Ok(Taken::Whole(framed))
     }
+}
+
+/// Gives the front of a buffer back, where it is the larger part. So each octet that is moved stands for one that is
+/// given back. The answer is how many octets of that front are left.
+fn give_back(buffer: &mut Vec<u8>, taken: usize) -> usize
+    requires { taken ≤ length buffer.old.items }
+    ensures held { drop result buffer.new.items ≡ drop taken buffer.old.items }
+    ensures mostly { IsMostlyHeld result buffer.new.items }
+{
+    if taken <= buffer.len() - taken {
+        return taken;
+    }
+    buffer.rotate_left(taken);
+    buffer.truncate(buffer.len() - taken);
+    0
 }

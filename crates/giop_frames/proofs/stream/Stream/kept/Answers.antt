@@ -1,0 +1,13 @@
+use Rattle.std.proofs.Common.{◌≡◌, ◌≤◌, drop, length, ap, arith}
+use Rattle.std.proofs.lemmas.List.{length-drop}
+use Rattle.giop_frames.specs.Held.{Held}
+use Rattle.giop_frames.specs.Limits.{partial_limit}
+use Rattle.giop_frames.proofs.Kept.{partial_is_short}
+use Rattle.giop_frames.proofs.stream.Stream.kept.Goals as goal
+
+pub returns-clause-partial : goal.returns-clause-partial
+returns-clause-partial c short =
+    let inside = c.self.inside in
+    let rest : length c.args.self.now.rest ≤ partial_limit = partial_is_short c.args.self.now.rest short in
+    let view : length (drop inside.start inside.buffer.items) ≡ length c.args.self.now.rest = ap (λ (h : Held). length h.rest) c.self.view_is in
+    omega (arith, rest, view, length-drop inside.start inside.buffer.items, c.self.invariant.0)
