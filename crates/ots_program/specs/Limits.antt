@@ -1,4 +1,4 @@
--- How much a script may have (our profile).
+-- How much a script may have, and how much is read at once (our profile).
 use Rattle.std.specs.Prelude.{ℕ}
 pub use Rattle.ots_world.specs.Limits.{message_limit}
 
@@ -9,3 +9,7 @@ lines_limit = 100000
 -- octets, line feeds included
 abbrev pub octets_limit : ℕ
 octets_limit = 16777216
+
+-- the octets that are read at once, of a script or of a stream
+abbrev pub piece_limit : ℕ
+piece_limit = 8192

@@ -8,6 +8,7 @@ pub use status::Status;
 
 mod command;
 mod devices;
+mod input;
 mod laws;
 mod limits;
 mod message_line;

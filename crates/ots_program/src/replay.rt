@@ -1,18 +1,17 @@
-ghost use Rattle.std.specs.Prelude.{◌≡◌, ◌≢◌, ◌≤◌, [], Err, IfErr, OnOk};
+ghost use Rattle.std.specs.Prelude.{◌≡◌, ◌≢◌, ◌≤◌, [], length, Err, IfErr, OnOk};
 ghost use Rattle.ots_outside.specs.Source.{HasRisen};
 ghost use Rattle.ots_program.specs.Answers.{HasReadFault, HasWriteFault, IsDoneAtEnd, Replays};
+ghost use Rattle.ots_program.specs.Limits.{piece_limit};
 ghost use Rattle.ots_program.specs.Playing.{left};
 ghost use Rattle.ots_program.specs.ReplayInside.{BreaksOff, Halts, IsReady, PlaysPiece};
 
+use crate::input::{PIECE, read_piece};
 use crate::output::write_out;
 use crate::player::Player;
 use crate::status::Status;
 use ots_outside::{Sink, Source};
 use ots_world::lines_agree;
 use std::alloc::Global;
-
-/// How many octets are read at once.
-const PIECE: usize = 16_384;
 
 /// Replays the script on the source. Its lines go to the sink.
 pub fn replay<S: Source, K: Sink>(alloc: Global, source: &mut S, sink: &mut K) -> Status
@@ -26,7 +25,7 @@ pub fn replay<S: Source, K: Sink>(alloc: Global, source: &mut S, sink: &mut K) -
     let mut player = Player::new(alloc);
     let mut room = [0; PIECE];
     loop {
-        let Ok(count) = source.read(&mut room) else {
+        let Ok(count) = read_piece(source, &mut room) else {
             return Status::ReadFault;
         };
         if count == 0 {
@@ -41,6 +40,7 @@ pub fn replay<S: Source, K: Sink>(alloc: Global, source: &mut S, sink: &mut K) -
 /// Plays a piece of the script. The error is the status with which the replay breaks off.
 fn play<K: Sink>(player: &mut Player, piece: &[u8], sink: &mut K) -> Result<(), Status>
     requires ready { IsReady player.old }
+    requires few { length piece.now ≤ piece_limit }
     ensures plays { OnOk result (PlaysPiece player.old player.new piece.now (K.taken sink.old) (K.taken sink.new)) }
     ensures breaks_off { IfErr result (λ status.
         BreaksOff status player.old piece.now (K.taken sink.old) (K.taken sink.new)) }

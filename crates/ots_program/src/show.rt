@@ -1,13 +1,15 @@
-ghost use Rattle.std.specs.Prelude.{◌≡◌, ◌≤◌, ◌++◌, [], None, Err, IfErr, OnErr, OnOk};
+ghost use Rattle.std.specs.Prelude.{◌≡◌, ◌≤◌, ◌++◌, [], length, None, Err, IfErr, OnErr, OnOk};
 ghost use Rattle.giop_frames.specs.Stream.{part_at};
 ghost use Rattle.giop_frames.specs.Held.{place_of};
 ghost use Rattle.ots_outside.specs.Source.{HasRisen};
 ghost use Rattle.ots_program.specs.Answers.{HasReadFault, HasWriteFault, IsDoneAtEnd};
 ghost use Rattle.ots_program.specs.Show.{Shows};
 ghost use Rattle.ots_program.specs.ShowInside.{BrokeOff, EndsStream, TellsBreak, TellsPiece, TookPiece, status_by};
+ghost use Rattle.ots_program.specs.Limits.{piece_limit};
 ghost use Rattle.ots_program.specs.MessageLine.{message_line};
 ghost use Rattle.ots_program.specs.MessageLineInside.{Adds};
 
+use crate::input::{PIECE, read_piece};
 use crate::message_line::write_message_line;
 use crate::output::write_out;
 use crate::status::Status;
@@ -15,9 +17,6 @@ use giop_frames::{FrameFault, Framed, Stream, a_refusal_stays};
 use ots_outside::{Sink, Source};
 use std::alloc::Global;
 use std::sync::Wait;
-
-/// How many octets are read at once.
-const PIECE: usize = 8_192;
 
 /// Writes a line for each message of the source.
 pub fn show<R: Wait, S: Source, K: Sink>(
@@ -36,7 +35,7 @@ pub fn show<R: Wait, S: Source, K: Sink>(
     let mut stream = Stream::new(alloc);
     let mut room = [0; PIECE];
     for _ in rt.forever() {
-        let Ok(count) = source.read(&mut room) else {
+        let Ok(count) = read_piece(source, &mut room) else {
             return Status::ReadFault;
         };
         if count == 0 {
@@ -57,6 +56,7 @@ fn show_piece<K: Sink>(
     sink: &mut K,
 ) -> Result<(), Status>
     requires accepts { stream.old.refused ≡ None }
+    requires few { length piece.now ≤ piece_limit }
     ensures took { OnOk result (TookPiece stream.old stream.new piece.now (K.taken sink.old) (K.taken sink.new)) }
     ensures broken { IfErr result (λ status.
         BrokeOff status stream.old piece.now (K.taken sink.old) (K.taken sink.new)) }

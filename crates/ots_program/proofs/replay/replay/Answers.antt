@@ -25,6 +25,6 @@ pub loop-count-preserved : goal.loop-count-preserved
 loop-count-preserved g c = record {
   ready = c.in_default-play.ensures.plays.ready;
   runs = Runs-more c.loop-count.player c.play.new.player _ _ _ _ _ _ _ _ _ c.loop-count.invariant.runs c.in-Ok.ensures.octets c.in_default-play.ensures.plays;
-  source_faults = omega (arith, c.loop-count.invariant.source_faults, c.read.ensures.later);
+  source_faults = omega (arith, c.loop-count.invariant.source_faults, c.read_piece.ensures.later);
   sink_faults = omega (arith, c.loop-count.invariant.sink_faults, c.play.ensures.later);
 }

@@ -33,6 +33,6 @@ loop-preserved g c =
       accepts = took.accepts;
       partial = took.partial;
       showing = showing_more _ _ _ _ _ _ _ _ _ _ _ c.loop.invariant.showing c.in-Ok.ensures.octets took;
-      source_faults = omega (arith, c.loop.invariant.source_faults, c.read.ensures.later);
+      source_faults = omega (arith, c.loop.invariant.source_faults, c.read_piece.ensures.later);
       sink_faults = omega (arith, c.loop.invariant.sink_faults, c.show_piece.ensures.later);
     }
