@@ -1,0 +1,49 @@
+use Rattle.std.proofs.Common.{◌≡◌, [], ◌∷◌, ◌∙◌, ap, sym, refl}
+use Rattle.std.proofs.lemmas.Result.{err_from_is_err_and}
+use Rattle.cdr_values.specs.declared.order.Order.TheVariants.{Big}
+use Rattle.cdr_values.specs.Value.{Octet, UShort, ULong, OctetSequence, Text}
+use Rattle.cdr_values.specs.Values.{with_values}
+use Rattle.cdr_values.specs.Encapsulation.{begun}
+use Rattle.cdr_values.specs.Writing.{Writing, with_value}
+use Rattle.ior_refs.specs.Key.{octets_of_key}
+use Rattle.ior_refs.specs.Making.{iiop_to, profile_to}
+use Rattle.ior_refs.specs.Iiop.{iiop_values}
+use Rattle.ior_refs.proofs.Room.{profile_short, has_room, in_front, one_behind}
+use Rattle.ior_refs.proofs.making.profile_octets.Goals as goal
+
+pub returns-in_err-octets-clause-memory : goal.returns-in_err-octets-clause-memory
+returns-in_err-octets-clause-memory c =
+    let at = c.args.at.now in
+    let key = c.args.key.now in
+    let text = rw c.bytes.ensures.same at c.in_ok-string.ensures.ok in
+    let before = in_front at c.in_ok-writer.writer c.octet.new.self c.octet-2.new.self c.string.new.self c.ushort.new.self c.in_ok-writer.ensures.ok c.in_ok-octet.ensures.ok c.in_ok-octet-2.ensures.ok text c.in_ok-ushort.ensures.ok in
+    let refused = rw c.key_octets.ensures at c.in_err-octets.ensures.refused in
+    let fault = c.in_err-octets.field-0.0 in
+    let p = err_from_is_err_and c.from_residual-in_err-octets.result c.from_residual-in_err-octets.ensures.1 in
+    rw (p.1, p.2) (has_room (OctetSequence (octets_of_key key)) (ULong 0 ∷ []) fault c.ushort.new.self (with_values (begun Big) (iiop_values (iiop_to at key) [])) refl
+    (ap (λ (w : Writing). with_values w (OctetSequence (octets_of_key key) ∷ ULong 0 ∷ [])) before) (profile_short at key c.requires.short) refused)
+
+pub returns-in_err-ulong-clause-memory : goal.returns-in_err-ulong-clause-memory
+returns-in_err-ulong-clause-memory c =
+    let at = c.args.at.now in
+    let key = c.args.key.now in
+    let text = rw c.bytes.ensures.same at c.in_ok-string.ensures.ok in
+    let before = in_front at c.in_ok-writer.writer c.octet.new.self c.octet-2.new.self c.string.new.self c.ushort.new.self c.in_ok-writer.ensures.ok c.in_ok-octet.ensures.ok c.in_ok-octet-2.ensures.ok text c.in_ok-ushort.ensures.ok in
+    let one = rw c.key_octets.ensures at c.in_ok-octets.ensures.ok in
+    let more = one ∙ ap (λ (w : Writing). with_value w (OctetSequence (octets_of_key key))) before in
+    let fault = c.in_err-ulong.field-0.0 in
+    let p = err_from_is_err_and c.from_residual-in_err-ulong.result c.from_residual-in_err-ulong.ensures.1 in
+    rw (p.1, p.2) (has_room (ULong 0) [] fault c.octets.new.self (with_values (begun Big) (iiop_values (iiop_to at key) [])) refl
+    (ap (λ (w : Writing). with_values w (ULong 0 ∷ [])) more) (profile_short at key c.requires.short) c.in_err-ulong.ensures.refused)
+
+pub returns-clause-profile : goal.returns-clause-profile
+unfolding profile_to
+returns-clause-profile c =
+    let at = c.args.at.now in
+    let key = c.args.key.now in
+    let text = rw c.bytes.ensures.same at c.in_ok-string.ensures.ok in
+    let before = in_front at c.in_ok-writer.writer c.octet.new.self c.octet-2.new.self c.string.new.self c.ushort.new.self c.in_ok-writer.ensures.ok c.in_ok-octet.ensures.ok c.in_ok-octet-2.ensures.ok text c.in_ok-ushort.ensures.ok in
+    let one = rw c.key_octets.ensures at c.in_ok-octets.ensures.ok in
+    let more = one ∙ ap (λ (w : Writing). with_value w (OctetSequence (octets_of_key key))) before in
+    let all = c.in_ok-ulong.ensures.ok ∙ ap (λ (w : Writing). with_value w (ULong 0)) more in
+    c.finish.ensures.octets ∙ ap (λ (w : Writing). w.octets) all

@@ -1,0 +1,10 @@
+pub mod Limits
+pub mod Reference
+pub mod Fault
+pub mod Reading
+pub mod Writing
+pub mod Text
+pub mod Key
+pub mod Iiop
+pub mod Making
+pub mod Laws

@@ -1,0 +1,21 @@
+//! Object references and the object keys in them: their octets, their stringified form, and what an IIOP profile says.
+#![tactic(auto)]
+
+pub use fault::IorFault;
+pub use key::{KEY_LENGTH, ObjectKey, key_octets, key_of};
+pub use location::iiop;
+pub use making::make_ref;
+pub use profile::Iiop;
+pub use reference::{ObjectRef, read_ref, write_ref};
+pub use text::{parse_ior, print_ior};
+
+mod fault;
+mod key;
+mod location;
+mod making;
+mod profile;
+mod reference;
+mod tagged;
+#[cfg(test)]
+mod tests;
+mod text;

@@ -1,0 +1,71 @@
+ghost use Rattle.std.specs.Prelude.{◌≡◌, ◌^◌, ◌<◌, length};
+ghost use Rattle.ior_refs.specs.Fault.{Finds, Gives};
+ghost use Rattle.ior_refs.specs.Iiop.{components_at, has_components, iiop_at, iiop_in, iiop_in_octets};
+
+use crate::fault::IorFault;
+use crate::profile::Iiop;
+use crate::reference::ObjectRef;
+use crate::tagged::read_all_tagged;
+use cdr_values::Reader;
+use ots_model::Octets;
+use std::alloc::Global;
+
+/// What the first IIOP profile of a reference says. Its components are judged and passed over, and it has nothing
+/// behind them. Offsets count from the first octet of the profile.
+pub fn iiop(alloc: Global, o: &ObjectRef) -> Result<Iiop, IorFault>
+    ensures { Finds (λ i. i) result (iiop_in o.now) }
+{
+    match o.first_iiop() {
+        Some(octets) => iiop_of(alloc, octets),
+        None => Err(IorFault::NoIiop),
+    }
+}
+
+#[tactic(auto, unfolding(crate::specs::Iiop::iiop_in_octets))]
+fn iiop_of(alloc: Global, octets: &[u8]) -> Result<Iiop, IorFault>
+    requires { length octets.now < 2 ^ 31 }
+    ensures { Finds (λ i. i) result (iiop_in_octets octets.now) }
+{
+    let mut reader = Reader::encapsulation(octets)?;
+    let iiop = read_iiop(alloc, &mut reader)?;
+    if !reader.rest().is_empty() {
+        return Err(IorFault::Rest(reader.place()));
+    }
+    Ok(iiop)
+}
+
+#[tactic(auto, unfolding(crate::specs::Iiop::iiop_at))]
+fn read_iiop(alloc: Global, reader: &mut Reader) -> Result<Iiop, IorFault>
+    ensures { Gives (λ i. i) result reader.new (iiop_at reader.old) }
+{
+    let major = reader.octet()?;
+    let minor = reader.octet()?;
+    let host = Octets::new(alloc, reader.string()?)?;
+    let port = reader.ushort()?;
+    let key = Octets::new(alloc, reader.octets()?)?;
+    skip_components(alloc, reader, has_components(major, minor))?;
+    Ok(Iiop {
+        major,
+        minor,
+        host,
+        port,
+        key,
+    })
+}
+
+/// Whether a profile of this version has components: from 1.1 on.
+fn has_components(major: u8, minor: u8) -> bool
+    ensures { result ≡ has_components major minor }
+{
+    major > 1 || (major == 1 && minor >= 1)
+}
+
+#[tactic(auto, unfolding(crate::specs::Iiop::components_at))]
+fn skip_components(alloc: Global, reader: &mut Reader, has_components: bool) -> Result<(), IorFault>
+    ensures { Gives (λ nothing. nothing) result reader.new (components_at has_components reader.old) }
+{
+    if has_components {
+        read_all_tagged(alloc, reader)?;
+    }
+    Ok(())
+}
