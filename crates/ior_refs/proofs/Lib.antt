@@ -6,3 +6,6 @@ pub mod Keys
 pub mod Room
 pub mod Made
 pub mod Digits
+pub mod Exact
+pub mod Texts
+pub mod Endpoints

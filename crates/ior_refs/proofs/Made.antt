@@ -33,11 +33,11 @@ pub long_refused : (type_id : List ℕ) (at : Endpoint) (key : ObjectKey) → ha
 long_refused type_id at key p q h = rw (p, q, lt-ltb _ _ h) refl
 
 -- how many octets values have at least
-abbrev least : Order → List Value → ℕ
+abbrev pub least : Order → List Value → ℕ
 least order [] = 0
 least order (v ∷ vs) = length (bare_of order v) + least order vs
 
-all_at_least : (order : Order) (at : ℕ) (values : List Value) → least order values ≤ length (canonical_all order at values)
+pub all_at_least : (order : Order) (at : ℕ) (values : List Value) → least order values ≤ length (canonical_all order at values)
 all_at_least order at [] = omega arith
 all_at_least order at (v ∷ vs) =
     let one = canonical order at v in

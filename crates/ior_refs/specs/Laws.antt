@@ -1,20 +1,51 @@
 -- What reading and writing references and keys have to do with each other.
-use Rattle.std.specs.Prelude.{◌≡◌, List, Ok}
+use Rattle.std.specs.Prelude.{◌≡◌, ℕ, ◌+◌, ◌↔◌, nat_le, List, ◌++◌, length, IsTrue, Ok}
+use Rattle.cdr_values.specs.declared.order.Order.{Order}
+use Rattle.cdr_values.specs.Again.{standing}
+use Rattle.cdr_values.specs.Reading.{Reading}
+use Rattle.cdr_values.specs.Values.{ReadsAll, canonical_all}
 use Rattle.cdr_values.specs.Sequence.{IsExact}
 use Rattle.cdr_values.specs.Tagged.{reference_values}
-use Rattle.ior_refs.specs.Reference.{Reference, IsReference, is_short, canonical_octets}
+use Rattle.ots_model.specs.declared.service.Endpoint.{Endpoint}
+use Rattle.ior_refs.specs.Limits.{count_limit}
+use Rattle.ior_refs.specs.Reference.{Reference, Tagged, IsReference, is_short, canonical_octets}
 use Rattle.ior_refs.specs.Reading.{short_reference_at}
+use Rattle.ior_refs.specs.Text.{IsTextOf, reference_in_text, text_of}
+use Rattle.ior_refs.specs.Iiop.{iiop_at, iiop_in, iiop_values}
+use Rattle.ior_refs.specs.Making.{iiop_to, reference_to}
 use Rattle.ior_refs.specs.Key.{octets_of_key, AreNumbers}
 use Rattle.ior_refs.specs.declared.key.ObjectKey.{ObjectKey}
+use Rattle.ior_refs.specs.declared.profile.Iiop.{Iiop}
 
 -- a reference is read exactly where its values stand and it is not too long
 abbrev pub ReferencesAreReadExactly : Type 0
 ReferencesAreReadExactly = IsExact short_reference_at reference_values is_short
 
+-- a reference that was written is read again, in either byte order, at any offset, whatever follows it
+abbrev pub ReferencesAreReadAgain : Type 0
+ReferencesAreReadAgain =
+    (order : Order) (at : ℕ) (reference : Reference) (more : List ℕ) → IsReference reference
+    → short_reference_at (standing order at (canonical_all order at (reference_values reference) ++ more))
+    ≡ Ok (reference, standing order (at + length (canonical_all order at (reference_values reference))) more)
+
 -- references with the same canonical octets are the same
 abbrev pub SameOctetsSameReference : Type 0
 SameOctetsSameReference = (a b : Reference) → IsReference a → IsReference b
     → canonical_octets a ≡ canonical_octets b → a ≡ b
+
+-- a text has a reference exactly where it is one of its stringified forms, and the text that is written is one
+pub record TextLaws : Type 0 where
+  pub exact : (text : List ℕ) (reference : Reference)
+      → (reference_in_text text ≡ Ok reference) ↔ IsTextOf text reference
+  pub again : (reference : Reference) → IsReference reference → reference_in_text (text_of reference) ≡ Ok reference
+
+-- an IIOP profile is read exactly where its values stand, with some components
+pub record IiopLaws : Type 0 where
+  pub found : (r : Reading) (i : Iiop) (behind : Reading) → iiop_at r ≡ Ok (i, behind)
+      → (components : List Tagged) × ReadsAll r (iiop_values i components) behind
+  pub only : (r : Reading) (i : Iiop) (components : List Tagged) (behind : Reading)
+      → ReadsAll r (iiop_values i components) behind → IsTrue (nat_le (length components) count_limit)
+      → iiop_at r ≡ Ok (i, behind)
 
 -- keys with the same octets are the same
 abbrev pub SameOctetsSameKey : Type 0

@@ -1,6 +1,6 @@
 -- Reading references from the front, and their first fault (CORBA, Interoperable Object References; the limit and the
 -- faults are our profile).
-use Rattle.std.specs.Prelude.{◌≡◌, ℕ, ◌==◌, nat_lt, List, length, Result, Ok, Err, if◌then◌else◌}
+use Rattle.std.specs.Prelude.{◌≡◌, ℕ, ◌==◌, nat_lt, List, [], length, Result, Ok, Err, if◌then◌else◌}
 use Rattle.ots_model.specs.Limits.{reference_limit}
 use Rattle.cdr_values.specs.Value.{Value}
 use Rattle.cdr_values.specs.Values.{ReadsAll}
@@ -34,6 +34,12 @@ abbrev pub whole : {A : Type 0} → Read A IorFault → Reading → Result A Ior
 whole read r = do
   found ← read r
   if length found.1.rest == 0 then Ok found.0 else Err (Rest found.1.place)
+
+-- the values are what a reader has left: nothing stands behind them
+pub record IsWhole (values : List Value) (reader : Reading) : Type 0 where
+  pub behind : Reading
+  pub reads : ReadsAll reader values behind
+  pub nothing : behind.rest ≡ []
 
 -- a reader has gone over some values, or none
 pub record HasReadSome (old new : Reading) : Type 0 where

@@ -1,21 +1,21 @@
 -- Stringified references (CORBA, ORB Interoperability Architecture, Stringified Object References): "IOR:", and the
 -- hexadecimal digits of an encapsulation. That the prefix is in capitals, that digits are written in lower case, and
 -- the faults are our profile.
-use Rattle.std.specs.Prelude.{◌≡◌, ℕ, ◌+◌, ◌==◌, List, ◌++◌, length, drop, codes, zip, take_while, Result, Ok, Err, if◌then◌else◌}
+use Rattle.std.specs.Prelude.{◌≡◌, ℕ, ◌+◌, ◌==◌, List, ◌++◌, length, drop, codes, zip, take_while, IsTrue, Result, Ok, Err, if◌then◌else◌}
 use Rattle.hex.specs.declared.error.FromHexError.{FromHexError}
 use Rattle.hex.specs.declared.error.FromHexError.TheVariants.{OutOfMemory}
 use Rattle.std.specs.Char.{is_ascii_hexdigit}
 use Rattle.hex.specs.Hex.{decode_of, encode_lower}
 use Rattle.cdr_values.specs.declared.order.Order.{Order}
 use Rattle.cdr_values.specs.declared.order.Order.TheVariants.{Big}
-use Rattle.cdr_values.specs.Reading.{◌>>=◌}
+use Rattle.cdr_values.specs.Reading.{Reading, ◌>>=◌}
 use Rattle.cdr_values.specs.Sequence.{fault_as}
-use Rattle.cdr_values.specs.Encapsulation.{opened, begun}
+use Rattle.cdr_values.specs.Encapsulation.{IsEncapsulation, opened, begun}
 use Rattle.cdr_values.specs.Values.{with_values}
 use Rattle.cdr_values.specs.Tagged.{reference_values}
-use Rattle.ior_refs.specs.Reference.{Reference}
+use Rattle.ior_refs.specs.Reference.{Reference, is_short}
 use Rattle.ior_refs.specs.Fault.{fault_of}
-use Rattle.ior_refs.specs.Reading.{short_reference_at, whole}
+use Rattle.ior_refs.specs.Reading.{IsWhole, short_reference_at, whole}
 use Rattle.ior_refs.specs.declared.fault.IorFault.{IorFault}
 use Rattle.ior_refs.specs.declared.fault.IorFault.TheVariants.{BadText, Memory}
 
@@ -66,3 +66,14 @@ encapsulated reference = (with_values (begun Big) (reference_values reference)).
 -- the text of a reference
 abbrev pub text_of : Reference → List ℕ
 text_of reference = prefix ++ encode_lower (encapsulated reference)
+
+-- the text is a stringified form of the reference: the prefix, and digits of an encapsulation of its values
+pub record IsTextOf (text : List ℕ) (reference : Reference) : Type 0 where
+  pub digits : List ℕ
+  pub octets : List ℕ
+  pub reader : Reading
+  pub parts : text ≡ prefix ++ digits
+  pub decoded : decode_of digits ≡ Ok octets
+  pub opened : IsEncapsulation octets reader
+  pub whole : IsWhole (reference_values reference) reader
+  pub short : IsTrue (is_short reference)

@@ -3,6 +3,10 @@
 
 pub use fault::IorFault;
 pub use key::{KEY_LENGTH, ObjectKey, key_octets, key_of};
+pub use laws::{
+    profiles_are_read_exactly, references_are_read_again, references_are_read_exactly,
+    same_octets_same_key, same_octets_same_reference, texts_are_read_exactly,
+};
 pub use location::iiop;
 pub use making::make_ref;
 pub use profile::Iiop;
@@ -11,6 +15,7 @@ pub use text::{parse_ior, print_ior};
 
 mod fault;
 mod key;
+mod laws;
 mod location;
 mod making;
 mod profile;

@@ -1,0 +1,104 @@
+-- IIOP profiles are read exactly where their values stand.
+use Rattle.std.proofs.Common.{◌≡◌, ℕ, Bool, true, false, ◌&&◌, leb, List, [], ◌∷◌, length, Result, Ok, Err, refl, sym, ap, subst, ◌∙◌}
+use Rattle.std.specs.List.{list_all}
+use Rattle.cdr_values.specs.Value.{Value, Octet, UShort, OctetSequence, Text}
+use Rattle.cdr_values.specs.Reading.{Reading, ◌>>=◌, octet_at, ushort_at, octets_at, string_at}
+use Rattle.cdr_values.specs.Values.{ReadsAll}
+use Rattle.cdr_values.specs.Laws.{ReadingLaws}
+use Rattle.cdr_values.specs.Sequence.{IsExact, SequencesAreExact, fault_as, sequence_values}
+use Rattle.cdr_values.specs.Tagged.{TaggedLaws, tagged_at, tagged_values}
+use Rattle.ior_refs.specs.Limits.{count_limit}
+use Rattle.ior_refs.specs.Reference.{Tagged}
+use Rattle.ior_refs.specs.Fault.{fault_of, too_many}
+use Rattle.ior_refs.specs.Reading.{each_tagged_at}
+use Rattle.ior_refs.specs.Iiop.{components_at, components_values, has_components, iiop_at, iiop_values}
+use Rattle.ior_refs.specs.Laws.{IiopLaws}
+use Rattle.ior_refs.specs.declared.fault.IorFault.{IorFault}
+use Rattle.ior_refs.specs.declared.profile.Iiop.{Iiop}
+use Rattle.ior_refs.proofs.Exact.{bind_ok, ok_is}
+use Rattle.ior_refs.proofs.Texts.{value_is}
+
+-- the laws that it rests on
+pub record Laws : Type 0 where
+  pub reading : ReadingLaws
+  pub tagged : TaggedLaws IorFault
+  pub sequences : SequencesAreExact Tagged IorFault
+
+all_tagged : (xs : List Tagged) → list_all (λ tagged. true) xs ≡ true
+all_tagged [] = refl
+all_tagged (x ∷ xs) = all_tagged xs
+
+components_found : Laws → (b : Bool) (r behind : Reading) → components_at b r ≡ Ok (tt, behind) → (components : List Tagged) × ReadsAll r (components_values b components) behind
+unfolding components_at each_tagged_at
+components_found laws true r behind e =
+    let law = laws.sequences tagged_values (λ tagged. true) (tagged_at fault_of) count_limit fault_of too_many (laws.tagged.tagged fault_of) in
+    let a = bind_ok (each_tagged_at r) (λ components. Ok (tt, components.1)) (tt, behind) e in
+    let same : a.0.1 ≡ behind = ap (λ (p : Unit {0} × Reading). p.1) (ok_is {F = IorFault} (tt, a.0.1) (tt, behind) a.2) in
+    (a.0.0, subst (λ (s : Reading). ReadsAll r (sequence_values tagged_values a.0.0) s) same (law.found r a.0.0 a.0.1 a.1).0)
+components_found laws false r behind e =
+    let same : r ≡ behind = ap (λ (p : Unit {0} × Reading). p.1) (ok_is {F = IorFault} (tt, r) (tt, behind) e) in
+    ([], sym same)
+
+components_only : Laws → (b : Bool) (r : Reading) (components : List Tagged) (behind : Reading) → ReadsAll r (components_values b components) behind → leb (length components) 65536 ≡ true → components_at b r ≡ Ok (tt, behind)
+unfolding components_at each_tagged_at
+components_only laws true r components behind h few =
+    let law = laws.sequences tagged_values (λ tagged. true) (tagged_at fault_of) count_limit fault_of too_many (laws.tagged.tagged fault_of) in
+    let all : (leb (length components) 65536 && list_all (λ (tagged : Tagged). true) components) ≡ true = rw (few, all_tagged components) refl in
+    rw (law.only r components behind h all) refl
+components_only laws false r components behind h few = ap (λ (s : Reading). Ok (tt, s)) (sym h)
+
+-- an Iiop of these fields
+abbrev iiop_of : ℕ → ℕ → List ℕ → ℕ → List ℕ → Iiop
+iiop_of a b h p k = record { major = a; minor = b; host = h; port = p; key = k }
+
+-- what is read behind each field
+abbrev behind_key : ℕ → ℕ → List ℕ → ℕ → List ℕ × Reading → Result (Iiop × Reading) IorFault
+behind_key a b h p key = components_at (has_components a b) key.1 >>= λ components. Ok (iiop_of a b h p key.0, components.1)
+
+abbrev behind_port : ℕ → ℕ → List ℕ → ℕ × Reading → Result (Iiop × Reading) IorFault
+behind_port a b h port = fault_as fault_of (octets_at port.1) >>= behind_key a b h port.0
+
+abbrev behind_host : ℕ → ℕ → List ℕ × Reading → Result (Iiop × Reading) IorFault
+behind_host a b host = fault_as fault_of (ushort_at host.1) >>= behind_port a b host.0
+
+abbrev behind_minor : ℕ → ℕ × Reading → Result (Iiop × Reading) IorFault
+behind_minor a minor = fault_as fault_of (string_at minor.1) >>= behind_host a minor.0
+
+abbrev behind_major : ℕ × Reading → Result (Iiop × Reading) IorFault
+behind_major major = fault_as fault_of (octet_at major.1) >>= behind_minor major.0
+
+found : Laws → (r : Reading) (i : Iiop) (behind : Reading) → iiop_at r ≡ Ok (i, behind) → (components : List Tagged) × ReadsAll r (iiop_values i components) behind
+unfolding iiop_at
+found laws r i behind e =
+    let a = bind_ok (fault_as fault_of (octet_at r)) behind_major (i, behind) e in
+    let b = bind_ok (fault_as fault_of (octet_at a.0.1)) (behind_minor a.0.0) (i, behind) a.2 in
+    let h = bind_ok (fault_as fault_of (string_at b.0.1)) (behind_host a.0.0 b.0.0) (i, behind) b.2 in
+    let p = bind_ok (fault_as fault_of (ushort_at h.0.1)) (behind_port a.0.0 b.0.0 h.0.0) (i, behind) h.2 in
+    let k = bind_ok (fault_as fault_of (octets_at p.0.1)) (behind_key a.0.0 b.0.0 h.0.0 p.0.0) (i, behind) p.2 in
+    let whole : Iiop = iiop_of a.0.0 b.0.0 h.0.0 p.0.0 k.0.0 in
+    let c = bind_ok (components_at (has_components a.0.0 b.0.0) k.0.1) (λ components. Ok (whole, components.1)) (i, behind) k.2 in
+    let components = components_found laws (has_components a.0.0 b.0.0) k.0.1 c.0.1 c.1 in
+    let one = laws.reading.octet.found r a.0.0 a.0.1 (value_is (octet_at r) a.0 a.1) in
+    let two = laws.reading.octet.found a.0.1 b.0.0 b.0.1 (value_is (octet_at a.0.1) b.0 b.1) in
+    let three = laws.reading.string.found b.0.1 h.0.0 h.0.1 (value_is (string_at b.0.1) h.0 h.1) in
+    let four = laws.reading.ushort.found h.0.1 p.0.0 p.0.1 (value_is (ushort_at h.0.1) p.0 p.1) in
+    let five = laws.reading.octets.found p.0.1 k.0.0 k.0.1 (value_is (octets_at p.0.1) k.0 k.1) in
+    let stand : (components : List Tagged) × ReadsAll r (iiop_values whole components) c.0.1 = (components.0, (a.0.1, one, (b.0.1, two, (h.0.1, three, (p.0.1, four, (k.0.1, five, components.1)))))) in
+    subst (λ (q : Iiop × Reading). (components : List Tagged) × ReadsAll r (iiop_values q.0 components) q.1) (ok_is {F = IorFault} (whole, c.0.1) (i, behind) c.2) stand
+
+only : Laws → (r : Reading) (i : Iiop) (components : List Tagged) (behind : Reading) → ReadsAll r (iiop_values i components) behind → leb (length components) 65536 ≡ true → iiop_at r ≡ Ok (i, behind)
+unfolding iiop_at
+only laws r i components behind h few =
+    let one = laws.reading.octet.only r i.major h.0 h.1 in
+    let two = laws.reading.octet.only h.0 i.minor h.2.0 h.2.1 in
+    let three = laws.reading.string.only h.2.0 i.host h.2.2.0 h.2.2.1 in
+    let four = laws.reading.ushort.only h.2.2.0 i.port h.2.2.2.0 h.2.2.2.1 in
+    let five = laws.reading.octets.only h.2.2.2.0 i.key h.2.2.2.2.0 h.2.2.2.2.1 in
+    let six = components_only laws (has_components i.major i.minor) h.2.2.2.2.0 components behind h.2.2.2.2.2 few in
+    rw (one, two, three, four, five, six) refl
+
+pub iiop_laws : Laws → IiopLaws
+iiop_laws laws = record {
+  found = λ r i behind e. found laws r i behind e;
+  only = λ r i components behind h few. only laws r i components behind h few;
+}

@@ -1,0 +1,48 @@
+ghost use Rattle.ior_refs.specs.Laws.{ReferencesAreReadExactly, ReferencesAreReadAgain, SameOctetsSameReference, TextLaws, IiopLaws, SameOctetsSameKey};
+
+use crate::fault::IorFault;
+use ots_model::Octets;
+
+/// A law: a reference is read exactly where its values stand and it isn't too long.
+pub fn references_are_read_exactly()
+    ensures { ReferencesAreReadExactly }
+{
+    cdr_values::references_are_read_exactly::<IorFault>();
+}
+
+/// A law: a reference that was written is read again.
+pub fn references_are_read_again()
+    ensures { ReferencesAreReadAgain }
+{
+    references_are_read_exactly();
+    cdr_values::values_are_read_again();
+}
+
+/// A law: references with the same canonical octets are the same.
+pub fn same_octets_same_reference()
+    ensures { SameOctetsSameReference }
+{
+    references_are_read_again();
+}
+
+/// A law: a text has a reference exactly where it is one of its stringified forms; the text that is printed is one.
+pub fn texts_are_read_exactly()
+    ensures { TextLaws }
+{
+    references_are_read_exactly();
+    cdr_values::values_are_read_again();
+}
+
+/// A law: an IIOP profile is read exactly where its values stand.
+pub fn profiles_are_read_exactly()
+    ensures { IiopLaws }
+{
+    cdr_values::reading_is_exact();
+    cdr_values::references_are_read_exactly::<IorFault>();
+    cdr_values::sequences_are_exact::<(u32, Octets), IorFault>();
+}
+
+/// A law: keys with the same octets are the same.
+pub fn same_octets_same_key()
+    ensures { SameOctetsSameKey }
+{}
