@@ -1,9 +1,19 @@
 -- IIOP profiles are read exactly where their values stand.
-use Rattle.std.proofs.Common.{◌≡◌, ℕ, Bool, true, false, ◌&&◌, leb, List, [], ◌∷◌, length, Result, Ok, Err, refl, sym, ap, subst, ◌∙◌}
+use Rattle.std.proofs.Common.{◌≡◌, ℕ, ◌+◌, ◌<◌, ◌≤◌, arith, None, Bool, true, false, ◌&&◌, leb, List, [], ◌∷◌, length, Result, Ok, Err, refl, sym, ap, subst, ◌∙◌}
 use Rattle.std.specs.List.{list_all}
-use Rattle.cdr_values.specs.Value.{Value, Octet, UShort, OctetSequence, Text}
+use Rattle.std.proofs.lemmas.List.{append-nil}
+use Rattle.cdr_values.specs.declared.order.Order.TheVariants.{Big}
+use Rattle.cdr_values.specs.Again.{AllFit, standing, ValuesAreReadAgain}
+use Rattle.cdr_values.specs.Encapsulation.{begun}
+use Rattle.cdr_values.specs.Writing.{Writing}
+use Rattle.ots_model.specs.declared.service.Endpoint.{Endpoint}
+use Rattle.ior_refs.specs.Making.{iiop_to, profile_to, reference_to, refusal_to}
+use Rattle.ior_refs.specs.declared.key.ObjectKey.{ObjectKey}
+use Rattle.ior_refs.proofs.Short.{with_values-is}
+use Rattle.ior_refs.proofs.Made.{not_refused}
+use Rattle.cdr_values.specs.Value.{Value, Octet, UShort, OctetSequence, Text, has_nul}
 use Rattle.cdr_values.specs.Reading.{Reading, ◌>>=◌, octet_at, ushort_at, octets_at, string_at}
-use Rattle.cdr_values.specs.Values.{ReadsAll}
+use Rattle.cdr_values.specs.Values.{ReadsAll, canonical_all}
 use Rattle.cdr_values.specs.Laws.{ReadingLaws}
 use Rattle.cdr_values.specs.Sequence.{IsExact, SequencesAreExact, fault_as, sequence_values}
 use Rattle.cdr_values.specs.Tagged.{TaggedLaws, tagged_at, tagged_values}
@@ -11,7 +21,7 @@ use Rattle.ior_refs.specs.Limits.{count_limit}
 use Rattle.ior_refs.specs.Reference.{Tagged}
 use Rattle.ior_refs.specs.Fault.{fault_of, too_many}
 use Rattle.ior_refs.specs.Reading.{each_tagged_at}
-use Rattle.ior_refs.specs.Iiop.{components_at, components_values, has_components, iiop_at, iiop_values}
+use Rattle.ior_refs.specs.Iiop.{components_at, components_values, has_components, iiop_at, iiop_in, iiop_in_octets, iiop_values}
 use Rattle.ior_refs.specs.Laws.{IiopLaws}
 use Rattle.ior_refs.specs.declared.fault.IorFault.{IorFault}
 use Rattle.ior_refs.specs.declared.profile.Iiop.{Iiop}
@@ -23,6 +33,7 @@ pub record Laws : Type 0 where
   pub reading : ReadingLaws
   pub tagged : TaggedLaws IorFault
   pub sequences : SequencesAreExact Tagged IorFault
+  pub again : ValuesAreReadAgain
 
 all_tagged : (xs : List Tagged) → list_all (λ tagged. true) xs ≡ true
 all_tagged [] = refl
@@ -97,8 +108,31 @@ only laws r i components behind h few =
     let six = components_only laws (has_components i.major i.minor) h.2.2.2.2.0 components behind h.2.2.2.2.2 few in
     rw (one, two, three, four, five, six) refl
 
+-- the profile of an object is an encapsulation
+profile_is : (at : Endpoint) (key : ObjectKey) → profile_to at key ≡ 0 ∷ canonical_all Big 1 (iiop_values (iiop_to at key) [])
+unfolding profile_to
+profile_is at key = ap (λ (w : Writing). w.octets) (with_values-is (begun Big) (iiop_values (iiop_to at key) []))
+
+-- and says where it is
+profile_found : Laws → (at : Endpoint) (key : ObjectKey) → at.port < 65536 → has_nul at.host ≡ false → length at.host ≤ 1024 → iiop_in_octets (profile_to at key) ≡ Ok (iiop_to at key)
+unfolding iiop_in_octets
+profile_found laws at key port text few =
+    let values = iiop_values (iiop_to at key) [] in
+    let octets = canonical_all Big 1 values in
+    let fit : AllFit values = (omega arith, (omega arith, ((omega arith, text), (port, (omega arith, (omega arith, tt)))))) in
+    let behind = standing Big (1 + length octets) [] in
+    let reads : ReadsAll (standing Big 1 octets) values behind = subst (λ (xs : List ℕ). ReadsAll (standing Big 1 xs) values behind) (append-nil octets) (laws.again Big 1 values [] fit) in
+    rw (profile_is at key, only laws (standing Big 1 octets) (iiop_to at key) [] behind reads refl) refl
+
+made : Laws → (type_id : List ℕ) (at : Endpoint) (key : ObjectKey) → at.port < 65536 → refusal_to type_id at key ≡ None → iiop_in (reference_to type_id at key) ≡ Ok (iiop_to at key)
+unfolding iiop_in
+made laws type_id at key port e =
+    let good = not_refused type_id at key e in
+    profile_found laws at key port good.0 good.1
+
 pub iiop_laws : Laws → IiopLaws
 iiop_laws laws = record {
   found = λ r i behind e. found laws r i behind e;
   only = λ r i components behind h few. only laws r i components behind h few;
+  made = λ type_id at key port e. made laws type_id at key port e;
 }

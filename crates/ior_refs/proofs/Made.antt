@@ -1,7 +1,7 @@
 -- The reference that is made for an object, and why none is.
 use Rattle.std.proofs.Common.{◌≡◌, ℕ, ◌+◌, ◌<◌, ◌≤◌, ◌⊎◌, inl, inr, Bool, true, false, cond, ltb, Some, None, List, [], ◌∷◌, ◌++◌, length, refl, sym, ap, subst, ◌∙◌, arith, length-append, Result, Ok, Err, replicate}
 use Rattle.std.specs.Prelude.{IsOk, IfOk, IfErr}
-use Rattle.std.proofs.lemmas.Bool.{lt-ltb}
+use Rattle.std.proofs.lemmas.Bool.{lt-ltb, ltb-false}
 use Rattle.cdr_values.specs.declared.order.Order.{Order}
 use Rattle.cdr_values.specs.declared.order.Order.TheVariants.{Big}
 use Rattle.cdr_values.specs.declared.fault.CdrFault.TheVariants.{BadString}
@@ -56,7 +56,7 @@ host_in_profile at key =
     omega (arith, size, all_at_least Big 1 values, text_at_least at.host, length-append (begun Big).octets (canonical_all Big 1 values))
 
 -- a reference has the octets of its texts
-texts_in_reference : (type_id : List ℕ) (at : Endpoint) (key : ObjectKey) → length type_id + length at.host ≤ length (canonical_octets (reference_to type_id at key))
+pub texts_in_reference : (type_id : List ℕ) (at : Endpoint) (key : ObjectKey) → length type_id + length at.host ≤ length (canonical_octets (reference_to type_id at key))
 unfolding canonical_octets
 texts_in_reference type_id at key =
     let octets = profile_to at key in
@@ -98,3 +98,15 @@ by_length false reference (Err fault) h =
 pub made : (type_id : List ℕ) (at : Endpoint) (key : ObjectKey) (result : Result Reference IorFault) → has_nul type_id ≡ false → has_nul at.host ≡ false → Finds (λ o. o) result (if_short 0 (reference_to type_id at key)) → Makes type_id at key result
 unfolding if_short
 made type_id at key result p q h = rw (p, q) (by_length (ltb 1024 (length (canonical_octets (reference_to type_id at key)))) (reference_to type_id at key) result h)
+
+-- a reference that isn't refused has a host without a NUL, and few octets
+pub not_refused : (type_id : List ℕ) (at : Endpoint) (key : ObjectKey) → refusal_to type_id at key ≡ None → (has_nul at.host ≡ false) × (length at.host ≤ 1024)
+not_refused type_id at key e =
+    let long = ltb 1024 (length (canonical_octets (reference_to type_id at key))) in
+    let tests = by_tests (has_nul type_id) (has_nul at.host) long e in
+    (tests.0, omega (arith, ltb-false _ _ tests.1, texts_in_reference type_id at key)) where
+  by_tests : (a b c : Bool) → cond a (Some (Cdr (BadString 0))) (cond b (Some (Cdr (BadString 3))) (cond c (Some (TooLong 0)) None)) ≡ None → (b ≡ false) × (c ≡ false)
+  by_tests true b c e = absurd cc
+  by_tests false true c e = absurd cc
+  by_tests false false true e = absurd cc
+  by_tests false false false e = (refl, refl)

@@ -1,5 +1,5 @@
 -- What reading and writing references and keys have to do with each other.
-use Rattle.std.specs.Prelude.{◌≡◌, ℕ, ◌+◌, ◌↔◌, nat_le, List, ◌++◌, length, IsTrue, Ok}
+use Rattle.std.specs.Prelude.{◌≡◌, ℕ, ◌+◌, ◌^◌, ◌<◌, ◌↔◌, nat_le, List, ◌++◌, length, IsTrue, None, Ok}
 use Rattle.cdr_values.specs.declared.order.Order.{Order}
 use Rattle.cdr_values.specs.Again.{standing}
 use Rattle.cdr_values.specs.Reading.{Reading}
@@ -12,7 +12,7 @@ use Rattle.ior_refs.specs.Reference.{Reference, Tagged, IsReference, is_short, c
 use Rattle.ior_refs.specs.Reading.{short_reference_at}
 use Rattle.ior_refs.specs.Text.{IsTextOf, reference_in_text, text_of}
 use Rattle.ior_refs.specs.Iiop.{iiop_at, iiop_in, iiop_values}
-use Rattle.ior_refs.specs.Making.{iiop_to, reference_to}
+use Rattle.ior_refs.specs.Making.{iiop_to, reference_to, refusal_to}
 use Rattle.ior_refs.specs.Key.{octets_of_key, AreNumbers}
 use Rattle.ior_refs.specs.declared.key.ObjectKey.{ObjectKey}
 use Rattle.ior_refs.specs.declared.profile.Iiop.{Iiop}
@@ -39,13 +39,16 @@ pub record TextLaws : Type 0 where
       → (reference_in_text text ≡ Ok reference) ↔ IsTextOf text reference
   pub again : (reference : Reference) → IsReference reference → reference_in_text (text_of reference) ≡ Ok reference
 
--- an IIOP profile is read exactly where its values stand, with some components
+-- an IIOP profile is read exactly where its values stand, with some components; and a reference that was made says
+-- where its object is
 pub record IiopLaws : Type 0 where
   pub found : (r : Reading) (i : Iiop) (behind : Reading) → iiop_at r ≡ Ok (i, behind)
       → (components : List Tagged) × ReadsAll r (iiop_values i components) behind
   pub only : (r : Reading) (i : Iiop) (components : List Tagged) (behind : Reading)
       → ReadsAll r (iiop_values i components) behind → IsTrue (nat_le (length components) count_limit)
       → iiop_at r ≡ Ok (i, behind)
+  pub made : (type_id : List ℕ) (at : Endpoint) (key : ObjectKey) → at.port < 2 ^ 16
+      → refusal_to type_id at key ≡ None → iiop_in (reference_to type_id at key) ≡ Ok (iiop_to at key)
 
 -- keys with the same octets are the same
 abbrev pub SameOctetsSameKey : Type 0

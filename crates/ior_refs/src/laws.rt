@@ -33,13 +33,14 @@ pub fn texts_are_read_exactly()
     cdr_values::values_are_read_again();
 }
 
-/// A law: an IIOP profile is read exactly where its values stand.
+/// A law: an IIOP profile is read exactly where its values stand; a reference that was made says where its object is.
 pub fn profiles_are_read_exactly()
     ensures { IiopLaws }
 {
     cdr_values::reading_is_exact();
     cdr_values::references_are_read_exactly::<IorFault>();
     cdr_values::sequences_are_exact::<(u32, Octets), IorFault>();
+    cdr_values::values_are_read_again();
 }
 
 /// A law: keys with the same octets are the same.
