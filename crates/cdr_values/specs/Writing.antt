@@ -1,5 +1,5 @@
 -- Writing values at the end (CORBA, CDR Transfer Syntax), and what refuses them (our profile).
-use Rattle.std.specs.Prelude.{◌≡◌, ℕ, ◌+◌, ◌⊎◌, Bool, false, nat_lt, List, ◌++◌, length, Option, Some, None, Result, IfErr, OnErr, OnOk, if◌then◌else◌}
+use Rattle.std.specs.Prelude.{◌≡◌, ℕ, ◌+◌, ◌-◌, ◌⊎◌, Bool, false, nat_lt, List, ◌++◌, length, take, Option, Some, None, Result, IfErr, OnErr, OnOk, if◌then◌else◌}
 use Rattle.cdr_values.specs.declared.order.Order.{Order}
 use Rattle.cdr_values.specs.declared.fault.CdrFault.{CdrFault}
 use Rattle.cdr_values.specs.declared.fault.CdrFault.TheVariants.{BadString, TooLong, Memory}
@@ -19,6 +19,10 @@ place_of w = w.start + length w.octets
 -- with these octets at its end
 abbrev pub with_octets : Writing → List ℕ → Writing
 with_octets w octets = record w { octets = w.octets ++ octets }
+
+-- with what it had written before this offset
+abbrev pub written_before : ℕ → Writing → Writing
+written_before place w = record w { octets = take (place - w.start) w.octets }
 
 -- with one more value, in its canonical spelling
 abbrev pub with_value : Writing → Value → Writing

@@ -69,6 +69,13 @@ impl<'a> Reader<'a> {
         self.place
     }
 
+    /// The byte order in which it reads.
+    pub fn order(&self) -> Order
+        ensures { result ≡ self.now.order }
+    {
+        self.order
+    }
+
     /// The octets from its place on.
     pub fn rest(&self) -> &'a [u8]
         ensures { result.now ≡ self.now.rest }

@@ -4,7 +4,7 @@ ghost use Rattle.cdr_values.specs.Encapsulation.{begun};
 ghost use Rattle.cdr_values.specs.Raw.{WritesOctets};
 ghost use Rattle.cdr_values.specs.declared.fault.CdrFault.TheVariants.{Memory};
 ghost use Rattle.cdr_values.specs.Limits.{output_limit, start_limit};
-ghost use Rattle.cdr_values.specs.Writing.{WritesValue, place_of};
+ghost use Rattle.cdr_values.specs.Writing.{WritesValue, place_of, written_before};
 ghost use Rattle.cdr_values.specs.WritingInside.{Puts, in_order};
 ghost use Rattle.cdr_values.specs.Appending.{Appends, AppendsSome};
 
@@ -155,6 +155,14 @@ impl Writer {
         ensures { result ≡ place_of self.now }
     {
         self.start + self.octets.len() as u32
+    }
+
+    /// Takes back what it has written from this offset on. It needs no memory.
+    pub fn take_back(&mut self, place: u32)
+        requires begun { self.old.start ≤ place }
+        ensures { self.new ≡ written_before place self.old }
+    {
+        self.octets.truncate((place - self.start) as usize);
     }
 
     /// The octets that it has written.
