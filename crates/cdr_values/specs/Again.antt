@@ -1,4 +1,4 @@
--- What was written is read again.
+-- What was written is read again (CORBA, CDR Transfer Syntax; that each value has one canonical spelling is our profile).
 use Rattle.std.specs.Prelude.{◌≡◌, ℕ, ◌+◌, List, [], ◌∷◌, ◌++◌, length, Ok}
 use Rattle.cdr_values.specs.declared.order.Order.{Order}
 use Rattle.cdr_values.specs.Value.{Value, Fits}

@@ -1,4 +1,4 @@
--- Values of one type.
+-- Values of one type (CORBA, CDR Transfer Syntax).
 use Rattle.std.specs.Prelude.{◌≡◌, ℕ}
 use Rattle.cdr_values.specs.Value.{Value, Octet, Boolean, UShort, ULong, ULongLong, OctetSequence, Text, Aligned}
 

@@ -1,4 +1,4 @@
--- Octets that a call appends to others.
+-- Octets that a call appends to others (our profile).
 use Rattle.std.specs.Prelude.{◌≡◌, ℕ, List, ◌++◌, length, take, Result, OnErr, OnOk}
 
 -- a call appended the octets, or nothing

@@ -1,4 +1,4 @@
--- What reading, writing and spelling have to do with each other.
+-- What reading, writing and spelling have to do with each other (CORBA, CDR Transfer Syntax).
 use Rattle.std.specs.Prelude.{◌≡◌, ℕ, List, ◌++◌, Result, Ok}
 use Rattle.cdr_values.specs.declared.order.Order.{Order}
 use Rattle.cdr_values.specs.declared.fault.CdrFault.{CdrFault}

@@ -1,4 +1,4 @@
--- What the calls inside a writer do.
+-- What the calls inside a writer do (our profile).
 use Rattle.std.specs.Prelude.{◌≡◌, ℕ, List, ◌++◌, Some, None, Result, Ok, Err}
 use Rattle.cdr_values.specs.declared.fault.CdrFault.{CdrFault}
 use Rattle.cdr_values.specs.declared.fault.CdrFault.TheVariants.{Memory}

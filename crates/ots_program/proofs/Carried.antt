@@ -10,7 +10,7 @@ use Rattle.ots_world.specs.Stands as stands
 use Rattle.ots_world.specs.World.{Step, Stepped, Moves, Names, step}
 use Rattle.ots_program.specs.declared.player.Stop.TheVariants as stops
 use Rattle.ots_program.specs.Limits.{message_limit}
-use Rattle.ots_program.specs.Playing.{Turns, StopsWithin, stop_by, lines_of}
+use Rattle.ots_program.specs.PlayingInside.{Turns, StopsWithin, stop_by, lines_of}
 use Rattle.ots_program.specs.Replay.{Place, Goes, Stops, Ending, Limited, turn_by}
 use Rattle.ots_program.proofs.Told.{Tells-none}
 

@@ -3,7 +3,7 @@ use Rattle.std.proofs.Common.{◌≡◌, ◌+◌, ◌<◌, ◌≤◌, ℕ, List,
 use Rattle.ots_program.specs.declared.player.Player.{Player}
 use Rattle.ots_program.specs.declared.player.Stop.{Stop}
 use Rattle.ots_program.specs.Limits.{lines_limit, octets_limit}
-use Rattle.ots_program.specs.Playing.{GoesOn, IsFed, Plays, StopsIn, Turns, octets_fed, place_of, row_of}
+use Rattle.ots_program.specs.PlayingInside.{GoesOn, IsFed, Plays, StopsIn, Turns, octets_fed, place_of, row_of}
 use Rattle.ots_program.specs.Replay.{size, turn}
 use Rattle.ots_program.proofs.Told.{Passes-none, Passes-trans, StopsAt-passed}
 use Rattle.ots_program.proofs.Turned.{Passes-fed}

@@ -11,7 +11,7 @@ use Rattle.ots_program.specs.declared.player.Player.{Player}
 use Rattle.ots_program.specs.declared.status.Status.{Status}
 use Rattle.ots_program.specs.declared.status.Status.TheVariants as statuses
 use Rattle.ots_program.specs.Answers.{IsReadToEnd, Replays, TakesFront, TakesLines, Writes}
-use Rattle.ots_program.specs.Playing.{left}
+use Rattle.ots_program.specs.PlayingInside.{left}
 use Rattle.ots_program.specs.Replay.{Replay, replay}
 use Rattle.ots_program.specs.ReplayInside.{Advances, BreaksOff, Halts, PlaysPiece}
 use Rattle.ots_program.proofs.Safely.{IfSome-safely}

@@ -11,7 +11,7 @@ use Rattle.ots_program.specs.declared.player.Stop.TheVariants as stops
 use Rattle.ots_program.specs.declared.status.Status.{Status}
 use Rattle.ots_program.specs.declared.status.Status.TheVariants as statuses
 use Rattle.ots_program.specs.Answers.{OfReplay, TakesFront, Tells, Writes}
-use Rattle.ots_program.specs.Playing.{Ends, IsFed, StopsAt, StopsIn, left, octets_fed}
+use Rattle.ots_program.specs.PlayingInside.{Ends, IsFed, StopsAt, StopsIn, left, octets_fed}
 use Rattle.ots_program.specs.Replay.{Replay, ahead_of}
 use Rattle.ots_program.specs.ReplayInside.{Advances, BreaksOff, Halts, IsReady, PlaysPiece, StopsReplay, status_of}
 use Rattle.ots_program.proofs.Told.{IsFront, IsFront-ahead, IsFront-passed, IsFront-stopped, IsFront-ended, take-shorter, text_of-append}

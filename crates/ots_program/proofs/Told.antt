@@ -8,7 +8,7 @@ use Rattle.ots_model.specs.Line.{text_of, spelling}
 use Rattle.ots_world.specs.Does.{Tells}
 use Rattle.ots_program.specs.declared.player.Stop.{Stop}
 use Rattle.ots_program.specs.declared.player.Stop.TheVariants as stops
-use Rattle.ots_program.specs.Playing.{Passes, StopsAt, Ends}
+use Rattle.ots_program.specs.PlayingInside.{Passes, StopsAt, Ends}
 use Rattle.ots_program.specs.Replay.{Replay, ahead_of}
 
 pub text_of-append : (xs ys : List Line) → text_of (xs ++ ys) ≡ text_of xs ++ text_of ys

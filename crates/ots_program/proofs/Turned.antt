@@ -6,7 +6,7 @@ use Rattle.ots_program.specs.declared.player.Player.{Player}
 use Rattle.ots_program.specs.declared.player.Stop.{Stop}
 use Rattle.ots_program.specs.declared.player.Stop.TheVariants as stops
 use Rattle.ots_program.specs.Limits.{lines_limit, octets_limit}
-use Rattle.ots_program.specs.Playing.{Passes, StopsAt, Ends, Turns, GoesOn, world_of, lines_of, place_of, row_of, left}
+use Rattle.ots_program.specs.PlayingInside.{Passes, StopsAt, Ends, Turns, GoesOn, world_of, lines_of, place_of, row_of, left}
 use Rattle.ots_program.specs.Replay.{Row, Place, Turn, Goes, Stops, Limited, Refused, rows, size, behind, turn, replay_from}
 use Rattle.ots_program.proofs.Replays.{replay-ended, replay-goes, replay-stops, turn-past_lines, turn-past_octets}
 use Rattle.ots_program.proofs.Rows.{IsOneLine, rows-ended, rows-open, rows-begun}

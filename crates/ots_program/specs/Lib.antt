@@ -2,7 +2,7 @@ pub mod Words
 pub mod Limits
 pub mod Replay
 pub mod Answers
-pub mod Playing
+pub mod PlayingInside
 pub mod ReplayInside
 pub mod MessageLine
 pub mod MessageLineInside

@@ -1,4 +1,4 @@
--- What the writer of a part of a line does to the lines.
+-- What the writer of a part of a line does to the lines (our profile).
 use Rattle.std.specs.Prelude.{◌≡◌, ℕ, List, ◌++◌, length, take, Result, OnErr, OnOk}
 
 -- success adds this text at the end

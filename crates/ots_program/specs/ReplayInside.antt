@@ -1,4 +1,4 @@
--- A replay at a piece of its source, and at the end: what its player told goes to the sink.
+-- A replay at a piece of its source, and at the end: what its player told goes to the sink (our profile).
 use Rattle.std.specs.Prelude.{◌≡◌, ℕ, ◌+◌, List, [], ◌++◌, length, Option, IfSome}
 use Rattle.ots_model.specs.declared.line.Line.{Line}
 use Rattle.ots_model.specs.Line.{text_of}
@@ -9,7 +9,7 @@ use Rattle.ots_program.specs.declared.player.Stop.TheVariants as stops
 use Rattle.ots_program.specs.declared.status.Status.{Status}
 use Rattle.ots_program.specs.declared.status.Status.TheVariants as statuses
 use Rattle.ots_program.specs.Answers.{OfReplay, Tells, Writes}
-use Rattle.ots_program.specs.Playing.{Plays, left, octets_fed}
+use Rattle.ots_program.specs.PlayingInside.{Plays, left, octets_fed}
 use Rattle.ots_program.specs.Replay.{Replay, ahead_of}
 
 -- the player plays on, and all that it told was written

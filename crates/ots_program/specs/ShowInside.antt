@@ -1,4 +1,4 @@
--- A show at a piece of its source, behind which more may come, and at the end.
+-- A show at a piece of its source, behind which more may come, and at the end (our profile).
 use Rattle.std.specs.Prelude.{◌≡◌, ℕ, List, ◌++◌, Option, None, IfSome, Err}
 use Rattle.giop_frames.specs.declared.fault.FrameFault.{FrameFault}
 use Rattle.giop_frames.specs.declared.fault.FrameFault.TheVariants.{Short, Memory}

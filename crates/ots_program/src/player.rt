@@ -16,7 +16,7 @@ pub enum Stop {
 }
 
 impl Stop {
-    ghost use Rattle.ots_program.specs.Playing.{stop_by};
+    ghost use Rattle.ots_program.specs.PlayingInside.{stop_by};
 
     /// The stop at this line, which the world refuses.
     fn by_world(fault: WorldFault, line: u64) -> Stop
@@ -68,7 +68,7 @@ pub struct Player {
 impl Player {
     ghost use Rattle.ots_world.specs.Script.{reading};
     ghost use Rattle.ots_program.specs.Limits.{lines_limit, octets_limit};
-    ghost use Rattle.ots_program.specs.Playing.{Ends, IsFed, Plays, StopsAt, StopsIn, Turns, left, place_of, row_of};
+    ghost use Rattle.ots_program.specs.PlayingInside.{Ends, IsFed, Plays, StopsAt, StopsIn, Turns, left, place_of, row_of};
     ghost use Rattle.ots_program.specs.Replay.{replay, size, turn, turn_of};
 
     /// A replay at the start of its script.

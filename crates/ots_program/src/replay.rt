@@ -2,7 +2,7 @@ ghost use Rattle.std.specs.Prelude.{◌≡◌, ◌≢◌, ◌≤◌, [], length,
 ghost use Rattle.ots_outside.specs.Source.{HasRisen};
 ghost use Rattle.ots_program.specs.Answers.{HasReadFault, HasWriteFault, IsDoneAtEnd, Replays};
 ghost use Rattle.ots_program.specs.Limits.{piece_limit};
-ghost use Rattle.ots_program.specs.Playing.{left};
+ghost use Rattle.ots_program.specs.PlayingInside.{left};
 ghost use Rattle.ots_program.specs.ReplayInside.{BreaksOff, Halts, IsReady, PlaysPiece};
 
 use crate::input::{PIECE, read_piece};

@@ -1,6 +1,6 @@
 use Rattle.std.proofs.Common.{[]}
 use Rattle.std.proofs.lemmas.Result.{IfErr-at_err}
-use Rattle.ots_program.specs.Playing.{StopsAt, left}
+use Rattle.ots_program.specs.PlayingInside.{StopsAt, left}
 use Rattle.ots_program.proofs.Taken.{Halts-cut, Halts-stopped}
 use Rattle.ots_program.proofs.replay.finish.Goals as goal
 

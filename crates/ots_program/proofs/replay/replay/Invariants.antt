@@ -1,6 +1,6 @@
 use Rattle.std.proofs.Common.{◌≤◌, ◌-◌}
 use Rattle.ots_program.specs.Limits.{octets_limit}
-use Rattle.ots_program.specs.Playing.{octets_fed}
+use Rattle.ots_program.specs.PlayingInside.{octets_fed}
 use Rattle.ots_program.specs.ReplayInside.{IsReady}
 use Rattle.ots_program.proofs.Runs.{Runs}
 use Rattle.ots_program.proofs.replay.replay.Given as goal

@@ -1,6 +1,6 @@
 use Rattle.std.proofs.Common.{◌≡◌, Err, ap}
 use Rattle.ots_world.specs.Script.{Says, reading}
-use Rattle.ots_program.specs.Playing.{place_of}
+use Rattle.ots_program.specs.PlayingInside.{place_of}
 use Rattle.ots_program.proofs.Carried.{Turns-refused}
 use Rattle.ots_program.proofs.player.Player.carry_out.Goals as goal
 

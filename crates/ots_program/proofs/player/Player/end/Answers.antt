@@ -1,6 +1,6 @@
 use Rattle.std.proofs.Common.{arith}
 use Rattle.std.proofs.lemmas.Bool.Decides.{nat_tests}
-use Rattle.ots_program.specs.Playing.{place_of}
+use Rattle.ots_program.specs.PlayingInside.{place_of}
 use Rattle.ots_program.proofs.Turned.{Ends-empty, Ends-open, StopsAt-open}
 use Rattle.ots_program.proofs.player.Player.end.Goals as goal
 

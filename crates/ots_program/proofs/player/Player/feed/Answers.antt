@@ -3,7 +3,7 @@ use Rattle.std.proofs.lemmas.List.{take_more, take-append-drop}
 use Rattle.std.proofs.lemmas.Result.{err_from_is_err_and}
 use Rattle.ots_program.specs.declared.player.Player.{Player}
 use Rattle.ots_program.specs.declared.player.Stop.{Stop}
-use Rattle.ots_program.specs.Playing.{IsFed, StopsIn}
+use Rattle.ots_program.specs.PlayingInside.{IsFed, StopsIn}
 use Rattle.ots_program.proofs.Fed.{IsFed-none, IsFed-trans, StopsIn-longer, StopsIn-trans}
 use Rattle.ots_program.proofs.player.Player.feed.Goals as goal
 

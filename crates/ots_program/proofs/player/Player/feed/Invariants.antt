@@ -1,5 +1,5 @@
 use Rattle.std.proofs.Common.{take}
-use Rattle.ots_program.specs.Playing.{IsFed}
+use Rattle.ots_program.specs.PlayingInside.{IsFed}
 use Rattle.ots_program.proofs.player.Player.feed.Given as goal
 
 abbrev pub invariant-loop-octet : goal.invariant-loop-octet

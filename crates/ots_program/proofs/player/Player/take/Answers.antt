@@ -1,5 +1,5 @@
 use Rattle.std.proofs.Common.{arith}
-use Rattle.ots_program.specs.Playing.{place_of}
+use Rattle.ots_program.specs.PlayingInside.{place_of}
 use Rattle.ots_program.proofs.Fed.{IsFed-line}
 use Rattle.ots_program.proofs.Turned.{StopsAt-past_lines, StopsAt-past_octets, StopsAt-fed}
 use Rattle.ots_program.proofs.player.Player.take.Goals as goal

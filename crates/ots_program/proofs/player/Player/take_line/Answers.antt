@@ -1,6 +1,6 @@
 use Rattle.std.proofs.lemmas.Result.{err_from_is_err_and}
 use Rattle.ots_program.proofs.Replays.{turn-within}
-use Rattle.ots_program.specs.Playing.{place_of, row_of}
+use Rattle.ots_program.specs.PlayingInside.{place_of, row_of}
 use Rattle.ots_program.proofs.player.Player.take_line.Goals as goal
 
 pub returns-in_err-carry_out-clause-turned : goal.returns-in_err-carry_out-clause-turned

@@ -1,4 +1,4 @@
--- The player of a replay: what it is fed, and what it tells.
+-- The player of a replay: what it is fed, and what it tells (our profile).
 use Rattle.std.specs.Prelude.{◌≡◌, ◌≢◌, ℕ, ◌+◌, ◌<◌, ◌≤◌, Bool, List, [], ◌++◌, length, take, Result, Ok, Err}
 use Rattle.std.specs.List.{AllByRecursion}
 use Rattle.ots_model.specs.declared.line.Line.{Line}
