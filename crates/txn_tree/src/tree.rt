@@ -182,7 +182,8 @@ impl Tree {
     /// The status of this branch (`get_status`).
     pub fn status(&self, branch: u32) -> Status
         requires there { branch < length self.now.rows }
-        ensures { Some result ≡ calls.status self.now.rows branch }
+        ensures shown { Some result ≡ calls.status self.now.rows branch }
+        ensures named { branch < transaction_limit }
     {
         self.rows[branch as usize].state.status()
     }

@@ -14,4 +14,4 @@ returns c =
     c.unwrap_or.ensures ∙ same_default c.parent_of.result c.args.branch
     ∙ ap (λ (o : Option ℕ). option_map_or (λ p. p) o c.args.branch) (rw c.deref.ensures.value at c.parent_of.ensures)
     ∙ ap (λ (v : TreeParts). option_map_or (λ p. p) (parent v.rows c.args.branch) c.args.branch) c.self.view_is in
-    c.status.ensures ∙ ap (λ (b : ℕ). status c.args.self.now.rows b) its
+    c.status.ensures.shown ∙ ap (λ (b : ℕ). status c.args.self.now.rows b) its

@@ -1,0 +1,5 @@
+pub mod ChainLemmas
+pub mod Joined
+pub mod Handed
+pub mod Upward
+pub mod Tallies

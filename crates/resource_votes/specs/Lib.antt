@@ -1,0 +1,7 @@
+pub mod Limits
+pub mod Lists
+pub mod Chains
+pub mod LinksInside
+pub mod Ballots
+pub mod VotesInside
+pub mod History

@@ -1,0 +1,23 @@
+use Rattle.std.specs.Prelude.{◌≡◌, ◌-◌, ◌≤◌, length, min, vec_len, vec_capacity}
+use Rattle.resource_votes.specs.Limits.{registration_limit, synchronization_limit}
+use Rattle.resource_votes.specs.Ballots.{VotesParts}
+use Rattle.resource_votes.specs.declared.votes.Votes.TheInside.{Inside}
+
+abbrev pub shown : Inside → VotesParts
+shown v = record {
+  ballots = record {
+    registrations = v.registrations.items;
+    votes = v.votes.items;
+    synchronizations = v.synchronizations.items;
+    lists = v.links.lists;
+  };
+  room = min (min (vec_capacity v.registrations - vec_len v.registrations) (vec_capacity v.votes - vec_len v.votes))
+      (min (vec_capacity v.synchronizations - vec_len v.synchronizations) v.links.room);
+}
+
+-- each registration has a vote or none yet, and a number that may be in a list
+pub record IsSound (v : Inside) : Type 0 where
+  pub votes : length v.votes.items ≡ length v.registrations.items
+  pub numbers : v.links.count ≡ length v.registrations.items
+  pub few : length v.registrations.items ≤ registration_limit
+  pub few_synchronizations : length v.synchronizations.items ≤ synchronization_limit

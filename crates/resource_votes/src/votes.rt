@@ -1,0 +1,317 @@
+ghost use Rattle.std.specs.Prelude.{◌≡◌, ◌≢◌, ℕ, ◌+◌, ◌<◌, ◌≤◌, ◌↔◌, length, Some, None, IsTrue, IsOk, IsErr, IfOk, OnOk, OnErr, IfSome, IfNone, IsErrOf};
+ghost use Rattle.std.specs.Option.{option_copied};
+ghost use Rattle.resource_votes.specs.Limits.{list_count, registration_limit, synchronization_limit};
+ghost use Rattle.resource_votes.specs.Ballots as ballots;
+
+use crate::links::Links;
+use crate::registration::{Registration, VoteFault};
+use crate::walk::Walk;
+use ots_model::{RefBytes, Status, Vote};
+use std::alloc::{AllocError, Global};
+use std::marker::Model;
+use txn_tree::Tree;
+
+/// How many registrations a tree has at most, of both kinds together (our profile).
+pub const REGISTRATION_LIMIT: usize = 64;
+
+/// How many synchronizations a tree has at most (our profile).
+pub const SYNCHRONIZATION_LIMIT: usize = 64;
+
+/// The branch of the top-level transaction.
+const TOP: u32 = 0;
+
+/// The registrations with the transactions of a tree. Contracts see the registrations, their votes, the synchronizations,
+/// the list of each branch, and for how many more registrations memory is taken.
+#[derive(Drop)]
+pub struct Votes {
+    registrations: Vec<Registration>,
+    votes: Vec<Option<Vote>>,
+    synchronizations: Vec<Registration>,
+    links: Links,
+}
+
+impl Model for Votes {
+    ghost use Rattle.resource_votes.specs.Ballots.{VotesParts};
+
+    ghost Value = { VotesParts };
+
+    ghost use Rattle.resource_votes.specs.VotesInside.{shown, IsSound};
+
+    ghost view = { shown };
+
+    ghost invariant = { IsSound };
+}
+
+impl Votes {
+    /// Nothing is registered.
+    pub fn new(alloc: Global) -> Result<Votes, AllocError>
+        ensures none { IfOk result (λ votes. votes.ballots ≡ ballots.no_ballots) }
+    {
+        Ok(Votes {
+            registrations: Vec::new(alloc),
+            votes: Vec::new(alloc),
+            synchronizations: Vec::new(alloc),
+            links: Links::new(alloc)?,
+        })
+    }
+
+    /// Takes memory for one more registration of any kind, where there is none yet.
+    pub fn reserve(&mut self) -> Result<(), AllocError>
+        ensures ok { OnOk result (0 < self.new.room) }
+        ensures same { self.new.ballots ≡ self.old.ballots }
+        ensures room { self.old.room ≤ self.new.room }
+    {
+        self.registrations.reserve(1)?;
+        self.votes.reserve(1)?;
+        self.synchronizations.reserve(1)?;
+        self.links.reserve()
+    }
+
+    /// Registers a resource that takes part in this transaction (`register_resource`). `aware` tells whether it is also told
+    /// of the end of the subtransaction. What is asked of the transaction is looked at before memory is wanted.
+    pub fn register(
+        &mut self,
+        tree: &Tree,
+        branch: u32,
+        to: RefBytes,
+        aware: bool,
+    ) -> Result<u32, VoteFault>
+        requires there { branch < length tree.now.rows }
+        ensures ok { OnOk result (self.new.ballots ≡ ballots.registered branch to aware self.old.ballots) }
+        ensures index { IfOk result (λ index. index ≡ length self.old.ballots.registrations + 1) }
+        ensures allowed { IsOk result → ballots.registering tree.now.rows branch self.old.ballots ≡ None }
+        ensures refused { IfSome (ballots.registering tree.now.rows branch self.old.ballots) (λ fault. IsErrOf result fault) }
+        ensures memory { IfNone (ballots.registering tree.now.rows branch self.old.ballots) (IsErr result →
+            IsErrOf result VoteFault.Memory × (self.old.room ≡ 0)) }
+        ensures err { OnErr result (self.new.ballots ≡ self.old.ballots) }
+        ensures room { OnErr result (self.old.room ≤ self.new.room) }
+    {
+        self.registering(tree, branch)?;
+        self.make_room()?;
+        Ok(self.add(branch, to, aware))
+    }
+
+    /// Registers a resource that is told of the end of this subtransaction, and takes no part (`register_subtran_aware`).
+    pub fn register_aware(
+        &mut self,
+        tree: &Tree,
+        branch: u32,
+        to: RefBytes,
+    ) -> Result<u32, VoteFault>
+        requires there { branch < length tree.now.rows }
+        ensures ok { OnOk result (self.new.ballots ≡ ballots.registered_aware branch to self.old.ballots) }
+        ensures index { IfOk result (λ index. index ≡ length self.old.ballots.registrations + 1) }
+        ensures allowed { IsOk result → ballots.registering_aware tree.now.rows branch self.old.ballots ≡ None }
+        ensures refused { IfSome (ballots.registering_aware tree.now.rows branch self.old.ballots) (λ fault. IsErrOf result fault) }
+        ensures memory { IfNone (ballots.registering_aware tree.now.rows branch self.old.ballots) (IsErr result →
+            IsErrOf result VoteFault.Memory × (self.old.room ≡ 0)) }
+        ensures err { OnErr result (self.new.ballots ≡ self.old.ballots) }
+        ensures room { OnErr result (self.old.room ≤ self.new.room) }
+    {
+        if branch == TOP {
+            return Err(VoteFault::NotSubtransaction);
+        }
+        self.registering(tree, branch)?;
+        self.make_room()?;
+        Ok(self.add_aware(branch, to))
+    }
+
+    /// Registers a synchronization with this top-level transaction (`register_synchronization`).
+    pub fn register_sync(
+        &mut self,
+        tree: &Tree,
+        branch: u32,
+        to: RefBytes,
+    ) -> Result<u32, VoteFault>
+        requires there { branch < length tree.now.rows }
+        ensures ok { OnOk result (self.new.ballots ≡ ballots.registered_sync branch to self.old.ballots) }
+        ensures index { IfOk result (λ index. index ≡ length self.old.ballots.synchronizations + 1) }
+        ensures allowed { IsOk result → ballots.registering_sync tree.now.rows branch self.old.ballots ≡ None }
+        ensures refused { IfSome (ballots.registering_sync tree.now.rows branch self.old.ballots) (λ fault. IsErrOf result fault) }
+        ensures memory { IfNone (ballots.registering_sync tree.now.rows branch self.old.ballots) (IsErr result →
+            IsErrOf result VoteFault.Memory × (self.old.room ≡ 0)) }
+        ensures err { OnErr result (self.new.ballots ≡ self.old.ballots) }
+        ensures room { OnErr result (self.old.room ≤ self.new.room) }
+    {
+        self.registering_sync(tree, branch)?;
+        self.make_room()?;
+        Ok(self.add_sync(branch, to))
+    }
+
+    /// Hands the list of a subtransaction that was committed to its parent, at the end, in one piece. It needs no memory.
+    pub fn adopt(&mut self, child: u32, parent: u32)
+        requires there { (child < list_count) × (parent < list_count) }
+        requires differ { child ≢ parent }
+        ensures { self.new ≡ record self.old { ballots = ballots.adopted child parent self.old.ballots } }
+    {
+        self.links.splice(child, parent);
+    }
+
+    /// Whom this transaction asks, in the order in which it asks them. Of the top these are all who take part in the tree.
+    pub fn participants(&self, top: u32) -> Walk<'_>
+        requires there { top < list_count }
+        ensures { result ≡ ballots.participants top self.now.ballots }
+    {
+        Walk {
+            registrations: self.registrations.as_slice(),
+            numbers: self.links.numbers(top),
+        }
+    }
+
+    /// What this registration voted.
+    pub fn vote(&mut self, registration: u32, v: Vote)
+        requires there { (0 < registration) × (registration ≤ length self.old.ballots.registrations) }
+        ensures { self.new ≡ record self.old { ballots = ballots.voted registration v self.old.ballots } }
+    {
+        self.votes[registration as usize - 1] = Some(v);
+    }
+
+    /// What this registration has voted.
+    pub fn vote_of(&self, registration: u32) -> Option<Vote>
+        ensures { result ≡ ballots.vote_of registration self.now.ballots }
+    {
+        let place = (registration as usize).checked_sub(1)?;
+        self.votes.get(place).copied().flatten()
+    }
+
+    /// The registration of least number above this one that is told of the end of this subtransaction, and was registered
+    /// with it.
+    pub fn aware(&self, branch: u32, after: u32) -> Option<&Registration>
+        ensures { option_copied result ≡ ballots.aware branch after self.now.ballots }
+    {
+        self.registrations
+            .iter()
+            .find(|r| r.aware && r.branch == branch && after < r.index)
+    }
+
+    /// The synchronization with this number.
+    pub fn sync(&self, index: u32) -> Option<&Registration>
+        ensures { option_copied result ≡ ballots.numbered self.now.ballots.synchronizations index }
+    {
+        let place = (index as usize).checked_sub(1)?;
+        self.synchronizations.get(place)
+    }
+
+    /// Refuses a registration with this transaction.
+    fn registering(&self, tree: &Tree, branch: u32) -> Result<(), VoteFault>
+        requires there { branch < length tree.now.rows }
+        ensures result { result ≡ ballots.answer (ballots.registering tree.now.rows branch self.now.ballots) }
+        ensures named { branch < list_count }
+    {
+        check_status(tree.status(branch))?;
+        check_count(REGISTRATION_LIMIT, self.registrations.len())
+    }
+
+    /// Refuses a synchronization with this transaction.
+    fn registering_sync(&self, tree: &Tree, branch: u32) -> Result<(), VoteFault>
+        requires there { branch < length tree.now.rows }
+        ensures { result ≡ ballots.answer (ballots.registering_sync tree.now.rows branch self.now.ballots) }
+    {
+        if branch != TOP {
+            return Err(VoteFault::SynchronizationUnavailable);
+        }
+        check_status(tree.status(branch))?;
+        check_count(SYNCHRONIZATION_LIMIT, self.synchronizations.len())
+    }
+
+    /// Takes memory for one more registration, where there is none.
+    fn make_room(&mut self) -> Result<(), VoteFault>
+        ensures ok { OnOk result (0 < self.new.room) }
+        ensures err { OnErr result (self.old.room ≡ 0) }
+        ensures memory { IsErr result → IsErrOf result VoteFault.Memory }
+        ensures same { self.new.ballots ≡ self.old.ballots }
+        ensures room { self.old.room ≤ self.new.room }
+    {
+        if self.is_packed() {
+            self.reserve().map_err(|_| VoteFault::Memory)?;
+        }
+        Ok(())
+    }
+
+    /// Whether there is memory for no further registration of some kind.
+    fn is_packed(&self) -> bool
+        ensures { IsTrue result ↔ (self.now.room ≡ 0) }
+    {
+        self.registrations.len() == self.registrations.capacity()
+            || self.votes.len() == self.votes.capacity()
+            || self.synchronizations.len() == self.synchronizations.capacity()
+            || self.links.is_packed()
+    }
+
+    /// Adds a resource that takes part. It needs no memory.
+    fn add(&mut self, branch: u32, to: RefBytes, aware: bool) -> u32
+        requires room { 0 < self.old.room }
+        requires there { branch < list_count }
+        requires few { length self.old.ballots.registrations < registration_limit }
+        ensures ballots { self.new.ballots ≡ ballots.registered branch to aware self.old.ballots }
+        ensures index { result ≡ length self.old.ballots.registrations + 1 }
+    {
+        let index = self.registrations.len() as u32 + 1;
+        self.registrations.push_reserved(Registration {
+            index,
+            branch,
+            to,
+            aware,
+        });
+        self.votes.push_reserved(None);
+        self.links.push(branch);
+        index
+    }
+
+    /// Adds a resource that takes no part. It needs no memory.
+    fn add_aware(&mut self, branch: u32, to: RefBytes) -> u32
+        requires room { 0 < self.old.room }
+        requires few { length self.old.ballots.registrations < registration_limit }
+        ensures ballots { self.new.ballots ≡ ballots.registered_aware branch to self.old.ballots }
+        ensures index { result ≡ length self.old.ballots.registrations + 1 }
+    {
+        let index = self.registrations.len() as u32 + 1;
+        self.registrations.push_reserved(Registration {
+            index,
+            branch,
+            to,
+            aware: true,
+        });
+        self.votes.push_reserved(None);
+        self.links.skip();
+        index
+    }
+
+    /// Adds a synchronization. It needs no memory.
+    fn add_sync(&mut self, branch: u32, to: RefBytes) -> u32
+        requires room { 0 < self.old.room }
+        requires few { length self.old.ballots.synchronizations < synchronization_limit }
+        ensures ballots { self.new.ballots ≡ ballots.registered_sync branch to self.old.ballots }
+        ensures index { result ≡ length self.old.ballots.synchronizations + 1 }
+    {
+        let index = self.synchronizations.len() as u32 + 1;
+        self.synchronizations.push_reserved(Registration {
+            index,
+            branch,
+            to,
+            aware: false,
+        });
+        index
+    }
+}
+
+/// Refuses a registration with a transaction that stands so.
+fn check_status(status: Status) -> Result<(), VoteFault>
+    ensures { result ≡ ballots.answer (ballots.by_status (Some status)) }
+{
+    match status {
+        Status::Active => Ok(()),
+        Status::MarkedRollback => Err(VoteFault::MarkedAlready),
+        _ => Err(VoteFault::Inactive),
+    }
+}
+
+/// Refuses one more than there may be.
+fn check_count(limit: usize, count: usize) -> Result<(), VoteFault>
+    ensures { result ≡ ballots.answer (ballots.by_count limit count) }
+{
+    if count >= limit {
+        return Err(VoteFault::NoResources);
+    }
+    Ok(())
+}
