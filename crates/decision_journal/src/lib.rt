@@ -7,3 +7,4 @@ pub use record::{CellsEnd, JournalRecord, Put, Puts, Registration, Registrations
 mod laws;
 mod reading;
 mod record;
+mod writing;
