@@ -11,7 +11,7 @@ use Rattle.ots_outside.specs.Disk.{DiskState, Moment, IsImage, LeavesOnly, Leave
 use Rattle.decision_journal.specs.declared.record.JournalRecord.{JournalRecord}
 use Rattle.decision_journal.specs.Limits.{area_limit}
 use Rattle.decision_journal.specs.Layout.{four, payload, record_octets, Fits}
-use Rattle.decision_journal.specs.Journal.{AreInTurn, StandsFor, Holds, IsBeforeOrAfter, front, header, can_follow}
+use Rattle.decision_journal.specs.Journal.{AreInTurn, StandsFor, Holds, IsBeforeOrAfter, front, header, Found, nothing_found, first_gate, with_record, with_records, can_follow}
 use Rattle.decision_journal.specs.Laws.{CanAppend, IsSettled, appended, behind_gate}
 use Rattle.decision_journal.proofs.Images.{image_settled, image_behind, image_one}
 
@@ -21,10 +21,9 @@ fit_more : (rs : List JournalRecord) (r : JournalRecord) → AllByRecursion Fits
 fit_more [] r fit one = (one, tt)
 fit_more (s ∷ rs) r fit one = (fit.0, fit_more rs r fit.1 one)
 
-pub in_turn_more : (before rs : List JournalRecord) (r : JournalRecord) → AreInTurn before rs → IsTrue (can_follow (before ++ rs) r) → AreInTurn before (rs ++ r ∷ [])
-in_turn_more before [] r turn follows = (subst (λ (l : List JournalRecord). IsTrue (can_follow l r)) (append-nil before) follows, tt)
-in_turn_more before (s ∷ rs) r turn follows =
-    (turn.0, in_turn_more (before ++ s ∷ []) rs r turn.1 (subst (λ (l : List JournalRecord). IsTrue (can_follow l r)) (sym (append_assoc before (s ∷ []) rs)) follows))
+pub in_turn_more : (found : Found) (place : ℕ) (rs : List JournalRecord) (r : JournalRecord) → AreInTurn found place rs → IsTrue (can_follow (with_records found place rs) r) → AreInTurn found place (rs ++ r ∷ [])
+in_turn_more found place [] r turn follows = (follows, tt)
+in_turn_more found place (s ∷ rs) r turn follows = (turn.0, in_turn_more (with_record found place s) (place + length (record_octets s)) rs r turn.1 follows)
 
 pub front_more : (service : ℕ) (rs : List JournalRecord) (r : JournalRecord) → front service (rs ++ r ∷ []) ≡ front service rs ++ record_octets r
 front_more service rs r =
@@ -49,7 +48,7 @@ module _ (service : ℕ) (rs : List JournalRecord) (octets : List ℕ) (stands :
       octets_are = is ∙ sym (ap (λ (l : List ℕ). l ++ 0 ∷ behind) (front_more service rs r) ∙ append_assoc (front service rs) (record_octets r) (0 ∷ behind));
       closed = omega arith;
       fit = fit_more rs r stands.fit can.fits;
-      in_turn = in_turn_more [] rs r stands.in_turn can.follows;
+      in_turn = in_turn_more nothing_found first_gate rs r stands.in_turn can.follows;
       within = can.within;
     }
 
@@ -148,7 +147,7 @@ module _ (service : ℕ) (rs : List JournalRecord) (r : JournalRecord) (disk : D
   pub leaves_after : LeavesOnly P (synced second).present
   leaves_after = λ c image. inr (inl (subst (λ l. StandsFor service l (rs ++ r ∷ [])) (sym (image_settled second.reads c image)) stands_after))
 
-  pub append_safe : let after = appended g r disk in LeavesOnlySince P disk after × StandsFor service after.reads (rs ++ r ∷ []) × IsSettled after
+  pub append_safe : let after = appended g (behind_gate r) disk in LeavesOnlySince P disk after × StandsFor service after.reads (rs ++ r ∷ []) × IsSettled after
   append_safe = (
     record {
       more = (synced second).present ∷ second.present ∷ (synced first).present ∷ first.present ∷ [];

@@ -4,3 +4,4 @@ pub mod Records
 pub mod Images
 pub mod Append
 pub mod OneList
+pub mod Ways

@@ -1,9 +1,10 @@
 -- What the octets of a journal stand for (our profile). A journal is a header, records with open gates, and a gate that
 -- isn't open; what stands behind that gate doesn't count. A gate is open where it is 1.
-use Rattle.std.specs.Prelude.{◌≡◌, ◌≢◌, ℕ, ◌+◌, ◌<◌, ◌⊎◌, ◌==◌, Bool, true, false, ◌&&◌, nat_lt, not, if◌then◌else◌, List, [], ◌∷◌, ◌++◌, length, slice_index, Option, Some, None, IsTrue}
-use Rattle.std.specs.List.{flat_map, AllByRecursion}
+use Rattle.std.specs.Prelude.{◌≡◌, ◌≢◌, ℕ, ◌+◌, ◌<◌, ◌⊎◌, ◌==◌, Bool, true, false, ◌&&◌, not, List, filter, [], ◌∷◌, ◌++◌, length, slice_index, Option, Some, None, IsTrue}
+use Rattle.std.specs.List.{flat_map, list_any, AllByRecursion}
 use Rattle.decision_journal.specs.declared.record.JournalRecord.{JournalRecord}
 use Rattle.decision_journal.specs.declared.record.JournalRecord.TheVariants.{Life, Decision, Done, Prepared, CellsPrepared, CellsOutcome, CellsOnePhase}
+use Rattle.decision_journal.specs.declared.journal.Standing.{Standing}
 use Rattle.decision_journal.specs.Limits.{area_limit}
 use Rattle.decision_journal.specs.Layout.{four, eight, record_octets, Fits}
 
@@ -19,18 +20,19 @@ header service = first_letter ∷ 84 ∷ 83 ∷ 74 ∷ (four 1 ++ eight service)
 abbrev pub front : ℕ → List JournalRecord → List ℕ
 front service rs = header service ++ flat_map record_octets rs
 
--- how many lives began
-abbrev pub lives : List JournalRecord → ℕ
-lives [] = 0
-lives (Life life ∷ rs) = lives rs + 1
-lives (Decision life slot generation k asked regs ∷ rs) = lives rs
-lives (Done place ∷ rs) = lives rs
-lives (Prepared life slot generation recovery regs ∷ rs) = lives rs
-lives (CellsPrepared life number recovery ps ∷ rs) = lives rs
-lives (CellsOutcome place end ∷ rs) = lives rs
-lives (CellsOnePhase life number ps ∷ rs) = lives rs
+-- the place of the first gate, behind the header
+abbrev pub first_gate : ℕ
+first_gate = 16
 
--- a record that stands until a Done names it
+-- what records leave behind them: the life, and what stands, in order
+pub record Found : Type 0 where
+  pub life : ℕ
+  pub standing : List Standing
+
+abbrev pub nothing_found : Found
+nothing_found = record { life = 0; standing = [] }
+
+-- a decision or prepared record, which stands until a Done names it
 abbrev pub is_decision : JournalRecord → Bool
 is_decision (Life life) = false
 is_decision (Decision life slot generation k asked regs) = true
@@ -40,7 +42,7 @@ is_decision (CellsPrepared life number recovery ps) = false
 is_decision (CellsOutcome place end) = false
 is_decision (CellsOnePhase life number ps) = false
 
--- a record that an outcome can name
+-- prepared cells, which an outcome can name
 abbrev pub is_cells_prepared : JournalRecord → Bool
 is_cells_prepared (Life life) = false
 is_cells_prepared (Decision life slot generation k asked regs) = false
@@ -50,45 +52,53 @@ is_cells_prepared (CellsPrepared life number recovery ps) = true
 is_cells_prepared (CellsOutcome place end) = false
 is_cells_prepared (CellsOnePhase life number ps) = false
 
--- a Done of this place is among them
-abbrev pub is_done : List JournalRecord → ℕ → Bool
-is_done [] place = false
-is_done (Life life ∷ rs) place = is_done rs place
-is_done (Decision life slot generation k asked regs ∷ rs) place = is_done rs place
-is_done (Done named ∷ rs) place = if named == place then true else is_done rs place
-is_done (Prepared life slot generation recovery regs ∷ rs) place = is_done rs place
-is_done (CellsPrepared life number recovery ps ∷ rs) place = is_done rs place
-is_done (CellsOutcome named end ∷ rs) place = is_done rs place
-is_done (CellsOnePhase life number ps ∷ rs) place = is_done rs place
+abbrev pub is_decision_at : ℕ → Standing → Bool
+is_decision_at place s = s.place == place && is_decision s.item
 
--- of records whose first gate stands at start, one of a kind has its gate at this place
-abbrev pub has_at : (JournalRecord → Bool) → ℕ → List JournalRecord → ℕ → Bool
-has_at is_kind start [] place = false
-has_at is_kind start (r ∷ rs) place =
-    if start == place then is_kind r else has_at is_kind (start + length (record_octets r)) rs place
+abbrev pub are_cells_at : ℕ → Standing → Bool
+are_cells_at place s = s.place == place && is_cells_prepared s.item
 
--- the place of the first gate, behind the header
-abbrev pub first_gate : ℕ
-first_gate = 16
+-- with a record whose gate is at this place: a Life begins the next life, a Done takes away what it names, and each other
+-- record stands; those of cells stand for good
+abbrev pub with_record : Found → ℕ → JournalRecord → Found
+with_record found place (Life life) = record { life = life; standing = found.standing }
+with_record found place (Decision life slot generation k asked regs) =
+    record { life = found.life; standing = found.standing ++ record { place = place; item = Decision life slot generation k asked regs } ∷ [] }
+with_record found place (Done named) =
+    record { life = found.life; standing = filter (λ s. not (is_decision_at named s)) found.standing }
+with_record found place (Prepared life slot generation recovery regs) =
+    record { life = found.life; standing = found.standing ++ record { place = place; item = Prepared life slot generation recovery regs } ∷ [] }
+with_record found place (CellsPrepared life number recovery ps) =
+    record { life = found.life; standing = found.standing ++ record { place = place; item = CellsPrepared life number recovery ps } ∷ [] }
+with_record found place (CellsOutcome named end) =
+    record { life = found.life; standing = found.standing ++ record { place = place; item = CellsOutcome named end } ∷ [] }
+with_record found place (CellsOnePhase life number ps) =
+    record { life = found.life; standing = found.standing ++ record { place = place; item = CellsOnePhase life number ps } ∷ [] }
 
--- a decision or prepared record at this place stands: no Done names it
-abbrev pub stands_at : List JournalRecord → ℕ → Bool
-stands_at rs place = has_at is_decision first_gate rs place && not (is_done rs place)
+-- with records, the first of which has its gate at this place
+abbrev pub with_records : Found → ℕ → List JournalRecord → Found
+with_records found place [] = found
+with_records found place (r ∷ rs) = with_records (with_record found place r) (place + length (record_octets r)) rs
 
--- whether a record can follow these: the next life, a Done of one that stands, an outcome of cells that were prepared
-abbrev pub can_follow : List JournalRecord → JournalRecord → Bool
-can_follow rs (Life life) = life == lives rs + 1
-can_follow rs (Decision life slot generation k asked regs) = true
-can_follow rs (Done place) = stands_at rs place
-can_follow rs (Prepared life slot generation recovery regs) = true
-can_follow rs (CellsPrepared life number recovery ps) = true
-can_follow rs (CellsOutcome place end) = has_at is_cells_prepared first_gate rs place
-can_follow rs (CellsOnePhase life number ps) = true
+-- what the records of a journal leave
+abbrev pub found_in : List JournalRecord → Found
+found_in rs = with_records nothing_found first_gate rs
+
+-- whether a record can follow: the next life, a Done of one that stands, an outcome of cells that were prepared, or any other
+abbrev pub can_follow : Found → JournalRecord → Bool
+can_follow found (Life life) = life == found.life + 1
+can_follow found (Decision life slot generation k asked regs) = true
+can_follow found (Done place) = list_any (is_decision_at place) found.standing
+can_follow found (Prepared life slot generation recovery regs) = true
+can_follow found (CellsPrepared life number recovery ps) = true
+can_follow found (CellsOutcome place end) = list_any (are_cells_at place) found.standing
+can_follow found (CellsOnePhase life number ps) = true
 
 -- each of these can follow those before it
-abbrev pub AreInTurn : List JournalRecord → List JournalRecord → Type 0
-AreInTurn before [] = Unit {0}
-AreInTurn before (r ∷ rs) = IsTrue (can_follow before r) × AreInTurn (before ++ r ∷ []) rs
+abbrev pub AreInTurn : Found → ℕ → List JournalRecord → Type 0
+AreInTurn found place [] = Unit {0}
+AreInTurn found place (r ∷ rs) =
+    IsTrue (can_follow found r) × AreInTurn (with_record found place r) (place + length (record_octets r)) rs
 
 -- the octets stand for these records, up to the first gate that isn't open
 pub record StandsFor (service : ℕ) (octets : List ℕ) (rs : List JournalRecord) : Type 0 where
@@ -97,7 +107,7 @@ pub record StandsFor (service : ℕ) (octets : List ℕ) (rs : List JournalRecor
   pub octets_are : octets ≡ front service rs ++ gate ∷ behind
   pub closed : gate ≢ 1
   pub fit : AllByRecursion Fits rs
-  pub in_turn : AreInTurn [] rs
+  pub in_turn : AreInTurn nothing_found first_gate rs
   pub within : length (front service rs) < area_limit
 
 -- octets that are not yet a journal: fewer than 17, or 17 whose first isn't the letter

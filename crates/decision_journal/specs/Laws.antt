@@ -1,11 +1,11 @@
 -- What a crash can leave of a journal (our profile). The calls of a disk in an append, in the creation of a journal, and in
 -- a load are written out; each image of each of their moments holds the records of before, or those and the new one.
-use Rattle.std.specs.Prelude.{◌≡◌, ℕ, ◌+◌, ◌<◌, List, [], ◌∷◌, ◌++◌, length, drop, Bool, IsTrue, if◌then◌else◌}
-use Rattle.ots_outside.specs.Disk.{DiskState, Moment, IsImage, LeavesOnlySince, at_first, synced, written}
+use Rattle.std.specs.Prelude.{◌≡◌, ℕ, ◌+◌, ◌<◌, ◌≤◌, List, [], ◌∷◌, ◌++◌, length, drop, Bool, IsTrue, if◌then◌else◌}
+use Rattle.ots_outside.specs.Disk.{DiskState, Moment, IsImage, LeavesOnlySince, moments, synced, written}
 use Rattle.decision_journal.specs.declared.record.JournalRecord.{JournalRecord}
 use Rattle.decision_journal.specs.Limits.{area_limit}
 use Rattle.decision_journal.specs.Layout.{record_octets, payload, Fits}
-use Rattle.decision_journal.specs.Journal.{StandsFor, IsFresh, Holds, IsBeforeOrAfter, first_letter, header, front, can_follow}
+use Rattle.decision_journal.specs.Journal.{StandsFor, IsFresh, Holds, IsBeforeOrAfter, first_letter, header, front, can_follow, found_in}
 
 -- octets stand for one list of records
 abbrev pub OctetsStandForOneList : Type 0
@@ -23,23 +23,23 @@ IsSettled disk = disk.present ≡ record { synced = disk.reads; writes = [] }
 -- a record can be appended to these: it has octets, can follow them, and ends within the limit
 pub record CanAppend (service : ℕ) (rs : List JournalRecord) (r : JournalRecord) : Type 0 where
   pub fits : Fits r
-  pub follows : IsTrue (can_follow rs r)
+  pub follows : IsTrue (can_follow (found_in rs) r)
   pub within : length (front service (rs ++ r ∷ [])) < area_limit
 
 -- the length, the payload and a closed gate
 abbrev pub behind_gate : JournalRecord → List ℕ
 behind_gate r = drop 1 (record_octets r) ++ 0 ∷ []
 
--- the disk after an append: what stands behind the gate, a sync, the gate, a sync
-abbrev pub appended : ℕ → JournalRecord → DiskState → DiskState
-appended gate r disk = synced (written gate (1 ∷ []) (synced (written (gate + 1) (behind_gate r) disk)))
+-- the disk after an append: octets behind the gate, a sync, the open gate, a sync
+abbrev pub appended : ℕ → List ℕ → DiskState → DiskState
+appended gate behind disk = synced (written gate (1 ∷ []) (synced (written (gate + 1) behind disk)))
 
 -- a crash at any moment of an append leaves the records of before, or these and the new one; once it is done, the new one
 -- is there
 abbrev pub AppendsAreSafe : Type 0
 AppendsAreSafe = (service : ℕ) (rs : List JournalRecord) (r : JournalRecord) (disk : DiskState)
     → IsSettled disk → StandsFor service disk.reads rs → CanAppend service rs r
-    → let after = appended (length (front service rs)) r disk in
+    → let after = appended (length (front service rs)) (behind_gate r) disk in
     LeavesOnlySince (IsBeforeOrAfter service rs r) disk after
     × StandsFor service after.reads (rs ++ r ∷ []) × IsSettled after
 
@@ -50,3 +50,10 @@ cleared is_due disk = if is_due then synced (written 0 (0 ∷ []) disk) else dis
 -- the disk after the creation of a journal: all but the first letter, with a closed gate, a sync, the letter, a sync
 abbrev pub created : ℕ → DiskState → DiskState
 created service disk = synced (written 0 (first_letter ∷ []) (synced (written 1 (drop 1 (header service) ++ 0 ∷ []) disk)))
+
+-- a disk on the way from a start to an end: it has the moments of the end, but the last ones, and reads one of its images
+pub record IsOnTheWay (start end now : DiskState) : Type 0 where
+  pub left : ℕ
+  pub within : left + length (moments start) ≤ length (moments end)
+  pub moments_are : moments now ≡ drop left (moments end)
+  pub image : IsImage now.present now.reads

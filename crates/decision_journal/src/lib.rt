@@ -1,9 +1,12 @@
 //! The journal of decisions: records that a crash at any moment can't break.
 #![tactic(auto)]
 
+pub use journal::{JournalFault, Standing};
 pub use laws::{appends_are_safe, octets_stand_for_one_list, payloads_tell_records};
 pub use record::{CellsEnd, JournalRecord, Put, Puts, Registration, Registrations};
 
+mod disk_calls;
+mod journal;
 mod laws;
 mod reading;
 mod record;

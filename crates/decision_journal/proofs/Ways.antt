@@ -1,0 +1,79 @@
+-- A disk on its way through the calls of an append.
+use Rattle.std.proofs.Common.{◌≡◌, ◌⊎◌, inl, inr, ℕ, zero, suc, ◌+◌, ◌≤◌, List, [], ◌∷◌, ◌++◌, length, length-append, drop, Option, Some, None, refl, sym, ap, subst, ◌∙◌, arith}
+use Rattle.ots_outside.specs.Disk.{DiskState, Moment, IsImage, IsAfterRefusal, LeavesOnly, EachLeavesOnly, LeavesOnlySince, ReadsImage, Tells, moments, synced, written}
+use Rattle.decision_journal.specs.Laws.{IsOnTheWay, appended}
+
+-- two calls, one after the other
+pub tells_then : (a b c : Option DiskState) (R S : DiskState → DiskState → Type 0) → Tells a b R → Tells b c S → Tells a c (λ s u. (t : DiskState) × R s t × S t u)
+tells_then None None None R S x y = tt
+tells_then None None (Some u) R S x y = absurd y
+tells_then None (Some t) c R S x y = absurd x
+tells_then (Some s) None c R S x y = absurd x
+tells_then (Some s) (Some t) None R S x y = absurd y
+tells_then (Some s) (Some t) (Some u) R S x y = (t, x, y)
+
+-- a relation for another
+pub tells_weaker : (a b : Option DiskState) (R S : DiskState → DiskState → Type 0) → ((s t : DiskState) → R s t → S s t) → Tells a b R → Tells a b S
+tells_weaker None None R S f x = tt
+tells_weaker None (Some t) R S f x = absurd x
+tells_weaker (Some s) None R S f x = absurd x
+tells_weaker (Some s) (Some t) R S f x = f s t x
+
+-- with what is known of the second
+pub tells_reading : (a b : Option DiskState) (R S : DiskState → DiskState → Type 0) → ((s t : DiskState) → IsImage t.present t.reads → R s t → S s t) → ReadsImage b → Tells a b R → Tells a b S
+tells_reading None None R S f i x = tt
+tells_reading None (Some t) R S f i x = absurd x
+tells_reading (Some s) None R S f i x = absurd x
+tells_reading (Some s) (Some t) R S f i x = f s t i x
+
+-- the disk before each of the four calls, and its end
+module _ (gate : ℕ) (behind : List ℕ) where
+  abbrev pub wrote : DiskState → DiskState
+  wrote s = written (gate + 1) behind s
+
+  abbrev pub opened : DiskState → DiskState
+  opened s = written gate (1 ∷ []) (synced (wrote s))
+
+  abbrev pub Way : DiskState → DiskState → Type 0
+  Way s t = IsOnTheWay s (appended gate behind s) t
+
+  refused_at : (s before done t : DiskState) (early late : ℕ) → early + length (moments s) ≤ length (moments (appended gate behind s)) → late + length (moments s) ≤ length (moments (appended gate behind s))
+      → moments before ≡ drop early (moments (appended gate behind s)) → moments done ≡ drop late (moments (appended gate behind s)) → IsAfterRefusal before done t → Way s t
+  refused_at s before done t early late le1 le2 m1 m2 h = elim h.moments [
+    | inl same ↦ record { left = early; within = le1; moments_are = same ∙ m1; image = h.image }
+    | inr same ↦ record { left = late; within = le2; moments_are = same ∙ m2; image = h.image }
+  ]
+
+  pub way_1 : (s t : DiskState) → IsAfterRefusal s (wrote s) t → Way s t
+  way_1 s t h = refused_at s s (wrote s) t 4 3 (omega arith) (omega arith) refl refl h
+
+  pub way_2 : (s m t : DiskState) → m ≡ wrote s → IsAfterRefusal m (synced m) t → Way s t
+  way_2 s m t e h = refused_at s m (synced m) t 3 2 (omega arith) (omega arith) (ap moments e) (ap (λ (m : DiskState). moments (synced m)) e) h
+
+  pub way_3 : (s m t : DiskState) → m ≡ synced (wrote s) → IsAfterRefusal m (written gate (1 ∷ []) m) t → Way s t
+  way_3 s m t e h = refused_at s m (written gate (1 ∷ []) m) t 2 1 (omega arith) (omega arith) (ap moments e) (ap (λ (m : DiskState). moments (written gate (1 ∷ []) m)) e) h
+
+  pub way_4 : (s m t : DiskState) → m ≡ opened s → IsAfterRefusal m (synced m) t → Way s t
+  way_4 s m t e h = refused_at s m (synced m) t 1 0 (omega arith) (omega arith) (ap moments e) (ap (λ (m : DiskState). moments (synced m)) e) h
+
+  pub way_5 : (s t : DiskState) → IsImage t.present t.reads → t ≡ appended gate behind s → Way s t
+  way_5 s t image e = record { left = 0; within = omega arith; moments_are = ap moments e; image = image }
+
+-- what a crash leaves on the way to an end, it leaves up to the end
+each_dropped : (P : List ℕ → Type 0) (n : ℕ) (more : List Moment) → EachLeavesOnly P more → EachLeavesOnly P (drop n more)
+each_dropped P zero more each = each
+each_dropped P (suc n) [] each = tt
+each_dropped P (suc n) (m ∷ more) each = each_dropped P n more each.1
+
+drop_within : (n : ℕ) (more rest : List Moment) → n ≤ length more → drop n (more ++ rest) ≡ drop n more ++ rest
+drop_within zero more rest le = refl
+drop_within (suc n) [] rest le = absurd (omega arith)
+drop_within (suc n) (m ∷ more) rest le = drop_within n more rest (omega arith)
+
+pub on_the_way : (P : List ℕ → Type 0) (start end now : DiskState) → LeavesOnlySince P start end → IsOnTheWay start end now → LeavesOnlySince P start now
+on_the_way P start end now since way = record {
+  more = drop way.left since.more;
+  moments = way.moments_are ∙ ap (drop way.left) since.moments ∙ drop_within way.left since.more (moments start) (omega (arith, way.within, ap length since.moments, length-append since.more (moments start)));
+  at_start = since.at_start;
+  later = each_dropped P way.left since.more since.later;
+}

@@ -1,0 +1,7 @@
+use Rattle.std.proofs.Common.{◌≡◌, ◌++◌, length, take}
+use Rattle.std.specs.List.{flat_map}
+use Rattle.decision_journal.specs.Layout.{registration, two}
+use Rattle.decision_journal.proofs.writing.put_registrations.Given as goal
+
+abbrev pub invariant-loop-item : goal.invariant-loop-item
+invariant-loop-item l = l.out.items ≡ l.fn.out.items ++ (two (length l.items) ++ flat_map registration (take l.item-index l.items))

@@ -1,0 +1,32 @@
+use crate::record::JournalRecord;
+
+/// A record that stands, and the place of its gate.
+#[derive(Drop)]
+pub struct Standing {
+    /// The place of the record's gate.
+    pub place: u32,
+    /// The record.
+    pub item: JournalRecord,
+}
+
+/// Why a call of a journal was refused.
+#[derive(Clone, Copy, Debug, PartialEq, Eq)]
+pub enum JournalFault {
+    /// The disk failed.
+    DiskFault,
+    /// The area has no room: so many octets are used, and so many would be needed.
+    Full {
+        /// The octets that are used, with those that records which stand will need.
+        used: u64,
+        /// The octets that the record needs.
+        need: u64,
+    },
+    /// The header is another from this place on.
+    BadHeader(u32),
+    /// The octets stand for nothing: at the gate at this place.
+    BadRecord(u32),
+    /// No life is left.
+    LivesSpent,
+    /// Memory ran out.
+    Memory,
+}
