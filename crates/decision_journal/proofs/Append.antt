@@ -17,7 +17,7 @@ use Rattle.decision_journal.proofs.Images.{image_settled, image_behind, image_on
 
 -- ---- one record more
 
-fit_more : (rs : List JournalRecord) (r : JournalRecord) → AllByRecursion Fits rs → Fits r → AllByRecursion Fits (rs ++ r ∷ [])
+pub fit_more : (rs : List JournalRecord) (r : JournalRecord) → AllByRecursion Fits rs → Fits r → AllByRecursion Fits (rs ++ r ∷ [])
 fit_more [] r fit one = (one, tt)
 fit_more (s ∷ rs) r fit one = (fit.0, fit_more rs r fit.1 one)
 

@@ -5,3 +5,5 @@ pub mod Images
 pub mod Append
 pub mod OneList
 pub mod Ways
+pub mod Steps
+pub mod Scans

@@ -1,9 +1,11 @@
 -- What the octets of a journal stand for (our profile). A journal is a header, records with open gates, and a gate that
 -- isn't open; what stands behind that gate doesn't count. A gate is open where it is 1.
-use Rattle.std.specs.Prelude.{◌≡◌, ◌≢◌, ℕ, ◌+◌, ◌<◌, ◌⊎◌, ◌==◌, Bool, true, false, ◌&&◌, not, List, filter, [], ◌∷◌, ◌++◌, length, slice_index, Option, Some, None, IsTrue}
-use Rattle.std.specs.List.{flat_map, list_any, AllByRecursion}
+use Rattle.std.specs.Prelude.{◌≡◌, ◌≢◌, ℕ, ◌+◌, ◌-◌, ◌<◌, ◌⊎◌, ◌==◌, Bool, true, false, ◌&&◌, List, [], ◌∷◌, ◌++◌, length, drop, slice_index, position, Option, Some, None, IsTrue}
+use Rattle.std.specs.List.{flat_map, list_any, remove, AllByRecursion}
 use Rattle.decision_journal.specs.declared.record.JournalRecord.{JournalRecord}
 use Rattle.decision_journal.specs.declared.record.JournalRecord.TheVariants.{Life, Decision, Done, Prepared, CellsPrepared, CellsOutcome, CellsOnePhase}
+use Rattle.decision_journal.specs.declared.journal.JournalFault.{JournalFault}
+use Rattle.decision_journal.specs.declared.journal.JournalFault.TheVariants.{DiskFault, Full, BadHeader, BadRecord, LivesSpent, Memory}
 use Rattle.decision_journal.specs.declared.journal.Standing.{Standing}
 use Rattle.decision_journal.specs.Limits.{area_limit}
 use Rattle.decision_journal.specs.Layout.{four, eight, record_octets, Fits}
@@ -58,6 +60,11 @@ is_decision_at place s = s.place == place && is_decision s.item
 abbrev pub are_cells_at : ℕ → Standing → Bool
 are_cells_at place s = s.place == place && is_cells_prepared s.item
 
+-- without the one at this index
+abbrev pub taken_away : Option ℕ → List Standing → List Standing
+taken_away None standing = standing
+taken_away (Some index) standing = remove standing index
+
 -- with a record whose gate is at this place: a Life begins the next life, a Done takes away what it names, and each other
 -- record stands; those of cells stand for good
 abbrev pub with_record : Found → ℕ → JournalRecord → Found
@@ -65,7 +72,7 @@ with_record found place (Life life) = record { life = life; standing = found.sta
 with_record found place (Decision life slot generation k asked regs) =
     record { life = found.life; standing = found.standing ++ record { place = place; item = Decision life slot generation k asked regs } ∷ [] }
 with_record found place (Done named) =
-    record { life = found.life; standing = filter (λ s. not (is_decision_at named s)) found.standing }
+    record { life = found.life; standing = taken_away (position (is_decision_at named) found.standing) found.standing }
 with_record found place (Prepared life slot generation recovery regs) =
     record { life = found.life; standing = found.standing ++ record { place = place; item = Prepared life slot generation recovery regs } ∷ [] }
 with_record found place (CellsPrepared life number recovery ps) =
@@ -121,3 +128,64 @@ Holds service octets rs = StandsFor service octets rs ⊎ (IsFresh octets × (rs
 -- the octets hold these records, with one more or without it
 abbrev pub IsBeforeOrAfter : ℕ → List JournalRecord → JournalRecord → List ℕ → Type 0
 IsBeforeOrAfter service rs r octets = Holds service octets rs ⊎ Holds service octets (rs ++ r ∷ [])
+
+-- records fill octets up to a gate: these are the header and the records, which fit and come in turn
+pub record AreRecords (service : ℕ) (octets : List ℕ) (found : Found) (rs : List JournalRecord) : Type 0 where
+  pub octets_are : octets ≡ front service rs
+  pub fit : AllByRecursion Fits rs
+  pub in_turn : AreInTurn nothing_found first_gate rs
+  pub within : length (front service rs) < area_limit
+  pub found_is : found ≡ found_in rs
+
+-- octets up to a gate are a header and records, which leave what was found
+abbrev pub IsFilled : ℕ → List ℕ → Found → Type 0
+IsFilled service octets found = (rs : List JournalRecord) × AreRecords service octets found rs
+
+-- behind the open gate at this place stands a record that can follow what was found, with a gate behind it within the limit,
+-- and then the rest
+pub record IsStep (gate : ℕ) (behind : List ℕ) (before after : Found) (rest : List ℕ) : Type 0 where
+  pub item : JournalRecord
+  pub fits : Fits item
+  pub follows : IsTrue (can_follow before item)
+  pub octets_are : behind ≡ drop 1 (record_octets item) ++ rest
+  pub more : 0 < length rest
+  pub within : gate + length (record_octets item) < area_limit
+  pub after_is : after ≡ with_record before gate item
+
+-- the rest has a gate, and it is within the limit
+abbrev pub IsWithin : ℕ → List ℕ → List ℕ → Type 0
+IsWithin gate behind rest = (0 < length rest) × (gate + (1 + (length behind - length rest)) < area_limit)
+
+-- no record does
+abbrev pub HasNoStep : ℕ → List ℕ → Found → Type 0
+HasNoStep gate behind found = (r : JournalRecord) (end : ℕ) (rest : List ℕ) → Fits r → IsTrue (can_follow found r)
+    → behind ≡ drop 1 (record_octets r) ++ end ∷ rest → gate + length (record_octets r) < area_limit → ⊥
+
+-- the octets stand for nothing: behind records, at this place, is an open gate, and no record stands there that can follow
+pub record IsBroken (service : ℕ) (octets : List ℕ) (place : ℕ) : Type 0 where
+  pub before : List ℕ
+  pub found : Found
+  pub behind : List ℕ
+  pub octets_are : octets ≡ before ++ 1 ∷ behind
+  pub place_is : place ≡ length before
+  pub filled : IsFilled service before found
+  pub none : HasNoStep place behind found
+
+-- the octets are records, and a rest that begins with a gate that isn't open
+pub record IsScanned (service : ℕ) (octets : List ℕ) (found : Found) (rest : List ℕ) : Type 0 where
+  pub before : List ℕ
+  pub octets_are : octets ≡ before ++ rest
+  pub filled : IsFilled service before found
+  pub gate : ℕ
+  pub behind : List ℕ
+  pub rest_is : rest ≡ gate ∷ behind
+  pub closed : gate ≢ 1
+
+-- why octets that begin with the header stand for nothing
+abbrev pub IsScanFault : ℕ → List ℕ → JournalFault → Type 0
+IsScanFault service octets DiskFault = ⊥
+IsScanFault service octets (Full used need) = ⊥
+IsScanFault service octets (BadHeader place) = ⊥
+IsScanFault service octets (BadRecord place) = IsBroken service octets place
+IsScanFault service octets LivesSpent = ⊥
+IsScanFault service octets Memory = Unit {0}

@@ -152,3 +152,7 @@ fields_at k octets =
 -- the record that a payload is, all of it
 unfoldable pub record_in : List ℕ → Option JournalRecord
 record_in octets = number_at 1 octets >>= λ k. fields_at k.0 k.1 >>= λ x. if length x.1 == 0 then Some x.0 else None
+
+-- the record behind an open gate: the length, and so many octets, which are its payload
+unfoldable pub body_at : List ℕ → Reading JournalRecord
+body_at octets = number_at 4 octets >>= λ n. kept_octets n.0 n.1 >>= λ p. record_in p.0 >>= λ r. Some (r, p.1)

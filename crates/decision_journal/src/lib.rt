@@ -6,8 +6,10 @@ pub use laws::{appends_are_safe, octets_stand_for_one_list, payloads_tell_record
 pub use record::{CellsEnd, JournalRecord, Put, Puts, Registration, Registrations};
 
 mod disk_calls;
+mod found;
 mod journal;
 mod laws;
 mod reading;
 mod record;
+mod scan;
 mod writing;

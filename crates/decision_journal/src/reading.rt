@@ -2,7 +2,7 @@ ghost use Rattle.std.specs.Prelude.{◌≡◌};
 ghost use Rattle.decision_journal.specs.declared.reading.ReadFault.TheVariants.{Memory};
 ghost use Rattle.decision_journal.specs.Layout.{is_rising, rises_from};
 ghost use Rattle.decision_journal.specs.Reading.{
-  Gives, cells_outcome_at, cells_prepared_at, decision_at, done_at, end_at, fields_at, flag_at, key_at, life_at, list_at,
+  Gives, body_at, cells_outcome_at, cells_prepared_at, decision_at, done_at, end_at, fields_at, flag_at, key_at, life_at, list_at,
   number_at, one_phase_at, prepared_at, put_at, puts_at, record_in, reference_at, registration_at, registrations_at
 };
 
@@ -319,4 +319,18 @@ pub(crate) fn record_of(alloc: Global, octets: &[u8]) -> Result<JournalRecord, R
         return Err(ReadFault::NoRecord);
     }
     Ok(record)
+}
+
+/// The record behind an open gate, and the octets behind it.
+#[tactic(auto, unfolding(crate::specs::Reading::body_at))]
+pub(crate) fn body_of(alloc: Global, octets: &[u8]) -> Result<(JournalRecord, &[u8]), ReadFault>
+    ensures { Gives (λ x. (x.0, x.1.now)) result (body_at octets.now) }
+{
+    let (count, rest) = u32_at(octets)?;
+    let count = count as usize;
+    if rest.len() < count {
+        return Err(ReadFault::NoRecord);
+    }
+    let (front, rest) = rest.split_at(count);
+    Ok((record_of(alloc, front)?, rest))
 }

@@ -1,0 +1,70 @@
+ghost use Rattle.std.specs.Prelude.{◌≡◌, ◌<◌, ◌↔◌, IsTrue, length, IfOk, IsErrOf};
+ghost use Rattle.decision_journal.specs.declared.reading.ReadFault.TheVariants.{NoRecord};
+ghost use Rattle.decision_journal.specs.Limits.{area_limit};
+ghost use Rattle.decision_journal.specs.Journal.{HasNoStep, IsScanFault, IsScanned, IsStep, IsWithin, header, nothing_found};
+
+use crate::found::Index;
+use crate::journal::JournalFault;
+use crate::reading::{ReadFault, body_of};
+use std::alloc::Global;
+
+/// How many octets an area has at most.
+pub const AREA_LIMIT: usize = 67_108_864;
+
+/// Reads the record behind the open gate at this place, and gives what stands from the next gate on.
+fn step<'a>(
+    alloc: Global,
+    gate: usize,
+    behind: &'a [u8],
+    index: &mut Index,
+) -> Result<&'a [u8], ReadFault>
+    requires { gate < area_limit }
+    ensures next { IfOk result (λ rest. IsStep gate behind.now index.old index.new rest.now) }
+    ensures none { IsErrOf result NoRecord → HasNoStep gate behind.now index.old }
+{
+    let (item, rest) = body_of(alloc, behind)?;
+    if !is_within(gate, behind, rest) {
+        return Err(ReadFault::NoRecord);
+    }
+    if !index.takes(&item) {
+        return Err(ReadFault::NoRecord);
+    }
+    index.add(gate as u32, item)?;
+    Ok(rest)
+}
+
+/// Whether there is a gate behind a record, and within the limit.
+fn is_within(gate: usize, behind: &[u8], rest: &[u8]) -> bool
+    requires { gate < area_limit }
+    ensures { IsTrue result ↔ IsWithin gate behind.now rest.now }
+{
+    !rest.is_empty() && behind.len().saturating_sub(rest.len()) < AREA_LIMIT - gate - 1
+}
+
+/// How many octets the header has.
+pub(crate) const HEADER_LENGTH: usize = 16;
+
+/// Reads records behind the header, up to a gate that isn't open. Gives what stands from that gate on.
+fn scan<'a>(
+    alloc: Global,
+    service: u64,
+    octets: &'a [u8],
+    index: &mut Index,
+) -> Result<&'a [u8], JournalFault>
+    requires long { 16 < length octets.now }
+    requires header { octets.now ≡ header service ++ drop 16 octets.now }
+    requires new { index.old ≡ nothing_found }
+    ensures ok { IfOk result (λ rest. IsScanned service octets.now index.new rest.now) }
+    ensures fault { IfErr result (IsScanFault service octets.now) }
+{
+    let mut rest = &octets[HEADER_LENGTH..];
+    while let [1, behind @ ..] = rest {
+        let gate = octets.len() - rest.len();
+        match step(alloc, gate, behind, index) {
+            Ok(after) => rest = after,
+            Err(ReadFault::NoRecord) => return Err(JournalFault::BadRecord(gate as u32)),
+            Err(ReadFault::Memory) => return Err(JournalFault::Memory),
+        }
+    }
+    Ok(rest)
+}
