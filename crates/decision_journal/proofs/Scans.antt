@@ -1,8 +1,8 @@
 -- Records, read one after another.
-use Rattle.std.proofs.Common.{◌≡◌, ◌≢◌, ℕ, zero, suc, ◌+◌, ◌-◌, ◌<◌, ◌≤◌, List, [], ◌∷◌, ◌++◌, length, drop, refl, sym, ap, subst, ◌∙◌, arith, append_assoc, length-append}
+use Rattle.std.proofs.Common.{◌≡◌, ◌≢◌, ℕ, zero, suc, ◌+◌, ◌-◌, ◌<◌, ◌≤◌, List, [], ◌∷◌, ◌++◌, length, get_or, take, drop, refl, sym, ap, subst, ◌∙◌, arith, append_assoc, length-append}
 use Rattle.std.specs.Prelude.{IsTrue}
 use Rattle.std.specs.List.{flat_map, AllByRecursion}
-use Rattle.std.proofs.lemmas.List.{append-nil}
+use Rattle.std.proofs.lemmas.List.{append-nil, take_all}
 use Rattle.std.proofs.lemmas.List.Concat.{flat_map-cons}
 use Rattle.decision_journal.specs.declared.record.JournalRecord.{JournalRecord}
 use Rattle.decision_journal.specs.Limits.{area_limit}
@@ -85,3 +85,12 @@ starts service octets rest found is more none = record {
   filled = ([], record { octets_are = sym (append-nil (header service)); fit = tt; in_turn = tt; within = omega (arith, length_front service []); found_is = none });
   more = more;
 }
+
+-- what stands behind the first octet
+pub behind_first : (rest : List ℕ) (n : ℕ) → 0 < length rest → get_or rest 0 0 ≡ 1 → n ≡ length rest - 1 → rest ≡ 1 ∷ take n (drop 1 rest)
+behind_first [] n some first is = absurd (omega arith)
+behind_first (g ∷ rest) n some first is = ap (λ (h : ℕ). h ∷ rest) first ∙ ap (λ (l : List ℕ). 1 ∷ l) (sym (take_all n rest (omega arith)))
+
+pub first_and_rest : (rest : List ℕ) → 0 < length rest → rest ≡ get_or rest 0 0 ∷ drop 1 rest
+first_and_rest [] some = absurd (omega arith)
+first_and_rest (g ∷ rest) some = refl

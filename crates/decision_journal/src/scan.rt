@@ -1,4 +1,4 @@
-ghost use Rattle.std.specs.Prelude.{◌≡◌, ◌<◌, ◌↔◌, IsTrue, length, IfOk, IsErrOf};
+ghost use Rattle.std.specs.Prelude.{◌≡◌, ◌<◌, ◌++◌, ◌↔◌, IsTrue, length, drop, IfOk, IfErr, IsErrOf};
 ghost use Rattle.decision_journal.specs.declared.reading.ReadFault.TheVariants.{NoRecord};
 ghost use Rattle.decision_journal.specs.Limits.{area_limit};
 ghost use Rattle.decision_journal.specs.Journal.{HasNoStep, IsScanFault, IsScanned, IsStep, IsWithin, header, nothing_found};
@@ -44,6 +44,9 @@ fn is_within(gate: usize, behind: &[u8], rest: &[u8]) -> bool
 /// How many octets the header has.
 pub(crate) const HEADER_LENGTH: usize = 16;
 
+/// What an open gate is.
+pub(crate) const OPEN: u8 = 1;
+
 /// Reads records behind the header, up to a gate that isn't open. Gives what stands from that gate on.
 fn scan<'a>(
     alloc: Global,
@@ -58,9 +61,9 @@ fn scan<'a>(
     ensures fault { IfErr result (IsScanFault service octets.now) }
 {
     let mut rest = &octets[HEADER_LENGTH..];
-    while let [1, behind @ ..] = rest {
+    while rest[0] == OPEN {
         let gate = octets.len() - rest.len();
-        match step(alloc, gate, behind, index) {
+        match step(alloc, gate, &rest[1..], index) {
             Ok(after) => rest = after,
             Err(ReadFault::NoRecord) => return Err(JournalFault::BadRecord(gate as u32)),
             Err(ReadFault::Memory) => return Err(JournalFault::Memory),
