@@ -11,7 +11,7 @@ use Rattle.ots_outside.specs.Disk.{DiskState, Moment, IsImage, LeavesOnly, Leave
 use Rattle.decision_journal.specs.declared.record.JournalRecord.{JournalRecord}
 use Rattle.decision_journal.specs.Limits.{area_limit}
 use Rattle.decision_journal.specs.Layout.{four, payload, record_octets, Fits}
-use Rattle.decision_journal.specs.Journal.{AreInTurn, StandsFor, Holds, IsBeforeOrAfter, front, header, Found, nothing_found, first_gate, with_record, with_records, can_follow}
+use Rattle.decision_journal.specs.Journal.{AreInTurn, StandsFor, StandsForEither, front, header, Found, nothing_found, first_gate, with_record, with_records, can_follow}
 use Rattle.decision_journal.specs.Laws.{CanAppend, IsSettled, appended, behind_gate}
 use Rattle.decision_journal.proofs.Images.{image_settled, image_behind, image_one}
 
@@ -53,10 +53,10 @@ module _ (service : ℕ) (rs : List JournalRecord) (octets : List ℕ) (stands :
     }
 
     -- whatever the gate is, before the record
-    pub stands_either : (gate : ℕ) (behind c : List ℕ) → c ≡ front service rs ++ gate ∷ (body r ++ 0 ∷ behind) → IsBeforeOrAfter service rs r c
+    pub stands_either : (gate : ℕ) (behind c : List ℕ) → c ≡ front service rs ++ gate ∷ (body r ++ 0 ∷ behind) → StandsForEither service rs r c
     stands_either gate behind c is = elim (cases_eq gate 1) [
-      | inl open_gate ↦ inr (inl (stands_more behind c (is ∙ ap (λ (g : ℕ). front service rs ++ g ∷ (body r ++ 0 ∷ behind)) open_gate)))
-      | inr closed ↦ inl (inl (stands_with gate (body r ++ 0 ∷ behind) c is closed))
+      | inl open_gate ↦ inr ((stands_more behind c (is ∙ ap (λ (g : ℕ). front service rs ++ g ∷ (body r ++ 0 ∷ behind)) open_gate)))
+      | inr closed ↦ inl ((stands_with gate (body r ++ 0 ∷ behind) c is closed))
     ]
 
 -- ---- the writes
@@ -96,7 +96,7 @@ module _ (service : ℕ) (rs : List JournalRecord) (r : JournalRecord) (disk : D
   g = length f
 
   abbrev P : List ℕ → Type 0
-  P = IsBeforeOrAfter service rs r
+  P = StandsForEither service rs r
 
   abbrev behind : List ℕ
   behind = drop (length (behind_gate r)) stands.behind
@@ -119,7 +119,7 @@ module _ (service : ℕ) (rs : List JournalRecord) (r : JournalRecord) (disk : D
 
   -- at the start
   pub leaves_start : LeavesOnly P disk.present
-  leaves_start = leaves_at P disk.present _ settled (λ c image. inl (inl (subst (λ l. StandsFor service l rs) (sym (image_settled disk.reads c image)) stands)))
+  leaves_start = leaves_at P disk.present _ settled (λ c image. inl ((subst (λ l. StandsFor service l rs) (sym (image_settled disk.reads c image)) stands)))
 
   -- behind the gate anything may stand, and the gate isn't open
   pub leaves_first : LeavesOnly P first.present
@@ -128,11 +128,11 @@ module _ (service : ℕ) (rs : List JournalRecord) (r : JournalRecord) (disk : D
         let regrouped : f ++ stands.gate ∷ stands.behind ≡ (f ++ stands.gate ∷ []) ++ stands.behind = sym (append_assoc f (stands.gate ∷ []) stands.behind) in
         let image2 = subst (λ (l : List ℕ). IsImage (record { synced = l; writes = record { place = g + 1; octets = behind_gate r } ∷ [] }) c) regrouped image in
         let is = image_behind (f ++ stands.gate ∷ []) stands.behind (behind_gate r) c (g + 1) (omega (arith, length-append f (stands.gate ∷ []))) image2 in
-        inl (inl (stands_with service rs disk.reads stands stands.gate _ c (is ∙ append_assoc f (stands.gate ∷ []) _) stands.closed)))
+        inl ((stands_with service rs disk.reads stands stands.gate _ c (is ∙ append_assoc f (stands.gate ∷ []) _) stands.closed)))
 
   -- the first write is whole
   pub leaves_synced : LeavesOnly P (synced first).present
-  leaves_synced = λ c image. inl (inl (stands_with service rs disk.reads stands stands.gate _ c (image_settled first.reads c image ∙ first_reads) stands.closed))
+  leaves_synced = λ c image. inl ((stands_with service rs disk.reads stands stands.gate _ c (image_settled first.reads c image ∙ first_reads) stands.closed))
 
   -- the gate is anything, before the whole record
   pub leaves_second : LeavesOnly P second.present
@@ -145,7 +145,7 @@ module _ (service : ℕ) (rs : List JournalRecord) (r : JournalRecord) (disk : D
 
   -- the new record is there
   pub leaves_after : LeavesOnly P (synced second).present
-  leaves_after = λ c image. inr (inl (subst (λ l. StandsFor service l (rs ++ r ∷ [])) (sym (image_settled second.reads c image)) stands_after))
+  leaves_after = λ c image. inr ((subst (λ l. StandsFor service l (rs ++ r ∷ [])) (sym (image_settled second.reads c image)) stands_after))
 
   pub append_safe : let after = appended g (behind_gate r) disk in LeavesOnlySince P disk after × StandsFor service after.reads (rs ++ r ∷ []) × IsSettled after
   append_safe = (

@@ -7,3 +7,4 @@ pub mod OneList
 pub mod Ways
 pub mod Steps
 pub mod Scans
+pub mod Pieces

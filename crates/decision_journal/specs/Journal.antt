@@ -125,9 +125,9 @@ IsFresh octets = (length octets < 17) ⊎ ((length octets ≡ 17) × (slice_inde
 abbrev pub Holds : ℕ → List ℕ → List JournalRecord → Type 0
 Holds service octets rs = StandsFor service octets rs ⊎ (IsFresh octets × (rs ≡ []))
 
--- the octets hold these records, with one more or without it
-abbrev pub IsBeforeOrAfter : ℕ → List JournalRecord → JournalRecord → List ℕ → Type 0
-IsBeforeOrAfter service rs r octets = Holds service octets rs ⊎ Holds service octets (rs ++ r ∷ [])
+-- the octets stand for these records, or for them and one more
+abbrev pub StandsForEither : ℕ → List JournalRecord → JournalRecord → List ℕ → Type 0
+StandsForEither service rs r octets = StandsFor service octets rs ⊎ StandsFor service octets (rs ++ r ∷ [])
 
 -- records fill octets up to a gate: these are the header and the records, which fit and come in turn
 pub record AreRecords (service : ℕ) (octets : List ℕ) (found : Found) (rs : List JournalRecord) : Type 0 where
@@ -181,11 +181,24 @@ pub record IsScanned (service : ℕ) (octets : List ℕ) (found : Found) (rest :
   pub rest_is : rest ≡ gate ∷ behind
   pub closed : gate ≢ 1
 
--- why octets that begin with the header stand for nothing
+-- the header of octets is another from this place on
+pub record IsOtherHeader (service : ℕ) (octets : List ℕ) (place : ℕ) : Type 0 where
+  pub same : (k : ℕ) → k < place → slice_index octets k ≡ slice_index (header service) k
+  pub differs : slice_index octets place ≢ slice_index (header service) place
+  pub within : place < first_gate
+
+-- why octets stand for nothing
 abbrev pub IsScanFault : ℕ → List ℕ → JournalFault → Type 0
 IsScanFault service octets DiskFault = ⊥
 IsScanFault service octets (Full used need) = ⊥
-IsScanFault service octets (BadHeader place) = ⊥
+IsScanFault service octets (BadHeader place) = IsOtherHeader service octets place
 IsScanFault service octets (BadRecord place) = IsBroken service octets place
 IsScanFault service octets LivesSpent = ⊥
 IsScanFault service octets Memory = Unit {0}
+
+-- octets begin with these, and then comes a gate that isn't open
+pub record StandsAt (before octets : List ℕ) : Type 0 where
+  pub gate : ℕ
+  pub behind : List ℕ
+  pub octets_are : octets ≡ before ++ gate ∷ behind
+  pub closed : gate ≢ 1

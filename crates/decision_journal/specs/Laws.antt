@@ -5,7 +5,7 @@ use Rattle.ots_outside.specs.Disk.{DiskState, Moment, IsImage, LeavesOnlySince, 
 use Rattle.decision_journal.specs.declared.record.JournalRecord.{JournalRecord}
 use Rattle.decision_journal.specs.Limits.{area_limit}
 use Rattle.decision_journal.specs.Layout.{record_octets, payload, Fits}
-use Rattle.decision_journal.specs.Journal.{StandsFor, IsFresh, Holds, IsBeforeOrAfter, first_letter, header, front, can_follow, found_in}
+use Rattle.decision_journal.specs.Journal.{StandsFor, IsFresh, Holds, StandsForEither, first_letter, header, front, can_follow, found_in}
 
 -- octets stand for one list of records
 abbrev pub OctetsStandForOneList : Type 0
@@ -40,7 +40,7 @@ abbrev pub AppendsAreSafe : Type 0
 AppendsAreSafe = (service : ℕ) (rs : List JournalRecord) (r : JournalRecord) (disk : DiskState)
     → IsSettled disk → StandsFor service disk.reads rs → CanAppend service rs r
     → let after = appended (length (front service rs)) (behind_gate r) disk in
-    LeavesOnlySince (IsBeforeOrAfter service rs r) disk after
+    LeavesOnlySince (StandsForEither service rs r) disk after
     × StandsFor service after.reads (rs ++ r ∷ []) × IsSettled after
 
 -- the disk after the letter was taken away, where it is there or there is nothing, and after it wasn't

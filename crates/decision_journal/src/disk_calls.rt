@@ -1,7 +1,7 @@
 ghost use Rattle.std.specs.Prelude.{◌≡◌, ◌<◌, ◌≤◌, ◌+◌, ◌^◌, length, replicate, IsErrOf, OnOk, IfOk, IfSome};
 ghost use Rattle.std.specs.Option.{ForSome};
 ghost use Rattle.ots_outside.specs.declared.disk.DiskRefusal.TheVariants.{Failed};
-ghost use Rattle.ots_outside.specs.Disk.{ReadsImage, Tells, synced};
+ghost use Rattle.ots_outside.specs.Disk.{IsAfterRefusal, ReadsImage, Tells, synced};
 ghost use Rattle.ots_outside.specs.Source.{HasRisen};
 ghost use Rattle.decision_journal.specs.Laws.{IsOnTheWay, appended};
 
@@ -21,4 +21,40 @@ pub(crate) fn append_at<D: Disk>(disk: &mut D, gate: u64, behind: &[u8]) -> Resu
     disk.sync()?;
     disk.write_at(gate, &[1])?;
     disk.sync()
+}
+
+/// How many octets are read at a time.
+const PIECE: usize = 65_536;
+
+/// Syncs the disk, and reads all of its octets, in order.
+pub(crate) fn read_whole<D: Disk>(alloc: Global, disk: &mut D) -> Result<Vec<u8>, DiskRefusal>
+    ensures way { Tells (D.told disk.old) (D.told disk.new) (λ s t. IsAfterRefusal s (synced s) t) }
+    ensures octets { IfOk result (λ octets. IfSome (D.told disk.new) (λ t. octets.items ≡ t.reads)) }
+    ensures settled { OnOk result (Tells (D.told disk.old) (D.told disk.new) (λ s t. t ≡ synced s)) }
+    ensures image { ReadsImage (D.told disk.old) }
+    ensures cause { IsErrOf result Failed → HasRisen (D.faults disk.old) (D.faults disk.new) }
+    ensures later { D.faults disk.old ≤ D.faults disk.new }
+{
+    disk.sync()?;
+    let length = disk.len()?;
+    let mut octets = vec![in alloc; 0; length as usize]?;
+    read_pieces(disk, &mut octets)?;
+    Ok(octets)
+}
+
+/// Reads so many octets, a piece at a time.
+fn read_pieces<D: Disk>(disk: &mut D, octets: &mut [u8]) -> Result<(), DiskRefusal>
+    requires { ForSome (D.told disk.old) (λ s. length octets.old ≡ length s.reads) }
+    ensures untouched { D.told disk.new ≡ D.told disk.old }
+    ensures octets { OnOk result (IfSome (D.told disk.old) (λ s. octets.new ≡ s.reads)) }
+    ensures cause { IsErrOf result Failed → HasRisen (D.faults disk.old) (D.faults disk.new) }
+    ensures later { D.faults disk.old ≤ D.faults disk.new }
+{
+    let mut place = 0;
+    while place < octets.len() {
+        let end = octets.len().min(place + PIECE);
+        disk.read_at(place as u64, &mut octets[place..end])?;
+        place = end;
+    }
+    Ok(())
 }

@@ -1,8 +1,9 @@
-ghost use Rattle.std.specs.Prelude.{◌≡◌, ◌<◌, ◌++◌, ◌↔◌, IsTrue, length, drop, IfOk, IfErr, IsErrOf};
+ghost use Rattle.std.specs.Prelude.{◌≡◌, ◌<◌, ◌++◌, ◌↔◌, IsTrue, length, drop, IfOk, IfErr, IfSome, IfNone, OnOk, IsErrOf};
 ghost use Rattle.decision_journal.specs.declared.reading.ReadFault.TheVariants.{NoRecord};
 ghost use Rattle.decision_journal.specs.Limits.{area_limit};
-ghost use Rattle.decision_journal.specs.Journal.{HasNoStep, IsScanFault, IsScanned, IsStep, IsWithin, header, nothing_found};
+ghost use Rattle.decision_journal.specs.Journal.{HasNoStep, IsFilled, IsOtherHeader, IsScanFault, IsScanned, IsStep, IsWithin, StandsAt, header, nothing_found};
 
+use byteorder::{BigEndian, ByteOrder};
 use crate::found::Index;
 use crate::journal::JournalFault;
 use crate::reading::{ReadFault, body_of};
@@ -70,4 +71,49 @@ fn scan<'a>(
         }
     }
     Ok(rest)
+}
+
+/// The header of a service's journal.
+pub(crate) fn header_of(service: u64) -> [u8; HEADER_LENGTH]
+    ensures { result ≡ header service }
+{
+    let mut octets = [b'O', b'T', b'S', b'J', 0, 0, 0, 1, 0, 0, 0, 0, 0, 0, 0, 0];
+    BigEndian::write_u64(&mut octets[8..], service);
+    octets
+}
+
+/// The place where the header is another, if it is.
+fn other_header(service: u64, octets: &[u8]) -> Option<u32>
+    requires { 16 < length octets.now }
+    ensures same { IfNone result (octets.now ≡ header service ++ drop 16 octets.now) }
+    ensures other { IfSome result (IsOtherHeader service octets.now) }
+{
+    let wanted = header_of(service);
+    for place in 0..HEADER_LENGTH {
+        if octets[place] != wanted[place] {
+            return Some(place as u32);
+        }
+    }
+    None
+}
+
+/// Reads the records of octets, and leaves those before the gate at the end.
+pub(crate) fn filled(
+    alloc: Global,
+    service: u64,
+    octets: &mut Vec<u8>,
+) -> Result<Index, JournalFault>
+    requires { 16 < length octets.old.items }
+    ensures filled { IfOk result (IsFilled service octets.new.items) }
+    ensures stands { OnOk result (StandsAt octets.new.items octets.old.items) }
+    ensures fault { IfErr result (IsScanFault service octets.old.items) }
+{
+    if let Some(place) = other_header(service, octets) {
+        return Err(JournalFault::BadHeader(place));
+    }
+    let mut index = Index::new(alloc);
+    let rest = scan(alloc, service, octets, &mut index)?;
+    let gate = octets.len() - rest.len();
+    octets.truncate(gate);
+    Ok(index)
 }
