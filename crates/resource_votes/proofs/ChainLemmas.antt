@@ -4,7 +4,7 @@ use Rattle.std.specs.Prelude.{slice_index, slice_set}
 use Rattle.std.proofs.lemmas.Grind.{common_steps}
 use Rattle.std.proofs.lemmas.List.{get_or-set_same, get_or-set_other}
 use Rattle.resource_votes.specs.Lists.{AreNumbers}
-use Rattle.resource_votes.specs.Chains.{walk, IsChain, last_of}
+use Rattle.resource_votes.specs.ChainsInside.{walk, IsChain, last_of}
 
 pub same_or_not : (a b : ℕ) → (a ≡ b) ⊎ (a ≢ b)
 same_or_not a b = grind arith

@@ -5,7 +5,7 @@ use Rattle.std.proofs.lemmas.Grind.{common_steps}
 use Rattle.std.proofs.lemmas.List.{get_or-set_same, get_or-set_other, get_or-map, ext_get_or}
 use Rattle.std.proofs.lemmas.List.Sums.{sum_by-set, get_or-le-sum_by}
 use Rattle.resource_votes.specs.Lists.{list_at}
-use Rattle.resource_votes.specs.Chains.{IsChain, last_of}
+use Rattle.resource_votes.specs.ChainsInside.{IsChain, last_of}
 use Rattle.resource_votes.specs.LinksInside.{no_ends, ends_at, linked, all_linked, AreLinked, IsBeside, joined_next, joined_ends}
 use Rattle.resource_votes.specs.declared.links.Ends.{Ends}
 use Rattle.resource_votes.proofs.ChainLemmas.{same_or_not, walk_is, chain_none, last_zero, last_within, last_stops, chain_kept, chain_joined, chain_grows, last_joined, last_positive}

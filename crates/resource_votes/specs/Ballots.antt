@@ -1,7 +1,7 @@
 -- Who is registered with the transactions of a tree, what each voted, and whom the top asks: the operations
 -- register_resource, register_subtran_aware and register_synchronization of interface Coordinator (module CosTransactions).
 -- The limits, and the order in which resources are asked, are our profile.
-use Rattle.std.specs.Prelude.{ℕ, ◌+◌, ◌-◌, ◌==◌, ◌&&◌, Bool, true, false, nat_lt, nat_le, zero, suc, List, [], ◌∷◌, ◌++◌, length, replicate, find, slice_set, Option, Some, None, Result, Ok, Err, if◌then◌else◌}
+use Rattle.std.specs.Prelude.{◌≡◌, IsErr, IsErrOf, ℕ, ◌+◌, ◌-◌, ◌==◌, ◌&&◌, Bool, true, false, nat_lt, nat_le, zero, suc, List, [], ◌∷◌, ◌++◌, length, replicate, find, slice_set, Option, Some, None, Result, Ok, Err, if◌then◌else◌}
 use Rattle.std.specs.List.{slice_get, filter_map}
 use Rattle.std.specs.Option.{option_or, option_and_then}
 use Rattle.ots_model.specs.declared.service.Status.{Status}
@@ -50,6 +50,12 @@ by_count limit count = if nat_le limit count then Some fault.NoResources else No
 abbrev pub answer : Option VoteFault → Result (Unit {0}) VoteFault
 answer None = Ok tt
 answer (Some f) = Err f
+
+-- an answer: the cause for which the call is refused, where there is one; else the call is accepted, or memory is wanted
+-- where none was taken
+abbrev pub AnswersTo : Option VoteFault → ℕ → Result ℕ VoteFault → Type 0
+AnswersTo (Some cause) room result = IsErrOf result cause
+AnswersTo None room result = IsErr result → IsErrOf result fault.Memory × (room ≡ 0)
 
 -- why a resource isn't registered
 abbrev pub registering : List Row → ℕ → Ballots → Option VoteFault

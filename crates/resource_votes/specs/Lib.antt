@@ -1,6 +1,6 @@
 pub mod Limits
 pub mod Lists
-pub mod Chains
+pub mod ChainsInside
 pub mod LinksInside
 pub mod Ballots
 pub mod VotesInside

@@ -1,7 +1,7 @@
 -- Lists of numbers, linked. Each number leads to the one behind it; 0 is no number.
 use Rattle.std.specs.Prelude.{◌≡◌, ◌≢◌, ℕ, ◌+◌, ◌-◌, ◌<◌, ◌≤◌, ◌==◌, ◌||◌, List, length, map, sum_by, slice_index_or, slice_set, vec_len, vec_capacity, if◌then◌else◌}
 use Rattle.resource_votes.specs.Limits.{list_count}
-use Rattle.resource_votes.specs.Chains.{walk, IsChain, last_of}
+use Rattle.resource_votes.specs.ChainsInside.{walk, IsChain, last_of}
 use Rattle.resource_votes.specs.declared.links.Ends.{Ends}
 use Rattle.resource_votes.specs.declared.links.Links.TheInside.{Inside}
 

@@ -129,7 +129,7 @@ pub(crate) struct Numbers<'a> {
 
 impl<'a> Model for Numbers<'a> {
     ghost use Rattle.std.specs.Prelude.{List, ℕ, length};
-    ghost use Rattle.resource_votes.specs.Chains.{walk, IsChain};
+    ghost use Rattle.resource_votes.specs.ChainsInside.{walk, IsChain};
 
     ghost Value = { List ℕ };
 

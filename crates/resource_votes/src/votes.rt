@@ -79,10 +79,8 @@ impl Votes {
         requires there { branch < length tree.now.rows }
         ensures ok { OnOk result (self.new.ballots ≡ ballots.registered branch to aware self.old.ballots) }
         ensures index { IfOk result (λ index. index ≡ length self.old.ballots.registrations + 1) }
-        ensures allowed { IsOk result → ballots.registering tree.now.rows branch self.old.ballots ≡ None }
-        ensures refused { IfSome (ballots.registering tree.now.rows branch self.old.ballots) (λ fault. IsErrOf result fault) }
-        ensures memory { IfNone (ballots.registering tree.now.rows branch self.old.ballots) (IsErr result →
-            IsErrOf result VoteFault.Memory × (self.old.room ≡ 0)) }
+        ensures answer { ballots.AnswersTo (ballots.registering tree.now.rows branch self.old.ballots)
+            self.old.room result }
         ensures err { OnErr result (self.new.ballots ≡ self.old.ballots) }
         ensures room { OnErr result (self.old.room ≤ self.new.room) }
     {
@@ -101,10 +99,8 @@ impl Votes {
         requires there { branch < length tree.now.rows }
         ensures ok { OnOk result (self.new.ballots ≡ ballots.registered_aware branch to self.old.ballots) }
         ensures index { IfOk result (λ index. index ≡ length self.old.ballots.registrations + 1) }
-        ensures allowed { IsOk result → ballots.registering_aware tree.now.rows branch self.old.ballots ≡ None }
-        ensures refused { IfSome (ballots.registering_aware tree.now.rows branch self.old.ballots) (λ fault. IsErrOf result fault) }
-        ensures memory { IfNone (ballots.registering_aware tree.now.rows branch self.old.ballots) (IsErr result →
-            IsErrOf result VoteFault.Memory × (self.old.room ≡ 0)) }
+        ensures answer { ballots.AnswersTo (ballots.registering_aware tree.now.rows branch self.old.ballots)
+            self.old.room result }
         ensures err { OnErr result (self.new.ballots ≡ self.old.ballots) }
         ensures room { OnErr result (self.old.room ≤ self.new.room) }
     {
@@ -126,10 +122,8 @@ impl Votes {
         requires there { branch < length tree.now.rows }
         ensures ok { OnOk result (self.new.ballots ≡ ballots.registered_sync branch to self.old.ballots) }
         ensures index { IfOk result (λ index. index ≡ length self.old.ballots.synchronizations + 1) }
-        ensures allowed { IsOk result → ballots.registering_sync tree.now.rows branch self.old.ballots ≡ None }
-        ensures refused { IfSome (ballots.registering_sync tree.now.rows branch self.old.ballots) (λ fault. IsErrOf result fault) }
-        ensures memory { IfNone (ballots.registering_sync tree.now.rows branch self.old.ballots) (IsErr result →
-            IsErrOf result VoteFault.Memory × (self.old.room ≡ 0)) }
+        ensures answer { ballots.AnswersTo (ballots.registering_sync tree.now.rows branch self.old.ballots)
+            self.old.room result }
         ensures err { OnErr result (self.new.ballots ≡ self.old.ballots) }
         ensures room { OnErr result (self.old.room ≤ self.new.room) }
     {

@@ -27,7 +27,7 @@ by_tests : (rows : List Row) (place : ℕ) (qs : List ℕ) (live : Bool) → dee
 by_tests rows place qs true = by_depth (is_deeper rows place (deepest rows qs)) (Some place) (deepest rows qs)
 by_tests rows place qs false = no_depth (is_deeper rows place (deepest rows qs)) (Some place) (deepest rows qs)
 
-kept_or_not : (rows : List Row) (b place : ℕ) (qs : List ℕ) → deepest rows (filter (is_live_below rows b) (place ∷ qs)) ≡ (if is_deeper rows place (deepest rows (filter (is_live_below rows b) qs)) && is_live_below rows b place then Some place else deepest rows (filter (is_live_below rows b) qs))
+pub kept_or_not : (rows : List Row) (b place : ℕ) (qs : List ℕ) → deepest rows (filter (is_live_below rows b) (place ∷ qs)) ≡ (if is_deeper rows place (deepest rows (filter (is_live_below rows b) qs)) && is_live_below rows b place then Some place else deepest rows (filter (is_live_below rows b) qs))
 kept_or_not rows b place qs = by_tests rows place (filter (is_live_below rows b) qs) (is_live_below rows b place)
 
 pub one_more : (rows : List Row) (b place : ℕ) → place < length rows → deepest_from rows b place ≡ (if is_deeper rows place (deepest_from rows b (place + 1)) && is_live_below rows b place then Some place else deepest_from rows b (place + 1))

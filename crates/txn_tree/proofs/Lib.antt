@@ -1,3 +1,4 @@
 pub mod Lineages
 pub mod Sound
 pub mod Deepest
+pub mod Next

@@ -1,8 +1,8 @@
 -- What the definitions of trees say (nested transactions, and interface Coordinator of module CosTransactions).
-use Rattle.std.specs.Prelude.{◌≡◌, ℕ, ◌<◌, ◌==◌, ◌&&◌, ◌||◌, Bool, false, List, length}
+use Rattle.std.specs.Prelude.{◌≡◌, ℕ, ◌<◌, ◌≤◌, ◌⊎◌, true, MatchOption, ◌==◌, ◌&&◌, ◌||◌, Bool, false, List, length}
 use Rattle.std.specs.Option.{option_map_or}
-use Rattle.txn_tree.specs.Rows.{parent, state, IsTree, is_ancestor, is_committed, is_committed_up}
-use Rattle.txn_tree.specs.Calls.{created, ended, marked}
+use Rattle.txn_tree.specs.Rows.{parent, state, IsTree, is_ancestor, is_committed, is_committed_up, depth}
+use Rattle.txn_tree.specs.Calls.{created, ended, marked, is_live_below, live_under}
 use Rattle.txn_tree.specs.declared.row.Row.{Row}
 
 -- a is an ancestor of b exactly where it is b, or an ancestor of b's parent
@@ -26,3 +26,18 @@ pub record StayTrees (rows : List Row) (b : ℕ) : Type 0 where
 
 abbrev pub TreesStayTrees : Type 0
 TreesStayTrees = (rows : List Row) → IsTree rows → (b : ℕ) → b < length rows → StayTrees rows b
+
+-- a branch is rolled back before another one: it lies deeper, or as deep and was made later
+abbrev pub GoesFirst : List Row → ℕ → ℕ → Type 0
+GoesFirst rows r q = (depth rows q < depth rows r) ⊎ ((depth rows q ≡ depth rows r) × (q ≤ r))
+
+-- a branch is live below b, and is rolled back before all others that are
+pub record IsNext (rows : List Row) (b r : ℕ) : Type 0 where
+  pub there : r < length rows
+  pub live : is_live_below rows b r ≡ true
+  pub first : (q : ℕ) → q < length rows → is_live_below rows b q ≡ true → GoesFirst rows r q
+
+-- the next one is the first of those that are live below a branch; where there is none, none is
+abbrev pub NextIsFirst : Type 0
+NextIsFirst = (rows : List Row) (b : ℕ)
+    → MatchOption (live_under rows b) ((q : ℕ) → q < length rows → is_live_below rows b q ≡ false) (IsNext rows b)

@@ -1,5 +1,5 @@
 // Laws of the definitions: these functions do nothing, and their contracts are the laws.
-ghost use Rattle.txn_tree.specs.Laws.{AncestryFollowsParents, CommitFollowsParents, TreesStayTrees};
+ghost use Rattle.txn_tree.specs.Laws.{AncestryFollowsParents, CommitFollowsParents, NextIsFirst, TreesStayTrees};
 
 /// A transaction is an ancestor of another exactly where it is that one, or an ancestor of its parent.
 pub fn ancestry_follows_parents()
@@ -15,4 +15,9 @@ pub fn commit_follows_parents()
 /// The rows of a tree are those of a tree after each call.
 pub fn trees_stay_trees()
     ensures { TreesStayTrees }
+{}
+
+/// The next transaction to be rolled back is the deepest of those that are live below; of equals the one made last.
+pub fn next_is_first()
+    ensures { NextIsFirst }
 {}
