@@ -1,4 +1,4 @@
-// A law of the definitions: this function does nothing, and its contract is the law.
+// A law of the definitions: the contract is the law, and the body calls the laws of trees that it follows from.
 ghost use Rattle.resource_votes.specs.History.{ParticipantsAreCommittedUp};
 
 use txn_tree::{commit_follows_parents, trees_stay_trees};

@@ -157,7 +157,8 @@ impl<'a> Iterator for Numbers<'a> {
 fn hand_over(next: &mut [u32], ends: &mut [Ends], from: u32, to: u32)
     requires there { (from < length ends.old) × (to < length ends.old) }
     requires last { (ends_at (emptied ends.old from) to).last ≤ length next.old }
-    ensures next { next.new ≡ joined_next next.old (ends_at (emptied ends.old from) to) (ends_at ends.old from) }
+    ensures next { next.new
+        ≡ joined_next next.old (ends_at (emptied ends.old from) to) (ends_at ends.old from) }
     ensures ends { ends.new ≡ joined_at (emptied ends.old from) to (ends_at ends.old from) }
 {
     let back = take(ends, from);

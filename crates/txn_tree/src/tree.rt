@@ -148,7 +148,8 @@ impl Tree {
     /// Ends this branch. Only one that isn't marked commits, and only into a parent that has not ended.
     pub fn end_sub(&mut self, branch: u32, committed: bool) -> Result<(), TreeFault>
         requires there { branch < length self.old.rows }
-        ensures ok { OnOk result (self.new ≡ record self.old { rows = calls.ended self.old.rows branch committed }) }
+        ensures ok { OnOk result
+            (self.new ≡ record self.old { rows = calls.ended self.old.rows branch committed }) }
         ensures err { OnErr result (self.new ≡ self.old) }
         ensures result { result ≡ calls.answer (calls.ending self.old.rows branch committed) }
     {
@@ -250,7 +251,8 @@ impl Tree {
     fn is_next(&self, above: u32, branch: u32, later: Option<u32>) -> bool
         requires there { (above < length self.now.rows) × (branch < length self.now.rows) }
         requires later { IfSome later (λ o. o < length self.now.rows) }
-        ensures { result ≡ (calls.is_deeper self.now.rows branch later && calls.is_live_below self.now.rows above branch) }
+        ensures { result ≡ (calls.is_deeper self.now.rows branch later
+            && calls.is_live_below self.now.rows above branch) }
     {
         self.is_deeper(branch, later) && self.is_live_below(above, branch)
     }
