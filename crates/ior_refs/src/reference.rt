@@ -81,7 +81,7 @@ impl ObjectRef {
     }
 
     /// The octets of its first IIOP profile.
-    pub fn first_iiop(&self) -> Option<&[u8]>
+    pub(crate) fn first_iiop(&self) -> Option<&[u8]>
         ensures first { option_copied result ≡ first_iiop self.now }
         ensures fits { AllFit (reference_values self.now) }
     {
@@ -90,7 +90,7 @@ impl ObjectRef {
     }
 
     /// The reference of a type_id and profiles, which begins at this offset.
-    pub fn of_parts(
+    pub(crate) fn of_parts(
         alloc: Global,
         type_id: Octets,
         profiles: Vec<(u32, Octets)>,

@@ -66,3 +66,16 @@ fn limits(rt: HostRuntime) -> Result<(), Fail> {
     }
     Ok(())
 }
+
+/// Chance would put 391 of them into a slot, and with four deviations of 20 between 312 and 470.
+#[test]
+fn hashes_spread_as_evenly_as_chance(rt: HostRuntime) -> Result<(), Fail> {
+    let mut counts = [0u32; 256];
+    for generation in 1..=100_000 {
+        let own = Otid::own(rt.alloc(), 1, 1, generation, 0)?;
+        let slot = (hash_of(&own) % 256) as usize;
+        counts[slot] = counts[slot].wrapping_add(1);
+    }
+    assert!(rt; counts.iter().all(|count| *count >= 312 && *count <= 470));
+    Ok(())
+}
