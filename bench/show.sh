@@ -1,7 +1,8 @@
 #!/usr/bin/env bash
 # Shows streams of about 1 MB and 32 MB of requests and replies, and streams of about 8 MB whose messages, of 2,000 up to
-# 64,000 octets, come in Fragments of 8 octets. Prints octets per second and how the time per octet grows. Run it
-# anywhere; it builds the program first. Sizes of the first streams in octets may be given as arguments.
+# 64,000 octets, come in Fragments of 8 octets, and behind whose type_id and operation, of 2,000 up to 64,000 octets, come
+# Fragments without octets. Prints octets per second and how the time per octet grows. Run it anywhere; it builds the
+# program first. Sizes of the first streams in octets may be given as arguments.
 set -euo pipefail
 . "$(dirname "$0")/timing.sh"
 [ $# -gt 0 ] || set -- 1000000 32000000
@@ -100,6 +101,37 @@ for _ in range(max(1, 8000000 // len(round))):
 ' "$1"
 }
 
+# A stream of about 8 MB of requests that stand still behind a type_id, or behind an operation, of about that many octets:
+# Fragments without octets come, an eighth as many as it has octets, and then the rest of the request.
+standing_still() {
+  python3 -c "$parts"'
+size = int(sys.argv[1])
+
+def in_parts(content, rest):
+    number = content[:4]
+    ahead = -(12 + len(content)) % 8
+    yield part("<", True, 0, content + rest[:ahead])
+    for _ in range(size // 8):
+        yield part("<", True, 7, number)
+    yield part("<", False, 7, number + rest[ahead:])
+
+def reference(type_id):
+    content = aligned(4, struct.pack("<IB3xH", 1, 3, 2)) + struct.pack("<I", 0)
+    return counted("<", content, type_id)
+
+text = bytes([97]) * (size - 1) + b"\0"
+behind_type_id = struct.pack("<I", 0) + struct.pack("<I", 4) + b"opn\0" + struct.pack("<I", 0)
+behind_operation = struct.pack("<III", 1, 6, 0)
+streams = (
+    (reference(text), bytes(-(12 + len(reference(text))) % 4) + behind_type_id),
+    (counted("<", counted("<", struct.pack("<IB3xH", 1, 3, 0), b"key"), text), behind_operation),
+)
+round = b"".join(b"".join(in_parts(content, rest)) for content, rest in streams)
+for _ in range(max(1, 8000000 // len(round))):
+    sys.stdout.buffer.write(round)
+' "$1"
+}
+
 report() {
   python3 -c '
 import sys
@@ -116,3 +148,5 @@ echo "Requests and replies, by the size of the stream:"
 rows show mixed "$@" | report
 echo "Messages in Fragments of 8 octets, by the size of a message:"
 rows show fragments 2000 16000 64000 | report
+echo "Messages that stand still while Fragments without octets come, by the length of the field in front of these:"
+rows show standing_still 2000 16000 64000 | report

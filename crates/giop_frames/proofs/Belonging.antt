@@ -12,7 +12,7 @@ use Rattle.giop_frames.specs.declared.header.Header.{Header}
 use Rattle.giop_frames.specs.declared.message.Message.{Message}
 use Rattle.giop_frames.specs.Limits.{size_limit, unfinished_limit}
 use Rattle.giop_frames.specs.Header.{is_fragment}
-use Rattle.giop_frames.specs.Stream.{Part, Unfinished, AreTaken, Judgement, after, begun_by, continuing, continuation, earliest, extended, given, going_on, id_of, joined, judged, message_by, messages_of, numbered, offset, opening, says, so_far, unfinished, whole, with_more, with_octets, without, without_id}
+use Rattle.giop_frames.specs.Stream.{Part, Unfinished, AreTaken, Judgement, after, begun_by, continuing, continuation, earliest, extended, given, going_on, id_of, joined, judged, message_by, messages_of, numbered, offset, opening, says, so_far, unfinished, whole, with_more, with_octets, without, without_id, start_by, whole_by}
 use Rattle.giop_frames.specs.SeveralParts.{AreEnded, EndsNext, EndsSeveral, IsEarliestPlace, IsPartOf, begun_at, is_first, is_fragment_of, is_last_of, is_open, octets_of, open_messages}
 use Rattle.giop_frames.proofs.Given.{guard_ok}
 use Rattle.giop_frames.proofs.Numbered.{cases_bool, extended_here, extended_on, without_here, without_on, some_is}
@@ -458,10 +458,10 @@ said_more (Ok m) answer e = cc
 said_more (Err (Body place (cdr.Short at))) answer e = cc
 said_more (Err fault) answer e = absurd cc
 
-said_whole : (place : ℕ) (header : Header) (r : Result Message FrameFault) (answer : Option Framed) → whole place header r ≡ Ok answer → (framed : Framed) × (answer ≡ Some framed)
-said_whole place header (Ok m) None e = absurd cc
-said_whole place header (Ok m) (Some framed) e = (framed, refl)
-said_whole place header (Err fault) answer e = absurd cc
+said_whole : (place : ℕ) (header : Header) (start : ℕ) (r : Result Message FrameFault) (answer : Option Framed) → whole place header start r ≡ Ok answer → (framed : Framed) × (answer ≡ Some framed)
+said_whole place header start (Ok m) None e = absurd cc
+said_whole place header start (Ok m) (Some framed) e = (framed, refl)
+said_whole place header start (Err fault) answer e = absurd cc
 
 -- a Fragment's message goes on, and its joined octets say what the Fragment says
 record Continues (p : Part) (o : Option Unfinished) (answer : Option Framed) : Type 0 where
@@ -477,7 +477,7 @@ judged_fragment : (messages : List Unfinished) (place : ℕ) (p : Part) → is_f
 unfolding judged
 judged_fragment messages place p f = rw f refl
 
-judged_whole : (messages : List Unfinished) (place : ℕ) (p : Part) → is_fragment p.header.kind ≡ false → p.header.more ≡ false → judged messages place p ≡ whole place p.header (message_by p.header p.content)
+judged_whole : (messages : List Unfinished) (place : ℕ) (p : Part) → is_fragment p.header.kind ≡ false → p.header.more ≡ false → judged messages place p ≡ whole_by place p.header p.content
 unfolding judged
 judged_whole messages place p f m = rw (f, m) refl
 
@@ -488,10 +488,10 @@ fragment_continues older p answer t f e =
 
 -- the joined octets, whose fields are read
 joined_reads : (more : Bool) (octets : List ℕ) (u : Unfinished) (answer : Option Framed) → joined more octets u ≡ Ok answer
-    → cond more (so_far (message_by u.header (u.content ++ octets))) (whole u.place u.header (message_by u.header (u.content ++ octets))) ≡ Ok answer
+    → cond more (so_far (message_by u.header (u.content ++ octets))) (whole_by u.place u.header (u.content ++ octets)) ≡ Ok answer
 joined_reads more octets u answer e =
     let content : List ℕ = u.content ++ octets in
-    (guard_ok (ltb size_limit (length content)) (TooLarge (length content)) (cond more (so_far (message_by u.header content)) (whole u.place u.header (message_by u.header content))) answer e).1
+    (guard_ok (ltb size_limit (length content)) (TooLarge (length content)) (cond more (so_far (message_by u.header content)) (whole_by u.place u.header content)) answer e).1
 
 -- ---- the messages that are given
 
@@ -511,7 +511,7 @@ ends_several p older framed t f m e =
       before = b.before;
       between = b.since;
       belongs = belongs p older c.message b;
-      reads = subst (λ (u : Unfinished). whole u.place u.header (message_by u.header u.content) ≡ Ok (Some framed)) now read;
+      reads = subst (λ (u : Unfinished). whole_by u.place u.header u.content ≡ Ok (Some framed)) now read;
     }
 
 ends_next : (p : Part) (older : List Part) (answer : Option Framed) (earlier : List Framed) → AreTaken older → p.header.more ≡ false → says older p ≡ Ok answer → EndsNext p older (earlier ++ given (says older p)) earlier
@@ -520,7 +520,7 @@ ends_next p older answer earlier t m e =
       | inl f ↦
           let c = fragment_continues older p answer t f e in
           let read = joined_reads false (drop 4 p.content) c.message answer (sym (ap (λ (x : Bool). joined x (drop 4 p.content) c.message) m) ∙ c.says_so) in
-          let w = said_whole c.message.place c.message.header (message_by c.message.header (c.message.content ++ drop 4 p.content)) answer read in
+          let w = said_whole c.message.place c.message.header (start_by c.message.header (c.message.content ++ drop 4 p.content)) (message_by c.message.header (c.message.content ++ drop 4 p.content)) answer read in
           let said : says older p ≡ Ok (Some w.0) = e ∙ ap (λ (x : Option Framed). Ok x) w.1 in
           record {
             framed = w.0;
@@ -528,8 +528,8 @@ ends_next p older answer earlier t m e =
             messages_are = ap (λ (j : Judgement). earlier ++ given j) said;
           }
       | inr f ↦
-          let read : whole (offset older) p.header (message_by p.header p.content) ≡ Ok answer = sym (judged_whole (unfinished older) (offset older) p f m) ∙ e in
-          let w = said_whole (offset older) p.header (message_by p.header p.content) answer read in
+          let read : whole_by (offset older) p.header p.content ≡ Ok answer = sym (judged_whole (unfinished older) (offset older) p f m) ∙ e in
+          let w = said_whole (offset older) p.header (start_by p.header p.content) (message_by p.header p.content) answer read in
           let some : Ok answer ≡ Ok (Some w.0) = ap (λ (x : Option Framed). Ok x) w.1 in
           record {
             framed = w.0;

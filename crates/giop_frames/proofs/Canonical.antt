@@ -1,7 +1,7 @@
 -- What is written spells the message.
-use Rattle.std.proofs.Common.{◌≡◌, ℕ, ◌+◌, ◌<◌, ◌≤◌, ◌^◌, inl, inr, false, ltb, List, [], ◌∷◌, ◌++◌, length, drop, replicate, None, refl, sym, ap, subst, ◌∙◌, arith, length-append}
+use Rattle.std.proofs.Common.{◌≡◌, ℕ, ◌+◌, ◌<◌, ◌≤◌, ◌^◌, inl, inr, false, ltb, List, [], ◌∷◌, ◌++◌, length, drop, replicate, None, Ok, refl, sym, ap, subst, ◌∙◌, append_assoc, arith, length-append}
 use Rattle.std.proofs.lemmas.Bool.{ltb-false}
-use Rattle.std.proofs.lemmas.List.{drop_at, length-replicate}
+use Rattle.std.proofs.lemmas.List.{append-nil, drop_at, length-replicate}
 use Rattle.std.proofs.Math.Seq.{drop-nil}
 use Rattle.cdr_values.specs.declared.order.Order.{Order}
 use Rattle.cdr_values.specs.declared.order.Order.TheVariants.{Big, Little}
@@ -13,13 +13,18 @@ use Rattle.cdr_values.specs.Limits.{length_limit}
 use Rattle.giop_frames.specs.declared.fault.FrameFault.{FrameFault}
 use Rattle.giop_frames.specs.declared.fault.FrameFault.TheVariants.{Memory}
 use Rattle.giop_frames.specs.declared.header.Header.{Header}
+use Rattle.giop_frames.specs.declared.header.Kind.TheVariants as kinds
+use Rattle.giop_frames.specs.declared.layout.Version.TheVariants.{V1_2}
+use Rattle.giop_frames.specs.declared.layout.Field.{Field}
+use Rattle.giop_frames.specs.declared.layout.Field.TheVariants as fields
 use Rattle.giop_frames.specs.declared.message.Message.{Message}
 use Rattle.giop_frames.specs.declared.message.Message.TheVariants as messages
 use Rattle.giop_frames.specs.declared.message.Target.{Target}
 use Rattle.giop_frames.specs.declared.message.Target.TheVariants.{Key, Profile, Reference}
 use Rattle.giop_frames.specs.Fault.{too_long}
 use Rattle.giop_frames.specs.Header.{IsPart, flags_of, order_of_flags, more_of_flags}
-use Rattle.giop_frames.specs.Message.{IsMessage, IsContent, IsTarget, Begins, kind_of}
+use Rattle.giop_frames.specs.Layout.{Fields, IsField, AreFields, IsTarget, blank, contexts_values, kept_tail, layout, message_with}
+use Rattle.giop_frames.specs.Message.{IsMessage, IsContent, kind_of}
 use Rattle.giop_frames.specs.Encode.{behind, target_values, request_head, values_of, order_of, fields_of, tail_of, content_of, padded_body, spelling, target_refusal, refusal_of}
 use Rattle.giop_frames.specs.Write.{IsPlain, ArePlain, Refuses}
 use Rattle.giop_frames.specs.Limits.{key_limit, size_limit}
@@ -90,7 +95,7 @@ no_more Little = refl
 
 -- the header of a message that isn't fragmented
 abbrev header_for : Message → Header
-header_for m = record { order = order_of m; more = false; kind = kind_of m; size = length (content_of m) }
+header_for m = record { version = V1_2; order = order_of m; more = false; kind = kind_of m; size = length (content_of m) }
 
 -- what is written is one part
 part : CanonicalSpells → (m : Message) → length (content_of m) ≤ size_limit → IsPart (header_for m) (content_of m) (spelling m)
@@ -108,13 +113,9 @@ part law m short = record {
 
 -- ---- the content
 
--- its content begins with the fields
-begins : CanonicalSpells → (m : Message) → ArePlain (values_of m) → length (content_of m) ≤ size_limit → Begins (order_of m) (values_of m) (content_of m) (tail_of m)
-begins law m plain short = record {
-  fields = fields_of m;
-  spelled = spells_all law (order_of m) 12 (values_of m) plain (omega (arith, short, length-append (fields_of m) (tail_of m)));
-  parts = refl;
-}
+-- its fields are spelled
+fields_spelled : CanonicalSpells → (m : Message) → ArePlain (values_of m) → length (content_of m) ≤ size_limit → SpellsAll (order_of m) 12 (values_of m) (fields_of m)
+fields_spelled law m plain short = spells_all law (order_of m) 12 (values_of m) plain (omega (arith, short, length-append (fields_of m) (tail_of m)))
 
 -- a body stands behind its padding
 body_again : (at : ℕ) (body : List ℕ) → body ≡ drop (gap 8 at) (padded_body at body)
@@ -127,25 +128,86 @@ target_is before (Key key) none = (refl, ltb-false _ _ (test_none (ltb key_limit
 target_is before Profile none = absurd cc
 target_is before Reference none = absurd cc
 
--- what stands behind the header is the content
-content_is : CanonicalSpells → (m : Message) → refusal_of m ≡ None → ArePlain (values_of m) → IsContent (order_of m) m (content_of m)
-unfolding begins
-content_is law (messages.Request r) none plain =
-    let m = messages.Request r in
+-- what the fields of a message tell
+abbrev told_of : Message → Fields
+told_of (messages.Request r) = record { id = r.id; flags = r.flags; status = 0; target = r.target; operation = r.operation; contexts = r.contexts }
+told_of (messages.Reply r) = record blank { id = r.id; status = r.status; contexts = r.contexts }
+told_of (messages.Cancel id) = record blank { id = id }
+told_of (messages.Locate l) = record blank { id = l.id; target = l.target }
+told_of (messages.LocateReply l) = record blank { id = l.id; status = l.status }
+told_of messages.Close = blank
+told_of messages.Error = blank
+
+-- a field in front of others
+one_more : (one : Field) (others : List Field) (old between new : Fields) (front rest : List Value) → IsField one old between front → AreFields others between new rest → AreFields (one ∷ others) old new (front ++ rest)
+one_more one others old between new front rest is are = (between, front, rest, refl, is, are)
+
+-- the last field
+last_one : (one : Field) (old new : Fields) (values : List Value) → IsField one old new values → AreFields (one ∷ []) old new values
+last_one one old new values is = (new, values, [], sym (append-nil values), is, (refl, refl))
+
+-- what is written for the fields is the fields
+told : (m : Message) → refusal_of m ≡ None → AreFields (layout V1_2 (kind_of m)) blank (told_of m) (values_of m)
+told (messages.Request r) none =
     let p = request_passes r none in
-    let b = begins law m plain (size_is_small m none) in
-    (values_of m, (0, 0, 0, target_values r.target, target_is (request_head r) r.target p.target, p.few, refl), record { tail = tail_of m; begins = b; body_is = body_again (12 + length (fields_of m)) r.body }, refl)
-content_is law (messages.Reply r) none plain =
-    let m = messages.Reply r in
-    let b = begins law m plain (size_is_small m none) in
-    (values_of m, (contexts_pass (ULong r.id ∷ ULong r.status ∷ []) r.contexts (fields_pass m none), refl), record { tail = tail_of m; begins = b; body_is = body_again (12 + length (fields_of m)) r.body }, refl)
-content_is law (messages.Cancel id) none plain = ([], begins law (messages.Cancel id) plain (size_is_small (messages.Cancel id) none))
-content_is law (messages.Locate l) none plain =
-    let m = messages.Locate l in
-    (values_of m, [], (target_values l.target, target_is (ULong l.id ∷ []) l.target (fields_pass m none), refl), begins law m plain (size_is_small m none))
-content_is law (messages.LocateReply l) none plain = begins law (messages.LocateReply l) plain (size_is_small (messages.LocateReply l) none)
-content_is law messages.Close none plain = tt
-content_is law messages.Error none plain = tt
+    let a : Fields = record blank { id = r.id } in
+    let b : Fields = record a { flags = r.flags } in
+    let c : Fields = record b { target = r.target } in
+    let d : Fields = record c { operation = r.operation } in
+    let rest : List Value = Text r.operation ∷ contexts_values r.contexts in
+    let last = last_one fields.Contexts d (told_of (messages.Request r)) (contexts_values r.contexts) (r.contexts, refl, p.few, refl) in
+    let name = one_more fields.Operation (fields.Contexts ∷ []) c d (told_of (messages.Request r)) (Text r.operation ∷ []) (contexts_values r.contexts) (r.operation, refl, refl) last in
+    let target = one_more fields.Target (fields.Operation ∷ fields.Contexts ∷ []) b c (told_of (messages.Request r)) (target_values r.target) rest (r.target, refl, target_is (request_head r) r.target p.target) name in
+    let behind = target_values r.target ++ rest in
+    let three = one_more fields.Reserved (fields.Target ∷ fields.Operation ∷ fields.Contexts ∷ []) b b (told_of (messages.Request r)) (Octet 0 ∷ []) behind (0, refl, refl) target in
+    let two = one_more fields.Reserved (fields.Reserved ∷ fields.Target ∷ fields.Operation ∷ fields.Contexts ∷ []) b b (told_of (messages.Request r)) (Octet 0 ∷ []) (Octet 0 ∷ behind) (0, refl, refl) three in
+    let one = one_more fields.Reserved (fields.Reserved ∷ fields.Reserved ∷ fields.Target ∷ fields.Operation ∷ fields.Contexts ∷ []) b b (told_of (messages.Request r)) (Octet 0 ∷ []) (Octet 0 ∷ Octet 0 ∷ behind) (0, refl, refl) two in
+    let flags = one_more fields.Flags (fields.Reserved ∷ fields.Reserved ∷ fields.Reserved ∷ fields.Target ∷ fields.Operation ∷ fields.Contexts ∷ []) a b (told_of (messages.Request r)) (Octet r.flags ∷ []) (Octet 0 ∷ Octet 0 ∷ Octet 0 ∷ behind) (r.flags, refl, refl) one in
+    let id = one_more fields.Id (fields.Flags ∷ fields.Reserved ∷ fields.Reserved ∷ fields.Reserved ∷ fields.Target ∷ fields.Operation ∷ fields.Contexts ∷ []) blank a (told_of (messages.Request r)) (ULong r.id ∷ []) (Octet r.flags ∷ Octet 0 ∷ Octet 0 ∷ Octet 0 ∷ behind) (r.id, refl, refl) flags in
+    subst (AreFields (layout V1_2 kinds.Request) blank (told_of (messages.Request r))) (sym (append_assoc (request_head r) (target_values r.target) rest)) id
+told (messages.Reply r) none =
+    let a : Fields = record blank { id = r.id } in
+    let b : Fields = record a { status = r.status } in
+    let whole = told_of (messages.Reply r) in
+    let few = contexts_pass (ULong r.id ∷ ULong r.status ∷ []) r.contexts (fields_pass (messages.Reply r) none) in
+    let last = last_one fields.Contexts b whole (contexts_values r.contexts) (r.contexts, refl, few, refl) in
+    let status = one_more fields.Status (fields.Contexts ∷ []) a b whole (ULong r.status ∷ []) (contexts_values r.contexts) (r.status, refl, refl) last in
+    one_more fields.Id (fields.Status ∷ fields.Contexts ∷ []) blank a whole (ULong r.id ∷ []) (ULong r.status ∷ contexts_values r.contexts) (r.id, refl, refl) status
+told (messages.Cancel id) none = last_one fields.Id blank (told_of (messages.Cancel id)) (ULong id ∷ []) (id, refl, refl)
+told (messages.Locate l) none =
+    let a : Fields = record blank { id = l.id } in
+    let whole = told_of (messages.Locate l) in
+    let last = last_one fields.Target a whole (target_values l.target) (l.target, refl, target_is (ULong l.id ∷ []) l.target (fields_pass (messages.Locate l) none)) in
+    one_more fields.Id (fields.Target ∷ []) blank a whole (ULong l.id ∷ []) (target_values l.target) (l.id, refl, refl) last
+told (messages.LocateReply l) none =
+    let a : Fields = record blank { id = l.id } in
+    let whole = told_of (messages.LocateReply l) in
+    one_more fields.Id (fields.Status ∷ []) blank a whole (ULong l.id ∷ []) (ULong l.status ∷ []) (l.id, refl, refl) (last_one fields.Status a whole (ULong l.status ∷ []) (l.status, refl, refl))
+told messages.Close none = (refl, refl)
+told messages.Error none = (refl, refl)
+
+-- the message is made of them
+made : (m : Message) → message_with (order_of m) (kind_of m) (told_of m) (kept_tail V1_2 (kind_of m) (12 + length (fields_of m)) (tail_of m)) ≡ Ok m
+made (messages.Request r) = ap (λ (x : List ℕ). Ok (messages.Request (record r { body = x }))) (sym (body_again (12 + length (fields_of (messages.Request r))) r.body))
+made (messages.Reply r) = ap (λ (x : List ℕ). Ok (messages.Reply (record r { body = x }))) (sym (body_again (12 + length (fields_of (messages.Reply r))) r.body))
+made (messages.Cancel id) = refl
+made (messages.Locate l) = refl
+made (messages.LocateReply l) = refl
+made messages.Close = refl
+made messages.Error = refl
+
+-- what stands behind the header is the content
+content_is : CanonicalSpells → (m : Message) → refusal_of m ≡ None → ArePlain (values_of m) → IsContent V1_2 (order_of m) m (content_of m)
+content_is law m none plain = record {
+  told = told_of m;
+  values = values_of m;
+  fields = fields_of m;
+  tail = tail_of m;
+  parts = refl;
+  spelled = fields_spelled law m plain (size_is_small m none);
+  are_fields = told m none;
+  made = made m;
+}
 
 -- what is written for a message that is not refused is that message
 pub spelled : CanonicalSpells → (m : Message) → refusal_of m ≡ None → ArePlain (values_of m) → IsMessage m (spelling m)

@@ -8,7 +8,7 @@ use Rattle.cdr_values.specs.declared.order.Order.TheVariants.{Big, Little}
 use Rattle.cdr_values.specs.Value.{Value, Octet, Boolean, UShort, ULong, ULongLong, OctetSequence, Text, Aligned, alignment, gap, octets_of, bare_of, canonical}
 use Rattle.cdr_values.specs.Values.{canonical_all}
 use Rattle.giop_frames.specs.declared.message.ServiceContext.{ServiceContext}
-use Rattle.giop_frames.specs.Message.{context_values}
+use Rattle.giop_frames.specs.Layout.{context_values}
 use Rattle.giop_frames.specs.Sizes.{size_of, end_of}
 
 -- values behind others

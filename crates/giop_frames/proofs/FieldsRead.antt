@@ -2,8 +2,8 @@
 use Rattle.std.proofs.Common.{◌≡◌, ℕ, zero, suc, ◌≤◌, cond, ltb, eqb, List, [], ◌∷◌, length, Result, Ok, Err, refl, sym, ap, subst, arith, inl, inr}
 use Rattle.std.specs.List.{flat_map}
 use Rattle.std.proofs.lemmas.Bool.{ltb-false, le-ltb, eqb-true}
-use Rattle.cdr_values.specs.Value.{Value, Octet, UShort, ULong, OctetSequence, Text}
-use Rattle.cdr_values.specs.Reading.{Reading, Reads, ◌>>=◌, octet_at, ushort_at, ulong_at, octets_at, string_at}
+use Rattle.cdr_values.specs.Value.{Value, UShort, ULong, OctetSequence, Text}
+use Rattle.cdr_values.specs.Reading.{Reading, Reads, ◌>>=◌, ushort_at, ulong_at, octets_at, string_at}
 use Rattle.cdr_values.specs.Values.{ReadsAll}
 use Rattle.cdr_values.specs.Laws.{ReadingLaws}
 use Rattle.giop_frames.specs.declared.fault.FrameFault.{FrameFault}
@@ -12,8 +12,8 @@ use Rattle.giop_frames.specs.declared.message.Target.{Target}
 use Rattle.giop_frames.specs.declared.message.Target.TheVariants.{Key, Profile, Reference}
 use Rattle.giop_frames.specs.declared.message.ServiceContext.{ServiceContext}
 use Rattle.giop_frames.specs.Fault.{too_long}
-use Rattle.giop_frames.specs.Message.{profile_values, IsTarget, context_values, contexts_values}
-use Rattle.giop_frames.specs.Content.{key_at, profile_at, profiles_at, reference_at, target_at, context_at, each_context_at, contexts_at, reserved_at}
+use Rattle.giop_frames.specs.Layout.{profile_values, IsTarget, context_values, contexts_values}
+use Rattle.giop_frames.specs.Content.{key_at, profile_at, profiles_at, reference_at, target_at, context_at, each_context_at, contexts_at}
 use Rattle.giop_frames.specs.Limits.{context_limit, key_limit, profile_limit}
 use Rattle.giop_frames.proofs.Given.{read_is, bind_ok, field_ok, guard_ok, which}
 
@@ -246,22 +246,3 @@ contexts_found laws r cs behind e =
 pub contexts_only : ReadingLaws → (r : Reading) (cs : List ServiceContext) (behind : Reading) → length cs ≤ context_limit → ReadsAll r (contexts_values cs) behind → contexts_at r ≡ Ok (cs, behind)
 unfolding contexts_at
 contexts_only laws r cs behind few h = rw (laws.ulong.only r (length cs) h.0 h.1, le-ltb context_limit (length cs) few) (each_only laws cs h.0 behind h.2)
-
--- ---- reserved octets
-
--- octets that are passed over stand there
-pub reserved_found : ReadingLaws → (r behind : Reading) → reserved_at r ≡ Ok (tt, behind) → (one : ℕ) × (two : ℕ) × (three : ℕ) × ReadsAll r (Octet one ∷ Octet two ∷ Octet three ∷ []) behind
-unfolding reserved_at
-reserved_found laws r behind e =
-    let a = field_ok (octet_at r) _ (tt, behind) e in
-    let b = field_ok (octet_at a.0.1) _ (tt, behind) a.2 in
-    let c = field_ok (octet_at b.0.1) _ (tt, behind) b.2 in
-    let same = read_is tt c.0.1 tt behind c.2 in
-    let last : ReadsAll b.0.1 (Octet c.0.0 ∷ []) behind = (c.0.1, laws.octet.found b.0.1 c.0.0 c.0.1 c.1, same.2) in
-    (a.0.0, b.0.0, c.0.0, (a.0.1, laws.octet.found r a.0.0 a.0.1 a.1, (b.0.1, laws.octet.found a.0.1 b.0.0 b.0.1 b.1, last)))
-
--- and octets that stand there are passed over
-pub reserved_only : ReadingLaws → (r : Reading) (one two three : ℕ) (behind : Reading) → ReadsAll r (Octet one ∷ Octet two ∷ Octet three ∷ []) behind → reserved_at r ≡ Ok (tt, behind)
-unfolding reserved_at
-reserved_only laws r one two three behind h =
-    rw (laws.octet.only r one h.0 h.1, laws.octet.only h.0 two h.2.0 h.2.1, laws.octet.only h.2.0 three h.2.2.0 h.2.2.1) (ap (λ (b : Reading). Ok (tt, b)) (sym h.2.2.2))

@@ -1,6 +1,6 @@
 -- What stands in front of octets stands there too where more octets follow, and a fault that is found there stays found.
 use Rattle.std.proofs.Common.{◌≡◌, ℕ, zero, suc, ◌+◌, ◌<◌, ◌≤◌, ◌⊎◌, inl, inr, ⊎_elim, Bool, true, false, cond, not, nat_eq, ltb, List, [], ◌∷◌, ◌++◌, length, get_or, take, drop, Result, Ok, Err, refl, sym, ap, ◌∙◌, append_assoc, arith}
-use Rattle.std.specs.Prelude.{◌≢◌, ◌&&◌, slice_index}
+use Rattle.std.specs.Prelude.{◌≢◌, ◌&&◌, ◌||◌, slice_index, IfErr}
 use Rattle.std.specs.List.{starts_with}
 use Rattle.std.proofs.lemmas.Bool.{ltb-true, ltb-false, le-ltb, cases_lt}
 use Rattle.std.proofs.lemmas.Bool.Decides.{Decides-eqb}
@@ -9,12 +9,21 @@ use Rattle.std.proofs.lemmas.Slice.Eq.{starts_is}
 use Rattle.cdr_values.specs.Reading.{◌>>=◌}
 use Rattle.giop_frames.specs.declared.fault.FrameFault.{FrameFault}
 use Rattle.giop_frames.specs.declared.fault.FrameFault.TheVariants.{BadMagic, BadVersion, BadType, BadFragment, Short}
+use Rattle.giop_frames.specs.declared.fault.FrameFault.TheVariants as faults
 use Rattle.giop_frames.specs.declared.header.Header.{Header}
-use Rattle.giop_frames.specs.Header.{magic, version, type_octet, header_at}
+use Rattle.giop_frames.specs.declared.layout.Version.TheVariants.{V1_2}
+use Rattle.giop_frames.specs.declared.message.Message.{Message}
+use Rattle.giop_frames.specs.Fault.{Fails, Finds}
+use Rattle.giop_frames.specs.Header.{magic, version_octets, type_octet, is_fragment, header_at}
+use Rattle.giop_frames.specs.Decode.{IsRefusedForGood, decoded}
 use Rattle.giop_frames.specs.Stream.{Part, IsStreamPart, may_go_on, part_at, part_header_at}
 use Rattle.giop_frames.proofs.Given.{guard_ok}
 use Rattle.giop_frames.proofs.Headers.{header_only}
 use Rattle.giop_frames.proofs.Holding.{part_found}
+
+-- the octets of the version
+abbrev version : List ℕ
+version = version_octets V1_2
 
 -- ---- faults of steps
 
@@ -49,7 +58,7 @@ unfolding part_at part_header_at
 part_only p octets rest is =
     let h = p.header in
     let w = is.part in
-    let front : List ℕ = magic ++ (version ++ (w.flags ∷ type_octet h.kind ∷ w.size)) in
+    let front : List ℕ = magic ++ (version_octets h.version ++ (w.flags ∷ type_octet h.kind ∷ w.size)) in
     let size : length front ≡ 12 = omega (arith, w.sized.size) in
     let all : length octets ≡ 12 + h.size = omega (arith, ap length w.parts, length-append front p.content, size, w.counted) in
     let behind : octets ++ rest ≡ front ++ (p.content ++ rest) = ap (λ (x : List ℕ). x ++ rest) w.parts ∙ append_assoc front p.content rest in
@@ -193,3 +202,44 @@ fault_stays octets more fault e other =
         | inr b ↦ absurd (let no = b.1 in cc)
       ]
     ]
+
+-- ---- a message in one part
+
+-- a fault of a whole stays
+decoded_stays : (octets more : List ℕ) (fault : FrameFault) → decoded octets ≡ Err fault → fault ≢ Short → decoded (octets ++ more) ≡ Err fault
+unfolding decoded
+decoded_stays octets more fault e other =
+    elim (bind_err (header_at octets) _ fault e) [
+      | inl a ↦ rw (header_stays octets more fault a other) refl
+      | inr a ↦
+          let h = a.0 in
+          let same : header_at (octets ++ more) ≡ Ok h = header_same octets more (header_long octets h a.1) ∙ a.1 in
+          elim (guard_err (h.more || is_fragment h.kind) BadFragment _ fault a.2) [
+            | inl b ↦ rw (same, b.0) (ap (failed {A = Message × ℕ}) b.1)
+            | inr b ↦ elim (guard_err (ltb (length octets) (12 + h.size)) Short _ fault b.1) [
+              | inl c ↦ absurd (other (sym c.1))
+              | inr c ↦
+                  let long : 12 + h.size ≤ length octets = ltb-false _ _ c.0 in
+                  let longer : ltb (length (octets ++ more)) (12 + h.size) ≡ false = le-ltb _ _ (omega (arith, long, length-append octets more)) in
+                  let content : take h.size (drop 12 (octets ++ more)) ≡ take h.size (drop 12 octets) = slice_same 12 h.size octets more long in
+                  rw (same, b.0, longer, content) c.1
+            ]
+          ]
+    ]
+
+-- a fault that isn't want of memory is what reading gives
+fails_is : {Y : Type 0} (fault : FrameFault) (read : Result Y FrameFault) → Fails fault read → fault ≢ faults.Memory → read ≡ Err fault
+fails_is faults.BadMagic read h other = h
+fails_is faults.BadVersion read h other = h
+fails_is faults.BadType read h other = h
+fails_is (faults.TooLarge n) read h other = h
+fails_is faults.BadFragment read h other = h
+fails_is (faults.Body place cdr) read h other = h
+fails_is faults.Short read h other = h
+fails_is faults.NotWritten read h other = h
+fails_is faults.Memory read h other = absurd (other refl)
+
+-- what a call refuses is refused for good
+pub stays_from : {X : Type 0} (view : X → Message × ℕ) (octets : List ℕ) (result : Result X FrameFault) → Finds view result (decoded octets) → IfErr result (IsRefusedForGood octets)
+stays_from view octets (Ok x) given = tt
+stays_from view octets (Err fault) given = λ short memory more. decoded_stays octets more fault (fails_is fault (decoded octets) given memory) short

@@ -11,9 +11,19 @@ use Rattle.giop_frames.specs.declared.fault.FrameFault.TheVariants.{BadMagic, Ba
 use Rattle.giop_frames.specs.declared.header.Kind.{Kind}
 use Rattle.giop_frames.specs.declared.header.Kind.TheVariants as kinds
 use Rattle.giop_frames.specs.declared.header.Header.{Header}
-use Rattle.giop_frames.specs.Header.{magic, version, type_octet, kind_at, order_of_flags, more_of_flags, IsPart, size_at, header_at}
+use Rattle.giop_frames.specs.declared.layout.Version.{Version}
+use Rattle.giop_frames.specs.declared.layout.Version.TheVariants.{V1_2}
+use Rattle.giop_frames.specs.Header.{magic, version_octets, type_octet, kind_at, order_of_flags, more_of_flags, IsPart, size_at, header_at}
 use Rattle.giop_frames.specs.Limits.{size_limit}
 use Rattle.giop_frames.proofs.Given.{ok_is, guard_ok}
+
+-- the octets of the version
+abbrev version : List ℕ
+version = version_octets V1_2
+
+-- there is one version
+one_version : (v : Version) → v ≡ V1_2
+one_version V1_2 = refl
 
 -- the octet of a type is that of its type
 type_again : (octet : ℕ) → octet ≤ 7 → type_octet (kind_at octet) ≡ octet
@@ -60,7 +70,7 @@ apart octets long =
 
 -- what is read from twelve octets or more
 abbrev read : List ℕ → Header
-read octets = record { order = order_of_flags (slice_index octets 6); more = more_of_flags (slice_index octets 6); kind = kind_at (slice_index octets 7); size = size_at octets }
+read octets = record { version = V1_2; order = order_of_flags (slice_index octets 6); more = more_of_flags (slice_index octets 6); kind = kind_at (slice_index octets 7); size = size_at octets }
 
 -- the marks, and the numbers of a header that is read
 record IsRead (octets : List ℕ) (h : Header) : Type 0 where
@@ -125,6 +135,8 @@ unfolding header_at
 header_only h content octets rest p =
     let kind = kind_again h.kind in
     let more = content ++ rest in
-    let all : octets ++ rest ≡ front p.flags (type_octet h.kind) p.size ++ more = ap (λ (x : List ℕ). x ++ rest) p.parts ∙ ap (λ (x : List ℕ). magic ++ (version ++ (p.flags ∷ type_octet h.kind ∷ x))) (append_assoc p.size content rest) in
+    let versioned : magic ++ (version_octets h.version ++ (p.flags ∷ type_octet h.kind ∷ (p.size ++ content))) ≡ front p.flags (type_octet h.kind) (p.size ++ content) =
+    ap (λ (v : Version). magic ++ (version_octets v ++ (p.flags ∷ type_octet h.kind ∷ (p.size ++ content)))) (one_version h.version) in
+    let all : octets ++ rest ≡ front p.flags (type_octet h.kind) p.size ++ more = ap (λ (x : List ℕ). x ++ rest) (p.parts ∙ versioned) ∙ ap (λ (x : List ℕ). magic ++ (version ++ (p.flags ∷ type_octet h.kind ∷ x))) (append_assoc p.size content rest) in
     let long : ltb (length (front p.flags (type_octet h.kind) p.size ++ more)) 12 ≡ false = le-ltb _ _ (omega (arith, length-append p.size more, p.sized.size)) in
-    rw (all, kind.1, long, take_at p.size more 4 p.sized.size, p.order_bit, p.more_bit, p.sized.value, le-ltb size_limit h.size p.few, kind.0) refl
+    rw (all, kind.1, long, take_at p.size more 4 p.sized.size, p.order_bit, p.more_bit, p.sized.value, le-ltb size_limit h.size p.few, kind.0) (ap (λ (v : Version). Ok (record h { version = v })) (sym (one_version h.version)))

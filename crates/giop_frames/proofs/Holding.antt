@@ -8,7 +8,7 @@ use Rattle.giop_frames.specs.declared.fault.FrameFault.{FrameFault}
 use Rattle.giop_frames.specs.declared.fault.FrameFault.TheVariants as faults
 use Rattle.giop_frames.specs.declared.framed.Framed.{Framed}
 use Rattle.giop_frames.specs.declared.header.Header.{Header}
-use Rattle.giop_frames.specs.Header.{header_at, magic, type_octet, version}
+use Rattle.giop_frames.specs.Header.{header_at, magic, type_octet, version_octets}
 use Rattle.giop_frames.specs.Stream.{Part, Unfinished, IsStreamPart, IsRefused, IsStream, Refuses, after, given, judged, may_go_on, part_at, part_header_at, says}
 use Rattle.giop_frames.specs.StreamInside.{IsInFront}
 use Rattle.giop_frames.specs.Held.{Held, Holds}
@@ -153,4 +153,4 @@ pub shorter : (old new : Held) (answer : Option Framed) → Took old answer new 
 shorter old new answer t =
     let f = part_found old.rest t.part new.rest t.stands in
     let p = f.is_part.part in
-    omega (arith, ap length f.parts, length-append f.front new.rest, ap length p.parts, length-append magic (version ++ (p.flags ∷ type_octet t.part.header.kind ∷ (p.size ++ t.part.content))))
+    omega (arith, ap length f.parts, length-append f.front new.rest, ap length p.parts, length-append magic (version_octets t.part.header.version ++ (p.flags ∷ type_octet t.part.header.kind ∷ (p.size ++ t.part.content))))

@@ -125,8 +125,8 @@ none_or (Some x) b e = absurd cc
 pub opened_free : (messages : List Unfinished) (p : Part) (answer : Option Framed) → opening messages p ≡ Ok answer → numbered (id_of p) messages ≡ None
 opened_free messages p answer e =
     let taken : Bool = is_some (numbered (id_of p) messages) || nat_le unfinished_limit (length messages) in
-    let a = guard_ok (ltb (length p.content) 4) without_id (cond taken (Err BadFragment) (so_far (message_of p.header.order p.header.kind p.content))) answer e in
-    let b = guard_ok taken BadFragment (so_far (message_of p.header.order p.header.kind p.content)) answer a.1 in
+    let a = guard_ok (ltb (length p.content) 4) without_id (cond taken (Err BadFragment) (so_far (message_of p.header.version p.header.order p.header.kind p.content))) answer e in
+    let b = guard_ok taken BadFragment (so_far (message_of p.header.version p.header.order p.header.kind p.content)) answer a.1 in
     none_or (numbered (id_of p) messages) (nat_le unfinished_limit (length messages)) b.0
 
 pub judged_opening : (messages : List Unfinished) (place : ℕ) (p : Part) → is_fragment p.header.kind ≡ false → p.header.more ≡ true → judged messages place p ≡ opening messages p

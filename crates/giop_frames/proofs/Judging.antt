@@ -34,7 +34,7 @@ opening_taken messages p u long e = rw (le-ltb (length p.content) 4 long, e) ref
 pub opening_at : (messages : List Unfinished) (p : Part) (i : ℕ) → 4 ≤ length p.content → IsAt (id_of p) messages i → opening messages p ≡ Err BadFragment
 opening_at messages p i long at = opening_taken messages p _ long (numbered_at (id_of p) messages i (record { id = 0; place = 0; header = p.header; content = [] }) at)
 
-pub opening_free : (messages : List Unfinished) (p : Part) → 4 ≤ length p.content → numbered (id_of p) messages ≡ None → length messages < unfinished_limit → opening messages p ≡ so_far (message_of p.header.order p.header.kind p.content)
+pub opening_free : (messages : List Unfinished) (p : Part) → 4 ≤ length p.content → numbered (id_of p) messages ≡ None → length messages < unfinished_limit → opening messages p ≡ so_far (message_of p.header.version p.header.order p.header.kind p.content)
 opening_free messages p long e room = rw (le-ltb (length p.content) 4 long, e, lt-leb unfinished_limit (length messages) room) refl
 
 -- ---- a Fragment

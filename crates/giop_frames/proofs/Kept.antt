@@ -7,8 +7,9 @@ use Rattle.cdr_values.specs.Reading.{◌>>=◌}
 use Rattle.giop_frames.specs.declared.fault.FrameFault.{FrameFault}
 use Rattle.giop_frames.specs.declared.fault.FrameFault.TheVariants as faults
 use Rattle.giop_frames.specs.declared.header.Header.{Header}
+use Rattle.giop_frames.specs.declared.layout.Version.TheVariants.{V1_2}
 use Rattle.giop_frames.specs.Limits.{partial_limit, size_limit}
-use Rattle.giop_frames.specs.Header.{content_behind, header_at, kind_at, magic, more_of_flags, order_of_flags, size_at, version}
+use Rattle.giop_frames.specs.Header.{content_behind, header_at, kind_at, magic, more_of_flags, order_of_flags, size_at, version_octets}
 use Rattle.giop_frames.specs.Stream.{may_go_on, part_at, part_header_at, part_of}
 use Rattle.giop_frames.proofs.Given.{bind_ok, guard_ok, ok_is}
 
@@ -53,9 +54,9 @@ wants false false false false false size h e = absurd cc
 
 -- the header that twelve octets have
 abbrev read : List ℕ → Header
-read octets = record { order = order_of_flags (slice_index octets 6); more = more_of_flags (slice_index octets 6); kind = kind_at (slice_index octets 7); size = size_at octets }
+read octets = record { version = V1_2; order = order_of_flags (slice_index octets 6); more = more_of_flags (slice_index octets 6); kind = kind_at (slice_index octets 7); size = size_at octets }
 
-tested : (octets : List ℕ) → header_at octets ≡ by_tests (not (starts_with nat_eq magic (take 4 octets))) (not (starts_with nat_eq version (take 2 (drop 4 octets)))) (ltb 7 (slice_index octets 7)) (ltb (length octets) 12) (ltb size_limit (size_at octets)) (size_at octets) (read octets)
+tested : (octets : List ℕ) → header_at octets ≡ by_tests (not (starts_with nat_eq magic (take 4 octets))) (not (starts_with nat_eq (version_octets V1_2) (take 2 (drop 4 octets)))) (ltb 7 (slice_index octets 7)) (ltb (length octets) 12) (ltb size_limit (size_at octets)) (size_at octets) (read octets)
 unfolding header_at by_tests
 tested octets = refl
 

@@ -2,7 +2,7 @@ pub mod Given
 pub mod Loops
 pub mod Spelled
 pub mod FieldsRead
-pub mod Contents
+pub mod Exact
 pub mod Headers
 pub mod Whole
 pub mod Ends
@@ -11,7 +11,7 @@ pub mod Refused
 pub mod Canonical
 pub mod Numbered
 pub mod Followed
-pub mod Passing
+pub mod Walking
 pub mod Judging
 pub mod Holding
 pub mod Further

@@ -15,7 +15,7 @@ use Rattle.giop_frames.specs.declared.message.Target.{Target}
 use Rattle.giop_frames.specs.declared.message.Target.TheVariants.{Key, Profile, Reference}
 use Rattle.giop_frames.specs.declared.message.ServiceContext.{ServiceContext}
 use Rattle.giop_frames.specs.Fault.{too_long}
-use Rattle.giop_frames.specs.Message.{contexts_values}
+use Rattle.giop_frames.specs.Layout.{contexts_values}
 use Rattle.giop_frames.specs.Encode.{behind, target_values, request_head, request_start, request_values, values_of, fields_of, content_of, padded_body, order_of, target_refusal, operation_refusal, contexts_refusal, field_refusal, size_refusal, refusal_of, ◌or◌}
 use Rattle.giop_frames.specs.Sizes.{end_of, target_end, operation_end, contexts_end, request_end, body_end, message_end, content_size}
 use Rattle.giop_frames.specs.Limits.{context_limit, key_limit, size_limit}

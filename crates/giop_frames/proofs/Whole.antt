@@ -11,23 +11,23 @@ use Rattle.giop_frames.specs.declared.header.Header.{Header}
 use Rattle.giop_frames.specs.declared.message.Message.{Message}
 use Rattle.giop_frames.specs.declared.message.Message.TheVariants as messages
 use Rattle.giop_frames.specs.Fault.{Fails, Finds}
-use Rattle.giop_frames.specs.Header.{magic, version, type_octet, is_fragment, header_at}
+use Rattle.giop_frames.specs.Header.{magic, version_octets, type_octet, is_fragment, header_at}
 use Rattle.giop_frames.specs.Message.{IsMessage, kind_of}
 use Rattle.giop_frames.specs.Content.{message_of}
 use Rattle.giop_frames.specs.Decode.{decoded}
 use Rattle.giop_frames.proofs.Given.{ok_is, bind_ok, guard_ok}
 use Rattle.giop_frames.proofs.Headers.{header_found, header_only}
-use Rattle.giop_frames.proofs.Contents.{content_found, content_only}
+use Rattle.giop_frames.proofs.Exact.{content_found, content_only}
 
 -- a fault of the content is the fault of the whole
 pub decoded_fault : (octets : List ℕ) (h : Header) (fault : FrameFault) → header_at octets ≡ Ok h → (h.more || is_fragment h.kind) ≡ false → 12 + h.size ≤ length octets
-    → message_of h.order h.kind (take h.size (drop 12 octets)) ≡ Err fault → decoded octets ≡ Err fault
+    → message_of h.version h.order h.kind (take h.size (drop 12 octets)) ≡ Err fault → decoded octets ≡ Err fault
 unfolding decoded
 decoded_fault octets h fault e whole long bad = rw (e, whole, le-ltb (length octets) (12 + h.size) long, bad) refl
 
 -- a message in the content is the message of the whole
 pub decoded_message : (octets : List ℕ) (h : Header) (m : Message) → header_at octets ≡ Ok h → (h.more || is_fragment h.kind) ≡ false → 12 + h.size ≤ length octets
-    → message_of h.order h.kind (take h.size (drop 12 octets)) ≡ Ok m → decoded octets ≡ Ok (m, 12 + h.size)
+    → message_of h.version h.order h.kind (take h.size (drop 12 octets)) ≡ Ok m → decoded octets ≡ Ok (m, 12 + h.size)
 unfolding decoded
 decoded_message octets h m e whole long good = rw (e, whole, le-ltb (length octets) (12 + h.size) long, good) refl
 
@@ -37,7 +37,7 @@ record Steps (octets : List ℕ) (m : Message) (used : ℕ) : Type 0 where
   read : header_at octets ≡ Ok header
   whole : (header.more || is_fragment header.kind) ≡ false
   long : 12 + header.size ≤ length octets
-  content : message_of header.order header.kind (take header.size (drop 12 octets)) ≡ Ok m
+  content : message_of header.version header.order header.kind (take header.size (drop 12 octets)) ≡ Ok m
   all : 12 + header.size ≡ used
 
 -- a whole that gives a message has gone through them
@@ -48,7 +48,7 @@ steps octets m used e =
     let h = a.0 in
     let b = guard_ok (h.more || is_fragment h.kind) BadFragment _ (m, used) a.2 in
     let c = guard_ok (ltb (length octets) (12 + h.size)) Short _ (m, used) b.1 in
-    let d = bind_ok (message_of h.order h.kind (take h.size (drop 12 octets))) _ (m, used) c.1 in
+    let d = bind_ok (message_of h.version h.order h.kind (take h.size (drop 12 octets))) _ (m, used) c.1 in
     let same = ok_is {A = Message × ℕ} (d.0, 12 + h.size) (m, used) d.2 in
     record {
       header = h;
@@ -65,7 +65,7 @@ is_message laws octets m used e =
     let s = steps octets m used e in
     let h = s.header in
     let content = take h.size (drop 12 octets) in
-    let c = content_found laws h.order h.kind content m s.content in
+    let c = content_found laws h.version h.order h.kind content m s.content in
     let message : IsMessage m (take (12 + h.size) octets) = record {
       header = h;
       content = content;
@@ -91,7 +91,7 @@ pub is_decoded : ReadingLaws → (m : Message) (octets rest : List ℕ) → IsMe
 is_decoded laws m octets rest is =
     let h = is.header in
     let p = is.part in
-    let front : List ℕ = magic ++ (version ++ (p.flags ∷ type_octet h.kind ∷ p.size)) in
+    let front : List ℕ = magic ++ (version_octets h.version ++ (p.flags ∷ type_octet h.kind ∷ p.size)) in
     let size : length front ≡ 12 = omega (arith, p.sized.size) in
     let parts : octets ≡ front ++ is.content = p.parts in
     let used : 12 + h.size ≡ length octets = omega (arith, ap length parts, length-append front is.content, size, p.counted) in
@@ -99,7 +99,7 @@ is_decoded laws m octets rest is =
     let content : take h.size (drop 12 (octets ++ rest)) ≡ is.content = ap (λ (x : List ℕ). take h.size (drop 12 x)) behind ∙ ap (take h.size) (drop_at front (is.content ++ rest) 12 size) ∙ take_at is.content rest h.size p.counted in
     let whole : (h.more || is_fragment h.kind) ≡ false = rw (is.whole, is.kind) (no_fragment m) in
     let long : 12 + h.size ≤ length (octets ++ rest) = omega (arith, used, length-append octets rest) in
-    let read : message_of h.order h.kind (take h.size (drop 12 (octets ++ rest))) ≡ Ok m = rw (content, is.kind) (content_only laws h.order m is.content is.is_content) in
+    let read : message_of h.version h.order h.kind (take h.size (drop 12 (octets ++ rest))) ≡ Ok m = rw (content, is.kind) (content_only laws h.version h.order m is.content is.is_content) in
     subst (λ (n : ℕ). decoded (octets ++ rest) ≡ Ok (m, n)) used (decoded_message (octets ++ rest) h m (header_only h is.content octets rest p) whole long read)
 
 -- ---- from what a call found to what holds of its answer

@@ -12,7 +12,7 @@ use Rattle.cdr_values.specs.Values.{canonical_all, with_values}
 use Rattle.cdr_values.specs.Writing.{Writing, place_of, with_value, is_bad, refusal}
 use Rattle.giop_frames.specs.declared.fault.FrameFault.{FrameFault}
 use Rattle.giop_frames.specs.declared.message.ServiceContext.{ServiceContext}
-use Rattle.giop_frames.specs.Message.{context_values}
+use Rattle.giop_frames.specs.Layout.{context_values}
 use Rattle.giop_frames.specs.Write.{Refuses, ArePlain}
 use Rattle.giop_frames.specs.Fault.{fault_of}
 use Rattle.cdr_values.specs.Limits.{output_limit}

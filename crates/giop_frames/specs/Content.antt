@@ -1,23 +1,22 @@
--- Reading the content of a message from its front (CORBA, GIOP Message Formats), and its first fault (our profile).
-use Rattle.std.specs.Prelude.{ℕ, zero, suc, ◌==◌, nat_lt, List, [], ◌∷◌, length, drop, Result, Ok, Err, if◌then◌else◌}
+-- Reading the content of a message from its front, field by field as the table of layouts lists them (CORBA, GIOP
+-- Message Formats), and its first fault (our profile).
+use Rattle.std.specs.Prelude.{ℕ, zero, suc, ◌+◌, ◌%◌, ◌==◌, nat_lt, List, [], ◌∷◌, length, Result, Ok, Err, if◌then◌else◌}
 use Rattle.cdr_values.specs.declared.order.Order.{Order}
 use Rattle.cdr_values.specs.Value.{gap}
 use Rattle.cdr_values.specs.Reading.{Reading, ◌>>=◌, octet_at, ushort_at, ulong_at, octets_at, string_at}
 use Rattle.giop_frames.specs.declared.fault.FrameFault.{FrameFault}
-use Rattle.giop_frames.specs.declared.fault.FrameFault.TheVariants.{BadType, BadFragment}
+use Rattle.giop_frames.specs.declared.fault.FrameFault.TheVariants.{BadType}
 use Rattle.giop_frames.specs.declared.header.Kind.{Kind}
-use Rattle.giop_frames.specs.declared.header.Kind.TheVariants as kinds
+use Rattle.giop_frames.specs.declared.layout.Version.{Version}
+use Rattle.giop_frames.specs.declared.layout.Field.{Field}
+use Rattle.giop_frames.specs.declared.layout.Field.TheVariants as fields
 use Rattle.giop_frames.specs.declared.message.Message.{Message}
-use Rattle.giop_frames.specs.declared.message.Message.TheVariants as messages
-use Rattle.giop_frames.specs.declared.message.Request.{Request}
-use Rattle.giop_frames.specs.declared.message.Reply.{Reply}
-use Rattle.giop_frames.specs.declared.message.Locate.{Locate}
-use Rattle.giop_frames.specs.declared.message.Located.{Located}
 use Rattle.giop_frames.specs.declared.message.Target.{Target}
 use Rattle.giop_frames.specs.declared.message.Target.TheVariants.{Key, Profile, Reference}
 use Rattle.giop_frames.specs.declared.message.ServiceContext.{ServiceContext}
 use Rattle.giop_frames.specs.Limits.{context_limit, key_limit, profile_limit}
 use Rattle.giop_frames.specs.Fault.{field, too_long}
+use Rattle.giop_frames.specs.Layout.{Fields, blank, body_alignment, kept_tail, layout, message_with}
 
 unfoldable pub key_at : Reading → Result (Target × Reading) FrameFault
 key_at r = do
@@ -70,70 +69,50 @@ contexts_at r = do
   count ← field (ulong_at r)
   if nat_lt context_limit count.0 then Err (too_long r.place count.0) else each_context_at count.0 count.1
 
--- what stands from the next multiple of 8 on
-abbrev pub body_at : Reading → List ℕ
-body_at r = drop (gap 8 r.place) r.rest
+-- what a target that was read tells
+abbrev pub telling_target : Fields → Result (Target × Reading) FrameFault → Result (Fields × Reading) FrameFault
+telling_target told read = read >>= λ target. Ok (record told { target = target.0 }, target.1)
 
--- three octets, which are passed over
-unfoldable pub reserved_at : Reading → Result (Unit {0} × Reading) FrameFault
-reserved_at r = do
-  one ← field (octet_at r)
-  two ← field (octet_at one.1)
-  three ← field (octet_at two.1)
-  Ok (tt, three.1)
+-- this field, and what it tells beside what was told before
+unfoldable pub field_at : Field → Fields → Reading → Result (Fields × Reading) FrameFault
+field_at fields.Id told r = field (ulong_at r) >>= λ id. Ok (record told { id = id.0 }, id.1)
+field_at fields.Flags told r = field (octet_at r) >>= λ flags. Ok (record told { flags = flags.0 }, flags.1)
+field_at fields.Reserved told r = field (octet_at r) >>= λ octet. Ok (told, octet.1)
+field_at fields.Status told r = field (ulong_at r) >>= λ status. Ok (record told { status = status.0 }, status.1)
+field_at fields.Target told r = telling_target told (target_at r)
+field_at fields.Operation told r = field (string_at r) >>= λ name. Ok (record told { operation = name.0 }, name.1)
+field_at fields.Contexts told r = contexts_at r >>= λ contexts. Ok (record told { contexts = contexts.0 }, contexts.1)
 
-unfoldable pub request_at : Reading → Result Request FrameFault
-request_at r = do
-  id ← field (ulong_at r)
-  flags ← field (octet_at id.1)
-  reserved ← reserved_at flags.1
-  target ← target_at reserved.1
-  operation ← field (string_at target.1)
-  contexts ← contexts_at operation.1
-  Ok (record {
-    id = id.0;
-    flags = flags.0;
-    target = target.0;
-    operation = operation.0;
-    contexts = contexts.0;
-    order = r.order;
-    body = body_at contexts.1;
-  })
+-- these fields, one after another
+abbrev pub fields_at : List Field → Fields → Reading → Result (Fields × Reading) FrameFault
+fields_at [] told r = Ok (told, r)
+fields_at (one ∷ others) told r = field_at one told r >>= λ next. fields_at others next.0 next.1
 
-unfoldable pub reply_at : Reading → Result Reply FrameFault
-reply_at r = do
-  id ← field (ulong_at r)
-  status ← field (ulong_at id.1)
-  contexts ← contexts_at status.1
-  Ok (record { id = id.0; status = status.0; contexts = contexts.0; order = r.order; body = body_at contexts.1 })
+-- a reader at the start of a content
+abbrev pub front_of : Order → List ℕ → Reading
+front_of order content = record { order = order; place = 12; rest = content }
 
-unfoldable pub locate_at : Reading → Result Locate FrameFault
-locate_at r = do
-  id ← field (ulong_at r)
-  target ← target_at id.1
-  Ok (record { id = id.0; target = target.0 })
+-- the fields of a message of this kind with this content
+abbrev pub fields_in : Version → Order → Kind → List ℕ → Result (Fields × Reading) FrameFault
+fields_in version order kind content = fields_at (layout version kind) blank (front_of order content)
 
-unfoldable pub located_at : Reading → Result Located FrameFault
-located_at r = do
-  id ← field (ulong_at r)
-  status ← field (ulong_at id.1)
-  Ok (record { id = id.0; status = status.0; rest = status.1.rest })
-
-abbrev pub made : {A : Type 0} → (A → Message) → Result A FrameFault → Result Message FrameFault
-made make (Ok x) = Ok (make x)
-made make (Err fault) = Err fault
-
--- the message of this kind whose content stands from here on
-unfoldable pub message_at : Kind → Reading → Result Message FrameFault
-message_at kinds.Request r = made messages.Request (request_at r)
-message_at kinds.Reply r = made messages.Reply (reply_at r)
-message_at kinds.CancelRequest r = made (λ id. messages.Cancel id.0) (field (ulong_at r))
-message_at kinds.LocateRequest r = made messages.Locate (locate_at r)
-message_at kinds.LocateReply r = made messages.LocateReply (located_at r)
-message_at kinds.CloseConnection r = Ok messages.Close
-message_at kinds.MessageError r = Ok messages.Error
-message_at kinds.Fragment r = Err BadFragment
+-- the message with these fields, where a reader stands behind them
+abbrev pub message_behind : Version → Order → Kind → Fields × Reading → Result Message FrameFault
+message_behind version order kind read = message_with order kind read.0 (kept_tail version kind read.1.place read.1.rest)
 
 -- the message of this kind with this content
-abbrev pub message_of : Order → Kind → List ℕ → Result Message FrameFault
-message_of order kind content = message_at kind (record { order = order; place = 12; rest = content })
+unfoldable pub message_of : Version → Order → Kind → List ℕ → Result Message FrameFault
+message_of version order kind content = fields_in version order kind content >>= message_behind version order kind
+
+-- the offset modulo 8 at which a body begins behind fields that end at this place
+abbrev pub body_start : Version → ℕ → ℕ
+body_start version place = (place + gap (body_alignment version) place) % 8
+
+-- the same behind the fields that were read
+abbrev pub start_behind : Version → Result (Fields × Reading) FrameFault → ℕ
+start_behind version (Ok read) = body_start version read.1.place
+start_behind version (Err fault) = 0
+
+-- the offset modulo 8 at which the body of a message of this kind with this content begins
+unfoldable pub start_of : Version → Order → Kind → List ℕ → ℕ
+start_of version order kind content = start_behind version (fields_in version order kind content)

@@ -7,6 +7,7 @@ use Rattle.cdr_values.specs.Value.{Value, Octet, UShort, ULong, OctetSequence, T
 use Rattle.cdr_values.specs.Values.{canonical_all}
 use Rattle.giop_frames.specs.declared.fault.FrameFault.{FrameFault}
 use Rattle.giop_frames.specs.declared.fault.FrameFault.TheVariants.{TooLarge, Body, NotWritten}
+use Rattle.giop_frames.specs.declared.layout.Version.TheVariants.{V1_2}
 use Rattle.giop_frames.specs.declared.message.Message.{Message}
 use Rattle.giop_frames.specs.declared.message.Message.TheVariants as messages
 use Rattle.giop_frames.specs.declared.message.Request.{Request}
@@ -17,7 +18,8 @@ use Rattle.giop_frames.specs.declared.message.ServiceContext.{ServiceContext}
 use Rattle.giop_frames.specs.Limits.{context_limit, key_limit, size_limit}
 use Rattle.giop_frames.specs.Fault.{too_long}
 use Rattle.giop_frames.specs.Header.{header_octets}
-use Rattle.giop_frames.specs.Message.{kind_of, contexts_values}
+use Rattle.giop_frames.specs.Layout.{contexts_values}
+use Rattle.giop_frames.specs.Message.{kind_of}
 
 -- the values of a target; those of a profile and of a reference are not written
 abbrev pub target_values : Target → List Value
@@ -76,7 +78,7 @@ content_of m = fields_of m ++ tail_of m
 
 -- the one spelling of the message that is written: padding is 0
 unfoldable pub spelling : Message → List ℕ
-spelling m = header_octets (order_of m) (kind_of m) (length (content_of m)) ++ content_of m
+spelling m = header_octets V1_2 (order_of m) (kind_of m) (length (content_of m)) ++ content_of m
 
 -- the offset behind these values, the first of them standing at offset 12; the lengths are the same in both byte orders
 abbrev pub behind : List Value → ℕ

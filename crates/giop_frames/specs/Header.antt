@@ -1,4 +1,4 @@
--- The header in front of each part of a message (CORBA, GIOP Message Formats, MessageHeader_1_1 with version 1.2).
+-- The header in front of each part of a message (CORBA, GIOP Message Formats, MessageHeader_1_1). The version is 1.2 (our profile).
 use Rattle.std.specs.Prelude.{◌≡◌, ℕ, ◌/◌, ◌%◌, ◌≤◌, ◌==◌, nat_eq, nat_lt, Bool, true, false, not, List, [], ◌∷◌, ◌++◌, length, take, drop, slice_index, Result, Ok, Err, if◌then◌else◌, codes}
 use Rattle.std.specs.List.{starts_with}
 use Rattle.cdr_values.specs.declared.order.Order.{Order}
@@ -9,13 +9,20 @@ use Rattle.giop_frames.specs.declared.fault.FrameFault.TheVariants.{BadMagic, Ba
 use Rattle.giop_frames.specs.declared.header.Kind.{Kind}
 use Rattle.giop_frames.specs.declared.header.Kind.TheVariants as kinds
 use Rattle.giop_frames.specs.declared.header.Header.{Header}
+use Rattle.giop_frames.specs.declared.layout.Version.{Version}
+use Rattle.giop_frames.specs.declared.layout.Version.TheVariants.{V1_2}
 use Rattle.giop_frames.specs.Limits.{size_limit}
 
 abbrev pub magic : List ℕ
 magic = codes "GIOP"
 
-abbrev pub version : List ℕ
-version = 1 ∷ 2 ∷ []
+-- the octet of the minor version
+abbrev pub minor_octet : Version → ℕ
+minor_octet V1_2 = 2
+
+-- the octets of the version, of which the major one is 1
+abbrev pub version_octets : Version → List ℕ
+version_octets version = 1 ∷ minor_octet version ∷ []
 
 -- the octet that stands for a type
 abbrev pub type_octet : Kind → ℕ
@@ -56,7 +63,7 @@ more_of_flags flags = flags / 2 % 2 == 1
 pub record IsPart (header : Header) (content octets : List ℕ) : Type 0 where
   pub flags : ℕ
   pub size : List ℕ
-  pub parts : octets ≡ magic ++ (version ++ (flags ∷ type_octet header.kind ∷ (size ++ content)))
+  pub parts : octets ≡ magic ++ (version_octets header.version ++ (flags ∷ type_octet header.kind ∷ (size ++ content)))
   pub order_bit : order_of_flags flags ≡ header.order
   pub more_bit : more_of_flags flags ≡ header.more
   pub sized : IsNumber header.order 4 header.size size
@@ -71,11 +78,12 @@ size_at octets = number_in (order_of_flags (slice_index octets 6)) 4 (take 4 (dr
 unfoldable pub header_at : List ℕ → Result Header FrameFault
 header_at octets =
     if not (starts_with nat_eq magic (take 4 octets)) then Err BadMagic else (
-    if not (starts_with nat_eq version (take 2 (drop 4 octets))) then Err BadVersion else (
+    if not (starts_with nat_eq (version_octets V1_2) (take 2 (drop 4 octets))) then Err BadVersion else (
     if nat_lt 7 (slice_index octets 7) then Err BadType else (
     if nat_lt (length octets) 12 then Err Short else (
     if nat_lt size_limit (size_at octets) then Err (TooLarge (size_at octets)) else
     Ok (record {
+      version = V1_2;
       order = order_of_flags (slice_index octets 6);
       more = more_of_flags (slice_index octets 6);
       kind = kind_at (slice_index octets 7);
@@ -92,5 +100,5 @@ flags_of Big = 0
 flags_of Little = 1
 
 -- the header of a message that isn't fragmented
-abbrev pub header_octets : Order → Kind → ℕ → List ℕ
-header_octets order kind size = magic ++ (version ++ (flags_of order ∷ type_octet kind ∷ octets_of order 4 size))
+abbrev pub header_octets : Version → Order → Kind → ℕ → List ℕ
+header_octets version order kind size = magic ++ (version_octets version ++ (flags_of order ∷ type_octet kind ∷ octets_of order 4 size))

@@ -4,10 +4,12 @@ use Rattle.cdr_values.specs.declared.order.Order.{Order}
 use Rattle.giop_frames.specs.declared.fault.FrameFault.{FrameFault}
 use Rattle.giop_frames.specs.declared.framed.Framed.{Framed}
 use Rattle.giop_frames.specs.declared.header.Kind.{Kind}
+use Rattle.giop_frames.specs.declared.layout.Version.{Version}
+use Rattle.giop_frames.specs.declared.layout.Version.TheVariants.{V1_2}
 use Rattle.giop_frames.specs.declared.message.Message.{Message}
 use Rattle.giop_frames.specs.Header.{is_fragment}
 use Rattle.giop_frames.specs.Message.{IsContent, IsMessage, kind_of}
-use Rattle.giop_frames.specs.Content.{message_of}
+use Rattle.giop_frames.specs.Content.{body_start, message_of}
 use Rattle.giop_frames.specs.Stream.{Part, Splits, IsCut, IsRefused, IsStream, IsWhole, continuing, going_on, id_of, numbered, says, unfinished}
 
 -- no octets that are a message in one part begin others that are one, and no octets are two such messages
@@ -55,14 +57,14 @@ IsCutOffInOneWay =
 -- the message that reading a content gives has this content
 abbrev pub ReadIsContent : Type 0
 ReadIsContent =
-    (order : Order) (kind : Kind) (content : List ℕ) (m : Message) → message_of order kind content ≡ Ok m
-    → (kind ≡ kind_of m) × IsContent order m content
+    (version : Version) (order : Order) (kind : Kind) (content : List ℕ) (m : Message)
+    → message_of version order kind content ≡ Ok m → (kind ≡ kind_of m) × IsContent version order m content
 
 -- reading the content of a message gives that message
 abbrev pub ContentIsRead : Type 0
 ContentIsRead =
-    (order : Order) (kind : Kind) (content : List ℕ) (m : Message) → kind ≡ kind_of m → IsContent order m content
-    → message_of order kind content ≡ Ok m
+    (version : Version) (order : Order) (kind : Kind) (content : List ℕ) (m : Message) → kind ≡ kind_of m
+    → IsContent version order m content → message_of version order kind content ≡ Ok m
 
 -- the unfinished message of a request_id is told by the parts of that request_id alone
 abbrev pub JoinsByRequestId : Type 0
@@ -76,3 +78,7 @@ FragmentGoesOn =
     (octets : List ℕ) (parts : List Part) (messages : List Framed) (rest : List ℕ) → Splits octets parts messages rest
     → (p : Part) → is_fragment p.header.kind ≡ true → 4 ≤ length p.content
     → says parts p ≡ continuing p (going_on (id_of p) parts)
+
+-- in version 1.2 a body begins at a multiple of 8
+abbrev pub BodiesBeginAtEight : Type 0
+BodiesBeginAtEight = (place : ℕ) → body_start V1_2 place ≡ 0

@@ -1,13 +1,14 @@
 pub mod Limits
 pub mod Fault
 pub mod Header
+pub mod Layout
 pub mod Message
 pub mod Content
 pub mod Decode
 pub mod Stream
 pub mod SeveralParts
 pub mod StreamInside
-pub mod Skim
+pub mod Walk
 pub mod Held
 pub mod HeldInside
 pub mod Encode

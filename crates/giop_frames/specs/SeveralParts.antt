@@ -5,7 +5,7 @@ use Rattle.std.specs.List.{list_any}
 use Rattle.giop_frames.specs.declared.framed.Framed.{Framed}
 use Rattle.giop_frames.specs.Limits.{unfinished_limit}
 use Rattle.giop_frames.specs.Header.{is_fragment}
-use Rattle.giop_frames.specs.Stream.{Part, Unfinished, Splits, earliest, id_of, message_by, offset, unfinished, whole}
+use Rattle.giop_frames.specs.Stream.{Part, Unfinished, Splits, earliest, id_of, offset, unfinished, whole_by}
 
 -- ---- parts and the messages that they are parts of
 
@@ -50,12 +50,11 @@ pub record EndsSeveral (last : Part) (older : List Part) (framed : Framed) : Typ
   pub before : List Part
   pub between : List Part
   pub belongs : IsPartOf last older first before between
-  pub reads : whole (offset before) first.header
-      (message_by first.header (joined_octets first (last ∷ between))) ≡ Ok (Some framed)
+  pub reads : whole_by (offset before) first.header (joined_octets first (last ∷ between)) ≡ Ok (Some framed)
 
 -- the message in one part, behind these older parts
 abbrev pub IsAlone : Part → List Part → Framed → Type 0
-IsAlone p older framed = whole (offset older) p.header (message_by p.header p.content) ≡ Ok (Some framed)
+IsAlone p older framed = whole_by (offset older) p.header p.content ≡ Ok (Some framed)
 
 -- the message whose last part this is, behind these older parts
 abbrev pub EndsMessage : Part → List Part → Framed → Type 0

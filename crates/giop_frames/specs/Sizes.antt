@@ -15,7 +15,7 @@ use Rattle.giop_frames.specs.declared.message.Target.TheVariants.{Key, Profile, 
 use Rattle.giop_frames.specs.declared.message.ServiceContext.{ServiceContext}
 use Rattle.giop_frames.specs.Limits.{context_limit, key_limit, size_limit}
 use Rattle.giop_frames.specs.Fault.{too_long}
-use Rattle.giop_frames.specs.Message.{contexts_values}
+use Rattle.giop_frames.specs.Layout.{contexts_values}
 use Rattle.giop_frames.specs.Encode.{padded_body}
 
 -- how many octets a value has without its padding

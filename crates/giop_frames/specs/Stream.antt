@@ -13,7 +13,7 @@ use Rattle.giop_frames.specs.declared.message.Message.{Message}
 use Rattle.giop_frames.specs.declared.framed.Framed.{Framed}
 use Rattle.giop_frames.specs.Limits.{size_limit, unfinished_limit}
 use Rattle.giop_frames.specs.Header.{IsPart, content_behind, is_fragment, header_at}
-use Rattle.giop_frames.specs.Content.{message_of}
+use Rattle.giop_frames.specs.Content.{message_of, start_of}
 
 -- a part of a stream: what its header says, and its content
 pub record Part : Type 0 where
@@ -146,11 +146,18 @@ going_on id (p ∷ older) =
 abbrev pub Judgement : Type 0
 Judgement = Result (Option Framed) FrameFault
 
--- a whole message, whose first part has this place and header
-abbrev pub whole : ℕ → Header → Result Message FrameFault → Judgement
-whole place header (Ok message) =
-    Ok (Some (record { place = place; order = header.order; size = header.size; message = message }))
-whole place header (Err fault) = Err fault
+-- a whole message, whose first part has this place and header, and whose body begins at this offset modulo 8
+abbrev pub whole : ℕ → Header → ℕ → Result Message FrameFault → Judgement
+whole place header start (Ok message) =
+    Ok (Some (record {
+      place = place;
+      version = header.version;
+      order = header.order;
+      size = header.size;
+      start = start;
+      message = message;
+    }))
+whole place header start (Err fault) = Err fault
 
 -- a message isn't whole yet: want of octets is no fault, and each field that stands there is judged
 abbrev pub so_far : Result Message FrameFault → Judgement
@@ -164,7 +171,15 @@ without_id = Body 12 (cdr.Short 12)
 
 -- the message of a part with this header whose content this is
 abbrev pub message_by : Header → List ℕ → Result Message FrameFault
-message_by header content = message_of header.order header.kind content
+message_by header content = message_of header.version header.order header.kind content
+
+-- the offset modulo 8 at which its body begins
+abbrev pub start_by : Header → List ℕ → ℕ
+start_by header content = start_of header.version header.order header.kind content
+
+-- the whole message, whose first part has this place and header, with this content
+abbrev pub whole_by : ℕ → Header → List ℕ → Judgement
+whole_by place header content = whole place header (start_by header content) (message_by header content)
 
 -- a first part whose message goes on: its request_id must be free, and there must be room for one more unfinished
 -- message (our profile)
@@ -180,7 +195,7 @@ joined more octets first =
     let content = first.content ++ octets in
     if nat_lt size_limit (length content) then Err (TooLarge (length content)) else (
     if more then so_far (message_by first.header content) else
-    whole first.place first.header (message_by first.header content))
+    whole_by first.place first.header content)
 
 -- a Fragment goes on with a message
 abbrev pub continuing : Part → Option Unfinished → Judgement
@@ -196,7 +211,8 @@ continuation messages p =
 unfoldable pub judged : List Unfinished → ℕ → Part → Judgement
 judged messages place p =
     if is_fragment p.header.kind then continuation messages p
-    else (if p.header.more then opening messages p else whole place p.header (message_by p.header p.content))
+    else (if p.header.more then opening messages p
+    else whole_by place p.header p.content)
 
 -- what the newest part says
 abbrev pub says : List Part → Part → Judgement

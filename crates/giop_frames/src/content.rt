@@ -1,214 +1,157 @@
-ghost use Rattle.std.specs.Prelude.{◌≡◌, ◌^◌, ◌<◌, length};
-ghost use Rattle.giop_frames.specs.Fault.{Finds, Gives};
-ghost use Rattle.giop_frames.specs.Skim.{Passes};
-ghost use Rattle.giop_frames.specs.Content.{key_at, profile_at, profiles_at, reference_at, target_at, context_at, each_context_at, contexts_at, body_at, reserved_at, request_at, reply_at, locate_at, located_at, message_of};
+ghost use Rattle.std.specs.Prelude.{◌≡◌, ◌≤◌, ◌<◌, ◌^◌, length, map, IfOk};
+ghost use Rattle.giop_frames.specs.Limits.{size_limit};
+ghost use Rattle.giop_frames.specs.Fault.{Finds};
+ghost use Rattle.giop_frames.specs.Layout.{kept_tail, message_with};
+ghost use Rattle.giop_frames.specs.Content.{body_start};
+ghost use Rattle.giop_frames.specs.Stream.{message_by, start_by};
+ghost use Rattle.giop_frames.specs.Walk.{IsWalked, context_of, spanned, target_of, told_by};
 
-use crate::fault::{CONTEXT_LIMIT, FrameFault, KEY_LIMIT, PROFILE_LIMIT};
-use crate::header::{HEADER_LENGTH, Kind, behind};
+use crate::fault::FrameFault;
+use crate::found::{Found, FoundContext, FoundTarget, Span};
+use crate::header::{HEADER_LENGTH, Header, Kind, behind, front};
+use crate::layout::{Version, body_alignment, gap_before};
 use crate::message::{Contexts, Locate, Located, Message, Reply, Request, ServiceContext, Target};
-use crate::sizes::gap_before;
-use cdr_values::{CdrFault, Order, Reader};
+use crate::walk::Walk;
 use ots_model::Octets;
-use std::alloc::Global;
+use std::alloc::{AllocError, Global};
 
-/// The message of this kind whose content this is.
-#[tactic(auto, unfolding(crate::specs::Content::message_at))]
-pub fn read_message(
-    alloc: Global,
-    order: Order,
-    kind: Kind,
-    content: &[u8],
-) -> Result<Message, FrameFault>
-    requires { length content.now < 2 ^ 31 }
-    ensures { Finds (λ message. message) result (message_of order kind content.now) }
+/// A message, and the offset modulo 8 at which its body begins.
+#[derive(Drop)]
+pub struct Content {
+    pub message: Message,
+    pub start: u32,
+}
+
+/// The message with this header and this content.
+pub fn read_message(alloc: Global, header: Header, content: &[u8]) -> Result<Content, FrameFault>
+    requires { length content.now ≤ size_limit }
+    ensures message { Finds (λ found. found.message) result (message_by header content.now) }
+    ensures start { IfOk result (λ found. found.start ≡ start_by header content.now) }
 {
-    let reader = &mut Reader::new(content, order, HEADER_LENGTH as u32);
-    match kind {
-        Kind::Request => Ok(Message::Request(read_request(alloc, reader, order)?)),
-        Kind::Reply => Ok(Message::Reply(read_reply(alloc, reader, order)?)),
-        Kind::CancelRequest => Ok(Message::Cancel(reader.ulong()?)),
-        Kind::LocateRequest => Ok(Message::Locate(read_locate(alloc, reader)?)),
-        Kind::LocateReply => Ok(Message::LocateReply(read_located(alloc, reader)?)),
+    finish_message(alloc, header, content, Walk::new(header))
+}
+
+/// The message whose first part has this header, with this content, over some of which a walk has gone.
+pub fn finish_message(
+    alloc: Global,
+    header: Header,
+    content: &[u8],
+    mut walk: Walk,
+) -> Result<Content, FrameFault>
+    requires short { length content.now ≤ size_limit }
+    requires walked { IsWalked header content.now walk }
+    ensures message { Finds (λ found. found.message) result (message_by header content.now) }
+    ensures start { IfOk result (λ found. found.start ≡ start_by header content.now) }
+{
+    walk.go_on(header, content)?;
+    let place = walk.place;
+    let octets = behind(content, place as usize - HEADER_LENGTH);
+    let tail = kept_tail(header, place, octets);
+    Ok(Content {
+        message: build(alloc, header, content, &walk.found, tail)?,
+        start: body_start(header.version, place),
+    })
+}
+
+/// The message with the fields that were found, and with what it keeps behind them.
+fn build(
+    alloc: Global,
+    header: Header,
+    content: &[u8],
+    found: &Found,
+    tail: &[u8],
+) -> Result<Message, FrameFault>
+    ensures { Finds (λ m. m) result (message_with header.order header.kind (told_by content.now found.now) tail.now) }
+{
+    let order = header.order;
+    match header.kind {
+        Kind::Request => Ok(Message::Request(Request {
+            id: found.id,
+            flags: found.flags,
+            target: copy_target(alloc, content, found.target)?,
+            operation: copy(alloc, content, found.operation)?,
+            contexts: copy_contexts(alloc, content, found.contexts())?,
+            order,
+            body: Octets::new(alloc, tail)?,
+        })),
+        Kind::Reply => Ok(Message::Reply(Reply {
+            id: found.id,
+            status: found.status,
+            contexts: copy_contexts(alloc, content, found.contexts())?,
+            order,
+            body: Octets::new(alloc, tail)?,
+        })),
+        Kind::CancelRequest => Ok(Message::Cancel(found.id)),
+        Kind::LocateRequest => Ok(Message::Locate(Locate {
+            id: found.id,
+            target: copy_target(alloc, content, found.target)?,
+        })),
+        Kind::LocateReply => Ok(Message::LocateReply(Located {
+            id: found.id,
+            status: found.status,
+            rest: Octets::new(alloc, tail)?,
+        })),
         Kind::CloseConnection => Ok(Message::Close),
         Kind::MessageError => Ok(Message::Error),
         Kind::Fragment => Err(FrameFault::BadFragment),
     }
 }
 
-#[tactic(auto, unfolding(crate::specs::Content::request_at))]
-fn read_request(alloc: Global, reader: &mut Reader, order: Order) -> Result<Request, FrameFault>
-    requires { reader.old.order ≡ order }
-    ensures { Finds (λ request. request) result (request_at reader.old) }
+/// The octets that were found.
+fn copy(alloc: Global, content: &[u8], span: Span) -> Result<Octets, AllocError>
+    ensures { IfOk result (λ octets. octets ≡ spanned content.now span) }
 {
-    let id = reader.ulong()?;
-    let flags = reader.octet()?;
-    skip_reserved(reader)?;
-    let target = read_target(alloc, reader)?;
-    let operation = Octets::new(alloc, reader.string()?)?;
-    let contexts = read_contexts(alloc, reader)?;
-    let body = read_body(alloc, reader)?;
-    Ok(Request {
-        id,
-        flags,
-        target,
-        operation,
-        contexts,
-        order,
-        body,
-    })
+    Octets::new(alloc, front(behind(content, span.start), span.length))
 }
 
-#[tactic(auto, unfolding(crate::specs::Content::reply_at))]
-fn read_reply(alloc: Global, reader: &mut Reader, order: Order) -> Result<Reply, FrameFault>
-    requires { reader.old.order ≡ order }
-    ensures { Finds (λ reply. reply) result (reply_at reader.old) }
+fn copy_target(alloc: Global, content: &[u8], target: FoundTarget) -> Result<Target, AllocError>
+    ensures { IfOk result (λ copied. copied ≡ target_of content.now target) }
 {
-    let id = reader.ulong()?;
-    let status = reader.ulong()?;
-    let contexts = read_contexts(alloc, reader)?;
-    let body = read_body(alloc, reader)?;
-    Ok(Reply {
-        id,
-        status,
-        contexts,
-        order,
-        body,
-    })
-}
-
-#[tactic(auto, unfolding(crate::specs::Content::locate_at))]
-fn read_locate(alloc: Global, reader: &mut Reader) -> Result<Locate, FrameFault>
-    ensures { Finds (λ locate. locate) result (locate_at reader.old) }
-{
-    let id = reader.ulong()?;
-    let target = read_target(alloc, reader)?;
-    Ok(Locate { id, target })
-}
-
-#[tactic(auto, unfolding(crate::specs::Content::located_at))]
-fn read_located(alloc: Global, reader: &mut Reader) -> Result<Located, FrameFault>
-    ensures { Finds (λ located. located) result (located_at reader.old) }
-{
-    let id = reader.ulong()?;
-    let status = reader.ulong()?;
-    let rest = Octets::new(alloc, reader.rest())?;
-    Ok(Located { id, status, rest })
-}
-
-/// Passes over three reserved octets.
-#[tactic(auto, unfolding(crate::specs::Content::reserved_at))]
-pub fn skip_reserved(reader: &mut Reader) -> Result<(), FrameFault>
-    ensures { Passes result reader.new (reserved_at reader.old) }
-{
-    reader.octet()?;
-    reader.octet()?;
-    reader.octet()?;
-    Ok(())
-}
-
-#[tactic(auto, unfolding(crate::specs::Content::target_at))]
-fn read_target(alloc: Global, reader: &mut Reader) -> Result<Target, FrameFault>
-    ensures { Gives (λ target. target) result reader.new (target_at reader.old) }
-{
-    match reader.ushort()? {
-        0 => read_key(alloc, reader),
-        1 => skip_profile(reader),
-        2 => skip_reference(reader),
-        _ => Err(FrameFault::BadType),
+    match target {
+        FoundTarget::Key(key) => Ok(Target::Key(copy(alloc, content, key)?)),
+        FoundTarget::Profile => Ok(Target::Profile),
+        FoundTarget::Reference => Ok(Target::Reference),
     }
 }
 
-#[tactic(auto, unfolding(crate::specs::Content::key_at))]
-fn read_key(alloc: Global, reader: &mut Reader) -> Result<Target, FrameFault>
-    ensures { Gives (λ target. target) result reader.new (key_at reader.old) }
-{
-    let place = reader.place();
-    let key = reader.octets()?;
-    if key.len() > KEY_LIMIT {
-        return Err(too_long(place, key.len() as u32));
-    }
-    Ok(Target::Key(Octets::new(alloc, key)?))
-}
-
-/// Passes over a tagged profile.
-#[tactic(auto, unfolding(crate::specs::Content::profile_at))]
-fn skip_profile(reader: &mut Reader) -> Result<Target, FrameFault>
-    ensures { Passes result reader.new (profile_at reader.old) }
-{
-    reader.ulong()?;
-    reader.octets()?;
-    Ok(Target::Profile)
-}
-
-/// Passes over an index and a reference.
-#[tactic(auto, unfolding(crate::specs::Content::reference_at))]
-fn skip_reference(reader: &mut Reader) -> Result<Target, FrameFault>
-    ensures { Passes result reader.new (reference_at reader.old) }
-{
-    reader.ulong()?;
-    reader.string()?;
-    let place = reader.place();
-    let count = reader.ulong()?;
-    if count > PROFILE_LIMIT {
-        return Err(too_long(place, count));
-    }
-    skip_profiles(reader, count)?;
-    Ok(Target::Reference)
-}
-
-fn skip_profiles(reader: &mut Reader, count: u32) -> Result<(), FrameFault>
-    ensures { Passes result reader.new (profiles_at count reader.old) }
-{
-    for _ in 0..count {
-        skip_profile(reader)?;
-    }
-    Ok(())
-}
-
-#[tactic(auto, unfolding(crate::specs::Content::context_at))]
-fn read_context(alloc: Global, reader: &mut Reader) -> Result<ServiceContext, FrameFault>
-    ensures { Gives (λ context. context) result reader.new (context_at reader.old) }
-{
-    let id = reader.ulong()?;
-    let bytes = Octets::new(alloc, reader.octets()?)?;
-    Ok(ServiceContext { id, bytes })
-}
-
-fn read_each_context(alloc: Global, reader: &mut Reader, count: u32) -> Result<Contexts, FrameFault>
-    ensures { Gives (λ contexts. contexts) result reader.new (each_context_at count reader.old) }
+fn copy_contexts(
+    alloc: Global,
+    content: &[u8],
+    found: &[FoundContext],
+) -> Result<Contexts, AllocError>
+    ensures { IfOk result (λ contexts. contexts ≡ map (context_of content.now) found.now) }
 {
     let mut contexts = Vec::new(alloc);
-    for _ in 0..count {
-        contexts.push(read_context(alloc, reader)?)?;
+    for context in found {
+        contexts.push(ServiceContext {
+            id: context.id,
+            bytes: copy(alloc, content, context.bytes)?,
+        })?;
     }
     Ok(Contexts::from_vec(contexts))
 }
 
-#[tactic(auto, unfolding(crate::specs::Content::contexts_at))]
-fn read_contexts(alloc: Global, reader: &mut Reader) -> Result<Contexts, FrameFault>
-    ensures { Gives (λ contexts. contexts) result reader.new (contexts_at reader.old) }
+/// What a message keeps of the octets behind its fields, which end at this place.
+fn kept_tail(header: Header, place: u32, octets: &[u8]) -> &[u8]
+    ensures { result.now ≡ kept_tail header.version header.kind place octets.now }
 {
-    let place = reader.place();
-    let count = reader.ulong()?;
-    if count > CONTEXT_LIMIT {
-        return Err(too_long(place, count));
+    match header.kind {
+        Kind::Request | Kind::Reply => {
+            behind(
+                octets,
+                gap_before(body_alignment(header.version), place as usize),
+            )
+        }
+        Kind::LocateReply => octets,
+        _ => &[],
     }
-    read_each_context(alloc, reader, count)
 }
 
-fn read_body(alloc: Global, reader: &Reader) -> Result<Octets, FrameFault>
-    ensures { Finds (λ body. body) result (Ok (body_at reader.now)) }
+/// The offset modulo 8 at which a body begins behind fields that end at this place.
+fn body_start(version: Version, place: u32) -> u32
+    requires { place < 2 ^ 31 }
+    ensures { result ≡ body_start version place }
 {
-    let gap = gap_before(8, reader.place() as usize);
-    Ok(Octets::new(alloc, behind(reader.rest(), gap))?)
-}
-
-/// A limit of this profile is passed at the place.
-pub fn too_long(place: u32, length: u32) -> FrameFault
-    ensures { result ≡ FrameFault.Body place (CdrFault.TooLong place length) }
-{
-    FrameFault::Body {
-        place,
-        cdr: CdrFault::TooLong { place, length },
-    }
+    let place = place as usize;
+    ((place + gap_before(body_alignment(version), place)) % 8) as u32
 }

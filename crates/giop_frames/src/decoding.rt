@@ -1,6 +1,6 @@
-ghost use Rattle.std.specs.Prelude.{◌≤◌, ◌^◌, ◌<◌, length, take, IfOk};
+ghost use Rattle.std.specs.Prelude.{◌≤◌, ◌^◌, ◌<◌, length, take, IfErr, IfOk};
 ghost use Rattle.giop_frames.specs.Message.{IsMessage};
-ghost use Rattle.giop_frames.specs.Decode.{Decodes, FindsWhatStands};
+ghost use Rattle.giop_frames.specs.Decode.{Decodes, FindsWhatStands, IsRefusedForGood};
 
 use crate::content::read_message;
 use crate::fault::FrameFault;
@@ -26,6 +26,7 @@ pub fn decode(alloc: Global, bytes: &[u8]) -> Result<Decoded, FrameFault>
     ensures found { IfOk result (λ d. IsMessage d.message (take d.used bytes.now)) }
     ensures only { FindsWhatStands bytes.now result }
     ensures exact { Decodes bytes.now result }
+    ensures stays { IfErr result (IsRefusedForGood bytes.now) }
 {
     reading_is_exact();
     decode_front(alloc, bytes)
@@ -45,9 +46,9 @@ fn decode_front(alloc: Global, bytes: &[u8]) -> Result<Decoded, FrameFault>
         return Err(FrameFault::Short);
     }
     let content = &bytes[HEADER_LENGTH..used];
-    let message = read_message(alloc, header.order, header.kind, content)?;
+    let found = read_message(alloc, header, content)?;
     Ok(Decoded {
-        message,
+        message: found.message,
         used: used as u32,
     })
 }

@@ -2,6 +2,7 @@ ghost use Rattle.std.specs.Prelude.{◌≡◌, ◌+◌, ◌<◌, ◌^◌, ◌++�
 ghost use Rattle.cdr_values.specs.Value.{octets_of};
 ghost use Rattle.cdr_values.specs.Appending.{Appends, AppendsSome};
 ghost use Rattle.giop_frames.specs.Fault.{IfRefused};
+ghost use Rattle.giop_frames.specs.declared.layout.Version.TheVariants.{V1_2};
 ghost use Rattle.giop_frames.specs.Header.{header_octets, flags_of};
 ghost use Rattle.giop_frames.specs.Message.{IsMessage, kind_of};
 ghost use Rattle.giop_frames.specs.Encode.{spelling, refusal_of, octets_in, content_of, fields_of, tail_of, padded_body};
@@ -9,8 +10,9 @@ ghost use Rattle.giop_frames.specs.Encode.{spelling, refusal_of, octets_in, cont
 use crate::fault::FrameFault;
 use crate::fields::{fields_octets, order_of};
 use crate::header::{HEADER_LENGTH, Kind, MAGIC, VERSION};
+use crate::layout::gap_before;
 use crate::message::Message;
-use crate::sizes::{content_size, gap_before};
+use crate::sizes::content_size;
 use byteorder::{BigEndian, ByteOrder, LittleEndian};
 use cdr_values::Order;
 use std::alloc::{AllocError, Global};
@@ -68,7 +70,7 @@ fn append_parts(
 }
 
 fn append_header(order: Order, kind: Kind, size: u32, into: &mut Vec<u8>) -> Result<(), AllocError>
-    ensures { AppendsSome (header_octets order kind size) result into.old.items into.new.items }
+    ensures { AppendsSome (header_octets V1_2 order kind size) result into.old.items into.new.items }
 {
     into.extend_from_slice(&MAGIC)?;
     into.extend_from_slice(&VERSION)?;

@@ -1,5 +1,5 @@
 ghost use Rattle.std.specs.Prelude.{◌≡◌};
-ghost use Rattle.giop_frames.specs.Fault.{fault_of};
+ghost use Rattle.giop_frames.specs.Fault.{fault_of, too_long};
 ghost use Rattle.giop_frames.specs.declared.fault.FrameFault.TheVariants.{Memory};
 
 use cdr_values::CdrFault;
@@ -74,5 +74,15 @@ impl<T: Drop> From<AllocFailed<T>> for FrameFault {
 
     fn from(_error: AllocFailed<T>) -> FrameFault {
         FrameFault::Memory
+    }
+}
+
+/// A limit of this profile is passed at the place.
+pub fn too_long(place: u32, length: u32) -> FrameFault
+    ensures { result ≡ too_long place length }
+{
+    FrameFault::Body {
+        place,
+        cdr: CdrFault::TooLong { place, length },
     }
 }

@@ -2,7 +2,7 @@ ghost use Rattle.std.specs.Prelude.{◌≡◌, ◌+◌, ◌<◌, ◌^◌, [], �
 ghost use Rattle.std.specs.List.{flat_map};
 ghost use Rattle.cdr_values.specs.Value.{Octet, ULong, has_nul};
 ghost use Rattle.giop_frames.specs.declared.fault.FrameFault.TheVariants.{Memory};
-ghost use Rattle.giop_frames.specs.Message.{context_values, contexts_values};
+ghost use Rattle.giop_frames.specs.Layout.{context_values, contexts_values};
 ghost use Rattle.giop_frames.specs.Encode.{target_values, request_head, request_values, values_of, fields_of, order_of, refusal_of, octets_in, octets_in_contexts, octets_in_fields, octets_in_target};
 ghost use Rattle.giop_frames.specs.Write.{Writes, ArePlain};
 

@@ -1,3 +1,9 @@
+ghost use Rattle.std.specs.Prelude.{◌≡◌, Ok, Some};
+ghost use Rattle.giop_frames.specs.Stream.{whole};
+
+use crate::content::Content;
+use crate::header::Header;
+use crate::layout::Version;
 use crate::message::Message;
 use cdr_values::Order;
 
@@ -6,10 +12,28 @@ use cdr_values::Order;
 pub struct Framed {
     /// The offset of the first part in the stream, at most 2^64 - 1.
     pub place: u64,
+    /// The version of the message.
+    pub version: Version,
     /// The byte order of the first part.
     pub order: Order,
     /// How many octets stand behind the header in the first part.
     pub size: u32,
+    /// The offset modulo 8 at which a body begins behind the fields: 0 in version 1.2.
+    pub start: u32,
     /// The message itself.
     pub message: Message,
+}
+
+/// A message whose first part has this place and header.
+pub fn frame(place: u64, header: Header, found: Content) -> Framed
+    ensures { Ok (Some result) ≡ whole place header found.start (Ok found.message) }
+{
+    Framed {
+        place,
+        version: header.version,
+        order: header.order,
+        size: header.size,
+        start: found.start,
+        message: found.message,
+    }
 }

@@ -4,6 +4,7 @@ ghost use Rattle.giop_frames.specs.Limits.{size_limit};
 ghost use Rattle.giop_frames.specs.Header.{kind_at, type_octet, order_of_flags, is_fragment, header_at};
 
 use crate::fault::{FrameFault, SIZE_LIMIT};
+use crate::layout::Version;
 use byteorder::{BigEndian, ByteOrder, LittleEndian};
 use cdr_values::Order;
 
@@ -65,6 +66,8 @@ impl Kind {
 /// What the header of a part says.
 #[derive(Clone, Copy, Debug, PartialEq, Eq)]
 pub struct Header {
+    /// The version of its message.
+    pub version: Version,
     /// The byte order of the part's numbers.
     pub order: Order,
     /// Whether more fragments follow.
@@ -107,6 +110,7 @@ pub fn read_header(octets: &[u8]) -> Result<Header, FrameFault>
         return Err(FrameFault::TooLarge(size));
     }
     Ok(Header {
+        version: Version::V1_2,
         order,
         more: octets[6] / 2 % 2 == 1,
         kind: Kind::from_octet(octets[7]),

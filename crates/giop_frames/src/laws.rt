@@ -1,4 +1,4 @@
-ghost use Rattle.giop_frames.specs.Laws.{ContentIsRead, FragmentGoesOn, IsCutInOneWay, IsCutOffInOneWay, IsRefusedInOneWay, JoinsByRequestId, NoMessageBeginsAnother, ReadIsContent, RefusalGoesOn, RefusedIsNoStream, WholeIsNotCut};
+ghost use Rattle.giop_frames.specs.Laws.{BodiesBeginAtEight, ContentIsRead, FragmentGoesOn, IsCutInOneWay, IsCutOffInOneWay, IsRefusedInOneWay, JoinsByRequestId, NoMessageBeginsAnother, ReadIsContent, RefusalGoesOn, RefusedIsNoStream, WholeIsNotCut};
 
 use cdr_values::reading_is_exact;
 
@@ -41,4 +41,9 @@ pub fn a_message_is_its_content()
 pub fn fragments_join_by_request_id()
     ensures joins { JoinsByRequestId }
     ensures goes_on { FragmentGoesOn }
+{}
+
+/// A law: in version 1.2 a body begins at a multiple of 8, so that the `start` of a message is 0 there.
+pub fn bodies_begin_at_eight()
+    ensures { BodiesBeginAtEight }
 {}

@@ -1,15 +1,15 @@
-ghost use Rattle.std.specs.Prelude.{◌≡◌, ℕ, ◌≢◌, ◌↔◌, ◌==◌, ◌<◌, ◌≤◌, ◌+◌, length, None, Err, IsTrue, IfNone, IfSome, Ok, IfErr, IfOk, OnErr, OnOk};
+ghost use Rattle.std.specs.Prelude.{◌≡◌, ℕ, false, ◌≢◌, ◌↔◌, ◌==◌, ◌<◌, ◌≤◌, ◌+◌, length, None, Err, IsTrue, IfNone, IfSome, Ok, IfErr, IfOk, OnErr, OnOk};
 ghost use Rattle.std.specs.List.{position as position_of};
 ghost use Rattle.giop_frames.specs.Limits.{size_limit, unfinished_limit};
 ghost use Rattle.giop_frames.specs.Fault.{Fails};
-ghost use Rattle.giop_frames.specs.Header.{content_behind};
+ghost use Rattle.giop_frames.specs.Header.{content_behind, is_fragment};
 ghost use Rattle.giop_frames.specs.HeldInside.{AreShort, Judges};
 ghost use Rattle.giop_frames.specs.Stream.{may_go_on, opening, numbered, part_at, part_header_at, part_of, with_begun};
 ghost use Rattle.giop_frames.specs.StreamInside.{FindsPart, IsAt, ReadsId};
 
 use crate::content::read_message;
 use crate::fault::{FrameFault, SIZE_LIMIT};
-use crate::framed::Framed;
+use crate::framed::{Framed, frame};
 use crate::header::{HEADER_LENGTH, Header, Kind, behind, front, read_header};
 use crate::unfinished::Unfinished;
 use cdr_values::{CdrFault, Order, Reader};
@@ -90,13 +90,8 @@ pub fn judge(
         begin(alloc, unfinished, place, header, content)?;
         return Ok(None);
     }
-    let message = read_message(alloc, header.order, header.kind, content)?;
-    Ok(Some(Framed {
-        place,
-        order: header.order,
-        size: header.size,
-        message,
-    }))
+    let found = read_message(alloc, header, content)?;
+    Ok(Some(frame(place, header, found)))
 }
 
 /// A first part whose message goes on.
@@ -108,6 +103,7 @@ fn begin(
     content: &[u8],
 ) -> Result<(), FrameFault>
     requires content { length content.now ≤ size_limit }
+    requires first { is_fragment header.kind ≡ false }
     ensures says { OnOk result (opening unfinished.old.items (part_of header content.now) ≡ Ok None) }
     ensures after { OnOk result (unfinished.new.items ≡ with_begun place (part_of header content.now) unfinished.old.items) }
     ensures room { OnOk result (length unfinished.old.items < unfinished_limit) }

@@ -2,13 +2,13 @@ ghost use Rattle.std.specs.Prelude.{◌≡◌, ◌+◌, ◌*◌, ◌≤◌, ◌<
 ghost use Rattle.std.specs.List.{flat_map};
 ghost use Rattle.cdr_values.specs.Value.{gap};
 ghost use Rattle.giop_frames.specs.Limits.{context_limit};
-ghost use Rattle.giop_frames.specs.Message.{context_values};
+ghost use Rattle.giop_frames.specs.Layout.{context_values};
 ghost use Rattle.giop_frames.specs.Encode.{octets_in, octets_in_contexts, octets_in_fields, octets_in_target};
 ghost use Rattle.giop_frames.specs.Sizes.{end_of, target_end, operation_end, contexts_end, request_end, body_end, message_end, content_size};
 
-use crate::content::too_long;
-use crate::fault::{CONTEXT_LIMIT, FrameFault, KEY_LIMIT, SIZE_LIMIT};
+use crate::fault::{CONTEXT_LIMIT, FrameFault, KEY_LIMIT, SIZE_LIMIT, too_long};
 use crate::header::HEADER_LENGTH;
+use crate::layout::gap_before;
 use crate::message::{Message, Request, ServiceContext, Target};
 use cdr_values::CdrFault;
 
@@ -159,13 +159,4 @@ fn body_end(at: usize, body: &[u8]) -> usize
         return at;
     }
     at + gap_before(8, at) + body.len()
-}
-
-/// How many octets there are from an offset up to the next multiple of n.
-pub fn gap_before(n: usize, at: usize) -> usize
-    requires { 0 < n }
-    ensures gap { result ≡ gap n at }
-    ensures within { result < n }
-{
-    (n - at % n) % n
 }

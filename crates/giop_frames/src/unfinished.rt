@@ -1,14 +1,17 @@
-ghost use Rattle.std.specs.Prelude.{◌≡◌, ◌<◌, ◌≤◌, ◌++◌, true, false, IfErr, IfOk, OnErr, OnOk, Ok, None, Some, length};
+ghost use Rattle.std.specs.Prelude.{◌≡◌, ◌<◌, ◌≤◌, ◌++◌, true, false, Err, IfErr, IfOk, OnErr, OnOk, Ok, None, Some, length};
 ghost use Rattle.giop_frames.specs.Limits.{size_limit};
 ghost use Rattle.giop_frames.specs.Fault.{Fails, IfRefused};
+ghost use Rattle.giop_frames.specs.Header.{is_fragment};
+ghost use Rattle.giop_frames.specs.Walk.{IsWalked, wants_octets};
 ghost use Rattle.giop_frames.specs.Stream.{begun_as, joined, message_by, part_of, so_far, with_more};
 ghost use Rattle.giop_frames.specs.StreamInside.{IsTooLarge};
 
-use crate::content::read_message;
+use crate::content::finish_message;
 use crate::fault::{FrameFault, SIZE_LIMIT};
-use crate::framed::Framed;
+use crate::framed::{Framed, frame};
 use crate::header::Header;
-use crate::skim::{Passed, pass_over};
+use crate::walk::Walk;
+use cdr_values::CdrFault;
 use std::alloc::Global;
 use std::marker::Model;
 
@@ -20,19 +23,23 @@ pub struct Unfinished {
     place: u64,
     header: Header,
     content: Vec<u8>,
-    /// How far its fields were judged.
-    passed: Passed,
+    /// How far a walk has come over its fields.
+    walk: Walk,
 }
 
 impl Model for Unfinished {
+    ghost use Rattle.std.specs.Prelude.{◌≡◌, false};
+    ghost use Rattle.giop_frames.specs.Header.{is_fragment};
     ghost use Rattle.giop_frames.specs.Stream.{Unfinished as Message};
-    ghost use Rattle.giop_frames.specs.Skim.{IsPassed};
+    ghost use Rattle.giop_frames.specs.Walk.{IsWalked};
 
     ghost Value = { Message };
 
     ghost view = { λ u. record { id = u.id; place = u.place; header = u.header; content = u.content.items } };
 
-    ghost invariant = { λ u. IsPassed u.header.order u.header.kind u.content.items u.passed };
+    ghost invariant = { λ u.
+        (is_fragment u.header.kind ≡ false)
+        × IsWalked u.header u.content.items u.walk };
 }
 
 impl Unfinished {
@@ -45,17 +52,19 @@ impl Unfinished {
         content: &[u8],
     ) -> Result<Unfinished, FrameFault>
         requires content { length content.now ≤ size_limit }
+        requires first { is_fragment header.kind ≡ false }
         ensures begun { IfOk result (λ begun. begun ≡ begun_as id place (part_of header content.now)) }
         ensures sound { OnOk result (so_far (message_by header content.now) ≡ Ok None) }
         ensures refused { IfErr result (λ fault. Fails fault (so_far (message_by header content.now))) }
     {
-        let passed = pass_over(header.order, header.kind, content, Passed::nothing())?;
+        let mut walk = Walk::new(header);
+        go_so_far(&mut walk, header, content)?;
         Ok(Unfinished {
             id,
             place,
             header,
             content: content.to_vec(alloc)?,
-            passed,
+            walk,
         })
     }
 
@@ -85,10 +94,10 @@ impl Unfinished {
     {
         let before = self.content.len();
         append(&mut self.content, octets)?;
-        let Header { order, kind, .. } = self.header;
-        match pass_over(order, kind, &self.content, self.passed) {
-            Ok(passed) => {
-                self.passed = passed;
+        let mut walk = self.walk;
+        match go_so_far(&mut walk, self.header, &self.content) {
+            Ok(()) => {
+                self.walk = walk;
                 Ok(())
             }
             Err(fault) => {
@@ -108,25 +117,42 @@ impl Unfinished {
     {
         let before = self.content.len();
         append(&mut self.content, octets)?;
-        let Header {
-            order,
-            kind,
-            size,
-            ..
-        } = self.header;
-        match read_message(alloc, order, kind, &self.content) {
-            Ok(message) => Ok(Framed {
-                place: self.place,
-                order,
-                size,
-                message,
-            }),
+        let header = self.header;
+        match finish_message(alloc, header, &self.content, self.walk) {
+            Ok(found) => Ok(frame(self.place, header, found)),
             Err(fault) => {
                 self.content.truncate(before);
                 Err(fault)
             }
         }
     }
+}
+
+/// Goes on over the fields of a message whose octets are still coming. Want of octets is no fault.
+fn go_so_far(walk: &mut Walk, header: Header, content: &[u8]) -> Result<(), FrameFault>
+    requires short { length content.now ≤ size_limit }
+    requires first { is_fragment header.kind ≡ false }
+    requires walked { IsWalked header content.now walk.old }
+    ensures walked { IsWalked header content.now walk.new }
+    ensures sound { OnOk result (so_far (message_by header content.now) ≡ Ok None) }
+    ensures fault { IfErr result (λ fault. so_far (message_by header content.now) ≡ Err fault) }
+{
+    match walk.go_on(header, content) {
+        Err(fault) if wants_octets(fault) => Ok(()),
+        judged => judged,
+    }
+}
+
+fn wants_octets(fault: FrameFault) -> bool
+    ensures { result ≡ wants_octets fault }
+{
+    matches!(
+        fault,
+        FrameFault::Body {
+            cdr: CdrFault::Short(_),
+            ..
+        }
+    )
 }
 
 /// Appends octets of a message, which is 65,536 octets long at most (our profile).

@@ -2,6 +2,7 @@ use Rattle.std.proofs.Common.{ℕ}
 use Rattle.giop_frames.specs.declared.message.Message.{Message}
 use Rattle.giop_frames.specs.declared.decoding.Decoded.{Decoded}
 use Rattle.giop_frames.proofs.Whole.{within_from, found_from, only_from}
+use Rattle.giop_frames.proofs.Further.{stays_from}
 use Rattle.giop_frames.proofs.decoding.decode.Goals as goal
 
 -- the message and how many octets it has
@@ -16,3 +17,6 @@ returns-clause-found c = found_from c.reading_is_exact.ensures view c.args.bytes
 
 pub returns-clause-only : goal.returns-clause-only
 returns-clause-only c = only_from c.reading_is_exact.ensures view c.args.bytes.now c.decode_front.result c.decode_front.ensures
+
+pub returns-clause-stays : goal.returns-clause-stays
+returns-clause-stays c = stays_from view c.args.bytes.now c.decode_front.result c.decode_front.ensures

@@ -6,11 +6,11 @@ use Rattle.giop_frames.proofs.Loops.{fails_on}
 use Rattle.giop_frames.proofs.Whole.{decoded_fault}
 use Rattle.giop_frames.proofs.decoding.decode_front.Goals as goal
 
-pub returns-in_err-message : goal.returns-in_err-message
-returns-in_err-message c =
-    let p = err_from_is_err_and c.from_residual-in_err-message.result c.from_residual-in_err-message.ensures.1 in
+pub returns-in_err-found : goal.returns-in_err-found
+returns-in_err-found c =
+    let p = err_from_is_err_and c.from_residual-in_err-found.result c.from_residual-in_err-found.ensures.1 in
     let h = c.in_ok-header.header in
     let bytes = c.args.bytes.now in
     let same : 12 + h.size - 12 ≡ h.size = omega arith in
-    rw (p.1, p.2) (fails_on c.in_err-message.field-0.0 (message_of h.order h.kind (take (12 + h.size - 12) (drop 12 bytes))) (decoded bytes)
-    (λ e. decoded_fault bytes h _ (sym c.in_ok-header.ensures.header) (sym c.is_fragmented.ensures ∙ c.if-is_fragmented.false) (omega arith) (rw same at e)) c.in_err-message.ensures)
+    rw (p.1, p.2) (fails_on c.in_err-found.field-0.0 (message_of h.version h.order h.kind (take (12 + h.size - 12) (drop 12 bytes))) (decoded bytes)
+    (λ e. decoded_fault bytes h _ (sym c.in_ok-header.ensures.header) (sym c.is_fragmented.ensures ∙ c.if-is_fragmented.false) (omega arith) (rw same at e)) c.in_err-found.ensures.message)

@@ -2,7 +2,7 @@ use Rattle.std.proofs.Common.{[], ◌∷◌, length, refl}
 use Rattle.std.specs.List.{flat_map}
 use Rattle.std.proofs.lemmas.Result.{err_from_is_err_and}
 use Rattle.cdr_values.specs.Value.{ULong}
-use Rattle.giop_frames.specs.Message.{context_values}
+use Rattle.giop_frames.specs.Layout.{context_values}
 use Rattle.giop_frames.specs.Fault.{fault_of}
 use Rattle.giop_frames.proofs.Written.{refuses_one, refuses_more}
 use Rattle.giop_frames.proofs.fields.write_contexts.Goals as goal

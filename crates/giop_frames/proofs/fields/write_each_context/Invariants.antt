@@ -1,7 +1,7 @@
 use Rattle.std.proofs.Common.{◌≡◌, take}
 use Rattle.std.specs.List.{flat_map}
 use Rattle.cdr_values.specs.Values.{with_values}
-use Rattle.giop_frames.specs.Message.{context_values}
+use Rattle.giop_frames.specs.Layout.{context_values}
 use Rattle.giop_frames.specs.Write.{ArePlain}
 use Rattle.giop_frames.proofs.fields.write_each_context.Given as goal
 

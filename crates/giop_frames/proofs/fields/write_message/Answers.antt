@@ -1,7 +1,7 @@
 use Rattle.std.proofs.Common.{[], ◌∷◌}
 use Rattle.std.proofs.lemmas.Result.{err_from_is_err_and}
 use Rattle.cdr_values.specs.Value.{ULong}
-use Rattle.giop_frames.specs.Message.{contexts_values}
+use Rattle.giop_frames.specs.Layout.{contexts_values}
 use Rattle.giop_frames.proofs.Written.{refuses_more}
 use Rattle.giop_frames.proofs.Refused.{request_passes}
 use Rattle.giop_frames.proofs.fields.write_message.Goals as goal

@@ -3,7 +3,7 @@ use Rattle.std.proofs.lemmas.Result.{err_from_is_err_and}
 use Rattle.cdr_values.specs.Value.{Text}
 use Rattle.cdr_values.specs.Values.{with_values}
 use Rattle.cdr_values.specs.Writing.{Writing}
-use Rattle.giop_frames.specs.Message.{contexts_values}
+use Rattle.giop_frames.specs.Layout.{contexts_values}
 use Rattle.giop_frames.specs.Encode.{request_head, request_start, target_values}
 use Rattle.giop_frames.specs.Fault.{fault_of}
 use Rattle.giop_frames.specs.Write.{Refuses}

@@ -1,6 +1,6 @@
 use Rattle.std.proofs.Common.{◌≡◌, ◌+◌, ◌*◌, ◌≤◌, take}
 use Rattle.std.specs.List.{flat_map}
-use Rattle.giop_frames.specs.Message.{context_values}
+use Rattle.giop_frames.specs.Layout.{context_values}
 use Rattle.giop_frames.specs.Encode.{octets_in_contexts}
 use Rattle.giop_frames.specs.Sizes.{end_of}
 use Rattle.giop_frames.proofs.sizes.each_context_end.Given as goal

@@ -1,0 +1,30 @@
+use Rattle.std.proofs.Common.{◌≡◌, ◌∙◌, ap, refl, sym, Some}
+use Rattle.std.proofs.lemmas.Result.{err_from_is_err_and}
+use Rattle.giop_frames.specs.Walk.{standing}
+use Rattle.giop_frames.proofs.Walking.{stands, step_fails, walked_before, walked_behind}
+use Rattle.giop_frames.proofs.walk.Walk.go_on.Goals as goal
+
+pub returns-in_err-self-clause-fault : goal.returns-in_err-self-clause-fault
+returns-in_err-self-clause-fault c =
+    let content = c.args.content.now in
+    let i = c.fields.invariant in
+    let b = c.in-Some.ensures in
+    let w = c.next_step.new.self in
+    let walked = walked_before c.args.header content c.fields.self w (Some c.in-Some.step) i.walked b in
+    let stood : c.fields.reader ≡ standing c.args.header.order content w.place = i.stands ∙ ap (standing c.args.header.order content) (sym b.place) in
+    let p = err_from_is_err_and c.from_residual.result c.from_residual.ensures.1 in
+    rw (p.1, p.2) (step_fails c.args.header content w c.in-Some.step c.fields.reader c.in_err-self.field-0.0 walked b.step stood c.in_err-self.ensures.0)
+
+pub fields-preserved : goal.fields-preserved
+fields-preserved c =
+    let content = c.args.content.now in
+    let i = c.fields.invariant in
+    let b = c.in-Some.ensures in
+    let w = c.next_step.new.self in
+    let g = c.in_ok-self.ensures in
+    let walked = walked_before c.args.header content c.fields.self w (Some c.in-Some.step) i.walked b in
+    let stood : c.fields.reader ≡ standing c.args.header.order content w.place = i.stands ∙ ap (standing c.args.header.order content) (sym b.place) in
+    record {
+      walked = walked_behind c.args.header content w _ c.in-Some.step c.fields.reader c.make_step.new.reader walked b.step stood g c.place-self.ensures refl;
+      stands = stands c.args.header.order content w.place c.fields.reader c.make_step.new.reader walked.behind_header stood g.behind ∙ ap (standing c.args.header.order content) (sym c.place-self.ensures);
+    }

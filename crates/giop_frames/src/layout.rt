@@ -1,0 +1,83 @@
+ghost use Rattle.std.specs.Prelude.{◌≡◌, ◌<◌, ◌≤◌};
+ghost use Rattle.cdr_values.specs.Value.{gap};
+ghost use Rattle.giop_frames.specs.Layout.{body_alignment, layout};
+
+use crate::header::Kind;
+
+/// A version of GIOP whose messages are known.
+#[derive(Clone, Copy, Debug, PartialEq, Eq)]
+pub enum Version {
+    /// GIOP 1.2.
+    V1_2,
+}
+
+/// A field in front of a message's body, as the tables of layouts list it.
+#[derive(Clone, Copy)]
+pub enum Field {
+    /// The request_id.
+    Id,
+    /// The response_flags.
+    Flags,
+    /// An octet that is passed over.
+    Reserved,
+    /// The reply_status, or the locate_status.
+    Status,
+    /// The target.
+    Target,
+    /// The operation's name.
+    Operation,
+    /// The service contexts.
+    Contexts,
+}
+
+static REQUEST: [Field; 8] = [
+    Field::Id,
+    Field::Flags,
+    Field::Reserved,
+    Field::Reserved,
+    Field::Reserved,
+    Field::Target,
+    Field::Operation,
+    Field::Contexts,
+];
+
+static REPLY: [Field; 3] = [Field::Id, Field::Status, Field::Contexts];
+
+static CANCEL: [Field; 1] = [Field::Id];
+
+static LOCATE: [Field; 2] = [Field::Id, Field::Target];
+
+static LOCATED: [Field; 2] = [Field::Id, Field::Status];
+
+/// The fields of a message of this kind, in order.
+pub fn layout(version: Version, kind: Kind) -> &'static [Field]
+    ensures { result.now ≡ layout version kind }
+{
+    match (version, kind) {
+        (Version::V1_2, Kind::Request) => &REQUEST,
+        (Version::V1_2, Kind::Reply) => &REPLY,
+        (Version::V1_2, Kind::CancelRequest) => &CANCEL,
+        (Version::V1_2, Kind::LocateRequest) => &LOCATE,
+        (Version::V1_2, Kind::LocateReply) => &LOCATED,
+        (Version::V1_2, Kind::CloseConnection | Kind::MessageError | Kind::Fragment) => &[],
+    }
+}
+
+/// The body of a Request and of a Reply stands at a multiple of this.
+pub fn body_alignment(version: Version) -> usize
+    ensures same { result ≡ body_alignment version }
+    ensures within { (0 < result) × (result ≤ 8) }
+{
+    match version {
+        Version::V1_2 => 8,
+    }
+}
+
+/// How many octets there are from an offset up to the next multiple of n.
+pub fn gap_before(n: usize, at: usize) -> usize
+    requires { 0 < n }
+    ensures gap { result ≡ gap n at }
+    ensures within { result < n }
+{
+    (n - at % n) % n
+}
