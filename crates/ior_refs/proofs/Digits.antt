@@ -1,11 +1,10 @@
 -- Texts that are no stringified references.
-use Rattle.std.proofs.Common.{◌≡◌, ℕ, ◌⊎◌, inl, inr, eqb, true, List, drop, refl, sym, ap, subst, Result, Ok, Err}
+use Rattle.std.proofs.Common.{◌≡◌, ℕ, ◌⊎◌, inl, inr, List, drop, refl, sym, subst, Err}
 use Rattle.hex.specs.declared.error.FromHexError.{FromHexError}
 use Rattle.hex.specs.declared.error.FromHexError.TheVariants.{OutOfMemory}
 use Rattle.hex.specs.Hex.{decode_of}
-use Rattle.ior_refs.specs.declared.fault.IorFault.{IorFault}
 use Rattle.ior_refs.specs.Fault.{Fails}
-use Rattle.ior_refs.specs.Text.{agreeing, digits_fault, octets_in_text, octets_of_digits, prefix}
+use Rattle.ior_refs.specs.Text.{agreeing, digits_fault, octets_in_text, prefix}
 use Rattle.ior_refs.proofs.Faults.{fails_from}
 
 -- where digits are refused, or memory ran out

@@ -1,5 +1,5 @@
 -- IIOP profiles are read exactly where their values stand.
-use Rattle.std.proofs.Common.{◌≡◌, ℕ, ◌+◌, ◌<◌, ◌≤◌, arith, None, Bool, true, false, ◌&&◌, leb, List, [], ◌∷◌, length, Result, Ok, Err, refl, sym, ap, subst, ◌∙◌}
+use Rattle.std.proofs.Common.{◌≡◌, ℕ, ◌+◌, ◌<◌, ◌≤◌, arith, None, Bool, true, false, ◌&&◌, leb, List, [], ◌∷◌, length, Result, Ok, refl, sym, ap, subst}
 use Rattle.std.specs.List.{list_all}
 use Rattle.std.proofs.lemmas.List.{append-nil}
 use Rattle.cdr_values.specs.declared.order.Order.TheVariants.{Big}
@@ -11,11 +11,11 @@ use Rattle.ior_refs.specs.Making.{iiop_to, profile_to, reference_to, refusal_to}
 use Rattle.ior_refs.specs.declared.key.ObjectKey.{ObjectKey}
 use Rattle.ior_refs.proofs.Short.{with_values-is}
 use Rattle.ior_refs.proofs.Made.{not_refused}
-use Rattle.cdr_values.specs.Value.{Value, Octet, UShort, OctetSequence, Text, has_nul}
+use Rattle.cdr_values.specs.Value.{has_nul}
 use Rattle.cdr_values.specs.Reading.{Reading, ◌>>=◌, octet_at, ushort_at, octets_at, string_at}
 use Rattle.cdr_values.specs.Values.{ReadsAll, canonical_all}
 use Rattle.cdr_values.specs.Laws.{ReadingLaws}
-use Rattle.cdr_values.specs.Sequence.{IsExact, SequencesAreExact, fault_as, sequence_values}
+use Rattle.cdr_values.specs.Sequence.{SequencesAreExact, fault_as, sequence_values}
 use Rattle.cdr_values.specs.Tagged.{TaggedLaws, tagged_at, tagged_values}
 use Rattle.ior_refs.specs.Limits.{count_limit}
 use Rattle.ior_refs.specs.Reference.{Tagged}

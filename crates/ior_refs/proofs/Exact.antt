@@ -1,17 +1,14 @@
 -- References are read exactly where their values stand.
 use Rattle.std.proofs.Common.{◌≡◌, ℕ, ◌+◌, ◌≤◌, Bool, true, false, cond, ltb, leb, List, [], ◌∷◌, ◌++◌, length, Result, Ok, Err, refl, sym, ap, subst, ◌∙◌, arith}
 use Rattle.std.specs.List.{flat_map}
-use Rattle.std.proofs.lemmas.Bool.{ltb-false, le-ltb, le-leb, leb-true}
-use Rattle.std.proofs.lemmas.List.{append-nil}
-use Rattle.cdr_values.specs.declared.order.Order.{Order}
+use Rattle.std.proofs.lemmas.Bool.{ltb-false, le-leb, leb-true}
 use Rattle.cdr_values.specs.declared.order.Order.TheVariants.{Big}
 use Rattle.cdr_values.specs.Reading.{Reading, ◌>>=◌}
 use Rattle.cdr_values.specs.Again.{standing, ValuesAreReadAgain}
 use Rattle.cdr_values.specs.Values.{ReadsAll, canonical_all}
-use Rattle.cdr_values.specs.Sequence.{IsExact}
 use Rattle.cdr_values.specs.Tagged.{TaggedLaws, reference_at, reference_values, tagged_values}
 use Rattle.ior_refs.specs.Limits.{count_limit}
-use Rattle.ior_refs.specs.Reference.{Reference, Tagged, IsReference, is_short, canonical_octets}
+use Rattle.ior_refs.specs.Reference.{Reference, Tagged, is_short, canonical_octets}
 use Rattle.ior_refs.specs.Fault.{fault_of, too_many}
 use Rattle.ior_refs.specs.Reading.{if_short, short_reference_at}
 use Rattle.ior_refs.specs.Laws.{ReferencesAreReadExactly, ReferencesAreReadAgain, SameOctetsSameReference}

@@ -1,5 +1,5 @@
 -- Faults of steps as faults of the whole.
-use Rattle.std.proofs.Common.{◌≡◌, ◌⊎◌, inl, inr, refl, Result, Ok, Err}
+use Rattle.std.proofs.Common.{◌≡◌, ◌⊎◌, inl, inr, refl, Result, Err}
 use Rattle.ior_refs.specs.declared.fault.IorFault.{IorFault}
 use Rattle.ior_refs.specs.declared.fault.IorFault.TheVariants.{BadText, Cdr, TooLong, NoIiop, Rest, Memory}
 use Rattle.ior_refs.specs.Fault.{Fails}

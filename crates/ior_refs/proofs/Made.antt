@@ -1,11 +1,11 @@
 -- The reference that is made for an object, and why none is.
-use Rattle.std.proofs.Common.{◌≡◌, ℕ, ◌+◌, ◌<◌, ◌≤◌, ◌⊎◌, inl, inr, Bool, true, false, cond, ltb, Some, None, List, [], ◌∷◌, ◌++◌, length, refl, sym, ap, subst, ◌∙◌, arith, length-append, Result, Ok, Err, replicate}
+use Rattle.std.proofs.Common.{◌≡◌, ℕ, ◌+◌, ◌<◌, ◌≤◌, ◌⊎◌, inl, inr, Bool, true, false, cond, ltb, Some, None, List, [], ◌∷◌, ◌++◌, length, refl, ap, arith, length-append, Result, Ok, Err, replicate}
 use Rattle.std.specs.Prelude.{IsOk, IfOk, IfErr}
 use Rattle.std.proofs.lemmas.Bool.{lt-ltb, ltb-false}
 use Rattle.cdr_values.specs.declared.order.Order.{Order}
 use Rattle.cdr_values.specs.declared.order.Order.TheVariants.{Big}
 use Rattle.cdr_values.specs.declared.fault.CdrFault.TheVariants.{BadString}
-use Rattle.cdr_values.specs.Value.{Value, Octet, UShort, ULong, OctetSequence, Text, alignment, bare_of, canonical, gap, octets_of, has_nul}
+use Rattle.cdr_values.specs.Value.{Value, OctetSequence, Text, alignment, bare_of, canonical, gap, octets_of, has_nul}
 use Rattle.cdr_values.specs.Again.{AllFit}
 use Rattle.cdr_values.specs.Values.{canonical_all, with_values}
 use Rattle.cdr_values.specs.Encapsulation.{begun}
@@ -13,7 +13,7 @@ use Rattle.cdr_values.specs.Writing.{Writing}
 use Rattle.cdr_values.specs.Tagged.{reference_values}
 use Rattle.ots_model.specs.declared.service.Endpoint.{Endpoint}
 use Rattle.ior_refs.specs.Reference.{Reference, canonical_octets}
-use Rattle.ior_refs.specs.Fault.{Finds, Fails}
+use Rattle.ior_refs.specs.Fault.{Finds}
 use Rattle.ior_refs.specs.Reading.{if_short}
 use Rattle.ior_refs.specs.Iiop.{iiop_values}
 use Rattle.ior_refs.specs.Making.{iiop_to, profile_to, reference_to, refusal_to}

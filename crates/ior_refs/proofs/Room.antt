@@ -1,19 +1,17 @@
 -- The octets of the profile that is made for an object.
-use Rattle.std.proofs.Common.{◌≡◌, ℕ, ◌+◌, ◌-◌, ◌<◌, ◌≤◌, ◌%◌, ◌⊎◌, inl, inr, false, Some, List, [], ◌∷◌, ◌++◌, length, refl, sym, ap, subst, ◌∙◌, arith, length-append, replicate}
+use Rattle.std.proofs.Common.{◌≡◌, ℕ, ◌+◌, ◌-◌, ◌≤◌, ◌%◌, ◌⊎◌, inl, inr, false, Some, List, [], ◌∷◌, ◌++◌, length, sym, ap, ◌∙◌, arith, length-append, replicate}
 use Rattle.std.proofs.lemmas.List.{length-replicate}
 use Rattle.cdr_values.specs.declared.order.Order.{Order}
 use Rattle.cdr_values.specs.declared.order.Order.TheVariants.{Big}
 use Rattle.cdr_values.specs.declared.fault.CdrFault.{CdrFault}
 use Rattle.cdr_values.specs.declared.fault.CdrFault.TheVariants as cdr
-use Rattle.cdr_values.specs.Limits.{output_limit}
-use Rattle.cdr_values.specs.Value.{Value, Octet, UShort, ULong, OctetSequence, Text, alignment, bare_of, canonical, gap, octets_of}
+use Rattle.cdr_values.specs.Value.{Value, Octet, UShort, Text, alignment, bare_of, canonical, gap, octets_of}
 use Rattle.cdr_values.specs.Values.{canonical_all, with_values}
 use Rattle.cdr_values.specs.Encapsulation.{begun}
 use Rattle.cdr_values.specs.Writing.{Writing, with_value, is_bad, refusal}
 use Rattle.ots_model.specs.declared.service.Endpoint.{Endpoint}
-use Rattle.ior_refs.specs.Key.{octets_of_key}
 use Rattle.ior_refs.specs.Iiop.{iiop_values}
-use Rattle.ior_refs.specs.Making.{iiop_to, profile_to}
+use Rattle.ior_refs.specs.Making.{iiop_to}
 use Rattle.ior_refs.specs.declared.key.ObjectKey.{ObjectKey}
 use Rattle.ior_refs.proofs.Values.{with_values-append}
 use Rattle.ior_refs.proofs.Short.{with_values-is, full_if, grows}

@@ -1,5 +1,5 @@
 -- Profiles and components, one after another.
-use Rattle.std.proofs.Common.{◌≡◌, ℕ, ◌+◌, ◌<◌, ◌≤◌, arith, List, [], ◌∷◌, ◌++◌, length, get_or, take, drop, Bool, true, false, cond, Some, None, refl, sym, ap, subst, ◌∙◌, Result, Ok, Err}
+use Rattle.std.proofs.Common.{◌≡◌, ℕ, ◌+◌, ◌<◌, ◌≤◌, arith, List, [], ◌∷◌, ◌++◌, length, get_or, take, drop, Bool, true, false, cond, Some, None, sym, ap, subst, ◌∙◌}
 use Rattle.std.specs.Prelude.{find, Option}
 use Rattle.std.specs.Option.{option_map}
 use Rattle.std.specs.List.{flat_map}
@@ -12,7 +12,7 @@ use Rattle.cdr_values.specs.Values.{with_values}
 use Rattle.cdr_values.specs.Writing.{Writing}
 use Rattle.cdr_values.specs.Tagged.{tagged_values}
 use Rattle.ior_refs.specs.Reference.{Tagged}
-use Rattle.ior_refs.specs.Writing.{StopsIn, WritesAll}
+use Rattle.ior_refs.specs.Writing.{StopsIn}
 use Rattle.ior_refs.proofs.Values.{with_values-append, fit-append, fit_front, fit_behind, stops_more, stops_behind}
 
 -- the values of one more

@@ -1,5 +1,5 @@
 -- Texts are read exactly where they are stringified references.
-use Rattle.std.proofs.Common.{◌≡◌, ℕ, zero, suc, ◌+◌, ◌<◌, ◌≤◌, eqb, Bool, true, false, cond, leb, List, [], ◌∷◌, ◌++◌, length, drop, replicate, Result, Ok, Err, refl, sym, ap, subst, ◌∙◌, arith}
+use Rattle.std.proofs.Common.{◌≡◌, ℕ, zero, suc, ◌+◌, eqb, Bool, true, false, cond, List, [], ◌∷◌, ◌++◌, length, drop, replicate, Result, Ok, Err, refl, sym, ap, subst, ◌∙◌, arith}
 use Rattle.std.specs.Prelude.{zip}
 use Rattle.std.specs.List.{prefix_len}
 use Rattle.std.proofs.lemmas.Bool.{eqb-true, le-leb}
@@ -11,9 +11,9 @@ use Rattle.cdr_values.specs.declared.order.Order.{Order}
 use Rattle.cdr_values.specs.declared.order.Order.TheVariants.{Big, Little}
 use Rattle.cdr_values.specs.declared.fault.CdrFault.{CdrFault}
 use Rattle.cdr_values.specs.Value.{Value, alignment, bare_of, canonical, gap}
-use Rattle.cdr_values.specs.Reading.{Reading, ◌>>=◌}
+use Rattle.cdr_values.specs.Reading.{Reading}
 use Rattle.cdr_values.specs.Again.{standing, ValuesAreReadAgain}
-use Rattle.cdr_values.specs.Values.{ReadsAll, canonical_all, with_values}
+use Rattle.cdr_values.specs.Values.{ReadsAll, canonical_all}
 use Rattle.cdr_values.specs.Encapsulation.{IsEncapsulation, order_octet, inside, opened, begun}
 use Rattle.cdr_values.specs.Writing.{Writing}
 use Rattle.cdr_values.specs.Sequence.{IsExact, Read, fault_as}
@@ -21,7 +21,7 @@ use Rattle.cdr_values.specs.Tagged.{reference_values}
 use Rattle.ior_refs.specs.Reference.{Reference, AreOctets, IsReference, is_short, canonical_octets}
 use Rattle.ior_refs.specs.Fault.{fault_of}
 use Rattle.ior_refs.specs.Reading.{IsWhole, short_reference_at, whole}
-use Rattle.ior_refs.specs.Text.{IsTextOf, agreeing, digits_fault, encapsulated, octets_in_text, octets_of_digits, prefix, reference_in_octets, reference_in_text, text_of}
+use Rattle.ior_refs.specs.Text.{IsTextOf, agreeing, encapsulated, octets_in_text, octets_of_digits, prefix, reference_in_octets, reference_in_text, text_of}
 use Rattle.ior_refs.specs.Laws.{ReferencesAreReadExactly, TextLaws}
 use Rattle.ior_refs.specs.declared.fault.IorFault.{IorFault}
 use Rattle.ior_refs.specs.declared.fault.IorFault.TheVariants.{BadText, Rest}

@@ -1,9 +1,9 @@
 -- IIOP profiles (CORBA, General Inter-ORB Protocol, IIOP IOR Profiles). What a profile's minor version above 2 has is
 -- read as that of 1.2 (our profile).
-use Rattle.std.specs.Prelude.{ℕ, ◌==◌, Bool, true, false, ◌&&◌, ◌||◌, nat_le, nat_lt, List, [], ◌∷◌, Option, Some, None, find, Result, Ok, Err, if◌then◌else◌}
+use Rattle.std.specs.Prelude.{ℕ, ◌==◌, Bool, true, false, ◌&&◌, ◌||◌, nat_le, nat_lt, List, [], ◌∷◌, Option, Some, None, find, Result, Ok, Err}
 use Rattle.std.specs.Option.{option_map}
 use Rattle.cdr_values.specs.Value.{Value, Octet, UShort, OctetSequence, Text}
-use Rattle.cdr_values.specs.Reading.{Reading, ◌>>=◌, octet_at, ushort_at, octets_at, string_at}
+use Rattle.cdr_values.specs.Reading.{◌>>=◌, octet_at, ushort_at, octets_at, string_at}
 use Rattle.cdr_values.specs.Sequence.{Read, fault_as, sequence_values}
 use Rattle.cdr_values.specs.Encapsulation.{opened}
 use Rattle.cdr_values.specs.Tagged.{tagged_values}

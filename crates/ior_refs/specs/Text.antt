@@ -6,7 +6,6 @@ use Rattle.hex.specs.declared.error.FromHexError.{FromHexError}
 use Rattle.hex.specs.declared.error.FromHexError.TheVariants.{OutOfMemory}
 use Rattle.std.specs.Char.{is_ascii_hexdigit}
 use Rattle.hex.specs.Hex.{decode_of, encode_lower}
-use Rattle.cdr_values.specs.declared.order.Order.{Order}
 use Rattle.cdr_values.specs.declared.order.Order.TheVariants.{Big}
 use Rattle.cdr_values.specs.Reading.{Reading, ◌>>=◌}
 use Rattle.cdr_values.specs.Sequence.{fault_as}

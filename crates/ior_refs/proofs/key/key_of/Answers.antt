@@ -1,4 +1,4 @@
-use Rattle.std.proofs.Common.{rules, ◌≡◌, ◌-◌, length, length-drop, take, drop, arith, sym, IsTrue}
+use Rattle.std.proofs.Common.{rules, ◌≡◌, ◌-◌, length, length-drop, take, drop, arith, IsTrue}
 use Rattle.std.specs.Prelude.{slice_index}
 use Rattle.std.proofs.lemmas.List.{take_all}
 use Rattle.ior_refs.specs.Key.{is_kind}

@@ -1,5 +1,4 @@
-use Rattle.std.proofs.Common.{◌≡◌, ◌≤◌, ◌<◌, ◌+◌, ◌∙◌, sym, ap, arith, inr, false, List, ◌∷◌, [], ◌++◌, length, ℕ}
-use Rattle.cdr_values.specs.Value.{has_nul}
+use Rattle.std.proofs.Common.{◌≡◌, ◌≤◌, ◌<◌, ◌+◌, ◌∙◌, sym, ap, arith, inr, List, ◌∷◌, [], ◌++◌, length, ℕ}
 use Rattle.ior_refs.specs.Reference.{Tagged}
 use Rattle.ior_refs.specs.Making.{profile_to}
 use Rattle.ior_refs.proofs.Made.{host_refused, texts_refused, made_fits, made}

@@ -1,14 +1,14 @@
-use Rattle.std.proofs.Common.{◌≡◌, [], ◌∷◌, ◌∙◌, ap, sym, refl}
+use Rattle.std.proofs.Common.{[], ◌∷◌, ◌∙◌, ap, refl}
 use Rattle.std.proofs.lemmas.Result.{err_from_is_err_and}
 use Rattle.cdr_values.specs.declared.order.Order.TheVariants.{Big}
-use Rattle.cdr_values.specs.Value.{Octet, UShort, ULong, OctetSequence, Text}
+use Rattle.cdr_values.specs.Value.{ULong, OctetSequence}
 use Rattle.cdr_values.specs.Values.{with_values}
 use Rattle.cdr_values.specs.Encapsulation.{begun}
 use Rattle.cdr_values.specs.Writing.{Writing, with_value}
 use Rattle.ior_refs.specs.Key.{octets_of_key}
 use Rattle.ior_refs.specs.Making.{iiop_to, profile_to}
 use Rattle.ior_refs.specs.Iiop.{iiop_values}
-use Rattle.ior_refs.proofs.Room.{profile_short, has_room, in_front, one_behind}
+use Rattle.ior_refs.proofs.Room.{profile_short, has_room, in_front}
 use Rattle.ior_refs.proofs.making.profile_octets.Goals as goal
 
 pub returns-in_err-octets-clause-memory : goal.returns-in_err-octets-clause-memory

@@ -1,8 +1,6 @@
-use Rattle.std.proofs.Common.{[], ◌∷◌, ◌++◌, length-append, arith, sym, ◌∙◌, ap, subst, length}
-use Rattle.std.specs.List.{flat_map}
-use Rattle.cdr_values.specs.Again.{AllFit}
+use Rattle.std.proofs.Common.{[], ◌∷◌, length-append, arith}
 use Rattle.cdr_values.specs.Sequence.{each_at}
-use Rattle.cdr_values.specs.Tagged.{tagged_at, tagged_values}
+use Rattle.cdr_values.specs.Tagged.{tagged_at}
 use Rattle.ior_refs.specs.Fault.{fault_of}
 use Rattle.ior_refs.proofs.Values.{read_some}
 use Rattle.ior_refs.proofs.Sequences.{all_fit_more}

@@ -1,4 +1,4 @@
-use Rattle.std.proofs.Common.{[], ◌∷◌, refl}
+use Rattle.std.proofs.Common.{[], ◌∷◌}
 use Rattle.std.proofs.lemmas.Result.{err_from_is_err_and}
 use Rattle.cdr_values.specs.Value.{ULong, OctetSequence}
 use Rattle.ior_refs.proofs.Values.{stops_one, then_value}

@@ -1,4 +1,4 @@
-use Rattle.std.proofs.Common.{◌≡◌, ◌≤◌, ◌∙◌, sym, ap, subst, length, arith, refl}
+use Rattle.std.proofs.Common.{◌≡◌, ◌∙◌, subst, refl}
 use Rattle.std.proofs.lemmas.Result.{err_from_is_err_and}
 use Rattle.cdr_values.specs.Tagged.{reference_values}
 use Rattle.ior_refs.specs.Reference.{Reference, AreOctets, canonical_octets}
