@@ -1,7 +1,8 @@
 -- What is written spells the message.
-use Rattle.std.proofs.Common.{◌≡◌, ℕ, ◌+◌, ◌<◌, ◌≤◌, ◌^◌, inl, inr, false, ltb, List, [], ◌∷◌, ◌++◌, length, drop, replicate, None, Ok, refl, sym, ap, subst, ◌∙◌, append_assoc, arith, length-append}
+use Rattle.std.proofs.Common.{◌≡◌, ℕ, ◌+◌, ◌<◌, ◌≤◌, ◌^◌, inl, inr, false, ltb, List, [], ◌∷◌, ◌++◌, length, drop, replicate, None, Ok, refl, sym, ap, subst, ◌∙◌, arith, length-append}
+use Rattle.std.specs.List.{flat_map}
 use Rattle.std.proofs.lemmas.Bool.{ltb-false}
-use Rattle.std.proofs.lemmas.List.{append-nil, drop_at, length-replicate}
+use Rattle.std.proofs.lemmas.List.{drop_at, length-replicate}
 use Rattle.std.proofs.Math.Seq.{drop-nil}
 use Rattle.cdr_values.specs.declared.order.Order.{Order}
 use Rattle.cdr_values.specs.declared.order.Order.TheVariants.{Big, Little}
@@ -13,7 +14,7 @@ use Rattle.cdr_values.specs.Limits.{length_limit}
 use Rattle.giop_frames.specs.declared.fault.FrameFault.{FrameFault}
 use Rattle.giop_frames.specs.declared.fault.FrameFault.TheVariants.{Memory}
 use Rattle.giop_frames.specs.declared.header.Header.{Header}
-use Rattle.giop_frames.specs.declared.header.Kind.TheVariants as kinds
+use Rattle.giop_frames.specs.declared.layout.Version.{Version}
 use Rattle.giop_frames.specs.declared.layout.Version.TheVariants.{V1_2}
 use Rattle.giop_frames.specs.declared.layout.Field.{Field}
 use Rattle.giop_frames.specs.declared.layout.Field.TheVariants as fields
@@ -23,14 +24,15 @@ use Rattle.giop_frames.specs.declared.message.Target.{Target}
 use Rattle.giop_frames.specs.declared.message.Target.TheVariants.{Key, Profile, Reference}
 use Rattle.giop_frames.specs.Fault.{too_long}
 use Rattle.giop_frames.specs.Header.{IsPart, flags_of, order_of_flags, more_of_flags}
-use Rattle.giop_frames.specs.Layout.{Fields, IsField, AreFields, IsTarget, blank, contexts_values, kept_tail, layout, message_with}
+use Rattle.giop_frames.specs.Layout.{Fields, IsField, AreFields, IsTarget, blank, body_alignment, kept_tail, layout, message_with}
 use Rattle.giop_frames.specs.Message.{IsMessage, IsContent, kind_of}
-use Rattle.giop_frames.specs.Encode.{behind, target_values, request_head, values_of, order_of, fields_of, tail_of, content_of, padded_body, spelling, target_refusal, refusal_of}
+use Rattle.giop_frames.specs.Sizes.{end_of}
+use Rattle.giop_frames.specs.Encode.{content_of, field_refusal, field_values, fields_of, fields_refusal, order_of, padded_body, refusal_of, spelling, tail_of, target_refusal, target_values, told_of, values_of}
 use Rattle.giop_frames.specs.Write.{IsPlain, ArePlain, Refuses}
-use Rattle.giop_frames.specs.Limits.{key_limit, size_limit}
+use Rattle.giop_frames.specs.Limits.{context_limit, key_limit, size_limit}
 use Rattle.giop_frames.proofs.Ends.{value_size}
 use Rattle.giop_frames.proofs.Written.{with_values-is}
-use Rattle.giop_frames.proofs.Refused.{test_none, size_is_small, fields_pass, contexts_pass, request_passes}
+use Rattle.giop_frames.proofs.Refused.{fields_pass, or_none, size_is_small, test_none}
 
 -- ---- the fields
 
@@ -39,13 +41,13 @@ abbrev pub begun : Message → Writing
 begun m = record { order = order_of m; start = 12; octets = [] }
 
 -- what was written there is the fields
-pub fields_written : (m : Message) → (with_values (begun m) (values_of m)).octets ≡ fields_of m
-fields_written m = ap (λ (w : Writing). w.octets) (with_values-is (begun m) (values_of m))
+pub fields_written : (version : Version) (m : Message) → (with_values (begun m) (values_of version m)).octets ≡ fields_of version m
+fields_written version m = ap (λ (w : Writing). w.octets) (with_values-is (begun m) (values_of version m))
 
 -- of a message that is not refused, only want of memory refuses the fields
-pub only_memory : (m : Message) (fault : FrameFault) → refusal_of m ≡ None → Refuses (values_of m) fault (begun m) → fault ≡ Memory
-only_memory m fault none (inl memory) = memory
-only_memory m fault none (inr many) = absurd (omega (arith, many, ap length (fields_written m), size_is_small m none, length-append (fields_of m) (tail_of m)))
+pub only_memory : (version : Version) (m : Message) (fault : FrameFault) → refusal_of version m ≡ None → Refuses (values_of version m) fault (begun m) → fault ≡ Memory
+only_memory version m fault none (inl memory) = memory
+only_memory version m fault none (inr many) = absurd (omega (arith, many, ap length (fields_written version m), size_is_small version m none, length-append (fields_of version m) (tail_of version m)))
 
 -- ---- values
 
@@ -94,19 +96,19 @@ no_more Big = refl
 no_more Little = refl
 
 -- the header of a message that isn't fragmented
-abbrev header_for : Message → Header
-header_for m = record { version = V1_2; order = order_of m; more = false; kind = kind_of m; size = length (content_of m) }
+abbrev header_for : Version → Message → Header
+header_for version m = record { version = version; order = order_of m; more = false; kind = kind_of m; size = length (content_of version m) }
 
 -- what is written is one part
-part : CanonicalSpells → (m : Message) → length (content_of m) ≤ size_limit → IsPart (header_for m) (content_of m) (spelling m)
+part : CanonicalSpells → (version : Version) (m : Message) → length (content_of version m) ≤ size_limit → IsPart (header_for version m) (content_of version m) (spelling version m)
 unfolding spelling
-part law m short = record {
+part law version m short = record {
   flags = flags_of (order_of m);
-  size = octets_of (order_of m) 4 (length (content_of m));
+  size = octets_of (order_of m) 4 (length (content_of version m));
   parts = refl;
   order_bit = order_again (order_of m);
   more_bit = no_more (order_of m);
-  sized = number_spells law (order_of m) (length (content_of m)) (omega (arith, short));
+  sized = number_spells law (order_of m) (length (content_of version m)) (omega (arith, short));
   counted = refl;
   few = short;
 }
@@ -114,108 +116,100 @@ part law m short = record {
 -- ---- the content
 
 -- its fields are spelled
-fields_spelled : CanonicalSpells → (m : Message) → ArePlain (values_of m) → length (content_of m) ≤ size_limit → SpellsAll (order_of m) 12 (values_of m) (fields_of m)
-fields_spelled law m plain short = spells_all law (order_of m) 12 (values_of m) plain (omega (arith, short, length-append (fields_of m) (tail_of m)))
+fields_spelled : CanonicalSpells → (version : Version) (m : Message) → ArePlain (values_of version m) → length (content_of version m) ≤ size_limit → SpellsAll (order_of m) 12 (values_of version m) (fields_of version m)
+fields_spelled law version m plain short = spells_all law (order_of m) 12 (values_of version m) plain (omega (arith, short, length-append (fields_of version m) (tail_of version m)))
 
 -- a body stands behind its padding
-body_again : (at : ℕ) (body : List ℕ) → body ≡ drop (gap 8 at) (padded_body at body)
-body_again at [] = sym (drop-nil (gap 8 at))
-body_again at (x ∷ xs) = sym (drop_at (replicate (gap 8 at) 0) (x ∷ xs) (gap 8 at) (length-replicate (gap 8 at) 0))
+body_again : (n at : ℕ) (body : List ℕ) → body ≡ drop (gap n at) (padded_body n at body)
+body_again n at [] = sym (drop-nil (gap n at))
+body_again n at (x ∷ xs) = sym (drop_at (replicate (gap n at) 0) (x ∷ xs) (gap n at) (length-replicate (gap n at) 0))
 
 -- a target that is not refused is spelled as a key
-target_is : (before : List Value) (target : Target) → target_refusal before target ≡ None → IsTarget target (target_values target)
-target_is before (Key key) none = (refl, ltb-false _ _ (test_none (ltb key_limit (length key)) (too_long (behind (before ++ (UShort 0 ∷ []))) (length key)) none))
-target_is before Profile none = absurd cc
-target_is before Reference none = absurd cc
+target_is : (at : ℕ) (target : Target) → target_refusal at target ≡ None → IsTarget target (target_values target)
+target_is at (Key key) none = (refl, ltb-false _ _ (test_none (ltb key_limit (length key)) (too_long (end_of at (UShort 0 ∷ [])) (length key)) none))
+target_is at Profile none = absurd cc
+target_is at Reference none = absurd cc
 
--- what the fields of a message tell
-abbrev told_of : Message → Fields
-told_of (messages.Request r) = record { id = r.id; flags = r.flags; status = 0; target = r.target; operation = r.operation; contexts = r.contexts }
-told_of (messages.Reply r) = record blank { id = r.id; status = r.status; contexts = r.contexts }
-told_of (messages.Cancel id) = record blank { id = id }
-told_of (messages.Locate l) = record blank { id = l.id; target = l.target }
-told_of (messages.LocateReply l) = record blank { id = l.id; status = l.status }
-told_of messages.Close = blank
-told_of messages.Error = blank
+-- one field is told as these fields have it
+abbrev with_field : Field → Fields → Fields → Fields
+with_field fields.Id f old = record old { id = f.id }
+with_field fields.Flags f old = record old { flags = f.flags }
+with_field fields.Reserved f old = old
+with_field fields.Status f old = record old { status = f.status }
+with_field fields.Target f old = record old { target = f.target }
+with_field fields.Operation f old = record old { operation = f.operation }
+with_field fields.Contexts f old = record old { contexts = f.contexts }
 
--- a field in front of others
-one_more : (one : Field) (others : List Field) (old between new : Fields) (front rest : List Value) → IsField one old between front → AreFields others between new rest → AreFields (one ∷ others) old new (front ++ rest)
-one_more one others old between new front rest is are = (between, front, rest, refl, is, are)
+-- so are the fields of a table
+abbrev with_fields : List Field → Fields → Fields → Fields
+with_fields [] f old = old
+with_fields (one ∷ others) f old = with_fields others f (with_field one f old)
 
--- the last field
-last_one : (one : Field) (old new : Fields) (values : List Value) → IsField one old new values → AreFields (one ∷ []) old new values
-last_one one old new values is = (new, values, [], sym (append-nil values), is, (refl, refl))
+-- what is written for a field is that field
+field_told : (one : Field) (f old : Fields) (at : ℕ) → field_refusal f at one ≡ None → IsField one old (with_field one f old) (field_values f one)
+field_told fields.Id f old at none = (f.id, refl, refl)
+field_told fields.Flags f old at none = (f.flags, refl, refl)
+field_told fields.Reserved f old at none = (0, refl, refl)
+field_told fields.Status f old at none = (f.status, refl, refl)
+field_told fields.Target f old at none = (f.target, refl, target_is at f.target none)
+field_told fields.Operation f old at none = (f.operation, refl, refl)
+field_told fields.Contexts f old at none = (f.contexts, refl, ltb-false _ _ (test_none (ltb context_limit (length f.contexts)) (too_long at (length f.contexts)) none), refl)
 
--- what is written for the fields is the fields
-told : (m : Message) → refusal_of m ≡ None → AreFields (layout V1_2 (kind_of m)) blank (told_of m) (values_of m)
-told (messages.Request r) none =
-    let p = request_passes r none in
-    let a : Fields = record blank { id = r.id } in
-    let b : Fields = record a { flags = r.flags } in
-    let c : Fields = record b { target = r.target } in
-    let d : Fields = record c { operation = r.operation } in
-    let rest : List Value = Text r.operation ∷ contexts_values r.contexts in
-    let last = last_one fields.Contexts d (told_of (messages.Request r)) (contexts_values r.contexts) (r.contexts, refl, p.few, refl) in
-    let name = one_more fields.Operation (fields.Contexts ∷ []) c d (told_of (messages.Request r)) (Text r.operation ∷ []) (contexts_values r.contexts) (r.operation, refl, refl) last in
-    let target = one_more fields.Target (fields.Operation ∷ fields.Contexts ∷ []) b c (told_of (messages.Request r)) (target_values r.target) rest (r.target, refl, target_is (request_head r) r.target p.target) name in
-    let behind = target_values r.target ++ rest in
-    let three = one_more fields.Reserved (fields.Target ∷ fields.Operation ∷ fields.Contexts ∷ []) b b (told_of (messages.Request r)) (Octet 0 ∷ []) behind (0, refl, refl) target in
-    let two = one_more fields.Reserved (fields.Reserved ∷ fields.Target ∷ fields.Operation ∷ fields.Contexts ∷ []) b b (told_of (messages.Request r)) (Octet 0 ∷ []) (Octet 0 ∷ behind) (0, refl, refl) three in
-    let one = one_more fields.Reserved (fields.Reserved ∷ fields.Reserved ∷ fields.Target ∷ fields.Operation ∷ fields.Contexts ∷ []) b b (told_of (messages.Request r)) (Octet 0 ∷ []) (Octet 0 ∷ Octet 0 ∷ behind) (0, refl, refl) two in
-    let flags = one_more fields.Flags (fields.Reserved ∷ fields.Reserved ∷ fields.Reserved ∷ fields.Target ∷ fields.Operation ∷ fields.Contexts ∷ []) a b (told_of (messages.Request r)) (Octet r.flags ∷ []) (Octet 0 ∷ Octet 0 ∷ Octet 0 ∷ behind) (r.flags, refl, refl) one in
-    let id = one_more fields.Id (fields.Flags ∷ fields.Reserved ∷ fields.Reserved ∷ fields.Reserved ∷ fields.Target ∷ fields.Operation ∷ fields.Contexts ∷ []) blank a (told_of (messages.Request r)) (ULong r.id ∷ []) (Octet r.flags ∷ Octet 0 ∷ Octet 0 ∷ Octet 0 ∷ behind) (r.id, refl, refl) flags in
-    subst (AreFields (layout V1_2 kinds.Request) blank (told_of (messages.Request r))) (sym (append_assoc (request_head r) (target_values r.target) rest)) id
-told (messages.Reply r) none =
-    let a : Fields = record blank { id = r.id } in
-    let b : Fields = record a { status = r.status } in
-    let whole = told_of (messages.Reply r) in
-    let few = contexts_pass (ULong r.id ∷ ULong r.status ∷ []) r.contexts (fields_pass (messages.Reply r) none) in
-    let last = last_one fields.Contexts b whole (contexts_values r.contexts) (r.contexts, refl, few, refl) in
-    let status = one_more fields.Status (fields.Contexts ∷ []) a b whole (ULong r.status ∷ []) (contexts_values r.contexts) (r.status, refl, refl) last in
-    one_more fields.Id (fields.Status ∷ fields.Contexts ∷ []) blank a whole (ULong r.id ∷ []) (ULong r.status ∷ contexts_values r.contexts) (r.id, refl, refl) status
-told (messages.Cancel id) none = last_one fields.Id blank (told_of (messages.Cancel id)) (ULong id ∷ []) (id, refl, refl)
-told (messages.Locate l) none =
-    let a : Fields = record blank { id = l.id } in
-    let whole = told_of (messages.Locate l) in
-    let last = last_one fields.Target a whole (target_values l.target) (l.target, refl, target_is (ULong l.id ∷ []) l.target (fields_pass (messages.Locate l) none)) in
-    one_more fields.Id (fields.Target ∷ []) blank a whole (ULong l.id ∷ []) (target_values l.target) (l.id, refl, refl) last
-told (messages.LocateReply l) none =
-    let a : Fields = record blank { id = l.id } in
-    let whole = told_of (messages.LocateReply l) in
-    one_more fields.Id (fields.Status ∷ []) blank a whole (ULong l.id ∷ []) (ULong l.status ∷ []) (l.id, refl, refl) (last_one fields.Status a whole (ULong l.status ∷ []) (l.status, refl, refl))
-told messages.Close none = (refl, refl)
-told messages.Error none = (refl, refl)
+-- and for the fields of a table these fields
+fields_told : (table : List Field) (f old : Fields) (at : ℕ) → fields_refusal f at table ≡ None → AreFields table old (with_fields table f old) (flat_map (field_values f) table)
+fields_told [] f old at none = (refl, refl)
+fields_told (one ∷ others) f old at none =
+    let next = end_of at (field_values f one) in
+    let between = with_field one f old in
+    let p = or_none (field_refusal f at one) (fields_refusal f next others) none in
+    (between, field_values f one, flat_map (field_values f) others, refl, field_told one f old at p.0, fields_told others f between next p.1)
+
+-- a table tells all that a message has
+all_told : (version : Version) (m : Message) → with_fields (layout version (kind_of m)) (told_of m) blank ≡ told_of m
+all_told V1_2 (messages.Request r) = refl
+all_told V1_2 (messages.Reply r) = refl
+all_told V1_2 (messages.Cancel id) = refl
+all_told V1_2 (messages.Locate l) = refl
+all_told V1_2 (messages.LocateReply l) = refl
+all_told V1_2 messages.Close = refl
+all_told V1_2 messages.Error = refl
+
+-- what is written for the fields of a message is these fields
+told : (version : Version) (m : Message) → refusal_of version m ≡ None → AreFields (layout version (kind_of m)) blank (told_of m) (values_of version m)
+told version m none =
+    let table = layout version (kind_of m) in
+    subst (λ (f : Fields). AreFields table blank f (values_of version m)) (all_told version m) (fields_told table (told_of m) blank 12 (fields_pass version m none))
 
 -- the message is made of them
-made : (m : Message) → message_with (order_of m) (kind_of m) (told_of m) (kept_tail V1_2 (kind_of m) (12 + length (fields_of m)) (tail_of m)) ≡ Ok m
-made (messages.Request r) = ap (λ (x : List ℕ). Ok (messages.Request (record r { body = x }))) (sym (body_again (12 + length (fields_of (messages.Request r))) r.body))
-made (messages.Reply r) = ap (λ (x : List ℕ). Ok (messages.Reply (record r { body = x }))) (sym (body_again (12 + length (fields_of (messages.Reply r))) r.body))
-made (messages.Cancel id) = refl
-made (messages.Locate l) = refl
-made (messages.LocateReply l) = refl
-made messages.Close = refl
-made messages.Error = refl
+made : (version : Version) (m : Message) → message_with (order_of m) (kind_of m) (told_of m) (kept_tail version (kind_of m) (12 + length (fields_of version m)) (tail_of version m)) ≡ Ok m
+made version (messages.Request r) = ap (λ (x : List ℕ). Ok (messages.Request (record r { body = x }))) (sym (body_again (body_alignment version) (12 + length (fields_of version (messages.Request r))) r.body))
+made version (messages.Reply r) = ap (λ (x : List ℕ). Ok (messages.Reply (record r { body = x }))) (sym (body_again (body_alignment version) (12 + length (fields_of version (messages.Reply r))) r.body))
+made version (messages.Cancel id) = refl
+made version (messages.Locate l) = refl
+made version (messages.LocateReply l) = refl
+made version messages.Close = refl
+made version messages.Error = refl
 
 -- what stands behind the header is the content
-content_is : CanonicalSpells → (m : Message) → refusal_of m ≡ None → ArePlain (values_of m) → IsContent V1_2 (order_of m) m (content_of m)
-content_is law m none plain = record {
+content_is : CanonicalSpells → (version : Version) (m : Message) → refusal_of version m ≡ None → ArePlain (values_of version m) → IsContent version (order_of m) m (content_of version m)
+content_is law version m none plain = record {
   told = told_of m;
-  values = values_of m;
-  fields = fields_of m;
-  tail = tail_of m;
+  values = values_of version m;
+  fields = fields_of version m;
+  tail = tail_of version m;
   parts = refl;
-  spelled = fields_spelled law m plain (size_is_small m none);
-  are_fields = told m none;
-  made = made m;
+  spelled = fields_spelled law version m plain (size_is_small version m none);
+  are_fields = told version m none;
+  made = made version m;
 }
 
 -- what is written for a message that is not refused is that message
-pub spelled : CanonicalSpells → (m : Message) → refusal_of m ≡ None → ArePlain (values_of m) → IsMessage m (spelling m)
-spelled law m none plain = record {
-  header = header_for m;
-  content = content_of m;
-  part = part law m (size_is_small m none);
+pub spelled : CanonicalSpells → (version : Version) (m : Message) → refusal_of version m ≡ None → ArePlain (values_of version m) → IsMessage m (spelling version m)
+spelled law version m none plain = record {
+  header = header_for version m;
+  content = content_of version m;
+  part = part law version m (size_is_small version m none);
   whole = refl;
   kind = refl;
-  is_content = content_is law m none plain;
+  is_content = content_is law version m none plain;
 }

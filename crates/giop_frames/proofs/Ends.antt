@@ -16,16 +16,15 @@ pub end_of-append : (at : ℕ) (xs ys : List Value) → end_of at (xs ++ ys) ≡
 end_of-append at [] ys = refl
 end_of-append at (x ∷ xs) ys = end_of-append (end_of at (x ∷ [])) xs ys
 
--- the values of one more context
-pub one_context_more : (contexts : List ServiceContext) (i : ℕ) (c : ServiceContext) → i < length contexts → c ≡ get_or contexts i c
-    → flat_map context_values (take (i + 1) contexts) ≡ flat_map context_values (take i contexts) ++ context_values c
-one_context_more contexts i c lt is =
-    ap (flat_map context_values) (take_more contexts i c lt ∙ ap (λ (x : ServiceContext). take i contexts ++ x ∷ []) (sym is)) ∙ flat_map-append context_values (take i contexts) (c ∷ []) ∙ ap (λ (x : List Value). flat_map context_values (take i contexts) ++ x) (append-nil (context_values c))
+-- the values of one more thing
+pub values_more : {X : Type 0} (values : X → List Value) (xs : List X) (i : ℕ) (x : X) → i < length xs → x ≡ get_or xs i x → flat_map values (take (i + 1) xs) ≡ flat_map values (take i xs) ++ values x
+values_more {X} values xs i x lt is =
+    ap (flat_map values) (take_more xs i x lt ∙ ap (λ (y : X). take i xs ++ y ∷ []) (sym is)) ∙ flat_map-append values (take i xs) (x ∷ []) ∙ ap (λ (vs : List Value). flat_map values (take i xs) ++ vs) (append-nil (values x))
 
 -- the end of one more context
 pub end_of-one_more : (at : ℕ) (contexts : List ServiceContext) (i : ℕ) (c : ServiceContext) → i < length contexts → c ≡ get_or contexts i c
     → end_of at (flat_map context_values (take (i + 1) contexts)) ≡ end_of (end_of at (flat_map context_values (take i contexts))) (context_values c)
-end_of-one_more at contexts i c lt is = ap (end_of at) (one_context_more contexts i c lt is) ∙ end_of-append at (flat_map context_values (take i contexts)) (context_values c)
+end_of-one_more at contexts i c lt is = ap (end_of at) (values_more context_values contexts i c lt is) ∙ end_of-append at (flat_map context_values (take i contexts)) (context_values c)
 
 -- a number and counted octets behind it
 pub end_of-context : (e n r at : ℕ) (c : ServiceContext) → e ≡ at → n ≡ e + gap 4 e + 4 → r ≡ n + gap 4 n + (4 + length c.bytes) → r ≡ end_of at (context_values c)

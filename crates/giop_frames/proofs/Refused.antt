@@ -1,139 +1,110 @@
 -- What refuses a message, as its sizes tell it.
-use Rattle.std.proofs.Common.{◌≡◌, ℕ, ◌+◌, ◌-◌, ◌≤◌, Bool, true, false, cond, ltb, List, [], ◌∷◌, ◌++◌, length, Option, Some, None, Result, Ok, Err, refl, sym, ap, subst, ◌∙◌, append_assoc, arith, length-append}
+use Rattle.std.proofs.Common.{◌≡◌, ℕ, ◌+◌, ◌-◌, ◌<◌, ◌≤◌, Bool, true, false, cond, ltb, List, [], ◌∷◌, length, get_or, drop, Option, Some, None, Result, Ok, Err, refl, sym, ap, ◌∙◌, arith, length-append}
+use Rattle.std.specs.List.{flat_map}
 use Rattle.std.proofs.lemmas.Bool.{ltb-false}
-use Rattle.std.proofs.lemmas.List.{append-nil}
-use Rattle.cdr_values.specs.declared.order.Order.TheVariants.{Big}
+use Rattle.std.proofs.lemmas.List.{drop_all, drop_more}
 use Rattle.cdr_values.specs.declared.fault.CdrFault.TheVariants as cdr
-use Rattle.cdr_values.specs.Value.{Value, UShort, ULong, OctetSequence, Text, has_nul}
+use Rattle.cdr_values.specs.Value.{has_nul}
 use Rattle.cdr_values.specs.Reading.{◌>>=◌}
 use Rattle.giop_frames.specs.declared.fault.FrameFault.{FrameFault}
 use Rattle.giop_frames.specs.declared.fault.FrameFault.TheVariants.{TooLarge, Body}
+use Rattle.giop_frames.specs.declared.header.Kind.{Kind}
+use Rattle.giop_frames.specs.declared.header.Kind.TheVariants as kinds
+use Rattle.giop_frames.specs.declared.layout.Version.{Version}
+use Rattle.giop_frames.specs.declared.layout.Version.TheVariants.{V1_2}
+use Rattle.giop_frames.specs.declared.layout.Field.{Field}
+use Rattle.giop_frames.specs.declared.layout.Field.TheVariants as fields
 use Rattle.giop_frames.specs.declared.message.Message.{Message}
 use Rattle.giop_frames.specs.declared.message.Message.TheVariants as messages
-use Rattle.giop_frames.specs.declared.message.Request.{Request}
-use Rattle.giop_frames.specs.declared.message.Target.{Target}
-use Rattle.giop_frames.specs.declared.message.Target.TheVariants.{Key, Profile, Reference}
-use Rattle.giop_frames.specs.declared.message.ServiceContext.{ServiceContext}
-use Rattle.giop_frames.specs.Fault.{too_long}
-use Rattle.giop_frames.specs.Layout.{contexts_values}
-use Rattle.giop_frames.specs.Encode.{behind, target_values, request_head, request_start, request_values, values_of, fields_of, content_of, padded_body, order_of, target_refusal, operation_refusal, contexts_refusal, field_refusal, size_refusal, refusal_of, ◌or◌}
-use Rattle.giop_frames.specs.Sizes.{end_of, target_end, operation_end, contexts_end, request_end, body_end, message_end, content_size}
-use Rattle.giop_frames.specs.Limits.{context_limit, key_limit, size_limit}
+use Rattle.giop_frames.specs.Limits.{size_limit}
+use Rattle.giop_frames.specs.Layout.{Fields, layout}
+use Rattle.giop_frames.specs.Message.{kind_of}
+use Rattle.giop_frames.specs.Sizes.{end_of}
+use Rattle.giop_frames.specs.Encode.{◌or◌, content_of, field_refusal, field_values, fields_of, fields_refusal, octets_in, octets_in_contexts, octets_in_target, order_of, refusal_of, size_refusal, tail_at, tail_of, target_refusal, told_of, values_of}
+use Rattle.giop_frames.specs.EncodeInside.{content_size, field_end, fields_end, octets_behind, octets_in_table_of, sized, unless}
 use Rattle.giop_frames.proofs.Ends.{end_of-append, end_of-is}
 
--- the offset behind values
-behind-is : (values : List Value) → behind values ≡ end_of 12 values
-behind-is values = sym (end_of-is Big 12 values)
+-- ---- the end, or a refusal
 
--- a size was found where nothing refuses, and the refusal otherwise
-abbrev pub Ends : Option FrameFault → ℕ → Result ℕ FrameFault → Type 0
-Ends refusal end (Ok found) = (refusal ≡ None) × (found ≡ end)
-Ends refusal end (Err fault) = refusal ≡ Some fault
+-- what follows comes only where nothing is refused
+then : (r later : Option FrameFault) (n end : ℕ) (k : ℕ → Result ℕ FrameFault) → k n ≡ unless later end → (unless r n >>= k) ≡ unless (r or later) end
+then None later n end k e = e
+then (Some fault) later n end k e = refl
 
--- a test, and then a size
-ends_test : (b : Bool) (fault : FrameFault) (end found : ℕ) → found ≡ end → Ends (cond b (Some fault) None) end (cond b (Err fault) (Ok found))
-ends_test true fault end found e = refl
-ends_test false fault end found e = (refl, e)
+-- fields end where their values do, or are refused
+fields_ends : (f : Fields) (at : ℕ) (table : List Field) → fields_end f at table ≡ unless (fields_refusal f at table) (end_of at (flat_map (field_values f) table))
+unfolding field_end
+fields_ends f at [] = refl
+fields_ends f at (one ∷ others) =
+    let next = end_of at (field_values f one) in
+    let end = end_of at (flat_map (field_values f) (one ∷ others)) in
+    let later : fields_end f next others ≡ unless (fields_refusal f next others) end =
+    fields_ends f next others ∙ ap (unless (fields_refusal f next others)) (sym (end_of-append at (field_values f one) (flat_map (field_values f) others))) in
+    then (field_refusal f at one) (fields_refusal f next others) next end (λ (k : ℕ). fields_end f k others) later
 
--- one size behind another
-ends_then : (a b : Option FrameFault) (x y : ℕ) (r : Result ℕ FrameFault) (f : ℕ → Result ℕ FrameFault) → Ends a x r → Ends b y (f x) → Ends (a or b) y (r >>= f)
-ends_then a b x y (Ok found) f h k = subst (λ (o : Option FrameFault). Ends (o or b) y (f found)) (sym h.0) (subst (λ (n : ℕ). Ends b y (f n)) (sym h.1) k)
-ends_then a b x y (Err fault) f h k = ap (λ (o : Option FrameFault). o or b) h
+-- a test, as a refusal
+tested : (b : Bool) (fault : FrameFault) (n : ℕ) → cond b (Err fault) (Ok n) ≡ unless (cond b (Some fault) None) n
+tested true fault n = refl
+tested false fault n = refl
 
--- a size that is computed from another
-ends_map : (a : Option FrameFault) (x : ℕ) (g : ℕ → ℕ) (r : Result ℕ FrameFault) → Ends a x r → Ends a (g x) (r >>= λ found. Ok (g found))
-ends_map a x g (Ok found) h = (h.0, ap g h.1)
-ends_map a x g (Err fault) h = h
+-- the size is that of the content, or the message is refused
+content_ends : (version : Version) (m : Message) → content_size version m ≡ unless (refusal_of version m) (length (content_of version m))
+unfolding content_size refusal_of
+content_ends version m =
+    let f = told_of m in
+    let table = layout version (kind_of m) in
+    let end = end_of 12 (values_of version m) in
+    let n = length (content_of version m) in
+    let place : end ≡ 12 + length (fields_of version m) = end_of-is (order_of m) 12 (values_of version m) in
+    let tail : length (tail_at version end m) ≡ length (tail_of version m) = ap (λ (k : ℕ). length (tail_at version k m)) place in
+    let size : end - 12 + length (tail_at version end m) ≡ n = omega (arith, place, tail, length-append (fields_of version m) (tail_of version m)) in
+    let last : sized (end - 12 + length (tail_at version end m)) ≡ unless (size_refusal version m) n = ap sized size ∙ tested (ltb size_limit n) (TooLarge n) n in
+    ap (λ (r : Result ℕ FrameFault). r >>= λ at. sized (at - 12 + length (tail_at version at m))) (fields_ends f 12 table) ∙ then (fields_refusal f 12 table) (size_refusal version m) end n (λ (at : ℕ). sized (at - 12 + length (tail_at version at m))) last
 
--- the end of values that stand behind others
-end_behind : (before values : List Value) → end_of (behind before) values ≡ behind (before ++ values)
-end_behind before values = ap (λ (k : ℕ). end_of k values) (behind-is before) ∙ sym (end_of-append 12 before values) ∙ sym (behind-is (before ++ values))
+-- a number is there only where nothing is refused
+unless_ok : (r : Option FrameFault) (n k : ℕ) → Ok k ≡ unless r n → (r ≡ None) × (k ≡ n)
+unless_ok None n k e = (refl, cc)
+unless_ok (Some fault) n k e = absurd cc
 
--- a target behind values
-target_ends : (before : List Value) (target : Target) → Ends (target_refusal before target) (behind (before ++ target_values target)) (target_end (behind (before ++ (UShort 0 ∷ []))) target)
-unfolding target_end
-target_ends before (Key key) =
-    let at = behind (before ++ (UShort 0 ∷ [])) in
-    let same : (before ++ (UShort 0 ∷ [])) ++ (OctetSequence key ∷ []) ≡ before ++ target_values (Key key) = append_assoc before (UShort 0 ∷ []) (OctetSequence key ∷ []) in
-    ends_test (ltb key_limit (length key)) (too_long at (length key)) (behind (before ++ target_values (Key key))) (end_of at (OctetSequence key ∷ [])) (end_behind (before ++ (UShort 0 ∷ [])) (OctetSequence key ∷ []) ∙ ap behind same)
-target_ends before Profile = refl
-target_ends before Reference = refl
-
--- an operation behind values
-operation_ends : (before : List Value) (operation : List ℕ) → Ends (operation_refusal before operation) (behind (before ++ (Text operation ∷ []))) (operation_end (behind before) operation)
-unfolding operation_end
-operation_ends before operation =
-    let at = behind before in
-    ends_test (has_nul operation) (Body at (cdr.BadString at)) (behind (before ++ (Text operation ∷ []))) (end_of at (Text operation ∷ [])) (end_behind before (Text operation ∷ []))
-
--- contexts behind values
-contexts_ends : (before : List Value) (contexts : List ServiceContext) → Ends (contexts_refusal before contexts) (behind (before ++ contexts_values contexts)) (contexts_end (behind before) contexts)
-unfolding contexts_end
-contexts_ends before contexts =
-    let at = behind before in
-    ends_test (ltb context_limit (length contexts)) (too_long at (length contexts)) (behind (before ++ contexts_values contexts)) (end_of at (contexts_values contexts)) (end_behind before (contexts_values contexts))
-
--- the fields of a Request
-request_ends : (r : Request) → Ends (field_refusal (messages.Request r)) (behind (request_values r)) (request_end r)
-unfolding request_end
-request_ends r =
-    let start = request_start r in
-    let text = Text r.operation ∷ [] in
-    let whole : (start ++ text) ++ contexts_values r.contexts ≡ request_values r = append_assoc start text (contexts_values r.contexts) in
-    let contexts : Ends (contexts_refusal (start ++ text) r.contexts) (behind (request_values r)) (contexts_end (behind (start ++ text)) r.contexts) = subst (λ (x : List Value). Ends (contexts_refusal (start ++ text) r.contexts) (behind x) (contexts_end (behind (start ++ text)) r.contexts)) whole (contexts_ends (start ++ text) r.contexts) in
-    let later = ends_then (operation_refusal start r.operation) (contexts_refusal (start ++ text) r.contexts) (behind (start ++ text)) (behind (request_values r)) (operation_end (behind start) r.operation) (λ (k : ℕ). contexts_end k r.contexts) (operation_ends start r.operation) contexts in
-    ends_then (target_refusal (request_head r) r.target) (operation_refusal start r.operation or contexts_refusal (start ++ text) r.contexts) (behind start) (behind (request_values r)) (target_end 22 r.target) (λ (k : ℕ). operation_end k r.operation >>= λ n. contexts_end n r.contexts) (target_ends (request_head r) r.target) later
-
--- the offset behind the fields, in the message's byte order
-fields_place : (m : Message) → behind (values_of m) ≡ 12 + length (fields_of m)
-fields_place m = behind-is (values_of m) ∙ end_of-is (order_of m) 12 (values_of m)
-
--- the offset behind a body
-body_place : (m : Message) (body : List ℕ) → body_end (behind (values_of m)) body ≡ 12 + length (fields_of m ++ padded_body (12 + length (fields_of m)) body)
-body_place m body =
-    let at = 12 + length (fields_of m) in
-    ap (λ (k : ℕ). body_end k body) (fields_place m) ∙ omega (arith, length-append (fields_of m) (padded_body at body))
-
--- all that a message has behind its header
-message_ends : (m : Message) → Ends (field_refusal m) (12 + length (content_of m)) (message_end m)
-unfolding message_end
-message_ends (messages.Request r) =
-    let m = messages.Request r in
-    subst (λ (k : ℕ). Ends (field_refusal m) k (message_end m)) (body_place m r.body) (ends_map (field_refusal m) (behind (request_values r)) (λ (k : ℕ). body_end k r.body) (request_end r) (request_ends r))
-message_ends (messages.Reply r) =
-    let m = messages.Reply r in
-    subst (λ (k : ℕ). Ends (field_refusal m) k (message_end m)) (body_place m r.body) (ends_map (field_refusal m) (behind (values_of m)) (λ (k : ℕ). body_end k r.body) (contexts_end 20 r.contexts) (contexts_ends (ULong r.id ∷ ULong r.status ∷ []) r.contexts))
-message_ends (messages.Cancel id) = (refl, refl)
-message_ends (messages.Locate l) =
-    let m = messages.Locate l in
-    let size : behind (values_of m) ≡ 12 + length (content_of m) = fields_place m ∙ ap (λ (x : List ℕ). 12 + length x) (sym (append-nil (fields_of m))) in
-    subst (λ (k : ℕ). Ends (field_refusal m) k (message_end m)) size (target_ends (ULong l.id ∷ []) l.target)
-message_ends (messages.LocateReply l) = (refl, omega arith)
-message_ends messages.Close = (refl, refl)
-message_ends messages.Error = (refl, refl)
-
--- the size that was found, or the refusal
-pub content_ends : (m : Message) → Ends (refusal_of m) (length (content_of m)) (content_size m)
-unfolding refusal_of content_size
-content_ends m =
-    let n = length (content_of m) in
-    let last = ends_test (ltb size_limit (12 + n - 12)) (TooLarge (12 + n - 12)) n (12 + n - 12) (omega arith) in
-    let same : 12 + n - 12 ≡ n = omega arith in
-    let size : Ends (size_refusal m) n (cond (ltb size_limit (12 + n - 12)) (Err (TooLarge (12 + n - 12))) (Ok (12 + n - 12))) = subst (λ (k : ℕ). Ends (cond (ltb size_limit k) (Some (TooLarge k)) None) n (cond (ltb size_limit (12 + n - 12)) (Err (TooLarge (12 + n - 12))) (Ok (12 + n - 12)))) same last in
-    ends_then (field_refusal m) (size_refusal m) (12 + n) n (message_end m) (λ (k : ℕ). cond (ltb size_limit (k - 12)) (Err (TooLarge (k - 12))) (Ok (k - 12))) (message_ends m) size
+-- and a fault only where it is refused
+unless_err : (r : Option FrameFault) (n : ℕ) (fault : FrameFault) → Err fault ≡ unless r n → r ≡ Some fault
+unless_err None n fault e = absurd cc
+unless_err (Some other) n fault e = cc
 
 -- a size was found where nothing refuses
-pub sized : (m : Message) (n : ℕ) → Ok n ≡ content_size m → (refusal_of m ≡ None) × (n ≡ length (content_of m))
-sized m n e = subst (Ends (refusal_of m) (length (content_of m))) (sym e) (content_ends m)
+pub size_found : (version : Version) (m : Message) (n : ℕ) → Ok n ≡ content_size version m → (refusal_of version m ≡ None) × (n ≡ length (content_of version m))
+size_found version m n e = unless_ok (refusal_of version m) (length (content_of version m)) n (e ∙ content_ends version m)
 
 -- a fault is the refusal
-pub refused : (m : Message) (fault : FrameFault) → Err fault ≡ content_size m → refusal_of m ≡ Some fault
-refused m fault e = subst (Ends (refusal_of m) (length (content_of m))) (sym e) (content_ends m)
+pub refused : (version : Version) (m : Message) (fault : FrameFault) → Err fault ≡ content_size version m → refusal_of version m ≡ Some fault
+refused version m fault e = unless_err (refusal_of version m) (length (content_of version m)) fault (e ∙ content_ends version m)
+
+-- ---- fields one after another, as a loop goes
+
+-- one more field
+pub ends_go_on : (f : Fields) (end next i : ℕ) (table : List Field) (one : Field) (total : Result ℕ FrameFault) → i < length table → one ≡ get_or table i one → Ok next ≡ field_end f end one → fields_end f end (drop i table) ≡ total
+    → fields_end f next (drop (i + 1) table) ≡ total
+ends_go_on f end next i table one total lt is found so_far =
+    let split : drop i table ≡ one ∷ drop (i + 1) table = drop_more table i one lt ∙ ap (λ (x : Field). x ∷ drop (i + 1) table) (sym is) in
+    let step : fields_end f end (one ∷ drop (i + 1) table) ≡ fields_end f next (drop (i + 1) table) = ap (λ (r : Result ℕ FrameFault). r >>= λ k. fields_end f k (drop (i + 1) table)) (sym found) in
+    sym step ∙ ap (fields_end f end) (sym split) ∙ so_far
+
+-- a field is refused
+pub ends_fail : (f : Fields) (end i : ℕ) (table : List Field) (one : Field) (fault : FrameFault) (total : Result ℕ FrameFault) → i < length table → one ≡ get_or table i one → Err fault ≡ field_end f end one
+    → fields_end f end (drop i table) ≡ total → Err fault ≡ total
+ends_fail f end i table one fault total lt is found so_far =
+    let split : drop i table ≡ one ∷ drop (i + 1) table = drop_more table i one lt ∙ ap (λ (x : Field). x ∷ drop (i + 1) table) (sym is) in
+    let step : fields_end f end (one ∷ drop (i + 1) table) ≡ Err fault = ap (λ (r : Result ℕ FrameFault). r >>= λ k. fields_end f k (drop (i + 1) table)) (sym found) in
+    sym step ∙ ap (fields_end f end) (sym split) ∙ so_far
+
+-- no field is left
+pub ends_done : (f : Fields) (end i : ℕ) (table : List Field) (total : Result ℕ FrameFault) → length table ≤ i → fields_end f end (drop i table) ≡ total → Ok end ≡ total
+ends_done f end i table total le so_far = ap (fields_end f end) (sym (drop_all i table le)) ∙ so_far
 
 -- ---- what is not refused
 
 -- none of two
-or_none : (a b : Option FrameFault) → (a or b) ≡ None → (a ≡ None) × (b ≡ None)
+pub or_none : (a b : Option FrameFault) → (a or b) ≡ None → (a ≡ None) × (b ≡ None)
 or_none (Some fault) b e = absurd cc
 or_none None b e = (refl, e)
 
@@ -143,30 +114,64 @@ test_none true fault e = absurd cc
 test_none false fault e = refl
 
 -- a message that is not refused is small
-pub size_is_small : (m : Message) → refusal_of m ≡ None → length (content_of m) ≤ size_limit
+pub size_is_small : (version : Version) (m : Message) → refusal_of version m ≡ None → length (content_of version m) ≤ size_limit
 unfolding refusal_of
-size_is_small m none = ltb-false _ _ (test_none (ltb size_limit (length (content_of m))) (TooLarge (length (content_of m))) (or_none (field_refusal m) (size_refusal m) none).1)
+size_is_small version m none =
+    ltb-false _ _ (test_none (ltb size_limit (length (content_of version m))) (TooLarge (length (content_of version m))) (or_none (fields_refusal (told_of m) 12 (layout version (kind_of m))) (size_refusal version m) none).1)
 
 -- no field of it passes a limit
-pub fields_pass : (m : Message) → refusal_of m ≡ None → field_refusal m ≡ None
+pub fields_pass : (version : Version) (m : Message) → refusal_of version m ≡ None → fields_refusal (told_of m) 12 (layout version (kind_of m)) ≡ None
 unfolding refusal_of
-fields_pass m none = (or_none (field_refusal m) (size_refusal m) none).0
+fields_pass version m none = (or_none (fields_refusal (told_of m) 12 (layout version (kind_of m))) (size_refusal version m) none).0
 
--- contexts that are not refused are few
-pub contexts_pass : (before : List Value) (contexts : List ServiceContext) → contexts_refusal before contexts ≡ None → length contexts ≤ context_limit
-contexts_pass before contexts none = ltb-false _ _ (test_none (ltb context_limit (length contexts)) (too_long (behind before) (length contexts)) none)
+-- an operation that is written has no NUL
+pub name_passes : (version : Version) (m : Message) → refusal_of version m ≡ None → has_nul (told_of m).operation ≡ false
+name_passes V1_2 (messages.Request r) none =
+    let f = told_of (messages.Request r) in
+    let at = end_of 20 (field_values f fields.Target) in
+    let behind = or_none (target_refusal 20 r.target) (fields_refusal f at (fields.Operation ∷ fields.Contexts ∷ [])) (fields_pass V1_2 (messages.Request r) none) in
+    test_none (has_nul r.operation) (Body at (cdr.BadString at)) (or_none (field_refusal f at fields.Operation) (fields_refusal f (end_of at (field_values f fields.Operation)) (fields.Contexts ∷ [])) behind.1).0
+name_passes V1_2 (messages.Reply r) none = refl
+name_passes V1_2 (messages.Cancel id) none = refl
+name_passes V1_2 (messages.Locate l) none = refl
+name_passes V1_2 (messages.LocateReply l) none = refl
+name_passes V1_2 messages.Close none = refl
+name_passes V1_2 messages.Error none = refl
 
--- what a Request that is not refused has
-pub record Passes (r : Request) : Type 0 where
-  pub target : target_refusal (request_head r) r.target ≡ None
-  pub text : has_nul r.operation ≡ false
-  pub few : length r.contexts ≤ context_limit
+-- ---- how much it is
 
--- a Request that is not refused passes each test
-pub request_passes : (r : Request) → refusal_of (messages.Request r) ≡ None → Passes r
-request_passes r none =
-    let start = request_start r in
-    let last = contexts_refusal (start ++ (Text r.operation ∷ [])) r.contexts in
-    let p = or_none (target_refusal (request_head r) r.target) (operation_refusal start r.operation or last) (fields_pass (messages.Request r) none) in
-    let q = or_none (operation_refusal start r.operation) last p.1 in
-    record { target = p.0; text = test_none (has_nul r.operation) (Body (behind start) (cdr.BadString (behind start))) q.0; few = contexts_pass (start ++ (Text r.operation ∷ [])) r.contexts q.1 }
+-- a layout has eight fields at most
+pub layout_short : (version : Version) (kind : Kind) → length (layout version kind) ≤ 8
+layout_short V1_2 kinds.Request = omega arith
+layout_short V1_2 kinds.Reply = omega arith
+layout_short V1_2 kinds.CancelRequest = omega arith
+layout_short V1_2 kinds.LocateRequest = omega arith
+layout_short V1_2 kinds.LocateReply = omega arith
+layout_short V1_2 kinds.CloseConnection = omega arith
+layout_short V1_2 kinds.MessageError = omega arith
+layout_short V1_2 kinds.Fragment = omega arith
+
+-- the fields, and what is behind them, have no more octets than the message
+pub table_small : (version : Version) (m : Message) → octets_in_table_of version m + octets_behind m ≤ octets_in m
+table_small V1_2 (messages.Request r) = omega arith
+table_small V1_2 (messages.Reply r) = omega arith
+table_small V1_2 (messages.Cancel id) = omega arith
+table_small V1_2 (messages.Locate l) = omega arith
+table_small V1_2 (messages.LocateReply l) = omega arith
+table_small V1_2 messages.Close = omega arith
+table_small V1_2 messages.Error = omega arith
+
+-- nor has any of them
+pub record IsSmall (m : Message) : Type 0 where
+  pub target : octets_in_target (told_of m).target ≤ octets_in m
+  pub operation : length (told_of m).operation ≤ octets_in m
+  pub contexts : length (told_of m).contexts + octets_in_contexts (told_of m).contexts ≤ octets_in m
+
+pub is_small : (m : Message) → IsSmall m
+is_small (messages.Request r) = record { target = omega arith; operation = omega arith; contexts = omega arith }
+is_small (messages.Reply r) = record { target = omega arith; operation = omega arith; contexts = omega arith }
+is_small (messages.Cancel id) = record { target = omega arith; operation = omega arith; contexts = omega arith }
+is_small (messages.Locate l) = record { target = omega arith; operation = omega arith; contexts = omega arith }
+is_small (messages.LocateReply l) = record { target = omega arith; operation = omega arith; contexts = omega arith }
+is_small messages.Close = record { target = omega arith; operation = omega arith; contexts = omega arith }
+is_small messages.Error = record { target = omega arith; operation = omega arith; contexts = omega arith }

@@ -11,12 +11,10 @@ use Rattle.cdr_values.specs.Value.{Value, canonical}
 use Rattle.cdr_values.specs.Values.{canonical_all, with_values}
 use Rattle.cdr_values.specs.Writing.{Writing, place_of, with_value, is_bad, refusal}
 use Rattle.giop_frames.specs.declared.fault.FrameFault.{FrameFault}
-use Rattle.giop_frames.specs.declared.message.ServiceContext.{ServiceContext}
-use Rattle.giop_frames.specs.Layout.{context_values}
 use Rattle.giop_frames.specs.Write.{Refuses, ArePlain}
 use Rattle.giop_frames.specs.Fault.{fault_of}
 use Rattle.cdr_values.specs.Limits.{output_limit}
-use Rattle.giop_frames.proofs.Ends.{one_context_more}
+use Rattle.giop_frames.proofs.Ends.{values_more}
 
 -- values behind others
 pub with_values-append : (w : Writing) (xs ys : List Value) → with_values w (xs ++ ys) ≡ with_values (with_values w xs) ys
@@ -55,34 +53,34 @@ refuses_behind xs ys fault w (inr many) =
     let size : length (with_values w (xs ++ ys)).octets ≡ length (with_values (with_values w xs) ys).octets = ap (λ (x : Writing). length x.octets) (with_values-append w xs ys) in
     inr (omega (arith, many, size))
 
--- one more context is written
-pub contexts_go_on : (w now new : Writing) (contexts : List ServiceContext) (i : ℕ) (c : ServiceContext) → i < length contexts → c ≡ get_or contexts i c
-    → now ≡ with_values w (flat_map context_values (take i contexts)) → new ≡ with_values now (context_values c) → new ≡ with_values w (flat_map context_values (take (i + 1) contexts))
-contexts_go_on w now new contexts i c lt is so_far more =
-    more ∙ ap (λ (x : Writing). with_values x (context_values c)) so_far ∙ sym (with_values-append w (flat_map context_values (take i contexts)) (context_values c)) ∙ ap (with_values w) (sym (one_context_more contexts i c lt is))
+-- one more thing is written
+pub written_more : {X : Type 0} (values : X → List Value) (w now new : Writing) (xs : List X) (i : ℕ) (x : X) → i < length xs → x ≡ get_or xs i x
+    → now ≡ with_values w (flat_map values (take i xs)) → new ≡ with_values now (values x) → new ≡ with_values w (flat_map values (take (i + 1) xs))
+written_more values w now new xs i x lt is so_far more =
+    more ∙ ap (λ (v : Writing). with_values v (values x)) so_far ∙ sym (with_values-append w (flat_map values (take i xs)) (values x)) ∙ ap (with_values w) (sym (values_more values xs i x lt is))
 
--- the values of all contexts are those of some and those of the others
-contexts_split : (contexts : List ServiceContext) (n : ℕ) → flat_map context_values contexts ≡ flat_map context_values (take n contexts) ++ flat_map context_values (drop n contexts)
-contexts_split contexts n = ap (flat_map context_values) (sym (take-append-drop n contexts)) ∙ flat_map-append context_values (take n contexts) (drop n contexts)
+-- the values of all are those of some and those of the others
+values_split : {X : Type 0} (values : X → List Value) (xs : List X) (n : ℕ) → flat_map values xs ≡ flat_map values (take n xs) ++ flat_map values (drop n xs)
+values_split values xs n = ap (flat_map values) (sym (take-append-drop n xs)) ∙ flat_map-append values (take n xs) (drop n xs)
 
--- what refuses a context refuses all of them
-pub contexts_end : (fault : FrameFault) (w now : Writing) (contexts : List ServiceContext) (i : ℕ) (c : ServiceContext) → i < length contexts → c ≡ get_or contexts i c
-    → now ≡ with_values w (flat_map context_values (take i contexts)) → Refuses (context_values c) fault now → Refuses (flat_map context_values contexts) fault w
-contexts_end fault w now contexts i c lt is so_far refused =
-    let before = flat_map context_values (take i contexts) in
-    let more = refuses_behind before (context_values c) fault w (subst (Refuses (context_values c) fault) so_far refused) in
-    let here = subst (λ (x : List Value). Refuses x fault w) (sym (one_context_more contexts i c lt is)) more in
-    subst (λ (x : List Value). Refuses x fault w) (sym (contexts_split contexts (i + 1))) (refuses_more (flat_map context_values (take (i + 1) contexts)) (flat_map context_values (drop (i + 1) contexts)) fault w here)
+-- what refuses one thing refuses all of them
+pub refused_among : {X : Type 0} (values : X → List Value) (fault : FrameFault) (w now : Writing) (xs : List X) (i : ℕ) (x : X) → i < length xs → x ≡ get_or xs i x
+    → now ≡ with_values w (flat_map values (take i xs)) → Refuses (values x) fault now → Refuses (flat_map values xs) fault w
+refused_among values fault w now xs i x lt is so_far refused =
+    let before = flat_map values (take i xs) in
+    let more = refuses_behind before (values x) fault w (subst (Refuses (values x) fault) so_far refused) in
+    let here = subst (λ (v : List Value). Refuses v fault w) (sym (values_more values xs i x lt is)) more in
+    subst (λ (v : List Value). Refuses v fault w) (sym (values_split values xs (i + 1))) (refuses_more (flat_map values (take (i + 1) xs)) (flat_map values (drop (i + 1) xs)) fault w here)
 
 -- values of two lists
 pub plain-append : (xs ys : List Value) → ArePlain xs → ArePlain ys → ArePlain (xs ++ ys)
 plain-append [] ys p q = q
 plain-append (x ∷ xs) ys p q = (p.0, plain-append xs ys p.1 q)
 
--- the values of one more context
-pub plain_more : (contexts : List ServiceContext) (i : ℕ) (c : ServiceContext) → i < length contexts → c ≡ get_or contexts i c
-    → ArePlain (flat_map context_values (take i contexts)) → ArePlain (context_values c) → ArePlain (flat_map context_values (take (i + 1) contexts))
-plain_more contexts i c lt is so_far one = subst ArePlain (sym (one_context_more contexts i c lt is)) (plain-append (flat_map context_values (take i contexts)) (context_values c) so_far one)
+-- the values of one more thing
+pub plain_more : {X : Type 0} (values : X → List Value) (xs : List X) (i : ℕ) (x : X) → i < length xs → x ≡ get_or xs i x
+    → ArePlain (flat_map values (take i xs)) → ArePlain (values x) → ArePlain (flat_map values (take (i + 1) xs))
+plain_more values xs i x lt is so_far one = subst ArePlain (sym (values_more values xs i x lt is)) (plain-append (flat_map values (take i xs)) (values x) so_far one)
 
 -- a test that passed
 passed : (b : Bool) (x y : CdrFault) → cond b (Some x) None ≡ Some y → b ≡ true

@@ -11,7 +11,8 @@ pub mod StreamInside
 pub mod Walk
 pub mod Held
 pub mod HeldInside
-pub mod Encode
 pub mod Sizes
+pub mod Encode
+pub mod EncodeInside
 pub mod Write
 pub mod Laws

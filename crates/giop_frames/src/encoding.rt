@@ -1,18 +1,20 @@
-ghost use Rattle.std.specs.Prelude.{◌≡◌, ◌+◌, ◌<◌, ◌^◌, ◌++◌, length, None, Some, OnErr, OnOk};
+ghost use Rattle.std.specs.Prelude.{◌≡◌, ◌+◌, ◌<◌, ◌≤◌, ◌^◌, ◌++◌, length, replicate, None, Some, OnErr, OnOk};
 ghost use Rattle.cdr_values.specs.Value.{octets_of};
 ghost use Rattle.cdr_values.specs.Appending.{Appends, AppendsSome};
 ghost use Rattle.giop_frames.specs.Fault.{IfRefused};
 ghost use Rattle.giop_frames.specs.declared.layout.Version.TheVariants.{V1_2};
 ghost use Rattle.giop_frames.specs.Header.{header_octets, flags_of};
-ghost use Rattle.giop_frames.specs.Message.{IsMessage, kind_of};
+ghost use Rattle.giop_frames.specs.Layout.{body_alignment};
+ghost use Rattle.giop_frames.specs.Message.{IsMessage};
 ghost use Rattle.giop_frames.specs.Encode.{spelling, refusal_of, octets_in, content_of, fields_of, tail_of, padded_body};
 
 use crate::fault::FrameFault;
-use crate::fields::{fields_octets, order_of};
-use crate::header::{HEADER_LENGTH, Kind, MAGIC, VERSION};
-use crate::layout::gap_before;
+use crate::fields::fields_octets;
+use crate::header::{HEADER_LENGTH, Kind, MAGIC, version_octets};
+use crate::layout::{Version, body_alignment, gap_before};
 use crate::message::Message;
 use crate::sizes::content_size;
+use crate::told::{kind_of, order_of};
 use byteorder::{BigEndian, ByteOrder, LittleEndian};
 use cdr_values::Order;
 use std::alloc::{AllocError, Global};
@@ -26,27 +28,33 @@ const PADDING: [u8; 8] = [0; 8];
 /// refusal `into` is as it was.
 pub fn encode(alloc: Global, message: &Message, into: &mut Vec<u8>) -> Result<(), FrameFault>
     requires { octets_in message.now < 2 ^ 31 }
-    ensures ok { OnOk result (into.new.items ≡ into.old.items ++ spelling message.now) }
-    ensures spelled { OnOk result (IsMessage message.now (spelling message.now)) }
-    ensures fits { OnOk result (refusal_of message.now ≡ None) }
-    ensures refused { IfRefused result (λ fault. refusal_of message.now ≡ Some fault) }
+    ensures ok { OnOk result (into.new.items ≡ into.old.items ++ spelling V1_2 message.now) }
+    ensures spelled { OnOk result (IsMessage message.now (spelling V1_2 message.now)) }
+    ensures fits { OnOk result (refusal_of V1_2 message.now ≡ None) }
+    ensures refused { IfRefused result (λ fault. refusal_of V1_2 message.now ≡ Some fault) }
     ensures err { OnErr result (into.new.items ≡ into.old.items) }
 {
     cdr_values::canonical_octets_spell();
-    let size = content_size(message)?;
-    let fields = fields_octets(alloc, message)?;
-    append(message, size as u32, fields.bytes(), into)?;
+    let size = content_size(Version::V1_2, message)?;
+    let fields = fields_octets(alloc, Version::V1_2, message)?;
+    append(Version::V1_2, message, size as u32, fields.bytes(), into)?;
     Ok(())
 }
 
 /// Appends the message with these fields, or nothing for want of memory.
-fn append(message: &Message, size: u32, fields: &[u8], into: &mut Vec<u8>) -> Result<(), AllocError>
-    requires size { size ≡ length (content_of message.now) }
-    requires fields { fields.now ≡ fields_of message.now }
-    ensures { Appends (spelling message.now) result into.old.items into.new.items }
+fn append(
+    version: Version,
+    message: &Message,
+    size: u32,
+    fields: &[u8],
+    into: &mut Vec<u8>,
+) -> Result<(), AllocError>
+    requires size { size ≡ length (content_of version message.now) }
+    requires fields { fields.now ≡ fields_of version message.now }
+    ensures { Appends (spelling version message.now) result into.old.items into.new.items }
 {
     let start = into.len();
-    let appended = append_parts(message, size, fields, into);
+    let appended = append_parts(version, message, size, fields, into);
     if appended.is_err() {
         into.truncate(start);
     }
@@ -55,65 +63,75 @@ fn append(message: &Message, size: u32, fields: &[u8], into: &mut Vec<u8>) -> Re
 
 #[tactic(auto, unfolding(crate::specs::Encode::spelling))]
 fn append_parts(
+    version: Version,
     message: &Message,
     size: u32,
     fields: &[u8],
     into: &mut Vec<u8>,
 ) -> Result<(), AllocError>
-    requires size { size ≡ length (content_of message.now) }
-    requires fields { fields.now ≡ fields_of message.now }
-    ensures { AppendsSome (spelling message.now) result into.old.items into.new.items }
+    requires size { size ≡ length (content_of version message.now) }
+    requires fields { fields.now ≡ fields_of version message.now }
+    ensures { AppendsSome (spelling version message.now) result into.old.items into.new.items }
 {
-    append_header(order_of(message), kind_of(message), size, into)?;
+    append_header(version, order_of(message), kind_of(message), size, into)?;
     into.extend_from_slice(fields)?;
-    append_tail(message, HEADER_LENGTH + fields.len(), into)
+    append_tail(version, message, HEADER_LENGTH + fields.len(), into)
 }
 
-fn append_header(order: Order, kind: Kind, size: u32, into: &mut Vec<u8>) -> Result<(), AllocError>
-    ensures { AppendsSome (header_octets V1_2 order kind size) result into.old.items into.new.items }
+fn append_header(
+    version: Version,
+    order: Order,
+    kind: Kind,
+    size: u32,
+    into: &mut Vec<u8>,
+) -> Result<(), AllocError>
+    ensures { AppendsSome (header_octets version order kind size) result into.old.items into.new.items }
 {
     into.extend_from_slice(&MAGIC)?;
-    into.extend_from_slice(&VERSION)?;
+    into.extend_from_slice(&version_octets(version))?;
     into.extend_from_slice(&[flags_of(order), kind.octet()])?;
     into.extend_from_slice(&size_octets(order, size))
 }
 
 /// Appends what stands behind the fields, which end at an offset.
-fn append_tail(message: &Message, at: usize, into: &mut Vec<u8>) -> Result<(), AllocError>
-    requires { at ≡ 12 + length (fields_of message.now) }
-    ensures { AppendsSome (tail_of message.now) result into.old.items into.new.items }
+fn append_tail(
+    version: Version,
+    message: &Message,
+    at: usize,
+    into: &mut Vec<u8>,
+) -> Result<(), AllocError>
+    requires { at ≡ 12 + length (fields_of version message.now) }
+    ensures { AppendsSome (tail_of version message.now) result into.old.items into.new.items }
 {
     match message {
-        Message::Request(request) => append_body(at, request.body.bytes(), into),
-        Message::Reply(reply) => append_body(at, reply.body.bytes(), into),
+        Message::Request(request) => append_body(version, at, request.body.bytes(), into),
+        Message::Reply(reply) => append_body(version, at, reply.body.bytes(), into),
         Message::LocateReply(located) => into.extend_from_slice(located.rest.bytes()),
         _ => Ok(()),
     }
 }
 
-/// Appends a body behind padding to a multiple of 8, or nothing where there is none.
-fn append_body(at: usize, body: &[u8], into: &mut Vec<u8>) -> Result<(), AllocError>
-    ensures { AppendsSome (padded_body at body.now) result into.old.items into.new.items }
+/// Appends a body behind its padding, or nothing where there is none.
+fn append_body(
+    version: Version,
+    at: usize,
+    body: &[u8],
+    into: &mut Vec<u8>,
+) -> Result<(), AllocError>
+    ensures { AppendsSome (padded_body (body_alignment version) at body.now) result into.old.items into.new.items }
 {
     if body.is_empty() {
         return Ok(());
     }
-    into.extend_from_slice(&PADDING[..gap_before(8, at)])?;
+    append_padding(gap_before(body_alignment(version), at), into)?;
     into.extend_from_slice(body)
 }
 
-fn kind_of(message: &Message) -> Kind
-    ensures { result ≡ kind_of message.now }
+fn append_padding(count: usize, into: &mut Vec<u8>) -> Result<(), AllocError>
+    requires { count ≤ 8 }
+    ensures { AppendsSome (replicate count 0) result into.old.items into.new.items }
 {
-    match message {
-        Message::Request(_) => Kind::Request,
-        Message::Reply(_) => Kind::Reply,
-        Message::Cancel(_) => Kind::CancelRequest,
-        Message::Locate(_) => Kind::LocateRequest,
-        Message::LocateReply(_) => Kind::LocateReply,
-        Message::Close => Kind::CloseConnection,
-        Message::Error => Kind::MessageError,
-    }
+    into.extend_from_slice(&PADDING[..count])
 }
 
 /// The flags of a message that isn't fragmented.

@@ -1,113 +1,78 @@
-ghost use Rattle.std.specs.Prelude.{◌≡◌, ◌+◌, ◌<◌, ◌^◌, [], ◌∷◌, length, false, None, IfOk, IfErr, OnOk};
+ghost use Rattle.std.specs.Prelude.{◌≡◌, ◌+◌, ◌<◌, ◌^◌, length, false, None, IfOk, IfErr, OnOk};
 ghost use Rattle.std.specs.List.{flat_map};
-ghost use Rattle.cdr_values.specs.Value.{Octet, ULong, has_nul};
+ghost use Rattle.cdr_values.specs.Value.{has_nul};
 ghost use Rattle.giop_frames.specs.declared.fault.FrameFault.TheVariants.{Memory};
 ghost use Rattle.giop_frames.specs.Layout.{context_values, contexts_values};
-ghost use Rattle.giop_frames.specs.Encode.{target_values, request_head, request_values, values_of, fields_of, order_of, refusal_of, octets_in, octets_in_contexts, octets_in_fields, octets_in_target};
+ghost use Rattle.giop_frames.specs.Encode.{field_values, fields_of, octets_in, octets_in_contexts, refusal_of, target_values, told_of, values_of};
+ghost use Rattle.giop_frames.specs.EncodeInside.{octets_in_field};
 ghost use Rattle.giop_frames.specs.Write.{Writes, ArePlain};
 
 use crate::fault::FrameFault;
 use crate::header::HEADER_LENGTH;
-use crate::message::{Message, Request, ServiceContext, Target};
-use cdr_values::{Order, Writer};
+use crate::layout::{Field, Version, layout};
+use crate::message::{Message, ServiceContext};
+use crate::told::{
+    contexts_of, flags_of, id_of, key_of, kind_of, operation_of, order_of, status_of,
+};
+use cdr_values::Writer;
 use ots_model::Octets;
 use std::alloc::Global;
 
 /// The octets of the fields of a message that is not refused.
-pub fn fields_octets(alloc: Global, message: &Message) -> Result<Octets, FrameFault>
+pub fn fields_octets(
+    alloc: Global,
+    version: Version,
+    message: &Message,
+) -> Result<Octets, FrameFault>
     requires small { octets_in message.now < 2 ^ 31 }
-    requires written { refusal_of message.now ≡ None }
-    ensures ok { IfOk result (λ octets. octets ≡ fields_of message.now) }
-    ensures plain { OnOk result (ArePlain (values_of message.now)) }
+    requires written { refusal_of version message.now ≡ None }
+    ensures ok { IfOk result (λ octets. octets ≡ fields_of version message.now) }
+    ensures plain { OnOk result (ArePlain (values_of version message.now)) }
     ensures memory { IfErr result (λ fault. fault ≡ Memory) }
 {
     let mut writer = Writer::new(alloc, order_of(message), HEADER_LENGTH as u32);
-    write_message(&mut writer, message)?;
+    write_fields(&mut writer, version, message)?;
     Ok(writer.finish())
 }
 
-/// The byte order in which a message is written.
-pub fn order_of(message: &Message) -> Order
-    ensures { result ≡ order_of message.now }
-{
-    match message {
-        Message::Request(request) => request.order,
-        Message::Reply(reply) => reply.order,
-        _ => Order::Big,
-    }
-}
-
-fn write_message(writer: &mut Writer, message: &Message) -> Result<(), FrameFault>
+fn write_fields(writer: &mut Writer, version: Version, message: &Message) -> Result<(), FrameFault>
     requires small { octets_in message.now < 2 ^ 31 }
-    requires written { refusal_of message.now ≡ None }
-    ensures writes { Writes (values_of message.now) result writer.old writer.new }
-    ensures plain { OnOk result (ArePlain (values_of message.now)) }
+    requires text { has_nul (told_of message.now).operation ≡ false }
+    ensures writes { Writes (values_of version message.now) result writer.old writer.new }
+    ensures plain { OnOk result (ArePlain (values_of version message.now)) }
 {
-    match message {
-        Message::Request(request) => write_request(writer, request),
-        Message::Reply(reply) => {
-            write_pair(writer, reply.id, reply.status)?;
-            write_contexts(writer, reply.contexts.items())
-        }
-        Message::Cancel(id) => Ok(writer.ulong(*id)?),
-        Message::Locate(locate) => {
-            writer.ulong(locate.id)?;
-            write_target(writer, &locate.target)
-        }
-        Message::LocateReply(located) => write_pair(writer, located.id, located.status),
-        Message::Close | Message::Error => Ok(()),
+    for field in layout(version, kind_of(message)) {
+        write_field(writer, message, *field)?;
+    }
+    Ok(())
+}
+
+/// Writes a field. A reserved octet is 0, and of a target other than a key nothing is written.
+fn write_field(writer: &mut Writer, message: &Message, field: Field) -> Result<(), FrameFault>
+    requires small { octets_in message.now < 2 ^ 31 }
+    requires text { has_nul (told_of message.now).operation ≡ false }
+    ensures writes { Writes (field_values (told_of message.now) field) result writer.old writer.new }
+    ensures plain { OnOk result (ArePlain (field_values (told_of message.now) field)) }
+{
+    match field {
+        Field::Id => Ok(writer.ulong(id_of(message))?),
+        Field::Flags => Ok(writer.octet(flags_of(message))?),
+        Field::Reserved => Ok(writer.octet(0)?),
+        Field::Status => Ok(writer.ulong(status_of(message))?),
+        Field::Target => write_target(writer, message),
+        Field::Operation => Ok(writer.string(operation_of(message))?),
+        Field::Contexts => write_contexts(writer, contexts_of(message)),
     }
 }
 
-fn write_request(writer: &mut Writer, request: &Request) -> Result<(), FrameFault>
-    requires small { octets_in_fields request.now + length request.now.contexts < 2 ^ 31 }
-    requires text { has_nul request.now.operation ≡ false }
-    ensures writes { Writes (request_values request.now) result writer.old writer.new }
-    ensures plain { OnOk result (ArePlain (request_values request.now)) }
+fn write_target(writer: &mut Writer, message: &Message) -> Result<(), FrameFault>
+    requires { octets_in message.now < 2 ^ 31 }
+    ensures writes { Writes (target_values (told_of message.now).target) result writer.old writer.new }
+    ensures plain { OnOk result (ArePlain (target_values (told_of message.now).target)) }
 {
-    write_head(writer, request)?;
-    write_target(writer, &request.target)?;
-    writer.string(request.operation.bytes())?;
-    write_contexts(writer, request.contexts.items())
-}
-
-fn write_head(writer: &mut Writer, request: &Request) -> Result<(), FrameFault>
-    ensures writes { Writes (request_head request.now) result writer.old writer.new }
-    ensures plain { OnOk result (ArePlain (request_head request.now)) }
-{
-    writer.ulong(request.id)?;
-    writer.octet(request.flags)?;
-    write_reserved(writer)
-}
-
-fn write_reserved(writer: &mut Writer) -> Result<(), FrameFault>
-    ensures writes { Writes (Octet 0 ∷ Octet 0 ∷ Octet 0 ∷ []) result writer.old writer.new }
-    ensures plain { OnOk result (ArePlain (Octet 0 ∷ Octet 0 ∷ Octet 0 ∷ [])) }
-{
-    writer.octet(0)?;
-    writer.octet(0)?;
-    writer.octet(0)?;
-    Ok(())
-}
-
-fn write_pair(writer: &mut Writer, id: u32, status: u32) -> Result<(), FrameFault>
-    ensures writes { Writes (ULong id ∷ ULong status ∷ []) result writer.old writer.new }
-    ensures plain { OnOk result (ArePlain (ULong id ∷ ULong status ∷ [])) }
-{
-    writer.ulong(id)?;
-    writer.ulong(status)?;
-    Ok(())
-}
-
-/// Writes a key. Of other targets it writes nothing.
-fn write_target(writer: &mut Writer, target: &Target) -> Result<(), FrameFault>
-    requires { octets_in_target target.now < 2 ^ 31 }
-    ensures writes { Writes (target_values target.now) result writer.old writer.new }
-    ensures plain { OnOk result (ArePlain (target_values target.now)) }
-{
-    if let Target::Key(key) = target {
+    if let Some(key) = key_of(message) {
         writer.ushort(0)?;
-        writer.octets(key.bytes())?;
+        writer.octets(key)?;
     }
     Ok(())
 }

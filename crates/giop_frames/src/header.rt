@@ -1,7 +1,7 @@
 ghost use Rattle.std.specs.Prelude.{◌≡◌, ◌||◌, ◌≤◌, length, take, drop, IfOk};
 ghost use Rattle.cdr_values.specs.Value.{number_in};
 ghost use Rattle.giop_frames.specs.Limits.{size_limit};
-ghost use Rattle.giop_frames.specs.Header.{kind_at, type_octet, order_of_flags, is_fragment, header_at};
+ghost use Rattle.giop_frames.specs.Header.{kind_at, type_octet, order_of_flags, is_fragment, header_at, version_octets};
 
 use crate::fault::{FrameFault, SIZE_LIMIT};
 use crate::layout::Version;
@@ -12,8 +12,6 @@ use cdr_values::Order;
 pub const HEADER_LENGTH: usize = 12;
 
 pub const MAGIC: [u8; 4] = *b"GIOP";
-
-pub const VERSION: [u8; 2] = [1, 2];
 
 /// The types of messages (GIOP 1.2, message_type).
 #[derive(Clone, Copy, Debug, PartialEq, Eq)]
@@ -95,7 +93,7 @@ pub fn read_header(octets: &[u8]) -> Result<Header, FrameFault>
     if !MAGIC.starts_with(front(octets, 4)) {
         return Err(FrameFault::BadMagic);
     }
-    if !VERSION.starts_with(front(behind(octets, 4), 2)) {
+    if !version_octets(Version::V1_2).starts_with(front(behind(octets, 4), 2)) {
         return Err(FrameFault::BadVersion);
     }
     if octets.len() > 7 && octets[7] > 7 {
@@ -116,6 +114,15 @@ pub fn read_header(octets: &[u8]) -> Result<Header, FrameFault>
         kind: Kind::from_octet(octets[7]),
         size,
     })
+}
+
+/// The octets of the version: the major one, and the minor one.
+pub fn version_octets(version: Version) -> [u8; 2]
+    ensures { result ≡ version_octets version }
+{
+    match version {
+        Version::V1_2 => [1, 2],
+    }
 }
 
 /// The first n octets, or all of them where there are fewer.

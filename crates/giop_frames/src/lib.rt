@@ -30,5 +30,6 @@ mod parts;
 mod sizes;
 mod stream;
 mod stream_laws;
+mod told;
 mod unfinished;
 mod walk;

@@ -2,94 +2,77 @@ ghost use Rattle.std.specs.Prelude.{◌≡◌, ◌+◌, ◌*◌, ◌≤◌, ◌<
 ghost use Rattle.std.specs.List.{flat_map};
 ghost use Rattle.cdr_values.specs.Value.{gap};
 ghost use Rattle.giop_frames.specs.Limits.{context_limit};
-ghost use Rattle.giop_frames.specs.Layout.{context_values};
-ghost use Rattle.giop_frames.specs.Encode.{octets_in, octets_in_contexts, octets_in_fields, octets_in_target};
-ghost use Rattle.giop_frames.specs.Sizes.{end_of, target_end, operation_end, contexts_end, request_end, body_end, message_end, content_size};
+ghost use Rattle.giop_frames.specs.Layout.{body_alignment, context_values};
+ghost use Rattle.giop_frames.specs.Sizes.{end_of};
+ghost use Rattle.giop_frames.specs.Encode.{octets_in, octets_in_contexts, padded_body, tail_at, told_of};
+ghost use Rattle.giop_frames.specs.EncodeInside.{content_size, field_end, fields_end_of, key_end, operation_end, contexts_end, octets_behind, octets_in_field, octets_in_table_of};
 
 use crate::fault::{CONTEXT_LIMIT, FrameFault, KEY_LIMIT, SIZE_LIMIT, too_long};
 use crate::header::HEADER_LENGTH;
-use crate::layout::gap_before;
-use crate::message::{Message, Request, ServiceContext, Target};
+use crate::layout::{Field, Version, body_alignment, gap_before, layout};
+use crate::message::{Message, ServiceContext};
+use crate::told::{contexts_of, key_of, kind_of, operation_of};
 use cdr_values::CdrFault;
 
-/// The offset behind the header and the request_id.
-const BEHIND_ID: usize = 16;
-
-/// The offset behind the status of a Reply and of a LocateReply.
-const BEHIND_STATUS: usize = 20;
-
-/// The offset behind KeyAddr in a LocateRequest, whose key follows.
-const LOCATE_KEY: usize = 18;
-
-/// The offset behind KeyAddr in a Request: four octets stand in front of it, the flags and what is reserved.
-const REQUEST_KEY: usize = 22;
-
 /// How many octets stand behind the header of a message, or why it is not written.
-#[tactic(auto, unfolding(crate::specs::Sizes::content_size))]
-pub fn content_size(message: &Message) -> Result<usize, FrameFault>
+#[tactic(auto, unfolding(crate::specs::EncodeInside::content_size))]
+pub fn content_size(version: Version, message: &Message) -> Result<usize, FrameFault>
     requires { octets_in message.now < 2 ^ 31 }
-    ensures { result ≡ content_size message.now }
+    ensures { result ≡ content_size version message.now }
 {
-    let size = message_end(message)? - HEADER_LENGTH;
+    let fields = fields_end(version, message)?;
+    let size = fields - HEADER_LENGTH + tail_length(version, message, fields);
     if size > SIZE_LIMIT {
         return Err(FrameFault::TooLarge(size as u32));
     }
     Ok(size)
 }
 
-/// The offset behind all that the message has.
-#[tactic(auto, unfolding(crate::specs::Sizes::message_end))]
-fn message_end(message: &Message) -> Result<usize, FrameFault>
+/// The offset behind the fields of a message.
+fn fields_end(version: Version, message: &Message) -> Result<usize, FrameFault>
     requires { octets_in message.now < 2 ^ 31 }
-    ensures end { result ≡ message_end message.now }
-    ensures within { IfOk result (λ end. (12 ≤ end) × (end < 2 ^ 32)) }
+    ensures end { result ≡ fields_end_of version message.now }
+    ensures within { IfOk result (λ end. (12 ≤ end) × (end ≤ 2060 + octets_in_table_of version message.now)) }
 {
-    match message {
-        Message::Request(request) => Ok(body_end(request_end(request)?, request.body.bytes())),
-        Message::Reply(reply) => {
-            let fields = contexts_end(BEHIND_STATUS, reply.contexts.items())?;
-            Ok(body_end(fields, reply.body.bytes()))
-        }
-        Message::Cancel(_) => Ok(BEHIND_ID),
-        Message::Locate(locate) => target_end(LOCATE_KEY, &locate.target),
-        Message::LocateReply(located) => Ok(BEHIND_STATUS + located.rest.bytes().len()),
-        Message::Close | Message::Error => Ok(HEADER_LENGTH),
+    let mut end = HEADER_LENGTH;
+    for field in layout(version, kind_of(message)) {
+        end = field_end(message, end, *field)?;
     }
+    Ok(end)
 }
 
-/// The offset behind the fields of a Request.
-#[tactic(auto, unfolding(crate::specs::Sizes::request_end))]
-fn request_end(request: &Request) -> Result<usize, FrameFault>
-    requires { octets_in_fields request.now + length request.now.contexts < 2 ^ 31 }
-    ensures end { result ≡ request_end request.now }
-    ensures within { IfOk result (λ end. (12 ≤ end) × (end ≤ 512 + octets_in_fields request.now)) }
+/// The offset behind a field that is written from `at` on.
+#[tactic(auto, unfolding(crate::specs::EncodeInside::field_end))]
+fn field_end(message: &Message, at: usize, field: Field) -> Result<usize, FrameFault>
+    requires { at + octets_in_field (told_of message.now) field < 2 ^ 31 + 4096 }
+    ensures end { result ≡ field_end (told_of message.now) at field }
+    ensures within { IfOk result (λ end. (at ≤ end) × (end ≤ at + octets_in_field (told_of message.now) field + 256)) }
 {
-    let target = target_end(REQUEST_KEY, &request.target)?;
-    let operation = operation_end(target, request.operation.bytes())?;
-    contexts_end(operation, request.contexts.items())
+    match field {
+        Field::Id | Field::Status => Ok(number_end(at)),
+        Field::Flags | Field::Reserved => Ok(at + 1),
+        Field::Target => match key_of(message) {
+            Some(key) => key_end(at + gap_before(2, at) + 2, key),
+            None => Err(FrameFault::NotWritten),
+        },
+        Field::Operation => operation_end(at, operation_of(message)),
+        Field::Contexts => contexts_end(at, contexts_of(message)),
+    }
 }
 
 /// The offset behind the key whose count stands from `at` on.
-#[tactic(auto, unfolding(crate::specs::Sizes::target_end))]
-fn target_end(at: usize, target: &Target) -> Result<usize, FrameFault>
-    requires { at + octets_in_target target.now < 2 ^ 32 }
-    ensures end { result ≡ target_end at target.now }
-    ensures within { IfOk result (λ end. (at ≤ end) × (end ≤ at + octets_in_target target.now + 7)) }
+fn key_end(at: usize, key: &[u8]) -> Result<usize, FrameFault>
+    requires { at + length key.now < 2 ^ 32 }
+    ensures end { result ≡ key_end at key.now }
+    ensures within { IfOk result (λ end. (at ≤ end) × (end ≤ at + length key.now + 7)) }
 {
-    match target {
-        Target::Key(key) => {
-            let length = key.bytes().len();
-            if length > KEY_LIMIT {
-                return Err(too_long(at as u32, length as u32));
-            }
-            Ok(octets_end(at, length))
-        }
-        Target::Profile | Target::Reference => Err(FrameFault::NotWritten),
+    if key.len() > KEY_LIMIT {
+        return Err(too_long(at as u32, key.len() as u32));
     }
+    Ok(octets_end(at, key.len()))
 }
 
 /// The offset behind the operation that stands from `at` on.
-#[tactic(auto, unfolding(crate::specs::Sizes::operation_end))]
 fn operation_end(at: usize, operation: &[u8]) -> Result<usize, FrameFault>
     requires { at + length operation.now < 2 ^ 32 }
     ensures end { result ≡ operation_end at operation.now }
@@ -106,7 +89,6 @@ fn operation_end(at: usize, operation: &[u8]) -> Result<usize, FrameFault>
 }
 
 /// The offset behind the count of the contexts and the contexts, which stand from `at` on.
-#[tactic(auto, unfolding(crate::specs::Sizes::contexts_end))]
 fn contexts_end(at: usize, contexts: &[ServiceContext]) -> Result<usize, FrameFault>
     requires { at + length contexts.now + octets_in_contexts contexts.now < 2 ^ 32 }
     ensures end { result ≡ contexts_end at contexts.now }
@@ -149,14 +131,28 @@ fn octets_end(at: usize, length: usize) -> usize
     number_end(at) + length
 }
 
-/// The offset behind a body that follows fields up to this offset.
-fn body_end(at: usize, body: &[u8]) -> usize
+/// How many octets stand behind fields that end at an offset.
+fn tail_length(version: Version, message: &Message, at: usize) -> usize
+    requires { at + octets_behind message.now < 2 ^ 33 }
+    ensures length { result ≡ length (tail_at version at message.now) }
+    ensures within { result ≤ octets_behind message.now + 7 }
+{
+    match message {
+        Message::Request(request) => body_length(version, at, request.body.bytes()),
+        Message::Reply(reply) => body_length(version, at, reply.body.bytes()),
+        Message::LocateReply(located) => located.rest.bytes().len(),
+        _ => 0,
+    }
+}
+
+/// How many octets a body has with its padding, behind fields that end at an offset.
+fn body_length(version: Version, at: usize, body: &[u8]) -> usize
     requires { at + length body.now < 2 ^ 60 }
-    ensures end { result ≡ body_end at body.now }
-    ensures within { (at ≤ result) × (result ≤ at + length body.now + 7) }
+    ensures length { result ≡ length (padded_body (body_alignment version) at body.now) }
+    ensures within { result ≤ length body.now + 7 }
 {
     if body.is_empty() {
-        return at;
+        return 0;
     }
-    at + gap_before(8, at) + body.len()
+    gap_before(body_alignment(version), at) + body.len()
 }
