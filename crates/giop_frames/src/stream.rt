@@ -185,7 +185,9 @@ fn give_back(buffer: &mut Vec<u8>, taken: usize) -> usize
     if taken <= buffer.len() - taken {
         return taken;
     }
-    buffer.rotate_left(taken);
-    buffer.truncate(buffer.len() - taken);
+    let held = buffer.len() - taken;
+    let (front, back) = buffer.split_at_mut(taken);
+    front[..held].copy_from_slice(back);
+    buffer.truncate(held);
     0
 }
