@@ -105,7 +105,8 @@ fn begin(
     requires content { length content.now ≤ size_limit }
     requires first { is_fragment header.kind ≡ false }
     ensures says { OnOk result (opening unfinished.old.items (part_of header content.now) ≡ Ok None) }
-    ensures after { OnOk result (unfinished.new.items ≡ with_begun place (part_of header content.now) unfinished.old.items) }
+    ensures after { OnOk result
+        (unfinished.new.items ≡ with_begun place (part_of header content.now) unfinished.old.items) }
     ensures room { OnOk result (length unfinished.old.items < unfinished_limit) }
     ensures refused { IfErr result (λ fault. Fails fault (opening unfinished.old.items (part_of header content.now))) }
     ensures err { OnErr result (unfinished.new.items ≡ unfinished.old.items) }

@@ -10,6 +10,7 @@ use cdr_values::Order;
 
 // What the fields of a message tell. A field that a message doesn't have is 0 or empty.
 
+/// The type of a message.
 pub fn kind_of(message: &Message) -> Kind
     ensures { result ≡ kind_of message.now }
 {
@@ -35,6 +36,7 @@ pub fn order_of(message: &Message) -> Order
     }
 }
 
+/// The request_id.
 pub fn id_of(message: &Message) -> u32
     ensures { result ≡ (told_of message.now).id }
 {
@@ -48,6 +50,7 @@ pub fn id_of(message: &Message) -> u32
     }
 }
 
+/// The response_flags.
 pub fn flags_of(message: &Message) -> u8
     ensures { result ≡ (told_of message.now).flags }
 {
@@ -57,6 +60,7 @@ pub fn flags_of(message: &Message) -> u8
     }
 }
 
+/// The reply_status, or the locate_status.
 pub fn status_of(message: &Message) -> u32
     ensures { result ≡ (told_of message.now).status }
 {
@@ -69,7 +73,8 @@ pub fn status_of(message: &Message) -> u32
 
 /// The key of the target, where it is one.
 pub fn key_of(message: &Message) -> Option<&[u8]>
-    ensures { MatchOption result (IsNoKey (told_of message.now).target) (λ key. (told_of message.now).target ≡ Key key.now) }
+    ensures { MatchOption result (IsNoKey (told_of message.now).target)
+        (λ key. (told_of message.now).target ≡ Key key.now) }
 {
     match message {
         Message::Request(request) => key_in(&request.target),
@@ -87,6 +92,7 @@ fn key_in(target: &Target) -> Option<&[u8]>
     }
 }
 
+/// The operation's name.
 pub fn operation_of(message: &Message) -> &[u8]
     ensures { result.now ≡ (told_of message.now).operation }
 {
@@ -96,6 +102,7 @@ pub fn operation_of(message: &Message) -> &[u8]
     }
 }
 
+/// The service contexts.
 pub fn contexts_of(message: &Message) -> &[ServiceContext]
     ensures { result.now ≡ (told_of message.now).contexts }
 {

@@ -20,7 +20,8 @@ pub fn request(
     operation: &[u8],
     body: &[u8],
 ) -> Result<Request, AllocError>
-    ensures { IfOk result (λ r. octets_in (Message.Request r) ≡ length key.now + length operation.now + length body.now) }
+    ensures { IfOk result
+        (λ r. octets_in (Message.Request r) ≡ length key.now + length operation.now + length body.now) }
 {
     Ok(Request {
         id,
