@@ -69,6 +69,17 @@ impl<'a> Reader<'a> {
         self.place
     }
 
+    /// Another reader, which stands where this one does.
+    pub fn copy(&self) -> Reader<'a>
+        ensures { result ≡ self.now }
+    {
+        Reader {
+            rest: self.rest,
+            place: self.place,
+            order: self.order,
+        }
+    }
+
     /// The byte order in which it reads.
     pub fn order(&self) -> Order
         ensures { result ≡ self.now.order }

@@ -9,3 +9,4 @@ pub mod Digits
 pub mod Exact
 pub mod Texts
 pub mod Endpoints
+pub mod TakenBack

@@ -21,7 +21,7 @@ use Rattle.ior_refs.specs.declared.fault.IorFault.TheVariants.{TooLong, Memory}
 use Rattle.ior_refs.proofs.Values.{with_values-append, fit_behind}
 
 -- a writing with these octets
-abbrev writing : Order → ℕ → List ℕ → Writing
+abbrev pub writing : Order → ℕ → List ℕ → Writing
 writing order start octets = record { order = order; start = start; octets = octets }
 
 -- the octets of the values stand behind those that were there

@@ -1,5 +1,5 @@
 -- Writing a reference, which is several values (our profile).
-use Rattle.std.specs.Prelude.{◌≡◌, ◌⊎◌, List, ◌∷◌, ◌++◌, Some, Result, Ok, Err}
+use Rattle.std.specs.Prelude.{◌≡◌, ◌⊎◌, List, ◌∷◌, ◌++◌, Some, Result, Ok, Err, IfErr, OnErr, OnOk}
 use Rattle.cdr_values.specs.declared.fault.CdrFault.{CdrFault}
 use Rattle.cdr_values.specs.declared.fault.CdrFault.TheVariants.{Memory}
 use Rattle.cdr_values.specs.Value.{Value}
@@ -19,3 +19,10 @@ pub record StopsIn (values : List Value) (fault : CdrFault) (old new : Writing) 
 abbrev pub WritesAll : List Value → Result (Unit {0}) CdrFault → Writing → Writing → Type 0
 WritesAll values (Ok nothing) old new = new ≡ with_values old values
 WritesAll values (Err fault) old new = StopsIn values fault old new
+
+-- a call wrote the values and no less: where one is refused behind those before it, or memory ran out, the writer is as
+-- it was
+pub record WritesWhole (values : List Value) (result : Result (Unit {0}) CdrFault) (old new : Writing) : Type 0 where
+  pub ok : OnOk result (new ≡ with_values old values)
+  pub refused : IfErr result (λ fault. (stopped : Writing) × StopsIn values fault old stopped)
+  pub err : OnErr result (new ≡ old)

@@ -1,4 +1,4 @@
-ghost use Rattle.std.specs.Prelude.{◌≡◌, ◌↔◌, ◌⊎◌, ◌<◌, ◌≤◌, ◌^◌, length, IsTrue, IsOk, IfOk, IfErr};
+ghost use Rattle.std.specs.Prelude.{◌≡◌, ◌↔◌, ◌⊎◌, ◌<◌, ◌≤◌, ◌^◌, length, IsTrue, IsOk, IfOk, IfErr, OnErr};
 ghost use Rattle.std.specs.Option.{option_copied};
 ghost use Rattle.ots_model.specs.Limits.{reference_limit};
 ghost use Rattle.cdr_values.specs.declared.order.Order.TheVariants.{Big};
@@ -7,7 +7,7 @@ ghost use Rattle.cdr_values.specs.Tagged.{reference_values};
 ghost use Rattle.ior_refs.specs.Reference.{Reference, AreOctets, IsReference, nil, canonical_octets};
 ghost use Rattle.ior_refs.specs.Fault.{Gives, Finds, stopped_as};
 ghost use Rattle.ior_refs.specs.Reading.{HasReadSome, if_short, short_reference_at, whole};
-ghost use Rattle.ior_refs.specs.Writing.{WritesAll};
+ghost use Rattle.ior_refs.specs.Writing.{WritesAll, WritesWhole};
 ghost use Rattle.ior_refs.specs.Iiop.{first_iiop};
 
 use crate::fault::IorFault;
@@ -128,10 +128,21 @@ fn kept(alloc: Global, octets: &[u8], place: u32) -> Result<RefBytes, IorFault>
     }
 }
 
-/// Reads a reference, at any offset and in the reader's byte order. After a refusal the reader stands behind some of
-/// the reference's values.
-#[tactic(auto, unfolding(crate::specs::Reading::short_reference_at, crate::specs::Reading::each_tagged_at, cdr_values::specs::Tagged::reference_at))]
+/// Reads a reference, at any offset and in the reader's byte order. After a refusal the reader is as it was.
 pub fn read_ref(alloc: Global, r: &mut Reader) -> Result<ObjectRef, IorFault>
+    ensures exact { Gives (λ o. o) result r.new (short_reference_at r.old) }
+    ensures stands { HasReadSome r.old r.new }
+    ensures err { OnErr result (r.new ≡ r.old) }
+{
+    let mut ahead = r.copy();
+    let reference = read_parts(alloc, &mut ahead)?;
+    *r = ahead;
+    Ok(reference)
+}
+
+/// Reads a reference. After a refusal the reader stands behind some of its values.
+#[tactic(auto, unfolding(crate::specs::Reading::short_reference_at, crate::specs::Reading::each_tagged_at, cdr_values::specs::Tagged::reference_at))]
+fn read_parts(alloc: Global, r: &mut Reader) -> Result<ObjectRef, IorFault>
     ensures exact { Gives (λ o. o) result r.new (short_reference_at r.old) }
     ensures stands { HasReadSome r.old r.new }
 {
@@ -152,12 +163,18 @@ pub fn read_whole(alloc: Global, reader: &mut Reader) -> Result<ObjectRef, IorFa
     Ok(reference)
 }
 
-/// Writes a reference where the writer stands, in its byte order. Of one that is refused the values in front of the
-/// refused one stay written.
+/// Writes a reference where the writer stands, in its byte order. After a refusal the writer is as it was.
 pub fn write_ref(w: &mut Writer, o: &ObjectRef) -> Result<(), CdrFault>
-    ensures { WritesAll (reference_values o.now) result w.old w.new }
+    ensures { WritesWhole (reference_values o.now) result w.old w.new }
 {
-    write_parts(w, o.type_id.bytes(), o.profiles.as_slice())
+    let start = w.place();
+    match write_parts(w, o.type_id.bytes(), o.profiles.as_slice()) {
+        Ok(()) => Ok(()),
+        Err(fault) => {
+            w.take_back(start);
+            Err(fault)
+        }
+    }
 }
 
 fn write_parts(

@@ -1,6 +1,6 @@
 use Rattle.cdr_values.specs.Value.{Text}
 use Rattle.ior_refs.proofs.Values.{read_none, read_more, read_some}
-use Rattle.ior_refs.proofs.reference.read_ref.Goals as goal
+use Rattle.ior_refs.proofs.reference.read_parts.Goals as goal
 
 pub returns-in_err-type_id-clause-stands : goal.returns-in_err-type_id-clause-stands
 returns-in_err-type_id-clause-stands c =
