@@ -79,28 +79,6 @@ size_found version m n e = unless_ok (refusal_of version m) (length (content_of 
 pub refused : (version : Version) (m : Message) (fault : FrameFault) → Err fault ≡ content_size version m → refusal_of version m ≡ Some fault
 refused version m fault e = unless_err (refusal_of version m) (length (content_of version m)) fault (e ∙ content_ends version m)
 
--- ---- fields one after another, as a loop goes
-
--- one more field
-pub ends_go_on : (f : Fields) (end next i : ℕ) (table : List Field) (one : Field) (total : Result ℕ FrameFault) → i < length table → one ≡ get_or table i one → Ok next ≡ field_end f end one → fields_end f end (drop i table) ≡ total
-    → fields_end f next (drop (i + 1) table) ≡ total
-ends_go_on f end next i table one total lt is found so_far =
-    let split : drop i table ≡ one ∷ drop (i + 1) table = drop_more table i one lt ∙ ap (λ (x : Field). x ∷ drop (i + 1) table) (sym is) in
-    let step : fields_end f end (one ∷ drop (i + 1) table) ≡ fields_end f next (drop (i + 1) table) = ap (λ (r : Result ℕ FrameFault). r >>= λ k. fields_end f k (drop (i + 1) table)) (sym found) in
-    sym step ∙ ap (fields_end f end) (sym split) ∙ so_far
-
--- a field is refused
-pub ends_fail : (f : Fields) (end i : ℕ) (table : List Field) (one : Field) (fault : FrameFault) (total : Result ℕ FrameFault) → i < length table → one ≡ get_or table i one → Err fault ≡ field_end f end one
-    → fields_end f end (drop i table) ≡ total → Err fault ≡ total
-ends_fail f end i table one fault total lt is found so_far =
-    let split : drop i table ≡ one ∷ drop (i + 1) table = drop_more table i one lt ∙ ap (λ (x : Field). x ∷ drop (i + 1) table) (sym is) in
-    let step : fields_end f end (one ∷ drop (i + 1) table) ≡ Err fault = ap (λ (r : Result ℕ FrameFault). r >>= λ k. fields_end f k (drop (i + 1) table)) (sym found) in
-    sym step ∙ ap (fields_end f end) (sym split) ∙ so_far
-
--- no field is left
-pub ends_done : (f : Fields) (end i : ℕ) (table : List Field) (total : Result ℕ FrameFault) → length table ≤ i → fields_end f end (drop i table) ≡ total → Ok end ≡ total
-ends_done f end i table total le so_far = ap (fields_end f end) (sym (drop_all i table le)) ∙ so_far
-
 -- ---- what is not refused
 
 -- none of two
@@ -137,41 +115,3 @@ name_passes V1_2 (messages.Locate l) none = refl
 name_passes V1_2 (messages.LocateReply l) none = refl
 name_passes V1_2 messages.Close none = refl
 name_passes V1_2 messages.Error none = refl
-
--- ---- how much it is
-
--- a layout has eight fields at most
-pub layout_short : (version : Version) (kind : Kind) → length (layout version kind) ≤ 8
-layout_short V1_2 kinds.Request = omega arith
-layout_short V1_2 kinds.Reply = omega arith
-layout_short V1_2 kinds.CancelRequest = omega arith
-layout_short V1_2 kinds.LocateRequest = omega arith
-layout_short V1_2 kinds.LocateReply = omega arith
-layout_short V1_2 kinds.CloseConnection = omega arith
-layout_short V1_2 kinds.MessageError = omega arith
-layout_short V1_2 kinds.Fragment = omega arith
-
--- the fields, and what is behind them, have no more octets than the message
-pub table_small : (version : Version) (m : Message) → octets_in_table_of version m + octets_behind m ≤ octets_in m
-table_small V1_2 (messages.Request r) = omega arith
-table_small V1_2 (messages.Reply r) = omega arith
-table_small V1_2 (messages.Cancel id) = omega arith
-table_small V1_2 (messages.Locate l) = omega arith
-table_small V1_2 (messages.LocateReply l) = omega arith
-table_small V1_2 messages.Close = omega arith
-table_small V1_2 messages.Error = omega arith
-
--- nor has any of them
-pub record IsSmall (m : Message) : Type 0 where
-  pub target : octets_in_target (told_of m).target ≤ octets_in m
-  pub operation : length (told_of m).operation ≤ octets_in m
-  pub contexts : length (told_of m).contexts + octets_in_contexts (told_of m).contexts ≤ octets_in m
-
-pub is_small : (m : Message) → IsSmall m
-is_small (messages.Request r) = record { target = omega arith; operation = omega arith; contexts = omega arith }
-is_small (messages.Reply r) = record { target = omega arith; operation = omega arith; contexts = omega arith }
-is_small (messages.Cancel id) = record { target = omega arith; operation = omega arith; contexts = omega arith }
-is_small (messages.Locate l) = record { target = omega arith; operation = omega arith; contexts = omega arith }
-is_small (messages.LocateReply l) = record { target = omega arith; operation = omega arith; contexts = omega arith }
-is_small messages.Close = record { target = omega arith; operation = omega arith; contexts = omega arith }
-is_small messages.Error = record { target = omega arith; operation = omega arith; contexts = omega arith }
