@@ -2,17 +2,18 @@
 use Rattle.std.proofs.Common.{◌≡◌, ℕ, zero, suc, ◌≤◌, cond, ltb, eqb, List, [], ◌∷◌, length, Result, Ok, Err, refl, sym, ap, subst, arith, inl, inr}
 use Rattle.std.specs.List.{flat_map}
 use Rattle.std.proofs.lemmas.Bool.{ltb-false, le-ltb, eqb-true}
-use Rattle.cdr_values.specs.Value.{Value, UShort, ULong, OctetSequence, Text}
+use Rattle.cdr_values.specs.Value.{Value, UShort, ULong, OctetSequence}
 use Rattle.cdr_values.specs.Reading.{Reading, Reads, ◌>>=◌, ushort_at, ulong_at, octets_at, string_at}
 use Rattle.cdr_values.specs.Values.{ReadsAll}
 use Rattle.cdr_values.specs.Laws.{ReadingLaws}
+use Rattle.cdr_values.specs.Tagged.{reference_values, tagged_values}
 use Rattle.giop_frames.specs.declared.fault.FrameFault.{FrameFault}
 use Rattle.giop_frames.specs.declared.fault.FrameFault.TheVariants.{BadType}
 use Rattle.giop_frames.specs.declared.message.Target.{Target}
 use Rattle.giop_frames.specs.declared.message.Target.TheVariants.{Key, Profile, Reference}
 use Rattle.giop_frames.specs.declared.message.ServiceContext.{ServiceContext}
 use Rattle.giop_frames.specs.Fault.{too_long}
-use Rattle.giop_frames.specs.Layout.{profile_values, IsTarget, context_values, contexts_values}
+use Rattle.giop_frames.specs.Layout.{IsTarget, context_values, contexts_values}
 use Rattle.giop_frames.specs.Content.{key_at, profile_at, profiles_at, reference_at, target_at, context_at, each_context_at, contexts_at}
 use Rattle.giop_frames.specs.Limits.{context_limit, key_limit, profile_limit}
 use Rattle.giop_frames.proofs.Given.{read_is, bind_ok, field_ok, guard_ok, which}
@@ -37,7 +38,7 @@ key_only laws r key behind few h = rw (laws.octets.only r key behind h, le-ltb k
 -- ---- profiles
 
 -- a profile that is passed over stands there
-profile_found : ReadingLaws → (r : Reading) (t : Target) (behind : Reading) → profile_at r ≡ Ok (t, behind) → (profile : ℕ × List ℕ) × (Profile ≡ t) × ReadsAll r (profile_values profile) behind
+profile_found : ReadingLaws → (r : Reading) (t : Target) (behind : Reading) → profile_at r ≡ Ok (t, behind) → (profile : ℕ × List ℕ) × (Profile ≡ t) × ReadsAll r (tagged_values profile) behind
 unfolding profile_at
 profile_found laws r t behind e =
     let a = field_ok (ulong_at r) _ (t, behind) e in
@@ -46,23 +47,23 @@ profile_found laws r t behind e =
     ((a.0.0, b.0.0), same.0, (a.0.1, laws.ulong.found r a.0.0 a.0.1 a.1, (b.0.1, laws.octets.found a.0.1 b.0.0 b.0.1 b.1, same.2)))
 
 -- and a profile that stands there is passed over
-profile_only : ReadingLaws → (r : Reading) (profile : ℕ × List ℕ) (behind : Reading) → ReadsAll r (profile_values profile) behind → profile_at r ≡ Ok (Profile, behind)
+profile_only : ReadingLaws → (r : Reading) (profile : ℕ × List ℕ) (behind : Reading) → ReadsAll r (tagged_values profile) behind → profile_at r ≡ Ok (Profile, behind)
 unfolding profile_at
 profile_only laws r profile behind h =
     rw (laws.ulong.only r profile.0 h.0 h.1, laws.octets.only h.0 profile.1 h.2.0 h.2.1) (ap (λ (b : Reading). Ok (Profile, b)) (sym h.2.2))
 
 -- so many profiles that are passed over stand there
-profiles_found : ReadingLaws → (n : ℕ) (r behind : Reading) → profiles_at n r ≡ Ok (tt, behind) → (profiles : List (ℕ × List ℕ)) × (n ≡ length profiles) × ReadsAll r (flat_map profile_values profiles) behind
+profiles_found : ReadingLaws → (n : ℕ) (r behind : Reading) → profiles_at n r ≡ Ok (tt, behind) → (profiles : List (ℕ × List ℕ)) × (n ≡ length profiles) × ReadsAll r (flat_map tagged_values profiles) behind
 unfolding profiles_at
 profiles_found laws zero r behind e = ([], refl, (read_is tt r tt behind e).2)
 profiles_found laws (suc n) r behind e =
     let a = bind_ok (profile_at r) _ (tt, behind) e in
     let p = profile_found laws r a.0.0 a.0.1 a.1 in
     let q = profiles_found laws n a.0.1 behind a.2 in
-    (p.0 ∷ q.0, ap suc q.1, (p.2.0, p.2.1, (p.2.2.0, p.2.2.1, subst (λ (s : Reading). ReadsAll s (flat_map profile_values q.0) behind) p.2.2.2 q.2)))
+    (p.0 ∷ q.0, ap suc q.1, (p.2.0, p.2.1, (p.2.2.0, p.2.2.1, subst (λ (s : Reading). ReadsAll s (flat_map tagged_values q.0) behind) p.2.2.2 q.2)))
 
 -- and profiles that stand there are passed over
-profiles_only : ReadingLaws → (profiles : List (ℕ × List ℕ)) (r behind : Reading) → ReadsAll r (flat_map profile_values profiles) behind → profiles_at (length profiles) r ≡ Ok (tt, behind)
+profiles_only : ReadingLaws → (profiles : List (ℕ × List ℕ)) (r behind : Reading) → ReadsAll r (flat_map tagged_values profiles) behind → profiles_at (length profiles) r ≡ Ok (tt, behind)
 unfolding profiles_at
 profiles_only laws [] r behind h = ap (λ (b : Reading). Ok (tt, b)) (sym h)
 profiles_only laws (profile ∷ profiles) r behind h =
@@ -70,17 +71,13 @@ profiles_only laws (profile ∷ profiles) r behind h =
 
 -- ---- references
 
--- the values of a reference, behind the index
-abbrev reference_values : List ℕ → List (ℕ × List ℕ) → List Value
-reference_values type_id profiles = Text type_id ∷ ULong (length profiles) ∷ flat_map profile_values profiles
-
 -- a reference stands there, with its index
 record IsReference (r behind : Reading) : Type 0 where
   index : ℕ
   type_id : List ℕ
   profiles : List (ℕ × List ℕ)
   few : length profiles ≤ profile_limit
-  read : ReadsAll r (ULong index ∷ reference_values type_id profiles) behind
+  read : ReadsAll r (ULong index ∷ reference_values (type_id, profiles)) behind
 
 -- a reference ends where its profiles end
 abbrev ended : Unit {0} × Reading → Result (Target × Reading) FrameFault
@@ -88,13 +85,13 @@ ended passed = Ok (Reference, passed.1)
 
 -- profiles behind their count
 counted_found : ReadingLaws → (r : Reading) (n : ℕ) (s : Reading) (t : Target) (behind : Reading) → ulong_at r ≡ Ok (n, s) → (profiles_at n s >>= ended) ≡ Ok (t, behind)
-    → (profiles : List (ℕ × List ℕ)) × (Reference ≡ t) × (n ≡ length profiles) × ReadsAll r (ULong (length profiles) ∷ flat_map profile_values profiles) behind
+    → (profiles : List (ℕ × List ℕ)) × (Reference ≡ t) × (n ≡ length profiles) × ReadsAll r (ULong (length profiles) ∷ flat_map tagged_values profiles) behind
 counted_found laws r n s t behind counted e =
     let d = bind_ok (profiles_at n s) ended (t, behind) e in
     let same = read_is Reference d.0.1 t behind d.2 in
     let p = profiles_found laws n s d.0.1 d.1 in
     let count : Reads r (ULong (length p.0)) s = subst (λ (k : ℕ). Reads r (ULong k) s) p.1 (laws.ulong.found r n s counted) in
-    (p.0, same.0, p.1, (s, count, subst (λ (x : Reading). ReadsAll s (flat_map profile_values p.0) x) same.1 p.2))
+    (p.0, same.0, p.1, (s, count, subst (λ (x : Reading). ReadsAll s (flat_map tagged_values p.0) x) same.1 p.2))
 
 -- a reference that is passed over stands there
 reference_found : ReadingLaws → (r : Reading) (t : Target) (behind : Reading) → reference_at r ≡ Ok (t, behind) → (Reference ≡ t) × IsReference r behind
@@ -153,7 +150,7 @@ way_found laws way r t behind e =
           elim (which (eqb way 1) (profile_at r) (of_reference way r) (t, behind) p.1) [
             | inl q ↦
                 let k = profile_found laws r t behind q.1 in
-                let values = profile_values k.0 in
+                let values = tagged_values k.0 in
                 let begun : UShort way ∷ values ≡ UShort 1 ∷ values = ap (λ (n : ℕ). UShort n ∷ values) (eqb-true _ _ q.0) in
                 (values, subst (λ (x : Target). IsTarget x (UShort way ∷ values)) k.1 (k.0, begun), k.2)
             | inr q ↦
@@ -161,9 +158,9 @@ way_found laws way r t behind e =
                   | inl s ↦
                       let k = reference_found laws r t behind s.1 in
                       let is = k.1 in
-                      let values = ULong is.index ∷ reference_values is.type_id is.profiles in
+                      let values = ULong is.index ∷ reference_values (is.type_id, is.profiles) in
                       let begun : UShort way ∷ values ≡ UShort 2 ∷ values = ap (λ (n : ℕ). UShort n ∷ values) (eqb-true _ _ s.0) in
-                      (values, subst (λ (x : Target). IsTarget x (UShort way ∷ values)) k.0 (is.index, is.type_id, is.profiles, is.few, begun), is.read)
+                      (values, subst (λ (x : Target). IsTarget x (UShort way ∷ values)) k.0 (is.index, (is.type_id, is.profiles), is.few, begun), is.read)
                   | inr s ↦ absurd cc
                 ]
           ]
@@ -185,11 +182,11 @@ target_only laws (Key key) values r behind is h =
     let last : Reads k.0 (OctetSequence key) behind = subst (λ (x : Reading). Reads k.0 (OctetSequence key) x) (sym k.2.2) k.2.1 in
     rw (laws.ushort.only r 0 k.0 k.1) (key_only laws k.0 key behind is.1 last)
 target_only laws Profile values r behind is h =
-    let k : ReadsAll r (UShort 1 ∷ profile_values is.0) behind = subst (λ (x : List Value). ReadsAll r x behind) is.1 h in
+    let k : ReadsAll r (UShort 1 ∷ tagged_values is.0) behind = subst (λ (x : List Value). ReadsAll r x behind) is.1 h in
     rw (laws.ushort.only r 1 k.0 k.1) (profile_only laws k.0 is.0 behind k.2)
 target_only laws Reference values r behind is h =
-    let k : ReadsAll r (UShort 2 ∷ ULong is.0 ∷ reference_values is.1 is.2) behind = subst (λ (x : List Value). ReadsAll r x behind) is.4 h in
-    rw (laws.ushort.only r 2 k.0 k.1) (reference_only laws k.0 behind (record { index = is.0; type_id = is.1; profiles = is.2; few = is.3; read = k.2 }))
+    let k : ReadsAll r (UShort 2 ∷ ULong is.0 ∷ reference_values is.1) behind = subst (λ (x : List Value). ReadsAll r x behind) is.3 h in
+    rw (laws.ushort.only r 2 k.0 k.1) (reference_only laws k.0 behind (record { index = is.0; type_id = is.1.0; profiles = is.1.1; few = is.2; read = k.2 }))
 
 -- ---- contexts
 

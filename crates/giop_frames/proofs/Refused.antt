@@ -1,15 +1,12 @@
 -- What refuses a message, as its sizes tell it.
-use Rattle.std.proofs.Common.{◌≡◌, ℕ, ◌+◌, ◌-◌, ◌<◌, ◌≤◌, Bool, true, false, cond, ltb, List, [], ◌∷◌, length, get_or, drop, Option, Some, None, Result, Ok, Err, refl, sym, ap, ◌∙◌, arith, length-append}
+use Rattle.std.proofs.Common.{◌≡◌, ℕ, ◌+◌, ◌-◌, ◌≤◌, Bool, true, false, cond, ltb, List, [], ◌∷◌, length, Option, Some, None, Result, Ok, Err, refl, sym, ap, ◌∙◌, arith, length-append}
 use Rattle.std.specs.List.{flat_map}
 use Rattle.std.proofs.lemmas.Bool.{ltb-false}
-use Rattle.std.proofs.lemmas.List.{drop_all, drop_more}
 use Rattle.cdr_values.specs.declared.fault.CdrFault.TheVariants as cdr
 use Rattle.cdr_values.specs.Value.{has_nul}
 use Rattle.cdr_values.specs.Reading.{◌>>=◌}
 use Rattle.giop_frames.specs.declared.fault.FrameFault.{FrameFault}
 use Rattle.giop_frames.specs.declared.fault.FrameFault.TheVariants.{TooLarge, Body}
-use Rattle.giop_frames.specs.declared.header.Kind.{Kind}
-use Rattle.giop_frames.specs.declared.header.Kind.TheVariants as kinds
 use Rattle.giop_frames.specs.declared.layout.Version.{Version}
 use Rattle.giop_frames.specs.declared.layout.Version.TheVariants.{V1_2}
 use Rattle.giop_frames.specs.declared.layout.Field.{Field}
@@ -20,8 +17,8 @@ use Rattle.giop_frames.specs.Limits.{size_limit}
 use Rattle.giop_frames.specs.Layout.{Fields, layout}
 use Rattle.giop_frames.specs.Message.{kind_of}
 use Rattle.giop_frames.specs.Sizes.{end_of}
-use Rattle.giop_frames.specs.Encode.{◌or◌, content_of, field_refusal, field_values, fields_of, fields_refusal, octets_in, octets_in_contexts, octets_in_target, order_of, refusal_of, size_refusal, tail_at, tail_of, target_refusal, told_of, values_of}
-use Rattle.giop_frames.specs.EncodeInside.{content_size, field_end, fields_end, octets_behind, octets_in_table_of, sized, unless}
+use Rattle.giop_frames.specs.Encode.{◌or◌, content_of, field_refusal, field_values, fields_of, fields_refusal, order_of, refusal_of, size_refusal, tail_at, tail_of, target_refusal, told_of, values_of}
+use Rattle.giop_frames.specs.EncodeInside.{content_size, field_end, fields_end, sized, unless}
 use Rattle.giop_frames.proofs.Ends.{end_of-append, end_of-is}
 
 -- ---- the end, or a refusal

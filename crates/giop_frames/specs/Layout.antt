@@ -2,9 +2,10 @@
 -- message has in front of its body, and in which order; what each field is stands here once. Reading, writing and which
 -- octets are a message at all follow from the table.
 use Rattle.std.specs.Prelude.{◌≡◌, ℕ, ◌≤◌, List, [], ◌∷◌, ◌++◌, length, drop, Result, Ok, Err}
-use Rattle.std.specs.List.{flat_map}
 use Rattle.cdr_values.specs.declared.order.Order.{Order}
 use Rattle.cdr_values.specs.Value.{Value, Octet, UShort, ULong, OctetSequence, Text, gap}
+use Rattle.cdr_values.specs.Sequence.{sequence_values}
+use Rattle.cdr_values.specs.Tagged.{reference_values, tagged_values}
 use Rattle.giop_frames.specs.declared.fault.FrameFault.{FrameFault}
 use Rattle.giop_frames.specs.declared.fault.FrameFault.TheVariants.{BadFragment}
 use Rattle.giop_frames.specs.declared.header.Kind.{Kind}
@@ -51,27 +52,23 @@ pub record Fields : Type 0 where
 abbrev pub blank : Fields
 blank = record { id = 0; flags = 0; status = 0; target = Reference; operation = []; contexts = [] }
 
--- a tagged profile of a reference (Interoperable Object References, TaggedProfile): its tag, and its octets
-abbrev pub profile_values : ℕ × List ℕ → List Value
-profile_values profile = ULong profile.0 ∷ OctetSequence profile.1 ∷ []
-
 -- the values of a target (TargetAddress): KeyAddr and the key, whose length has a limit (our profile); ProfileAddr and
 -- a profile; or ReferenceAddr, an index and a reference, whose number of profiles has a limit (our profile). CORBA's
 -- discriminator is a short, of which 0, 1 and 2 are used.
 abbrev pub IsTarget : Target → List Value → Type 0
 IsTarget (Key key) values = (values ≡ UShort 0 ∷ OctetSequence key ∷ []) × (length key ≤ key_limit)
-IsTarget Profile values = (profile : ℕ × List ℕ) × (values ≡ UShort 1 ∷ profile_values profile)
+IsTarget Profile values = (profile : ℕ × List ℕ) × (values ≡ UShort 1 ∷ tagged_values profile)
 IsTarget Reference values =
-    (index : ℕ) × (type_id : List ℕ) × (profiles : List (ℕ × List ℕ)) × (length profiles ≤ profile_limit)
-    × (values ≡ UShort 2 ∷ ULong index ∷ Text type_id ∷ ULong (length profiles) ∷ flat_map profile_values profiles)
+    (index : ℕ) × (reference : List ℕ × List (ℕ × List ℕ)) × (length reference.1 ≤ profile_limit)
+    × (values ≡ UShort 2 ∷ ULong index ∷ reference_values reference)
 
 -- a service context (ORB Interoperability Architecture, ServiceContext)
 abbrev pub context_values : ServiceContext → List Value
-context_values context = ULong context.id ∷ OctetSequence context.bytes ∷ []
+context_values context = tagged_values (context.id, context.bytes)
 
 -- how many contexts there are, and then each
 abbrev pub contexts_values : List ServiceContext → List Value
-contexts_values contexts = ULong (length contexts) ∷ flat_map context_values contexts
+contexts_values contexts = sequence_values context_values contexts
 
 -- these are the values of a field, which tells this beside what was told before. A reserved octet may be anything, and
 -- the number of contexts has a limit (our profile).
