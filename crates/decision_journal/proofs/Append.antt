@@ -85,7 +85,7 @@ one_write disk place octets s settled is =
     ∙ ap (λ (l : List ℕ). record { synced = l; writes = record { place = place; octets = octets } ∷ [] }) is
 
 -- a crash that goes by a moment that is known
-leaves_at : (P : List ℕ → Type 0) (m known : Moment) → m ≡ known → LeavesOnly P known → LeavesOnly P m
+pub leaves_at : (P : List ℕ → Type 0) (m known : Moment) → m ≡ known → LeavesOnly P known → LeavesOnly P m
 leaves_at P m known is h = λ c image. h c (subst (λ (m : Moment). IsImage m c) is image)
 
 module _ (service : ℕ) (rs : List JournalRecord) (r : JournalRecord) (disk : DiskState) (settled : IsSettled disk) (stands : StandsFor service disk.reads rs) (can : CanAppend service rs r) where

@@ -8,3 +8,5 @@ pub mod Ways
 pub mod Steps
 pub mod Scans
 pub mod Pieces
+pub mod Few
+pub mod Kept

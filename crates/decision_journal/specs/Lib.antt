@@ -3,3 +3,4 @@ pub mod Layout
 pub mod Reading
 pub mod Journal
 pub mod Laws
+pub mod State

@@ -119,7 +119,7 @@ fn take_away(standing: &mut Vec<Standing>, place: u32)
 }
 
 /// Whether it is a decision or prepared record.
-fn is_decided(item: &JournalRecord) -> bool
+pub(crate) fn is_decided(item: &JournalRecord) -> bool
     ensures { result ≡ is_decision item.now }
 {
     matches!(

@@ -1,4 +1,9 @@
+ghost use Rattle.std.specs.Prelude.{◌≡◌};
+ghost use Rattle.decision_journal.specs.declared.journal.JournalFault.TheVariants.{DiskFault, Memory};
+
 use crate::record::JournalRecord;
+use ots_outside::DiskRefusal;
+use std::alloc::{AllocError, AllocFailed};
 
 /// A record that stands, and the place of its gate.
 #[derive(Drop)]
@@ -29,4 +34,31 @@ pub enum JournalFault {
     LivesSpent,
     /// Memory ran out.
     Memory,
+}
+
+impl From<AllocError> for JournalFault {
+    ghost from_gives = { λ _ fault. fault ≡ Memory };
+
+    fn from(_: AllocError) -> Self {
+        JournalFault::Memory
+    }
+}
+
+impl<T: Drop> From<AllocFailed<T>> for JournalFault {
+    ghost from_gives = { λ _ fault. fault ≡ Memory };
+
+    fn from(_: AllocFailed<T>) -> Self {
+        JournalFault::Memory
+    }
+}
+
+/// The fault of a journal whose disk refused a call.
+pub(crate) fn fault_of(refusal: DiskRefusal) -> JournalFault
+    ensures failed { refusal ≡ DiskRefusal.Failed → result ≡ DiskFault }
+    ensures memory { refusal ≡ DiskRefusal.Memory → result ≡ Memory }
+{
+    match refusal {
+        DiskRefusal::Failed => JournalFault::DiskFault,
+        DiskRefusal::Memory => JournalFault::Memory,
+    }
 }

@@ -10,6 +10,8 @@ mod found;
 mod journal;
 mod laws;
 mod reading;
+mod keeping;
 mod record;
+mod room;
 mod scan;
 mod writing;
