@@ -1,5 +1,5 @@
 -- A journal as its callers see it, and what an append answers (our profile).
-use Rattle.std.specs.Prelude.{◌≡◌, ℕ, ◌+◌, ◌*◌, ◌<◌, Bool, true, false, nat_lt, if◌then◌else◌, List, [], ◌∷◌, ◌++◌, length, Option, IfSome}
+use Rattle.std.specs.Prelude.{◌≡◌, ℕ, ◌+◌, ◌*◌, ◌<◌, ◌⊎◌, Bool, true, false, nat_lt, if◌then◌else◌, List, [], ◌∷◌, ◌++◌, length, Option, IfSome}
 use Rattle.std.specs.List.{count_by}
 use Rattle.ots_outside.specs.Disk.{DiskState, LeavesOnlySince, Tells}
 use Rattle.ots_outside.specs.Source.{HasRisen}
@@ -8,7 +8,7 @@ use Rattle.decision_journal.specs.declared.journal.JournalFault.TheVariants.{Dis
 use Rattle.decision_journal.specs.declared.record.JournalRecord.{JournalRecord}
 use Rattle.decision_journal.specs.Limits.{area_limit, standing_limit}
 use Rattle.decision_journal.specs.Layout.{payload, record_octets}
-use Rattle.decision_journal.specs.Journal.{Found, IsFilled, StandsAt, StandsFor, StandsForEither, is_decision, with_record}
+use Rattle.decision_journal.specs.Journal.{Found, IsBroken, IsFilled, IsOtherHeader, StandsAt, StandsFor, StandsForEither, is_decision, with_record}
 use Rattle.decision_journal.specs.Laws.{IsSettled}
 
 -- a journal: its disk, how large its area is, its service, the octets before the gate at the end, what their records leave,
@@ -87,3 +87,13 @@ AppendIsSafe service r before after = (rs : List JournalRecord) → StandsFor se
 abbrev pub AppendIsDone : ℕ → JournalRecord → DiskState → DiskState → Type 0
 AppendIsDone service r before after = (rs : List JournalRecord) → StandsFor service before.reads rs
     → StandsFor service after.reads (rs ++ r ∷ []) × IsSettled after
+
+-- why a disk was not opened, of octets that it reads where it tells them, and whose count of faults was and is so
+abbrev pub IsOpenFault : ℕ → Option DiskState → ℕ → ℕ → JournalFault → Type 0
+IsOpenFault service told before after DiskFault = HasRisen before after
+IsOpenFault service told before after (Full u n) = ⊥
+IsOpenFault service told before after (BadHeader place) =
+    IfSome told (λ s. (length s.reads < 17) ⊎ IsOtherHeader service s.reads place)
+IsOpenFault service told before after (BadRecord place) = IfSome told (λ s. IsBroken service s.reads place)
+IsOpenFault service told before after LivesSpent = ⊥
+IsOpenFault service told before after Memory = Unit {0}

@@ -1,14 +1,16 @@
-ghost use Rattle.std.specs.Prelude.{◌≡◌, ◌≤◌, ◌+◌, length, false, IsTrue, IfOk, IfErr, OnOk};
+ghost use Rattle.std.specs.Prelude.{◌≡◌, ◌≤◌, ◌+◌, length, false, IsTrue, IfOk, IfErr, IfSome, OnOk};
 ghost use Rattle.decision_journal.specs.Layout.{Fits};
 ghost use Rattle.decision_journal.specs.Journal.{can_follow};
-ghost use Rattle.ots_outside.specs.Disk.{Tells};
+ghost use Rattle.decision_journal.specs.Limits.{area_limit};
+ghost use Rattle.ots_outside.specs.Disk.{IsAfterRefusal, Tells, synced};
 
-use crate::disk_calls::append_at;
+use crate::disk_calls::{append_at, read_whole};
 use crate::found::Index;
-use crate::journal::{JournalFault, fault_of};
+use crate::journal::{JournalFault, Standing, fault_of};
 use crate::record::JournalRecord;
 use crate::room::{keep, prepared};
-use ots_outside::Disk;
+use crate::scan::opened;
+use ots_outside::{Back, Disk};
 use std::alloc::Global;
 use std::marker::Model;
 
@@ -42,7 +44,8 @@ impl<D: Disk> Model for Journal<D> {
 }
 
 impl<D: Disk> Journal<D> {
-    ghost use Rattle.decision_journal.specs.State.{AppendIsDone, AppendIsSafe, HasMore, IsAppendFault, need, used};
+    ghost use Rattle.decision_journal.specs.State.{AppendIsDone, AppendIsSafe, HasMore, IsAppendFault, IsAtRest, IsOpenFault, need, used};
+    ghost use Rattle.decision_journal.specs.Journal.{IsFilled};
 
     /// Whether the next call reads the disk again.
     pub fn failed(&self) -> bool
@@ -58,8 +61,66 @@ impl<D: Disk> Journal<D> {
         self.index.life()
     }
 
-    /// Appends a record to a journal that needn't read its disk again.
-    fn append_kept(&mut self, item: JournalRecord) -> Result<u32, JournalFault>
+    /// The records that stand, and all records of cells, in order.
+    pub fn standing(&self) -> &[Standing]
+        ensures { result.now ≡ self.now.found.standing }
+    {
+        self.index.standing()
+    }
+
+    /// The octets before the gate at the end.
+    pub fn octets(&self) -> &[u8]
+        ensures octets { result.now ≡ self.now.octets }
+        ensures filled { IsFilled self.now.service result.now self.now.found }
+    {
+        self.octets.as_slice()
+    }
+
+    /// Opens the journal that a disk holds: syncs the disk, and reads all of it. It writes nothing.
+    pub fn open(
+        alloc: Global,
+        mut disk: D,
+        area: u64,
+        service: u64,
+    ) -> Result<Journal<D>, Back<D, JournalFault>>
+        requires { area ≤ area_limit }
+        ensures area { IfOk result (λ journal. journal.area ≡ area) }
+        ensures service { IfOk result (λ journal. journal.service ≡ service) }
+        ensures kept { IfOk result (λ journal. journal.failed ≡ false) }
+        ensures filled { IfOk result (λ journal. IsFilled service journal.octets journal.found) }
+        ensures rest { IfOk result (λ journal. IfSome (D.told journal.disk) (IsAtRest journal.octets)) }
+        ensures synced { IfOk result (λ journal. Tells (D.told disk) (D.told journal.disk) (λ s t. t ≡ synced s)) }
+        ensures back { IfErr result
+            (λ back. Tells (D.told disk) (D.told back.value) (λ s t. IsAfterRefusal s (synced s) t)) }
+        ensures fault { IfErr result
+            (λ back. IsOpenFault service (D.told back.value) (D.faults disk) (D.faults back.value) back.fault) }
+    {
+        let mut octets = match read_whole(alloc, &mut disk) {
+            Ok(octets) => octets,
+            Err(refusal) => {
+                return Err(Back {
+                    value: disk,
+                    fault: fault_of(refusal),
+                });
+            }
+        };
+        match opened(alloc, service, &mut octets) {
+            Ok(index) => Ok(Journal {
+                alloc,
+                disk,
+                area,
+                service,
+                octets,
+                index,
+                failed: false,
+            }),
+            Err(fault) => Err(Back { value: disk, fault }),
+        }
+    }
+
+    /// Appends a record, and tells the place of its gate. After a fault of the disk `failed` is true, and nothing can be
+    /// appended.
+    pub fn append(&mut self, item: JournalRecord) -> Result<u32, JournalFault>
         requires kept { self.old.failed ≡ false }
         requires fits { Fits item }
         requires follows { IsTrue (can_follow self.old.found item) }

@@ -2,6 +2,7 @@
 #![tactic(auto)]
 
 pub use journal::{JournalFault, Standing};
+pub use keeping::Journal;
 pub use laws::{appends_are_safe, octets_stand_for_one_list, payloads_tell_records};
 pub use record::{CellsEnd, JournalRecord, Put, Puts, Registration, Registrations};
 

@@ -1,7 +1,7 @@
 ghost use Rattle.std.specs.Prelude.{◌≡◌, ◌<◌, ◌++◌, ◌↔◌, IsTrue, length, drop, IfOk, IfErr, IfSome, IfNone, OnOk, IsErrOf};
 ghost use Rattle.decision_journal.specs.declared.reading.ReadFault.TheVariants.{NoRecord};
 ghost use Rattle.decision_journal.specs.Limits.{area_limit};
-ghost use Rattle.decision_journal.specs.Journal.{HasNoStep, IsFilled, IsOtherHeader, IsScanFault, IsScanned, IsStep, IsWithin, StandsAt, header, nothing_found};
+ghost use Rattle.decision_journal.specs.Journal.{HasNoStep, IsFilled, IsOpenedFault, IsOtherHeader, IsScanFault, IsScanned, IsStep, IsWithin, StandsAt, header, nothing_found};
 
 use byteorder::{BigEndian, ByteOrder};
 use crate::found::Index;
@@ -116,4 +116,20 @@ pub(crate) fn filled(
     let gate = octets.len() - rest.len();
     octets.truncate(gate);
     Ok(index)
+}
+
+/// Reads the records of octets, where these are a journal, and leaves those before the gate at the end.
+pub(crate) fn opened(
+    alloc: Global,
+    service: u64,
+    octets: &mut Vec<u8>,
+) -> Result<Index, JournalFault>
+    ensures filled { IfOk result (IsFilled service octets.new.items) }
+    ensures stands { OnOk result (StandsAt octets.new.items octets.old.items) }
+    ensures fault { IfErr result (IsOpenedFault service octets.old.items) }
+{
+    if octets.len() <= HEADER_LENGTH {
+        return Err(JournalFault::BadHeader(octets.len() as u32));
+    }
+    filled(alloc, service, octets)
 }

@@ -2,6 +2,7 @@
 //! from, where they go, and disks that outlast a crash.
 #![tactic(auto)]
 
+pub use back::Back;
 pub use disk::{Disk, DiskRefusal};
 pub use file_disk::FileDisk;
 pub use mem_disk::{MemDisk, SureDisk};
@@ -10,6 +11,7 @@ pub use sink::Sink;
 pub use source::{Failed, Source};
 pub use streams::{StdSink, StdSource};
 
+mod back;
 mod disk;
 mod file_disk;
 mod mem_disk;

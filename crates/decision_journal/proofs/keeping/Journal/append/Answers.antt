@@ -8,8 +8,8 @@ use Rattle.decision_journal.specs.Laws.{IsOnTheWay, appended, behind_gate}
 use Rattle.decision_journal.proofs.Few.{few}
 use Rattle.decision_journal.proofs.Scans.{more_records}
 use Rattle.decision_journal.proofs.Kept.{at_rest, start_safe, way_safe, end_done, end_kept, retold, room_within, body_kept}
-use Rattle.decision_journal.proofs.keeping.Journal.append_kept.Given as given
-use Rattle.decision_journal.proofs.keeping.Journal.append_kept.Goals as goal
+use Rattle.decision_journal.proofs.keeping.Journal.append.Given as given
+use Rattle.decision_journal.proofs.keeping.Journal.append.Goals as goal
 
 pub prepared-requires-clause-few : goal.prepared-requires-clause-few
 prepared-requires-clause-few g c = omega (arith, few c.self.inside.service c.self.inside.octets.items c.self.inside.index c.self.invariant.filled, c.len-gate.ensures)
