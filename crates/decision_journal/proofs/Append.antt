@@ -1,15 +1,13 @@
 -- What a crash leaves in each step of an append.
-use Rattle.std.proofs.Common.{◌≡◌, ◌≢◌, ◌⊎◌, inl, inr, ℕ, zero, suc, ◌+◌, ◌<◌, ◌≤◌, List, [], ◌∷◌, ◌++◌, length, get_or, take, drop, refl, sym, ap, subst, ◌∙◌, arith, append_assoc, length-append}
+use Rattle.std.proofs.Common.{◌≡◌, ◌≢◌, inl, inr, ℕ, suc, ◌+◌, List, [], ◌∷◌, ◌++◌, length, get_or, drop, refl, sym, ap, subst, ◌∙◌, arith, append_assoc, length-append}
 use Rattle.std.specs.Prelude.{IsTrue}
 use Rattle.std.specs.List.{flat_map, AllByRecursion}
-use Rattle.std.proofs.lemmas.Grind.{common_steps}
 use Rattle.std.proofs.Math.Seq.{take-append-add, take-append_seam, drop-append-add}
 use Rattle.std.proofs.lemmas.Bool.{cases_eq}
-use Rattle.std.proofs.lemmas.List.{append-nil, take_at, drop_at}
+use Rattle.std.proofs.lemmas.List.{append-nil}
 use Rattle.std.proofs.lemmas.List.Concat.{flat_map-append, flat_map-cons}
 use Rattle.ots_outside.specs.Disk.{DiskState, Moment, IsImage, LeavesOnly, LeavesOnlySince, overwritten, synced, written}
 use Rattle.decision_journal.specs.declared.record.JournalRecord.{JournalRecord}
-use Rattle.decision_journal.specs.Limits.{area_limit}
 use Rattle.decision_journal.specs.Layout.{four, payload, record_octets, Fits}
 use Rattle.decision_journal.specs.Journal.{AreInTurn, StandsFor, StandsForEither, front, header, Found, nothing_found, first_gate, with_record, with_records, can_follow}
 use Rattle.decision_journal.specs.Laws.{CanAppend, IsSettled, appended, behind_gate}
@@ -125,10 +123,10 @@ module _ (service : ℕ) (rs : List JournalRecord) (r : JournalRecord) (disk : D
   pub leaves_first : LeavesOnly P first.present
   leaves_first =
       leaves_at P first.present _ (one_write disk (g + 1) (behind_gate r) (f ++ stands.gate ∷ stands.behind) settled stands.octets_are) (λ c image.
-        let regrouped : f ++ stands.gate ∷ stands.behind ≡ (f ++ stands.gate ∷ []) ++ stands.behind = sym (append_assoc f (stands.gate ∷ []) stands.behind) in
-        let image2 = subst (λ (l : List ℕ). IsImage (record { synced = l; writes = record { place = g + 1; octets = behind_gate r } ∷ [] }) c) regrouped image in
-        let is = image_behind (f ++ stands.gate ∷ []) stands.behind (behind_gate r) c (g + 1) (omega (arith, length-append f (stands.gate ∷ []))) image2 in
-        inl ((stands_with service rs disk.reads stands stands.gate _ c (is ∙ append_assoc f (stands.gate ∷ []) _) stands.closed)))
+      let regrouped : f ++ stands.gate ∷ stands.behind ≡ (f ++ stands.gate ∷ []) ++ stands.behind = sym (append_assoc f (stands.gate ∷ []) stands.behind) in
+      let image2 = subst (λ (l : List ℕ). IsImage (record { synced = l; writes = record { place = g + 1; octets = behind_gate r } ∷ [] }) c) regrouped image in
+      let is = image_behind (f ++ stands.gate ∷ []) stands.behind (behind_gate r) c (g + 1) (omega (arith, length-append f (stands.gate ∷ []))) image2 in
+      inl ((stands_with service rs disk.reads stands stands.gate _ c (is ∙ append_assoc f (stands.gate ∷ []) _) stands.closed)))
 
   -- the first write is whole
   pub leaves_synced : LeavesOnly P (synced first).present
@@ -138,7 +136,7 @@ module _ (service : ℕ) (rs : List JournalRecord) (r : JournalRecord) (disk : D
   pub leaves_second : LeavesOnly P second.present
   leaves_second =
       leaves_at P second.present _ (one_write (synced first) g (1 ∷ []) (f ++ stands.gate ∷ (body r ++ 0 ∷ behind)) refl first_reads) (λ c image.
-        stands_either service rs disk.reads stands r can (get_or c g 0) behind c (image_one f (body r ++ 0 ∷ behind) c stands.gate 1 image))
+      stands_either service rs disk.reads stands r can (get_or c g 0) behind c (image_one f (body r ++ 0 ∷ behind) c stands.gate 1 image))
 
   pub stands_after : StandsFor service second.reads (rs ++ r ∷ [])
   stands_after = stands_more service rs disk.reads stands r can behind second.reads second_reads

@@ -4,13 +4,13 @@ use Rattle.std.proofs.Common.{◌≡◌, ℕ, zero, suc, ◌+◌, ◌^◌, ◌<�
 use Rattle.std.specs.List.{flat_map, AllByRecursion}
 use Rattle.std.specs.Int.{w16, w32, w64, from_be_bytes}
 use Rattle.std.proofs.lemmas.Bool.{cases_lt, ltb-false, le-ltb}
-use Rattle.std.proofs.lemmas.List.{append-nil, take_at, drop_at, take-append-drop, length-append, length-take, get_or-drop, get_or-take, get_or_past}
+use Rattle.std.proofs.lemmas.List.{drop_at, take-append-drop, length-append, length-take, get_or-drop, get_or-take, get_or_past}
 use Rattle.std.proofs.lemmas.List.Concat.{flat_map-cons}
 use Rattle.std.proofs.lemmas.Nat.{be_bytes_2, be_bytes_4, be_bytes_8}
 use Rattle.byteorder.specs.Endian.{big_bytes, big_number}
 use Rattle.byteorder.specs.Numbers.{big_from-take, big_from-lt, big_number-reads_back, length-bytes_high_first}
 use Rattle.decision_journal.specs.Layout.{one, two}
-use Rattle.decision_journal.specs.Reading.{◌>>=◌, Reading, number_at, kept_octets, both_at, made_at, list_at, counted_at, none_at}
+use Rattle.decision_journal.specs.Reading.{◌>>=◌, Reading, number_at, both_at, made_at, list_at, counted_at, none_at}
 
 abbrev pub IsOctets : List ℕ → Type 0
 IsOctets octets = (i : ℕ) → get_or octets i 0 < 256
@@ -58,18 +58,18 @@ pub record IsCodec {A : Type 0} (spell : A → List ℕ) (at : List ℕ → Read
 number_codec : (n : ℕ) → ((octets : List ℕ) → n ≤ length octets → IsOctets octets → big_bytes n (big_number n octets) ≡ take n octets) → IsCodec (big_bytes n) (number_at n) (λ x. x < 256 ^ n)
 number_codec n back = record {
   again = λ x rest fits.
-    let len : length (big_bytes n x) ≡ n = length-bytes_high_first n x in
-    let long : ltb (length (big_bytes n x ++ rest)) n ≡ false = le-ltb _ _ (omega (arith, len, length-append (big_bytes n x) rest)) in
-    rw (long, big_number-reads_back n x rest fits, drop_at (big_bytes n x) rest n len) refl;
+      let len : length (big_bytes n x) ≡ n = length-bytes_high_first n x in
+      let long : ltb (length (big_bytes n x ++ rest)) n ≡ false = le-ltb _ _ (omega (arith, len, length-append (big_bytes n x) rest)) in
+      rw (long, big_number-reads_back n x rest fits, drop_at (big_bytes n x) rest n len) refl;
   takes = λ octets x rest octets_fit e.
-    let g = guard_some (ltb (length octets) n) (Some (big_number n octets, drop n octets)) (x, rest) e in
-    let long : n ≤ length octets = ltb-false _ _ g.0 in
-    let is = some_is (big_number n octets, drop n octets) (x, rest) g.1 in
-    let whole : Taken octets (big_bytes n (big_number n octets)) (drop n octets) × (big_number n octets < 256 ^ n) = (
-      record { parts = rw (back octets long octets_fit) (sym (take-append-drop n octets)); rest_fits = IsOctets-drop n octets octets_fit },
-      big_from-lt 0 n octets octets_fit,
-    ) in
-    subst (λ (p : ℕ × List ℕ). Taken octets (big_bytes n p.0) p.1 × (p.0 < 256 ^ n)) is whole;
+      let g = guard_some (ltb (length octets) n) (Some (big_number n octets, drop n octets)) (x, rest) e in
+      let long : n ≤ length octets = ltb-false _ _ g.0 in
+      let is = some_is (big_number n octets, drop n octets) (x, rest) g.1 in
+      let whole : Taken octets (big_bytes n (big_number n octets)) (drop n octets) × (big_number n octets < 256 ^ n) = (
+        record { parts = rw (back octets long octets_fit) (sym (take-append-drop n octets)); rest_fits = IsOctets-drop n octets octets_fit },
+        big_from-lt 0 n octets octets_fit,
+      ) in
+      subst (λ (p : ℕ × List ℕ). Taken octets (big_bytes n p.0) p.1 × (p.0 < 256 ^ n)) is whole;
 }
 
 two_back : (xs : List ℕ) → 2 ≤ length xs → IsOctets xs → big_bytes 2 (big_number 2 xs) ≡ take 2 xs
@@ -106,7 +106,7 @@ one_takes : (octets : List ℕ) (x : ℕ) (rest : List ℕ) → IsOctets octets 
 one_takes [] x rest h e = absurd cc
 one_takes (b ∷ octets) x rest h e =
     subst (λ (p : ℕ × List ℕ). Taken (b ∷ octets) (one p.0) p.1 × (p.0 < 256)) (some_is (b, octets) (x, rest) (sym (one_at b octets) ∙ e))
-      (record { parts = refl; rest_fits = λ i. h (suc i) }, h 0)
+    (record { parts = refl; rest_fits = λ i. h (suc i) }, h 0)
 
 pub one_codec : IsCodec one (number_at 1) (λ x. x < 256)
 one_codec = record { again = λ x rest fits. one_at x rest; takes = one_takes }
@@ -127,12 +127,12 @@ pub both_codec : {A B : Type 0} {s : A → List ℕ} {a : List ℕ → Reading A
 both_codec {A} {B} {s} {a} {F} {t} {b} {G} p q = record {
   again = λ x rest fits. rw (append_assoc (s x.0) (t x.1) rest, p.again x.0 (t x.1 ++ rest) fits.0, q.again x.1 rest fits.1) refl;
   takes = λ octets x rest h e.
-    let first = bind_some (a octets) (λ x. b x.1 >>= λ y. Some ((x.0, y.0), y.1)) (x, rest) e in
-    let second = bind_some (b first.0.1) (λ y. Some ((first.0.0, y.0), y.1)) (x, rest) first.2 in
-    let t1 = p.takes octets first.0.0 first.0.1 h first.1 in
-    let t2 = q.takes first.0.1 second.0.0 second.0.1 t1.0.rest_fits second.1 in
-    let made : (A × B) × List ℕ = ((first.0.0, second.0.0), second.0.1) in
-    subst (λ (y : (A × B) × List ℕ). Taken octets (s y.0.0 ++ t y.0.1) y.1 × (F y.0.0 × G y.0.1)) (some_is made (x, rest) second.2)
+      let first = bind_some (a octets) (λ x. b x.1 >>= λ y. Some ((x.0, y.0), y.1)) (x, rest) e in
+      let second = bind_some (b first.0.1) (λ y. Some ((first.0.0, y.0), y.1)) (x, rest) first.2 in
+      let t1 = p.takes octets first.0.0 first.0.1 h first.1 in
+      let t2 = q.takes first.0.1 second.0.0 second.0.1 t1.0.rest_fits second.1 in
+      let made : (A × B) × List ℕ = ((first.0.0, second.0.0), second.0.1) in
+      subst (λ (y : (A × B) × List ℕ). Taken octets (s y.0.0 ++ t y.0.1) y.1 × (F y.0.0 × G y.0.1)) (some_is made (x, rest) second.2)
       (Taken-then octets (s first.0.0) first.0.1 (t second.0.0) second.0.1 t1.0 t2.0, (t1.1, t2.1));
 }
 
@@ -146,12 +146,12 @@ pub made_codec : {A B : Type 0} {s : A → List ℕ} {a : List ℕ → Reading A
 made_codec {A} {B} {s} {a} {F} make from G p makes = record {
   again = λ y rest fits. rw (p.again (from y) rest (makes.forth y fits).1, (makes.forth y fits).0) refl;
   takes = λ octets y rest h e.
-    let first = bind_some (a octets) (λ x. make x.0 >>= λ y. Some (y, x.1)) (y, rest) e in
-    let second = bind_some (make first.0.0) (λ z. Some (z, first.0.1)) (y, rest) first.2 in
-    let taken = p.takes octets first.0.0 first.0.1 h first.1 in
-    let same = makes.back first.0.0 second.0 taken.1 second.1 in
-    let made : B × List ℕ = (second.0, first.0.1) in
-    subst (λ (z : B × List ℕ). Taken octets (s (from z.0)) z.1 × G z.0) (some_is made (y, rest) second.2)
+      let first = bind_some (a octets) (λ x. make x.0 >>= λ y. Some (y, x.1)) (y, rest) e in
+      let second = bind_some (make first.0.0) (λ z. Some (z, first.0.1)) (y, rest) first.2 in
+      let taken = p.takes octets first.0.0 first.0.1 h first.1 in
+      let same = makes.back first.0.0 second.0 taken.1 second.1 in
+      let made : B × List ℕ = (second.0, first.0.1) in
+      subst (λ (z : B × List ℕ). Taken octets (s (from z.0)) z.1 × G z.0) (some_is made (y, rest) second.2)
       (subst (λ (x : A). Taken octets (s x) first.0.1) (sym same.0) taken.0, same.1);
 }
 
@@ -191,17 +191,17 @@ list_takes {A} {s} {a} {F} p (suc n) octets x h e =
     let both = Taken-then octets (s first.0.0) first.0.1 (flat_map s others.0.0) others.0.1 t1.0 t2.0 in
     let made : List A × List ℕ = (first.0.0 ∷ others.0.0, others.0.1) in
     subst (λ (y : List A × List ℕ). Taken octets (flat_map s y.0) y.1 × (length y.0 ≡ suc n) × AllByRecursion F y.0) (some_is made x others.2)
-      (rw flat_map-cons both, ap suc t2.1, (t1.1, t2.2))
+    (rw flat_map-cons both, ap suc t2.1, (t1.1, t2.2))
 
 pub counted_codec : {A : Type 0} {s : A → List ℕ} {a : List ℕ → Reading A} {F : A → Type 0} → IsCodec s a F
     → IsCodec (λ (xs : List A). two (length xs) ++ flat_map s xs) (counted_at a) (λ xs. (length xs < 2 ^ 16) × AllByRecursion F xs)
 counted_codec {A} {s} {a} {F} p = record {
   again = λ xs rest fits.
-    rw (append_assoc (two (length xs)) (flat_map s xs) rest, two_codec.again (length xs) (flat_map s xs ++ rest) fits.0) (list_again p xs rest fits.1);
+      rw (append_assoc (two (length xs)) (flat_map s xs) rest, two_codec.again (length xs) (flat_map s xs ++ rest) fits.0) (list_again p xs rest fits.1);
   takes = λ octets xs rest h e.
-    let n = bind_some (number_at 2 octets) (λ n. list_at a n.0 n.1) (xs, rest) e in
-    let t1 = two_codec.takes octets n.0.0 n.0.1 h n.1 in
-    let t2 = list_takes p n.0.0 n.0.1 (xs, rest) t1.0.rest_fits n.2 in
-    let both = Taken-then octets (two n.0.0) n.0.1 (flat_map s xs) rest t1.0 t2.0 in
-    (subst (λ (k : ℕ). Taken octets (two k ++ flat_map s xs) rest) (sym t2.1) both, (omega (arith, t2.1, t1.1), t2.2));
+      let n = bind_some (number_at 2 octets) (λ n. list_at a n.0 n.1) (xs, rest) e in
+      let t1 = two_codec.takes octets n.0.0 n.0.1 h n.1 in
+      let t2 = list_takes p n.0.0 n.0.1 (xs, rest) t1.0.rest_fits n.2 in
+      let both = Taken-then octets (two n.0.0) n.0.1 (flat_map s xs) rest t1.0 t2.0 in
+      (subst (λ (k : ℕ). Taken octets (two k ++ flat_map s xs) rest) (sym t2.1) both, (omega (arith, t2.1, t1.1), t2.2));
 }

@@ -1,14 +1,14 @@
 -- No more records stand than there are octets.
-use Rattle.std.proofs.Common.{◌≡◌, ℕ, zero, suc, ◌+◌, ◌-◌, ◌<◌, ◌≤◌, List, [], ◌∷◌, ◌++◌, length, take, drop, Option, Some, None, refl, sym, ap, subst, ◌∙◌, arith, length-append, length-take, length-drop}
+use Rattle.std.proofs.Common.{ℕ, suc, ◌+◌, ◌≤◌, List, [], ◌∷◌, ◌++◌, length, take, drop, Option, Some, None, ap, arith, length-append, length-take, length-drop}
 use Rattle.std.specs.Prelude.{position}
-use Rattle.std.specs.List.{flat_map, remove, count_by}
+use Rattle.std.specs.List.{flat_map, remove}
 use Rattle.std.proofs.lemmas.List.Sums.{count_by-le-length}
 use Rattle.std.proofs.lemmas.List.Concat.{flat_map-cons}
 use Rattle.decision_journal.specs.declared.journal.Standing.{Standing}
 use Rattle.decision_journal.specs.declared.record.JournalRecord.{JournalRecord}
 use Rattle.decision_journal.specs.declared.record.JournalRecord.TheVariants.{Life, Decision, Done, Prepared, CellsPrepared, CellsOutcome, CellsOnePhase}
 use Rattle.decision_journal.specs.Layout.{record_octets}
-use Rattle.decision_journal.specs.Journal.{Found, nothing_found, first_gate, with_record, with_records, found_in, taken_away, is_decision, is_decision_at, IsFilled}
+use Rattle.decision_journal.specs.Journal.{Found, nothing_found, first_gate, with_record, with_records, taken_away, is_decision, is_decision_at, IsFilled}
 use Rattle.decision_journal.specs.State.{decisions}
 use Rattle.decision_journal.proofs.Scans.{length_front}
 

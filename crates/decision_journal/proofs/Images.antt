@@ -1,8 +1,7 @@
 -- What an image of a disk is, where few places were written.
-use Rattle.std.proofs.Common.{◌≡◌, ◌≢◌, ◌⊎◌, inl, inr, ℕ, zero, suc, ◌+◌, ◌<◌, ◌≤◌, max, List, [], ◌∷◌, ◌++◌, length, get_or, take, drop, refl, sym, ap, subst, ◌∙◌, arith, length-append}
-use Rattle.std.proofs.lemmas.Grind.{common_steps}
+use Rattle.std.proofs.Common.{◌≡◌, ◌≢◌, inl, inr, ℕ, suc, ◌<◌, ◌≤◌, List, [], ◌∷◌, ◌++◌, length, get_or, drop, refl, ap, ◌∙◌, arith, length-append}
 use Rattle.std.proofs.lemmas.List.{append-nil, drop_all, get_or_append_left}
-use Rattle.ots_outside.specs.Disk.{Moment, Write, IsImage, IsWritten}
+use Rattle.ots_outside.specs.Disk.{IsImage, IsWritten}
 
 -- octets that agree with a list on all its places begin with it
 pub begins_with : (a c : List ℕ) → length a ≤ length c → ((i : ℕ) → i < length a → get_or c i 0 ≡ get_or a i 0) → c ≡ a ++ drop (length a) c
@@ -32,7 +31,7 @@ image_settled s c image = same_octets s c (omega (arith, image.no_shorter, image
 pub image_behind : (a b octets c : List ℕ) (place : ℕ) → length a ≤ place → IsImage (record { synced = a ++ b; writes = record { place = place; octets = octets } ∷ [] }) c → c ≡ a ++ drop (length a) c
 image_behind a b octets c place le image =
     begins_with a c (omega (arith, image.no_shorter, length-append a b)) (λ i lt.
-      image.kept i (omega (arith, length-append a b)) (before i lt) ∙ get_or_append_left a b 0 i lt)
+    image.kept i (omega (arith, length-append a b)) (before i lt) ∙ get_or_append_left a b 0 i lt)
   where
     before : (i : ℕ) → i < length a → IsWritten (record { place = place; octets = octets } ∷ []) i → ⊥
     before i lt (inl in_range) = absurd (omega (arith, in_range.0))

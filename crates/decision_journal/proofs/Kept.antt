@@ -1,19 +1,18 @@
 -- What an append leaves of a journal that is kept.
-use Rattle.std.proofs.Common.{◌≡◌, ◌≢◌, ◌⊎◌, inl, inr, ℕ, ◌+◌, ◌*◌, ◌<◌, ◌≤◌, Bool, true, false, cond, ◌-◌, List, [], ◌∷◌, ◌++◌, length, drop, take, Option, Some, None, refl, sym, ap, subst, ◌∙◌, arith, append_assoc, length-append}
+use Rattle.std.proofs.Common.{◌≡◌, inl, ℕ, ◌+◌, ◌*◌, ◌<◌, ◌≤◌, Bool, true, false, cond, ◌-◌, List, [], ◌∷◌, ◌++◌, length, take, Option, Some, None, refl, sym, ap, subst, ◌∙◌, arith, length-append}
 use Rattle.std.specs.Prelude.{IsTrue, IfSome, nat_lt}
-use Rattle.ots_outside.specs.Disk.{DiskState, IsImage, LeavesOnly, LeavesOnlySince, Tells, moments}
+use Rattle.ots_outside.specs.Disk.{DiskState, LeavesOnlySince, Tells}
 use Rattle.decision_journal.specs.declared.record.JournalRecord.{JournalRecord}
 use Rattle.decision_journal.specs.Limits.{area_limit, standing_limit}
 use Rattle.decision_journal.specs.Layout.{Fits, record_octets}
-use Rattle.decision_journal.specs.Journal.{Found, can_follow, is_decision, front, with_record, AreRecords, IsFilled, StandsAt, StandsFor, StandsForEither}
+use Rattle.decision_journal.specs.Journal.{Found, can_follow, is_decision, front, AreRecords, IsFilled, StandsAt, StandsFor, StandsForEither}
 use Rattle.decision_journal.specs.Laws.{CanAppend, IsOnTheWay, IsSettled, appended, behind_gate}
 use Rattle.std.proofs.lemmas.List.{take_at}
 use Rattle.decision_journal.specs.State.{decisions, need, AppendIsDone, AppendIsSafe, IsAtRest, IsKept}
-use Rattle.decision_journal.proofs.Append.{append_safe, body, front_more, leaves_at, stands_with}
+use Rattle.decision_journal.proofs.Append.{append_safe, body, front_more, leaves_at}
 use Rattle.decision_journal.proofs.Images.{image_settled}
 use Rattle.decision_journal.proofs.OneList.{one_list}
 use Rattle.decision_journal.proofs.Ways.{on_the_way}
-use Rattle.decision_journal.proofs.Scans.{more_records}
 
 pub stands_from : (service : ℕ) (octets c : List ℕ) (found : Found) (rs : List JournalRecord) → AreRecords service octets found rs → StandsAt octets c → StandsFor service c rs
 stands_from service octets c found rs a at = record {
@@ -66,8 +65,8 @@ module _ (service : ℕ) (octets : List ℕ) (found : Found) (item : JournalReco
     whole : (s : DiskState) → IsAtRest octets s → LeavesOnlySince (StandsForEither service rs item) s (End s) × StandsFor service (End s).reads (rs ++ item ∷ []) × IsSettled (End s)
     whole s rest =
         subst (λ (g : ℕ). LeavesOnlySince (StandsForEither service rs item) s (appended g (behind_gate item) s) × StandsFor service (appended g (behind_gate item) s).reads (rs ++ item ∷ []) × IsSettled (appended g (behind_gate item) s))
-          (sym (ap length filled.1.octets_are))
-          (append_safe service rs item s rest.settled (stands_from service octets s.reads found rs filled.1 rest.stands) (can_from service octets found rs item filled.1 fits follows within))
+        (sym (ap length filled.1.octets_are))
+        (append_safe service rs item s rest.settled (stands_from service octets s.reads found rs filled.1 rest.stands) (can_from service octets found rs item filled.1 fits follows within))
 
     same : (s : DiskState) (rs2 : List JournalRecord) → IsAtRest octets s → StandsFor service s.reads rs2 → rs ≡ rs2
     same s rs2 rest stands = one_list service s.reads rs rs2 (stands_from service octets s.reads found rs filled.1 rest.stands) stands
@@ -86,7 +85,7 @@ module _ (service : ℕ) (octets : List ℕ) (found : Found) (item : JournalReco
     is_done s t rest is rs2 stands =
         let w = whole s rest in
         subst (λ (l : List JournalRecord). StandsFor service t.reads (l ++ item ∷ []) × IsSettled t) (same s rs2 rest stands)
-          (subst (λ (t : DiskState). StandsFor service t.reads (rs ++ item ∷ []) × IsSettled t) (sym is) (w.1, w.2))
+        (subst (λ (t : DiskState). StandsFor service t.reads (rs ++ item ∷ []) × IsSettled t) (sym is) (w.1, w.2))
 
     pub end_done : (told after : Option DiskState) → IfSome told (IsAtRest octets) → Tells told after (λ s t. t ≡ End s) → Tells told after (AppendIsDone service item)
     end_done None None rest is = tt

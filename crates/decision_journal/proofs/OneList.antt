@@ -1,10 +1,9 @@
 -- Octets stand for one list of records.
-use Rattle.std.proofs.Common.{◌≡◌, ◌≢◌, ℕ, zero, suc, ◌+◌, ◌<◌, ◌≤◌, ◌^◌, List, [], ◌∷◌, ◌++◌, length, take, drop, Option, Some, refl, sym, ap, subst, ◌∙◌, arith, append_assoc, length-append}
+use Rattle.std.proofs.Common.{◌≡◌, ◌≢◌, ℕ, ◌<◌, ◌≤◌, ◌^◌, List, [], ◌∷◌, ◌++◌, length, take, drop, refl, sym, ap, ◌∙◌, arith, append_assoc, length-append}
 use Rattle.std.specs.List.{flat_map, AllByRecursion}
 use Rattle.std.proofs.lemmas.List.{take_at, drop_at, append_cancel_left}
 use Rattle.std.proofs.lemmas.List.Concat.{flat_map-cons}
 use Rattle.decision_journal.specs.declared.record.JournalRecord.{JournalRecord}
-use Rattle.decision_journal.specs.Limits.{area_limit}
 use Rattle.decision_journal.specs.Layout.{four, payload, record_octets, Fits}
 use Rattle.decision_journal.specs.Reading.{number_at, record_in}
 use Rattle.decision_journal.specs.Journal.{StandsFor, front, header}
@@ -65,6 +64,6 @@ one_list service octets rs ss a b =
     let behind : flat_map record_octets rs ++ a.gate ∷ a.behind ≡ flat_map record_octets ss ++ b.gate ∷ b.behind =
     append_cancel_left (header service) _ _ (sym (append_assoc (header service) (flat_map record_octets rs) (a.gate ∷ a.behind)) ∙ both ∙ append_assoc (header service) (flat_map record_octets ss) (b.gate ∷ b.behind)) in
     same_records rs ss a.gate b.gate a.behind b.behind a.fit b.fit a.closed b.closed
-      (omega (arith, a.within, length-append (header service) (flat_map record_octets rs)))
-      (omega (arith, b.within, length-append (header service) (flat_map record_octets ss)))
-      behind
+    (omega (arith, a.within, length-append (header service) (flat_map record_octets rs)))
+    (omega (arith, b.within, length-append (header service) (flat_map record_octets ss)))
+    behind

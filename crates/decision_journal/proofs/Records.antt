@@ -1,9 +1,8 @@
 -- A payload is the record that it was written of, and it is no payload of another.
-use Rattle.std.proofs.Common.{◌≡◌, ◌≢◌, ℕ, zero, suc, ◌+◌, ◌^◌, ◌<◌, ◌≤◌, Bool, true, false, cond, eqb, ltb, List, [], ◌∷◌, ◌++◌, length, take, drop, Option, Some, None, refl, sym, ap, subst, ◌∙◌, append_assoc, arith, inl, inr}
+use Rattle.std.proofs.Common.{◌≡◌, ℕ, ◌^◌, ◌<◌, ◌≤◌, Bool, true, false, cond, eqb, ltb, List, [], ◌∷◌, ◌++◌, length, take, drop, Option, Some, None, refl, sym, ap, subst, ◌∙◌, append_assoc, arith, inl, inr}
 use Rattle.std.specs.Prelude.{IsTrue, ◌==◌, ◌⊎◌, if◌then◌else◌}
-use Rattle.std.specs.List.{concat, flat_map, AllByRecursion}
-use Rattle.std.proofs.lemmas.Bool.{cases_eq, ltb-false, le-ltb, eqb-true}
-use Rattle.std.proofs.lemmas.Bool.Decides.{nat_tests}
+use Rattle.std.specs.List.{concat}
+use Rattle.std.proofs.lemmas.Bool.{ltb-false, le-ltb, eqb-true}
 use Rattle.std.proofs.lemmas.List.{append-nil, take_at, drop_at, take-append-drop, length-append, length-take, nil_from_length}
 use Rattle.ots_model.specs.Limits.{reference_limit}
 use Rattle.ots_model.specs.declared.service.RetryKey.{RetryKey}
@@ -13,9 +12,9 @@ use Rattle.decision_journal.specs.declared.record.CellsEnd.{CellsEnd}
 use Rattle.decision_journal.specs.declared.record.CellsEnd.TheVariants.{Applied, Undone, ChoseCommit, ChoseRollback, Forgotten}
 use Rattle.decision_journal.specs.declared.record.JournalRecord.{JournalRecord}
 use Rattle.decision_journal.specs.declared.record.JournalRecord.TheVariants.{Life, Decision, Done, Prepared, CellsPrepared, CellsOutcome, CellsOnePhase}
-use Rattle.decision_journal.specs.Layout.{one, two, four, eight, reference, registration, registrations, put, puts, key, flag, end_number, kind, fields, payload, is_rising, Fits, Fits16, Fits32, Fits64, FitsReference, FitsRegistration, FitsRegistrations, FitsPut, FitsPuts, FitsKey}
-use Rattle.decision_journal.specs.Reading.{◌>>=◌, Reading, number_at, kept_octets, both_at, made_at, make_registration, make_put, make_puts, make_flag, make_key, make_end, list_at, counted_at, none_at, reference_at, registration_at, registrations_at, put_at, puts_at, flag_at, key_at, end_at, life_at, decision_at, done_at, prepared_at, cells_prepared_at, cells_outcome_at, one_phase_at, fields_at, record_in}
-use Rattle.decision_journal.proofs.Codecs.{IsOctets, IsOctets-drop, bind_some, guard_some, some_is, Taken, Taken-then, IsCodec, two_codec, four_codec, eight_codec, one_codec, none_codec, both_codec, Makes, made_codec, built_again, built_takes, counted_codec}
+use Rattle.decision_journal.specs.Layout.{one, two, four, eight, reference, registration, registrations, put, puts, key, flag, end_number, kind, fields, payload, is_rising, Fits, Fits32, Fits64, FitsReference, FitsRegistration, FitsRegistrations, FitsPut, FitsPuts, FitsKey}
+use Rattle.decision_journal.specs.Reading.{◌>>=◌, number_at, kept_octets, both_at, make_registration, make_put, make_puts, make_flag, make_key, make_end, none_at, reference_at, registration_at, registrations_at, put_at, puts_at, flag_at, key_at, end_at, life_at, decision_at, done_at, prepared_at, cells_prepared_at, cells_outcome_at, one_phase_at, fields_at, record_in}
+use Rattle.decision_journal.proofs.Codecs.{IsOctets, IsOctets-drop, bind_some, guard_some, some_is, Taken, Taken-then, IsCodec, two_codec, four_codec, eight_codec, one_codec, none_codec, both_codec, made_codec, built_again, built_takes, counted_codec}
 
 abbrev done : {A : Type 0} → A → Option A
 done x = Some x
@@ -192,26 +191,26 @@ life_codec : IsCodec (λ (x : ℕ × Unit {0}). four x.0 ++ []) (both_at (number
 life_codec = both_codec four_codec none_codec
 
 decision_codec : IsCodec (λ (x : ℕ × (ℕ × (ℕ × (Option RetryKey × (Bool × (List Registration × Unit {0})))))). four x.0 ++ (four x.1.0 ++ (eight x.1.1.0 ++ (key x.1.1.1.0 ++ (one (flag x.1.1.1.1.0) ++ (registrations x.1.1.1.1.1.0 ++ []))))))
-  (both_at (number_at 4) (both_at (number_at 4) (both_at (number_at 8) (both_at key_at (both_at flag_at (both_at registrations_at none_at))))))
-  (λ x. Fits32 x.0 × (Fits32 x.1.0 × (Fits64 x.1.1.0 × (FitsKey x.1.1.1.0 × (Unit {0} × (FitsRegistrations x.1.1.1.1.1.0 × Unit {0}))))))
+    (both_at (number_at 4) (both_at (number_at 4) (both_at (number_at 8) (both_at key_at (both_at flag_at (both_at registrations_at none_at))))))
+    (λ x. Fits32 x.0 × (Fits32 x.1.0 × (Fits64 x.1.1.0 × (FitsKey x.1.1.1.0 × (Unit {0} × (FitsRegistrations x.1.1.1.1.1.0 × Unit {0}))))))
 decision_codec = both_codec four_codec (both_codec four_codec (both_codec eight_codec (both_codec key_codec (both_codec flag_codec (both_codec registrations_codec none_codec)))))
 
 prepared_codec : IsCodec (λ (x : ℕ × (ℕ × (ℕ × (List ℕ × (List Registration × Unit {0}))))). four x.0 ++ (four x.1.0 ++ (eight x.1.1.0 ++ (reference x.1.1.1.0 ++ (registrations x.1.1.1.1.0 ++ [])))))
-  (both_at (number_at 4) (both_at (number_at 4) (both_at (number_at 8) (both_at reference_at (both_at registrations_at none_at)))))
-  (λ x. Fits32 x.0 × (Fits32 x.1.0 × (Fits64 x.1.1.0 × (FitsReference x.1.1.1.0 × (FitsRegistrations x.1.1.1.1.0 × Unit {0})))))
+    (both_at (number_at 4) (both_at (number_at 4) (both_at (number_at 8) (both_at reference_at (both_at registrations_at none_at)))))
+    (λ x. Fits32 x.0 × (Fits32 x.1.0 × (Fits64 x.1.1.0 × (FitsReference x.1.1.1.0 × (FitsRegistrations x.1.1.1.1.0 × Unit {0})))))
 prepared_codec = both_codec four_codec (both_codec four_codec (both_codec eight_codec (both_codec reference_codec (both_codec registrations_codec none_codec))))
 
 cells_prepared_codec : IsCodec (λ (x : ℕ × (ℕ × (List ℕ × (List Put × Unit {0})))). four x.0 ++ (eight x.1.0 ++ (reference x.1.1.0 ++ (puts x.1.1.1.0 ++ []))))
-  (both_at (number_at 4) (both_at (number_at 8) (both_at reference_at (both_at puts_at none_at))))
-  (λ x. Fits32 x.0 × (Fits64 x.1.0 × (FitsReference x.1.1.0 × (FitsPuts x.1.1.1.0 × Unit {0}))))
+    (both_at (number_at 4) (both_at (number_at 8) (both_at reference_at (both_at puts_at none_at))))
+    (λ x. Fits32 x.0 × (Fits64 x.1.0 × (FitsReference x.1.1.0 × (FitsPuts x.1.1.1.0 × Unit {0}))))
 cells_prepared_codec = both_codec four_codec (both_codec eight_codec (both_codec reference_codec (both_codec puts_codec none_codec)))
 
 cells_outcome_codec : IsCodec (λ (x : ℕ × (CellsEnd × Unit {0})). four x.0 ++ (one (end_number x.1.0) ++ []))
-  (both_at (number_at 4) (both_at end_at none_at)) (λ x. Fits32 x.0 × (Unit {0} × Unit {0}))
+    (both_at (number_at 4) (both_at end_at none_at)) (λ x. Fits32 x.0 × (Unit {0} × Unit {0}))
 cells_outcome_codec = both_codec four_codec (both_codec end_codec none_codec)
 
 one_phase_codec : IsCodec (λ (x : ℕ × (ℕ × (List Put × Unit {0}))). four x.0 ++ (eight x.1.0 ++ (puts x.1.1.0 ++ [])))
-  (both_at (number_at 4) (both_at (number_at 8) (both_at puts_at none_at))) (λ x. Fits32 x.0 × (Fits64 x.1.0 × (FitsPuts x.1.1.0 × Unit {0})))
+    (both_at (number_at 4) (both_at (number_at 8) (both_at puts_at none_at))) (λ x. Fits32 x.0 × (Fits64 x.1.0 × (FitsPuts x.1.1.0 × Unit {0})))
 one_phase_codec = both_codec four_codec (both_codec eight_codec (both_codec puts_codec none_codec))
 
 fields_again : (r : JournalRecord) (rest : List ℕ) → Fits r → fields_at (kind r) (concat (fields r) ++ rest) ≡ Some (r, rest)
@@ -219,14 +218,14 @@ unfolding fields_at life_at decision_at done_at prepared_at cells_prepared_at ce
 fields_again (Life life) rest fits = built_again (λ (x : ℕ × Unit {0}). Life x.0) life_codec (life, tt) rest (fits, tt)
 fields_again (Decision life slot generation k asked rs) rest fits =
     built_again (λ (x : ℕ × (ℕ × (ℕ × (Option RetryKey × (Bool × (List Registration × Unit {0})))))). Decision x.0 x.1.0 x.1.1.0 x.1.1.1.0 x.1.1.1.1.0 x.1.1.1.1.1.0) decision_codec
-      (life, (slot, (generation, (k, (asked, (rs, tt)))))) rest (fits.0, (fits.1, (fits.2, (fits.3, (tt, (fits.4, tt))))))
+    (life, (slot, (generation, (k, (asked, (rs, tt)))))) rest (fits.0, (fits.1, (fits.2, (fits.3, (tt, (fits.4, tt))))))
 fields_again (Done place) rest fits = built_again (λ (x : ℕ × Unit {0}). Done x.0) life_codec (place, tt) rest (fits, tt)
 fields_again (Prepared life slot generation recovery rs) rest fits =
     built_again (λ (x : ℕ × (ℕ × (ℕ × (List ℕ × (List Registration × Unit {0}))))). Prepared x.0 x.1.0 x.1.1.0 x.1.1.1.0 x.1.1.1.1.0) prepared_codec
-      (life, (slot, (generation, (recovery, (rs, tt))))) rest (fits.0, (fits.1, (fits.2, (fits.3, (fits.4, tt)))))
+    (life, (slot, (generation, (recovery, (rs, tt))))) rest (fits.0, (fits.1, (fits.2, (fits.3, (fits.4, tt)))))
 fields_again (CellsPrepared life number recovery ps) rest fits =
     built_again (λ (x : ℕ × (ℕ × (List ℕ × (List Put × Unit {0})))). CellsPrepared x.0 x.1.0 x.1.1.0 x.1.1.1.0) cells_prepared_codec
-      (life, (number, (recovery, (ps, tt)))) rest (fits.0, (fits.1, (fits.2, (fits.3, tt))))
+    (life, (number, (recovery, (ps, tt)))) rest (fits.0, (fits.1, (fits.2, (fits.3, tt))))
 fields_again (CellsOutcome place end) rest fits =
     built_again (λ (x : ℕ × (CellsEnd × Unit {0})). CellsOutcome x.0 x.1.0) cells_outcome_codec (place, (end, tt)) rest (fits, (tt, tt))
 fields_again (CellsOnePhase life number ps) rest fits =

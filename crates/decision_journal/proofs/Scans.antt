@@ -1,13 +1,13 @@
 -- Records, read one after another.
-use Rattle.std.proofs.Common.{◌≡◌, ◌≢◌, ℕ, zero, suc, ◌+◌, ◌-◌, ◌<◌, ◌≤◌, List, [], ◌∷◌, ◌++◌, length, get_or, take, drop, refl, sym, ap, subst, ◌∙◌, arith, append_assoc, length-append}
+use Rattle.std.proofs.Common.{◌≡◌, ◌≢◌, ℕ, ◌+◌, ◌-◌, ◌<◌, ◌≤◌, List, [], ◌∷◌, ◌++◌, length, get_or, take, drop, refl, sym, ap, subst, ◌∙◌, arith, append_assoc, length-append}
 use Rattle.std.specs.Prelude.{IsTrue}
-use Rattle.std.specs.List.{flat_map, AllByRecursion}
+use Rattle.std.specs.List.{flat_map}
 use Rattle.std.proofs.lemmas.List.{append-nil, take_all}
 use Rattle.std.proofs.lemmas.List.Concat.{flat_map-cons}
 use Rattle.decision_journal.specs.declared.record.JournalRecord.{JournalRecord}
 use Rattle.decision_journal.specs.Limits.{area_limit}
 use Rattle.decision_journal.specs.Layout.{record_octets, Fits}
-use Rattle.decision_journal.specs.Journal.{Found, nothing_found, first_gate, with_record, with_records, found_in, can_follow, front, header, AreRecords, IsFilled, IsStep, HasNoStep, IsBroken, IsScanned}
+use Rattle.decision_journal.specs.Journal.{Found, nothing_found, first_gate, with_record, with_records, found_in, can_follow, front, header, IsFilled, IsStep, HasNoStep, IsBroken, IsScanned}
 use Rattle.decision_journal.proofs.Append.{fit_more, in_turn_more, front_more}
 
 pub with_records-more : (found : Found) (place : ℕ) (rs : List JournalRecord) (r : JournalRecord) → with_records found place (rs ++ r ∷ []) ≡ with_record (with_records found place rs) (place + length (flat_map record_octets rs)) r
@@ -27,8 +27,7 @@ pub more_records : (service gate : ℕ) (before : List ℕ) (found after : Found
 more_records service gate before found after item filled gate_is fits follows within after_is =
     let rs = filled.0 in
     let a = filled.1 in
-    let place : gate ≡ first_gate + length (flat_map record_octets rs) = omega (arith, gate_is, ap length a.octets_are, length_front service rs) in
-    (
+    let place : gate ≡ first_gate + length (flat_map record_octets rs) = omega (arith, gate_is, ap length a.octets_are, length_front service rs) in (
       rs ++ item ∷ [],
       record {
         octets_are = ap (λ (l : List ℕ). l ++ record_octets item) a.octets_are ∙ sym (front_more service rs item);

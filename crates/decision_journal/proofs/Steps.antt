@@ -1,6 +1,6 @@
 -- A record behind an open gate is read where there is one.
-use Rattle.std.proofs.Common.{◌≡◌, ◌≢◌, ◌⊎◌, inl, inr, ℕ, zero, suc, ◌+◌, ◌-◌, ◌<◌, ◌≤◌, ◌^◌, Bool, true, false, cond, ltb, List, [], ◌∷◌, ◌++◌, length, take, drop, Option, Some, None, refl, sym, ap, subst, ◌∙◌, arith, append_assoc, length-append, length-drop, length-take}
-use Rattle.std.specs.Prelude.{IsTrue, IsErrOf, Result, Ok, Err}
+use Rattle.std.proofs.Common.{◌≡◌, ℕ, ◌+◌, ◌-◌, ◌<◌, ◌≤◌, ◌^◌, Bool, true, false, ltb, List, ◌∷◌, ◌++◌, length, take, drop, Option, Some, None, refl, sym, ap, subst, ◌∙◌, arith, append_assoc, length-append, length-take}
+use Rattle.std.specs.Prelude.{IsTrue, IsErrOf, Err}
 use Rattle.std.proofs.lemmas.Bool.{ltb-false, le-ltb}
 use Rattle.std.proofs.lemmas.List.{take_at, drop_at, take-append-drop}
 use Rattle.decision_journal.specs.declared.record.JournalRecord.{JournalRecord}
@@ -10,7 +10,7 @@ use Rattle.decision_journal.specs.declared.reading.ReadFault.{ReadFault}
 use Rattle.decision_journal.specs.declared.reading.ReadFault.TheVariants.{Memory, NoRecord}
 use Rattle.decision_journal.specs.Reading.{◌>>=◌, Fails, number_at, kept_octets, record_in, body_at}
 use Rattle.decision_journal.specs.Journal.{Found, can_follow, with_record, IsStep, IsWithin, HasNoStep}
-use Rattle.decision_journal.proofs.Codecs.{IsOctets, IsOctets-drop, IsOctets-take, Taken, Taken-then, bind_some, guard_some, some_is, four_codec}
+use Rattle.decision_journal.proofs.Codecs.{IsOctets, IsOctets-take, bind_some, guard_some, some_is, four_codec}
 use Rattle.decision_journal.proofs.Records.{record_again, record_takes}
 use Rattle.decision_journal.proofs.Append.{body}
 
@@ -89,7 +89,7 @@ other_read gate behind found item after read bad r end rest fits follows is with
     let r_is : r ≡ item = ap (λ (p : JournalRecord × List ℕ). p.0) same in
     let rest_is : end ∷ rest ≡ after = ap (λ (p : JournalRecord × List ℕ). p.1) same in
     bad (subst (λ (l : List ℕ). 0 < length l) rest_is (omega arith))
-      (subst (λ (r : JournalRecord). gate + length (record_octets r) < area_limit) r_is within) (subst (λ (r : JournalRecord). IsTrue (can_follow found r)) r_is follows)
+    (subst (λ (r : JournalRecord). gate + length (record_octets r) < area_limit) r_is within) (subst (λ (r : JournalRecord). IsTrue (can_follow found r)) r_is follows)
 
 pub both_ways : (b : Bool) → b ≡ true → b ≡ false → ⊥
 both_ways b one other = absurd_path (sym one ∙ other)

@@ -1,6 +1,6 @@
 -- A disk on its way through the calls of an append.
-use Rattle.std.proofs.Common.{◌≡◌, ◌⊎◌, inl, inr, ℕ, zero, suc, ◌+◌, ◌≤◌, List, [], ◌∷◌, ◌++◌, length, length-append, drop, Option, Some, None, refl, sym, ap, subst, ◌∙◌, arith}
-use Rattle.ots_outside.specs.Disk.{DiskState, Moment, IsImage, IsAfterRefusal, LeavesOnly, EachLeavesOnly, LeavesOnlySince, ReadsImage, Tells, moments, synced, written}
+use Rattle.std.proofs.Common.{◌≡◌, inl, inr, ℕ, zero, suc, ◌+◌, ◌≤◌, List, [], ◌∷◌, ◌++◌, length, length-append, drop, Option, Some, None, refl, ap, ◌∙◌, arith}
+use Rattle.ots_outside.specs.Disk.{DiskState, Moment, IsImage, IsAfterRefusal, EachLeavesOnly, LeavesOnlySince, ReadsImage, Tells, moments, synced, written}
 use Rattle.decision_journal.specs.Laws.{IsOnTheWay, appended}
 
 -- two calls, one after the other

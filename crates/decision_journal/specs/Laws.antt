@@ -1,11 +1,11 @@
 -- What a crash can leave of a journal (our profile). The calls of a disk in an append, in the creation of a journal, and in
 -- a load are written out; each image of each of their moments holds the records of before, or those and the new one.
 use Rattle.std.specs.Prelude.{◌≡◌, ℕ, ◌+◌, ◌<◌, ◌≤◌, List, [], ◌∷◌, ◌++◌, length, drop, Bool, IsTrue, if◌then◌else◌}
-use Rattle.ots_outside.specs.Disk.{DiskState, Moment, IsImage, LeavesOnlySince, moments, synced, written}
+use Rattle.ots_outside.specs.Disk.{DiskState, IsImage, LeavesOnlySince, moments, synced, written}
 use Rattle.decision_journal.specs.declared.record.JournalRecord.{JournalRecord}
 use Rattle.decision_journal.specs.Limits.{area_limit}
 use Rattle.decision_journal.specs.Layout.{record_octets, payload, Fits}
-use Rattle.decision_journal.specs.Journal.{StandsFor, IsFresh, Holds, StandsForEither, first_letter, header, front, can_follow, found_in}
+use Rattle.decision_journal.specs.Journal.{StandsFor, StandsForEither, first_letter, header, front, can_follow, found_in}
 
 -- octets stand for one list of records
 abbrev pub OctetsStandForOneList : Type 0

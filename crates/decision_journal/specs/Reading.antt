@@ -115,7 +115,7 @@ life_at octets = made_at (λ x. Some (Life x.0)) (both_at (number_at 4) none_at)
 unfoldable pub decision_at : List ℕ → Reading JournalRecord
 decision_at octets =
     made_at (λ x. Some (Decision x.0 x.1.0 x.1.1.0 x.1.1.1.0 x.1.1.1.1.0 x.1.1.1.1.1.0))
-      (both_at (number_at 4) (both_at (number_at 4) (both_at (number_at 8) (both_at key_at (both_at flag_at (both_at registrations_at none_at)))))) octets
+    (both_at (number_at 4) (both_at (number_at 4) (both_at (number_at 8) (both_at key_at (both_at flag_at (both_at registrations_at none_at)))))) octets
 
 unfoldable pub done_at : List ℕ → Reading JournalRecord
 done_at octets = made_at (λ x. Some (Done x.0)) (both_at (number_at 4) none_at) octets
@@ -123,12 +123,12 @@ done_at octets = made_at (λ x. Some (Done x.0)) (both_at (number_at 4) none_at)
 unfoldable pub prepared_at : List ℕ → Reading JournalRecord
 prepared_at octets =
     made_at (λ x. Some (Prepared x.0 x.1.0 x.1.1.0 x.1.1.1.0 x.1.1.1.1.0))
-      (both_at (number_at 4) (both_at (number_at 4) (both_at (number_at 8) (both_at reference_at (both_at registrations_at none_at))))) octets
+    (both_at (number_at 4) (both_at (number_at 4) (both_at (number_at 8) (both_at reference_at (both_at registrations_at none_at))))) octets
 
 unfoldable pub cells_prepared_at : List ℕ → Reading JournalRecord
 cells_prepared_at octets =
     made_at (λ x. Some (CellsPrepared x.0 x.1.0 x.1.1.0 x.1.1.1.0))
-      (both_at (number_at 4) (both_at (number_at 8) (both_at reference_at (both_at puts_at none_at)))) octets
+    (both_at (number_at 4) (both_at (number_at 8) (both_at reference_at (both_at puts_at none_at)))) octets
 
 unfoldable pub cells_outcome_at : List ℕ → Reading JournalRecord
 cells_outcome_at octets = made_at (λ x. Some (CellsOutcome x.0 x.1.0)) (both_at (number_at 4) (both_at end_at none_at)) octets
@@ -136,7 +136,7 @@ cells_outcome_at octets = made_at (λ x. Some (CellsOutcome x.0 x.1.0)) (both_at
 unfoldable pub one_phase_at : List ℕ → Reading JournalRecord
 one_phase_at octets =
     made_at (λ x. Some (CellsOnePhase x.0 x.1.0 x.1.1.0))
-      (both_at (number_at 4) (both_at (number_at 8) (both_at puts_at none_at))) octets
+    (both_at (number_at 4) (both_at (number_at 8) (both_at puts_at none_at))) octets
 
 -- the record of a kind
 unfoldable pub fields_at : ℕ → List ℕ → Reading JournalRecord

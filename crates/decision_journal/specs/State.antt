@@ -1,13 +1,13 @@
 -- A journal as its callers see it, and what an append answers (our profile).
 use Rattle.std.specs.Prelude.{◌≡◌, ℕ, ◌+◌, ◌*◌, ◌<◌, ◌⊎◌, Bool, true, false, nat_lt, if◌then◌else◌, List, [], ◌∷◌, ◌++◌, length, Option, IfSome}
 use Rattle.std.specs.List.{count_by}
-use Rattle.ots_outside.specs.Disk.{DiskState, LeavesOnlySince, Tells}
+use Rattle.ots_outside.specs.Disk.{DiskState, LeavesOnlySince}
 use Rattle.ots_outside.specs.Source.{HasRisen}
 use Rattle.decision_journal.specs.declared.journal.JournalFault.{JournalFault}
 use Rattle.decision_journal.specs.declared.journal.JournalFault.TheVariants.{DiskFault, Full, BadHeader, BadRecord, LivesSpent, Memory}
 use Rattle.decision_journal.specs.declared.record.JournalRecord.{JournalRecord}
 use Rattle.decision_journal.specs.Limits.{area_limit, standing_limit}
-use Rattle.decision_journal.specs.Layout.{payload, record_octets}
+use Rattle.decision_journal.specs.Layout.{record_octets}
 use Rattle.decision_journal.specs.Journal.{Found, IsBroken, IsFilled, IsOtherHeader, StandsAt, StandsFor, StandsForEither, is_decision, with_record}
 use Rattle.decision_journal.specs.Laws.{IsSettled}
 

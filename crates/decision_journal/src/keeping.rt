@@ -76,6 +76,20 @@ impl<D: Disk> Journal<D> {
         self.octets.as_slice()
     }
 
+    /// The disk.
+    pub fn disk(&self) -> &D
+        ensures { result.now ≡ self.now.disk }
+    {
+        &self.disk
+    }
+
+    /// Whether a record can follow those of the journal.
+    pub fn takes(&self, item: &JournalRecord) -> bool
+        ensures { result ≡ can_follow self.now.found item.now }
+    {
+        self.index.takes(item)
+    }
+
     /// Opens the journal that a disk holds: syncs the disk, and reads all of it. It writes nothing.
     pub fn open(
         alloc: Global,

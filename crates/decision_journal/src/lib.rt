@@ -9,10 +9,12 @@ pub use record::{CellsEnd, JournalRecord, Put, Puts, Registration, Registrations
 mod disk_calls;
 mod found;
 mod journal;
+mod keeping;
 mod laws;
 mod reading;
-mod keeping;
 mod record;
 mod room;
 mod scan;
+#[cfg(test)]
+mod tests;
 mod writing;

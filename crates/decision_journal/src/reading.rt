@@ -2,12 +2,31 @@ ghost use Rattle.std.specs.Prelude.{◌≡◌};
 ghost use Rattle.decision_journal.specs.declared.reading.ReadFault.TheVariants.{Memory};
 ghost use Rattle.decision_journal.specs.Layout.{is_rising, rises_from};
 ghost use Rattle.decision_journal.specs.Reading.{
-  Gives, body_at, cells_outcome_at, cells_prepared_at, decision_at, done_at, end_at, fields_at, flag_at, key_at, life_at, list_at,
-  number_at, one_phase_at, prepared_at, put_at, puts_at, record_in, reference_at, registration_at, registrations_at
+  Gives,
+  body_at,
+  cells_outcome_at,
+  cells_prepared_at,
+  decision_at,
+  done_at,
+  end_at,
+  fields_at,
+  flag_at,
+  key_at,
+  life_at,
+  list_at,
+  number_at,
+  one_phase_at,
+  prepared_at,
+  put_at,
+  puts_at,
+  record_in,
+  reference_at,
+  registration_at,
+  registrations_at,
 };
 
-use byteorder::{BigEndian, ByteOrder};
 use crate::record::{CellsEnd, JournalRecord, Put, Puts, Registration, Registrations};
+use byteorder::{BigEndian, ByteOrder};
 use ots_model::{REFERENCE_LIMIT, RefBytes, RetryKey};
 use std::alloc::{AllocError, AllocFailed, Global};
 

@@ -3,10 +3,10 @@ ghost use Rattle.decision_journal.specs.declared.reading.ReadFault.TheVariants.{
 ghost use Rattle.decision_journal.specs.Limits.{area_limit};
 ghost use Rattle.decision_journal.specs.Journal.{HasNoStep, IsFilled, IsOpenedFault, IsOtherHeader, IsScanFault, IsScanned, IsStep, IsWithin, StandsAt, header, nothing_found};
 
-use byteorder::{BigEndian, ByteOrder};
 use crate::found::Index;
 use crate::journal::JournalFault;
 use crate::reading::{ReadFault, body_of};
+use byteorder::{BigEndian, ByteOrder};
 use std::alloc::Global;
 
 /// How many octets an area has at most.

@@ -1,7 +1,24 @@
 ghost use Rattle.std.specs.Prelude.{◌≡◌, ℕ, ◌∷◌, ◌++◌, Option, List, length, OnOk, IfOk};
 ghost use Rattle.std.specs.List.{concat};
 ghost use Rattle.decision_journal.specs.Layout.{
-  Fits, Fits16, end_number, fields, flag, key, kind, payload, put, puts, record_octets, reference, registration, registrations, one, two, four, eight
+  Fits,
+  Fits16,
+  end_number,
+  fields,
+  flag,
+  key,
+  kind,
+  payload,
+  put,
+  puts,
+  record_octets,
+  reference,
+  registration,
+  registrations,
+  one,
+  two,
+  four,
+  eight,
 };
 
 use crate::record::{CellsEnd, JournalRecord, Put, Puts, Registration, Registrations};
@@ -110,12 +127,7 @@ fn number_of(end: CellsEnd) -> u8
     }
 }
 
-fn put_tree(
-    out: &mut Vec<u8>,
-    life: u32,
-    slot: u32,
-    generation: u64,
-) -> Result<(), AllocError>
+fn put_tree(out: &mut Vec<u8>, life: u32, slot: u32, generation: u64) -> Result<(), AllocError>
     ensures { OnOk result (out.new.items ≡ out.old.items ++ (four life ++ (four slot ++ eight generation))) }
 {
     put_u32(out, life)?;

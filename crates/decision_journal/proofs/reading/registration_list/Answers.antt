@@ -1,4 +1,3 @@
-use Rattle.std.proofs.Common.{◌≡◌, ◌++◌, ◌∷◌, []}
 use Rattle.std.proofs.lemmas.Result.{err_from_is_err_and}
 use Rattle.decision_journal.specs.Reading.{list_at, registration_at}
 use Rattle.decision_journal.proofs.Loop.{goes_on, ends, is_done}

@@ -1,4 +1,4 @@
-use Rattle.std.proofs.Common.{◌≡◌, ◌-◌, ◌++◌, ◌∷◌, ℕ, List, length, take, drop, refl, ap, sym, ◌∙◌, arith, length-drop}
+use Rattle.std.proofs.Common.{◌≡◌, ◌-◌, ◌++◌, ℕ, List, length, take, drop, refl, ap, sym, ◌∙◌, arith, length-drop}
 use Rattle.std.proofs.lemmas.List.{take_all}
 use Rattle.decision_journal.specs.Journal.{header}
 use Rattle.decision_journal.proofs.Scans.{starts, goes_on, behind_first}
@@ -12,4 +12,4 @@ loop-rest-init c =
 pub loop-rest-preserved : goal.loop-rest-preserved
 loop-rest-preserved c =
     goes_on c.args.service c.args.octets.now c.loop-rest.index c.loop-rest.rest.now c.loop-rest.invariant _ c.in-Ok.after.now c.step.new.index
-      (behind_first c.loop-rest.rest.now (length c.loop-rest.rest.now - 1) c.loop-rest.invariant.more c.loop-rest-test.true refl) c.in-Ok.ensures.next
+    (behind_first c.loop-rest.rest.now (length c.loop-rest.rest.now - 1) c.loop-rest.invariant.more c.loop-rest-test.true refl) c.in-Ok.ensures.next

@@ -1,4 +1,4 @@
-use Rattle.std.proofs.Common.{◌≡◌, ◌∙◌, sym, arith}
+use Rattle.std.proofs.Common.{◌∙◌, sym, arith}
 use Rattle.std.proofs.lemmas.Result.{err_from_is_err_and}
 use Rattle.decision_journal.proofs.Steps.{failed_read, outside_read, unfit_read, both_ways, is_step}
 use Rattle.decision_journal.proofs.scan.step.Goals as goal
@@ -11,7 +11,7 @@ returns-in_err-item-clause-none c =
 pub returns-then-not-is_within-clause-none : goal.returns-then-not-is_within-clause-none
 returns-then-not-is_within-clause-none c =
     λ is. outside_read c.args.gate c.args.behind.now c.args.index.now c.in_ok-item.item c.in_ok-item.rest.now (λ i. omega (arith, c.type_inv.behind i)) c.in_ok-item.ensures
-      (λ w. both_ways c.is_within.result (c.is_within.ensures.1 w) c.if-not-is_within.true)
+    (λ w. both_ways c.is_within.result (c.is_within.ensures.1 w) c.if-not-is_within.true)
 
 pub returns-then-not-takes-clause-none : goal.returns-then-not-takes-clause-none
 returns-then-not-takes-clause-none c =
@@ -21,4 +21,4 @@ pub returns-clause-next : goal.returns-clause-next
 returns-clause-next c =
     let w = c.is_within.ensures.0 c.if-not-is_within.false in
     is_step c.args.behind.now c.in_ok-item.item c.in_ok-item.rest.now (λ i. omega (arith, c.type_inv.behind i)) c.in_ok-item.ensures c.args.gate c.args.index.now c.add.new.self
-      w.0 w.1 (sym c.takes.ensures ∙ c.if-not-takes.false) c.in_ok-add.ensures.ok
+    w.0 w.1 (sym c.takes.ensures ∙ c.if-not-takes.false) c.in_ok-add.ensures.ok

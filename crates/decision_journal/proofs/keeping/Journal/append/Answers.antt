@@ -1,10 +1,9 @@
-use Rattle.std.proofs.Common.{◌≡◌, ◌∙◌, ◌-◌, ◌∷◌, ◌++◌, ℕ, List, ap, sym, subst, arith, length, take, refl}
+use Rattle.std.proofs.Common.{◌≡◌, ◌∙◌, ◌-◌, ◌++◌, ℕ, List, ap, sym, subst, arith, length, refl}
 use Rattle.std.specs.Prelude.{IsTrue, IfSome}
-use Rattle.std.proofs.lemmas.Result.{on_ok_weaker}
 use Rattle.decision_journal.specs.Layout.{record_octets}
 use Rattle.decision_journal.specs.State.{IsAtRest, JournalState}
-use Rattle.decision_journal.specs.Journal.{Found, IsFilled, can_follow, with_record}
-use Rattle.decision_journal.specs.Laws.{IsOnTheWay, appended, behind_gate}
+use Rattle.decision_journal.specs.Journal.{IsFilled, can_follow, with_record}
+use Rattle.decision_journal.specs.Laws.{IsOnTheWay, appended}
 use Rattle.decision_journal.proofs.Few.{few}
 use Rattle.decision_journal.proofs.Scans.{more_records}
 use Rattle.decision_journal.proofs.Kept.{at_rest, start_safe, way_safe, end_done, end_kept, retold, room_within, body_kept}
@@ -59,7 +58,7 @@ returns-clause-done g c =
 octets_are : (g : given.Over) (c : goal.After-drop-behind-2 g) → c.keep.new.octets.items ≡ c.self.inside.octets.items ++ record_octets c.args.item
 octets_are g c =
     c.in_ok-keep.ensures.octets ∙ ap (λ (l : List ℕ). c.self.inside.octets.items ++ l)
-      (body_kept c.args.item c.deref-2.result.now (c.len.result - 1) (c.deref-2.ensures.value ∙ c.in_ok-behind.ensures.behind) (omega (arith, c.len.ensures, ap length c.deref-2.ensures.value)))
+    (body_kept c.args.item c.deref-2.result.now (c.len.result - 1) (c.deref-2.ensures.value ∙ c.in_ok-behind.ensures.behind) (omega (arith, c.len.ensures, ap length c.deref-2.ensures.value)))
 
 pub returns-clause-more : goal.returns-clause-more
 returns-clause-more g c =
