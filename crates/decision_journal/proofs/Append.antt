@@ -77,7 +77,7 @@ over_gate f gate behind =
     ∙ append_assoc f (1 ∷ []) behind
 
 -- a disk that is settled, after one write: what a crash goes by
-one_write : (disk : DiskState) (place : ℕ) (octets s : List ℕ) → IsSettled disk → disk.reads ≡ s → (written place octets disk).present ≡ record { synced = s; writes = record { place = place; octets = octets } ∷ [] }
+pub one_write : (disk : DiskState) (place : ℕ) (octets s : List ℕ) → IsSettled disk → disk.reads ≡ s → (written place octets disk).present ≡ record { synced = s; writes = record { place = place; octets = octets } ∷ [] }
 one_write disk place octets s settled is =
     ap (λ (m : Moment). record { synced = m.synced; writes = record { place = place; octets = octets } ∷ m.writes }) settled
     ∙ ap (λ (l : List ℕ). record { synced = l; writes = record { place = place; octets = octets } ∷ [] }) is

@@ -3,6 +3,7 @@ pub mod Loop
 pub mod Records
 pub mod Images
 pub mod Append
+pub mod Creation
 pub mod OneList
 pub mod Ways
 pub mod Steps

@@ -1,11 +1,11 @@
 -- What a crash can leave of a journal (our profile). The calls of a disk in an append, in the creation of a journal, and in
 -- a load are written out; each image of each of their moments holds the records of before, or those and the new one.
-use Rattle.std.specs.Prelude.{◌≡◌, ℕ, ◌+◌, ◌<◌, ◌≤◌, List, [], ◌∷◌, ◌++◌, length, drop, Bool, IsTrue, if◌then◌else◌}
+use Rattle.std.specs.Prelude.{◌≡◌, ℕ, ◌+◌, ◌<◌, ◌≤◌, List, [], ◌∷◌, ◌++◌, length, drop, ◌==◌, Bool, true, IsTrue, if◌then◌else◌}
 use Rattle.ots_outside.specs.Disk.{DiskState, IsImage, LeavesOnlySince, moments, synced, written}
 use Rattle.decision_journal.specs.declared.record.JournalRecord.{JournalRecord}
 use Rattle.decision_journal.specs.Limits.{area_limit}
 use Rattle.decision_journal.specs.Layout.{record_octets, payload, Fits}
-use Rattle.decision_journal.specs.Journal.{StandsFor, StandsForEither, first_letter, header, front, can_follow, found_in}
+use Rattle.decision_journal.specs.Journal.{StandsFor, StandsForEither, IsFresh, Holds, first_letter, header, front, can_follow, found_in}
 
 -- octets stand for one list of records
 abbrev pub OctetsStandForOneList : Type 0
@@ -43,13 +43,28 @@ AppendsAreSafe = (service : ℕ) (rs : List JournalRecord) (r : JournalRecord) (
     LeavesOnlySince (StandsForEither service rs r) disk after
     × StandsFor service after.reads (rs ++ r ∷ []) × IsSettled after
 
--- the disk after the letter was taken away, where it is there or there is nothing, and after it wasn't
-abbrev pub cleared : Bool → DiskState → DiskState
-cleared is_due disk = if is_due then synced (written 0 (0 ∷ []) disk) else disk
+-- the first letter stands there, or nothing does
+abbrev pub is_letter_due : List ℕ → Bool
+is_letter_due [] = true
+is_letter_due (octet ∷ octets) = octet == first_letter
+
+-- the disk after the first letter was taken away, where it stands there or nothing does
+abbrev pub cleared : DiskState → DiskState
+cleared disk = if is_letter_due disk.reads then synced (written 0 (0 ∷ []) disk) else disk
+
+-- all octets of an empty journal, but the first letter
+abbrev pub behind_letter : ℕ → List ℕ
+behind_letter service = drop 1 (header service) ++ 0 ∷ []
 
 -- the disk after the creation of a journal: all but the first letter, with a closed gate, a sync, the letter, a sync
 abbrev pub created : ℕ → DiskState → DiskState
-created service disk = synced (written 0 (first_letter ∷ []) (synced (written 1 (drop 1 (header service) ++ 0 ∷ []) disk)))
+created service disk = synced (written 0 (first_letter ∷ []) (synced (written 1 (behind_letter service) disk)))
+
+-- a crash at any moment of the creation of a journal leaves octets without records; once it is done, they are a journal
+abbrev pub CreationsAreSafe : Type 0
+CreationsAreSafe = (service : ℕ) (disk : DiskState) → IsSettled disk → IsFresh disk.reads
+    → let after = created service (cleared disk) in
+    LeavesOnlySince (λ c. Holds service c []) disk after × StandsFor service after.reads [] × IsSettled after
 
 -- a disk on the way from a start to an end: it has the moments of the end, but the last ones, and reads one of its images
 pub record IsOnTheWay (start end now : DiskState) : Type 0 where

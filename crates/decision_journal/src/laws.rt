@@ -1,4 +1,4 @@
-ghost use Rattle.decision_journal.specs.Laws.{AppendsAreSafe, OctetsStandForOneList, PayloadsTellRecords};
+ghost use Rattle.decision_journal.specs.Laws.{AppendsAreSafe, CreationsAreSafe, OctetsStandForOneList, PayloadsTellRecords};
 
 /// A payload is that of one record.
 pub fn payloads_tell_records()
@@ -15,3 +15,9 @@ pub fn octets_stand_for_one_list()
 pub fn appends_are_safe()
     ensures { AppendsAreSafe }
 {}
+
+/// A crash at any moment of the creation of a journal leaves octets without records.
+pub fn creations_are_safe()
+    ensures { CreationsAreSafe }
+{
+}
