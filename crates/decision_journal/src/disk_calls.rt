@@ -12,8 +12,10 @@ use std::alloc::Global;
 pub(crate) fn append_at<D: Disk>(disk: &mut D, gate: u64, behind: &[u8]) -> Result<(), DiskRefusal>
     requires small { gate < 2 ^ 32 }
     requires within { ForSome (D.told disk.old) (λ s. gate + 1 ≤ length s.reads) }
-    ensures ok { OnOk result (Tells (D.told disk.old) (D.told disk.new) (λ s t. t ≡ appended gate behind.now s)) }
-    ensures way { Tells (D.told disk.old) (D.told disk.new) (λ s t. IsOnTheWay s (appended gate behind.now s) t) }
+    ensures ok { OnOk result
+        (Tells (D.told disk.old) (D.told disk.new) (λ s t. t ≡ appended gate behind.now s)) }
+    ensures way { Tells (D.told disk.old) (D.told disk.new)
+        (λ s t. IsOnTheWay s (appended gate behind.now s) t) }
     ensures cause { IsErrOf result Failed → HasRisen (D.faults disk.old) (D.faults disk.new) }
     ensures later { D.faults disk.old ≤ D.faults disk.new }
 {

@@ -111,7 +111,8 @@ fn index_of(standing: &[Standing], place: u32) -> Option<usize>
 }
 
 fn take_away(standing: &mut Vec<Standing>, place: u32)
-    ensures { standing.new.items ≡ taken_away (position (is_decision_at place) standing.old.items) standing.old.items }
+    ensures { standing.new.items
+        ≡ taken_away (position (is_decision_at place) standing.old.items) standing.old.items }
 {
     if let Some(index) = index_of(standing, place) {
         standing.remove(index);

@@ -103,11 +103,13 @@ impl<D: Disk> Journal<D> {
         ensures kept { IfOk result (λ journal. journal.failed ≡ false) }
         ensures filled { IfOk result (λ journal. IsFilled service journal.octets journal.found) }
         ensures rest { IfOk result (λ journal. IfSome (D.told journal.disk) (IsAtRest journal.octets)) }
-        ensures synced { IfOk result (λ journal. Tells (D.told disk) (D.told journal.disk) (λ s t. t ≡ synced s)) }
+        ensures synced { IfOk result
+            (λ journal. Tells (D.told disk) (D.told journal.disk) (λ s t. t ≡ synced s)) }
         ensures back { IfErr result
             (λ back. Tells (D.told disk) (D.told back.value) (λ s t. IsAfterRefusal s (synced s) t)) }
         ensures fault { IfErr result
-            (λ back. IsOpenFault service (D.told back.value) (D.faults disk) (D.faults back.value) back.fault) }
+            (λ back. IsOpenFault service (D.told back.value) (D.faults disk)
+                (D.faults back.value) back.fault) }
     {
         let mut octets = match read_whole(alloc, &mut disk) {
             Ok(octets) => octets,
@@ -132,8 +134,8 @@ impl<D: Disk> Journal<D> {
         }
     }
 
-    /// Appends a record, and tells the place of its gate. After a fault of the disk `failed` is true, and nothing can be
-    /// appended.
+    /// Appends a record, and tells the place of its gate. After a fault of the disk `failed` is true, and
+    /// nothing can be appended.
     pub fn append(&mut self, item: JournalRecord) -> Result<u32, JournalFault>
         requires kept { self.old.failed ≡ false }
         requires fits { Fits item }
@@ -144,7 +146,8 @@ impl<D: Disk> Journal<D> {
             + need self.old.area self.old.found item ≤ self.old.area) }
         ensures fault { IfErr result
             (IsAppendFault self.old item (D.faults self.old.disk) (D.faults self.new.disk)) }
-        ensures safe { Tells (D.told self.old.disk) (D.told self.new.disk) (AppendIsSafe self.old.service item) }
+        ensures safe {
+            Tells (D.told self.old.disk) (D.told self.new.disk) (AppendIsSafe self.old.service item) }
         ensures done { OnOk result
             (Tells (D.told self.old.disk) (D.told self.new.disk) (AppendIsDone self.old.service item)) }
     {
