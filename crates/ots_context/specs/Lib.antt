@@ -1,0 +1,10 @@
+pub mod Limits
+pub mod Fault
+pub mod Identity
+pub mod Reading
+pub mod Tail
+pub mod Context
+pub mod Writing
+pub mod Finding
+pub mod RoomInside
+pub mod Laws

@@ -1,0 +1,48 @@
+-- Reading a context from the left, and its first fault (our profile).
+use Rattle.std.specs.Prelude.{ℕ, List, Result, Ok, Err, if◌then◌else◌}
+use Rattle.cdr_values.specs.Reading.{Reading, ◌>>=◌, ulong_at, octets_at}
+use Rattle.cdr_values.specs.Sequence.{Read, fault_as, sequence_at}
+use Rattle.cdr_values.specs.Encapsulation.{opened}
+use Rattle.ior_refs.specs.Reading.{short_reference_at}
+use Rattle.otid_names.specs.Otid.{OtidParts}
+use Rattle.ots_context.specs.Limits.{parent_limit}
+use Rattle.ots_context.specs.Fault.{fault_of, of_reference, too_many}
+use Rattle.ots_context.specs.Identity.{has_lengths, otid_of}
+use Rattle.ots_context.specs.Tail.{tail_at}
+use Rattle.ots_context.specs.declared.fault.ContextFault.{ContextFault}
+use Rattle.ots_context.specs.declared.fault.ContextFault.TheVariants.{Otid}
+use Rattle.ots_context.specs.declared.context.Identity.{Identity}
+use Rattle.ots_context.specs.declared.context.Context.{Context}
+
+-- an otid. Its lengths are judged when it is whole.
+unfoldable pub otid_at : Read OtidParts ContextFault
+otid_at r = do
+  format ← fault_as fault_of (ulong_at r)
+  bqual ← fault_as fault_of (ulong_at format.1)
+  tid ← fault_as fault_of (octets_at bqual.1)
+  if has_lengths bqual.0 tid.0 then Ok (otid_of format.0 bqual.0 tid.0, tid.1) else Err Otid
+
+unfoldable pub identity_at : Read Identity ContextFault
+identity_at r = do
+  coord ← of_reference (short_reference_at r)
+  term ← of_reference (short_reference_at coord.1)
+  otid ← otid_at term.1
+  Ok (record { coord = coord.0; term = term.0; otid = otid.0 }, otid.1)
+
+-- the parents. Their count is judged before the first of them.
+unfoldable pub parents_at : Read (List Identity) ContextFault
+parents_at r = sequence_at parent_limit fault_of too_many identity_at r
+
+-- a context, which is all that is left
+unfoldable pub context_at : Reading → Result Context ContextFault
+context_at r = do
+  timeout ← fault_as fault_of (ulong_at r)
+  current ← identity_at timeout.1
+  parents ← parents_at current.1
+  Ok (record { timeout = timeout.0; current = current.0; parents = parents.0; tail = tail_at parents.1 })
+
+-- the context in an encapsulation
+unfoldable pub context_in : List ℕ → Result Context ContextFault
+context_in octets = do
+  reader ← fault_as fault_of (opened octets)
+  context_at reader
