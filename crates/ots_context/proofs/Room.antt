@@ -16,7 +16,7 @@ use Rattle.cdr_values.specs.Values.{canonical_all, with_values}
 use Rattle.cdr_values.specs.Writing.{Writing, place_of, with_value, is_bad, refusal}
 use Rattle.cdr_values.specs.Tagged.{tagged_values, reference_values}
 use Rattle.ior_refs.specs.Reference.{Reference, Tagged, IsReference, canonical_octets}
-use Rattle.ior_refs.specs.Writing.{StopsIn, WritesAll}
+use Rattle.ior_refs.specs.Writing.{StopsIn, WritesWhole}
 use Rattle.otid_names.specs.Otid.{OtidParts, IsOtid}
 use Rattle.ots_context.specs.declared.context.Identity.{Identity}
 use Rattle.ots_context.specs.declared.context.Context.{Context}
@@ -177,14 +177,10 @@ stops_for_memory values fault w new fit small h =
     let whole : with_values w values ≡ with_values new (h.next ∷ h.others) = ap (with_values w) h.parts ∙ with_values-append w h.written (h.next ∷ h.others) ∙ ap (λ (x : Writing). with_values x (h.next ∷ h.others)) (sym h.stands) in
     has_room h.next h.others fault new (good h.next rest.0) (omega (arith, small, ap (λ (x : Writing). length x.octets) whole)) h.cause
 
--- a call that writes a reference for which there is room
-pub written_ok : (x : Reference) (result : Result (Unit {0}) CdrFault) (w new : Writing) → WritesAll (reference_values x) result w new → OnOk result (new ≡ with_values w (reference_values x))
-written_ok x (Ok nothing) w new h = h
-written_ok x (Err fault) w new h = tt
-
-pub written_err : (x : Reference) (result : Result (Unit {0}) CdrFault) (w new : Writing) → IsReference x → length w.octets + reference_size ≤ output_limit → WritesAll (reference_values x) result w new → IfErr result (λ fault. fault ≡ cdr.Memory)
+-- a call that writes a reference for which there is room fails for want of memory alone
+pub written_err : (x : Reference) (result : Result (Unit {0}) CdrFault) (w new : Writing) → IsReference x → length w.octets + reference_size ≤ output_limit → WritesWhole (reference_values x) result w new → IfErr result (λ fault. fault ≡ cdr.Memory)
 written_err x (Ok nothing) w new is small h = tt
-written_err x (Err fault) w new is small h = stops_for_memory (reference_values x) fault w new is.fits (omega (arith, small, reference_room w x is)) h
+written_err x (Err fault) w new is small h = stops_for_memory (reference_values x) fault w h.refused.0 is.fits (omega (arith, small, reference_room w x is)) h.refused.1
 
 -- ---- several identities
 
