@@ -39,6 +39,7 @@ pub enum AnyTail {
         order: Order,
         /// Its offset modulo 8.
         modulo: u8,
+        /// The octets, of any number.
         octets: Octets,
     },
 }

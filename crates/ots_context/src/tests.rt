@@ -1,8 +1,10 @@
-ghost use Rattle.std.specs.Prelude.{◌≡◌, ◌^◌, ◌<◌, IfOk, length};
+ghost use Rattle.std.specs.Prelude.{◌^◌, ◌<◌, All, IfOk, length};
 
-use crate::{AnyTail, ContextFault, Identities, decode_context, encode_context, find_context};
+use crate::{
+    AnyTail, Context, ContextFault, Identities, decode_context, encode_context, find_context,
+};
 use cdr_values::{CdrFault, Order, Writer};
-use giop_frames::{Contexts, Request, Target};
+use giop_frames::{Contexts, Request, ServiceContext, Target};
 use ior_refs::IorFault;
 use ots_model::Octets;
 use std::alloc::Global;
@@ -164,18 +166,29 @@ fn the_first_fault(rt: HostRuntime) -> Result<(), Fail> {
     Ok(())
 }
 
-#[test]
-fn a_request_without_contexts_has_none(rt: HostRuntime) -> Result<(), Fail> {
+/// What a request with these contexts says of its transaction.
+fn found(alloc: Global, contexts: Contexts) -> Result<Option<Context>, Fail>
+    requires { All (λ context. length context.bytes < 2 ^ 31) contexts }
+{
     let request = Request {
         id: 1,
         flags: 3,
         target: Target::Profile,
-        operation: Octets::new(rt.alloc(), b"commit")?,
-        contexts: Contexts::from_vec(Vec::new(rt.alloc())),
+        operation: Octets::new(alloc, b"commit")?,
+        contexts,
         order: Order::Big,
-        body: Octets::new(rt.alloc(), b"")?,
+        body: Octets::new(alloc, b"")?,
     };
-    let found = find_context(rt.alloc(), &request)?;
-    assert!(rt; found.is_none());
+    Ok(find_context(alloc, &request)?)
+}
+
+#[test]
+fn the_context_of_a_request(rt: HostRuntime) -> Result<(), Fail> {
+    let none = Contexts::from_vec(Vec::new(rt.alloc()));
+    assert!(rt; found(rt.alloc(), none)?.is_none());
+    let bytes = Octets::new(rt.alloc(), LITTLE)?;
+    let one = Vec::from_array(rt.alloc(), [ServiceContext { id: 0, bytes }])?;
+    let context = found(rt.alloc(), Contexts::from_vec(one))?;
+    assert_eq!(rt; context.map(|context| context.timeout), Some(30));
     Ok(())
 }
