@@ -39,12 +39,12 @@ module _ (service : ℕ) where
 
     leaves_first : LeavesOnly P first.present
     leaves_first = leaves_at P first.present _ (one_write disk 1 (behind_letter service) (x ∷ r) settled reads) (λ c image.
-      let long : length c ≤ 17 = omega (arith, image.no_longer, short) in
-      let head : get_or c 0 0 ≡ x = image.kept 0 (omega arith) before in
-      fresh c (elim (cases_eq (length c) 17) [
-        | inl whole ↦ inr (whole, λ e. other (sym head ∙ e))
-        | inr less ↦ inl (omega (arith, long, less))
-      ]))
+        let long : length c ≤ 17 = omega (arith, image.no_longer, short) in
+        let head : get_or c 0 0 ≡ x = image.kept 0 (omega arith) before in
+        fresh c (elim (cases_eq (length c) 17) [
+          | inl whole ↦ inr (whole, λ e. other (sym head ∙ e))
+          | inr less ↦ inl (omega (arith, long, less))
+        ]))
       where
         before : IsWritten (record { place = 1; octets = behind_letter service } ∷ []) 0 → ⊥
         before (inl in_range) = absurd (omega (arith, in_range.0))
@@ -58,11 +58,11 @@ module _ (service : ℕ) where
 
     leaves_second : LeavesOnly P second.present
     leaves_second = leaves_at P second.present _ (one_write (synced first) 0 (first_letter ∷ []) (x ∷ behind_letter service) refl first_reads) (λ c image.
-      let is : c ≡ get_or c 0 0 ∷ behind_letter service = image_one [] (behind_letter service) c x first_letter image in
-      elim (cases_eq (get_or c 0 0) first_letter) [
-        | inl letter ↦ inl (empty c (is ∙ ap (λ (o : ℕ). o ∷ behind_letter service) letter))
-        | inr not_yet ↦ fresh c (shut (get_or c 0 0) c is not_yet)
-      ])
+        let is : c ≡ get_or c 0 0 ∷ behind_letter service = image_one [] (behind_letter service) c x first_letter image in
+        elim (cases_eq (get_or c 0 0) first_letter) [
+          | inl letter ↦ inl (empty c (is ∙ ap (λ (o : ℕ). o ∷ behind_letter service) letter))
+          | inr not_yet ↦ fresh c (shut (get_or c 0 0) c is not_yet)
+        ])
 
     leaves_after : LeavesOnly P (synced second).present
     leaves_after c image = inl (empty c (image_settled second.reads c image ∙ second_reads))
@@ -98,8 +98,7 @@ module _ (service : ℕ) where
       let short : length (drop 1 disk.reads) ≤ 16 = omega (arith, less, length-drop 1 disk.reads) in
       let leaves_erased : LeavesOnly P erased.present = leaves_at P erased.present _ (one_write disk 0 (0 ∷ []) disk.reads settled refl) (λ c image. fresh c (inl (omega (arith, image.no_longer, less)))) in
       let leaves_kept : LeavesOnly P kept.present = λ c image. fresh c (inl (omega (arith, ap length (image_settled erased.reads c image), less, length-drop 1 disk.reads))) in
-      let behind = behind_other kept 0 (drop 1 disk.reads) refl refl short (omega arith) leaves_kept in
-      (
+      let behind = behind_other kept 0 (drop 1 disk.reads) refl refl short (omega arith) leaves_kept in (
         record {
           more = behind.0.more ++ kept.present ∷ erased.present ∷ [];
           moments = behind.0.moments ∙ sym (append_assoc behind.0.more (kept.present ∷ erased.present ∷ []) (moments disk));

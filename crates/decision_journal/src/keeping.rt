@@ -109,7 +109,7 @@ impl<D: Disk> Journal<D> {
             (λ back. Tells (D.told disk) (D.told back.value) (λ s t. IsAfterRefusal s (synced s) t)) }
         ensures fault { IfErr result
             (λ back. IsOpenFault service (D.told back.value) (D.faults disk)
-                (D.faults back.value) back.fault) }
+            (D.faults back.value) back.fault) }
     {
         let mut octets = match read_whole(alloc, &mut disk) {
             Ok(octets) => octets,
@@ -146,8 +146,7 @@ impl<D: Disk> Journal<D> {
             + need self.old.area self.old.found item ≤ self.old.area) }
         ensures fault { IfErr result
             (IsAppendFault self.old item (D.faults self.old.disk) (D.faults self.new.disk)) }
-        ensures safe {
-            Tells (D.told self.old.disk) (D.told self.new.disk) (AppendIsSafe self.old.service item) }
+        ensures safe { Tells (D.told self.old.disk) (D.told self.new.disk) (AppendIsSafe self.old.service item) }
         ensures done { OnOk result
             (Tells (D.told self.old.disk) (D.told self.new.disk) (AppendIsDone self.old.service item)) }
     {

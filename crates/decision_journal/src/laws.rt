@@ -19,5 +19,4 @@ pub fn appends_are_safe()
 /// A crash at any moment of the creation of a journal leaves octets without records.
 pub fn creations_are_safe()
     ensures { CreationsAreSafe }
-{
-}
+{}

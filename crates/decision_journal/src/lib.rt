@@ -3,7 +3,9 @@
 
 pub use journal::{JournalFault, Standing};
 pub use keeping::Journal;
-pub use laws::{appends_are_safe, creations_are_safe, octets_stand_for_one_list, payloads_tell_records};
+pub use laws::{
+    appends_are_safe, creations_are_safe, octets_stand_for_one_list, payloads_tell_records,
+};
 pub use record::{CellsEnd, JournalRecord, Put, Puts, Registration, Registrations};
 
 mod disk_calls;

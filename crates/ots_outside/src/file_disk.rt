@@ -64,8 +64,7 @@ impl Disk for FileDisk {
 
     fn len(&mut self) -> Result<u64, DiskRefusal>
         // What each disk promises.
-        ensures cause {
-            IsErrOf result DiskFailed → HasRisen (file_disk_faults self.old) (file_disk_faults self.new) }
+        ensures cause { IsErrOf result DiskFailed → HasRisen (file_disk_faults self.old) (file_disk_faults self.new) }
         ensures later { file_disk_faults self.old ≤ file_disk_faults self.new }
 
         // A refusal counts as one fault, and an Ok as none.
@@ -77,8 +76,7 @@ impl Disk for FileDisk {
 
     fn read_at(&mut self, place: u64, into: &mut [u8]) -> Result<(), DiskRefusal>
         // What each disk promises.
-        ensures cause {
-            IsErrOf result DiskFailed → HasRisen (file_disk_faults self.old) (file_disk_faults self.new) }
+        ensures cause { IsErrOf result DiskFailed → HasRisen (file_disk_faults self.old) (file_disk_faults self.new) }
         ensures later { file_disk_faults self.old ≤ file_disk_faults self.new }
 
         // A refusal counts as one fault, and an Ok as none.
@@ -90,8 +88,7 @@ impl Disk for FileDisk {
 
     fn write_at(&mut self, place: u64, bytes: &[u8]) -> Result<(), DiskRefusal>
         // What each disk promises.
-        ensures cause {
-            IsErrOf result DiskFailed → HasRisen (file_disk_faults self.old) (file_disk_faults self.new) }
+        ensures cause { IsErrOf result DiskFailed → HasRisen (file_disk_faults self.old) (file_disk_faults self.new) }
         ensures later { file_disk_faults self.old ≤ file_disk_faults self.new }
 
         // A refusal counts as one fault, and an Ok as none.
@@ -103,8 +100,7 @@ impl Disk for FileDisk {
 
     fn sync(&mut self) -> Result<(), DiskRefusal>
         // What each disk promises.
-        ensures cause {
-            IsErrOf result DiskFailed → HasRisen (file_disk_faults self.old) (file_disk_faults self.new) }
+        ensures cause { IsErrOf result DiskFailed → HasRisen (file_disk_faults self.old) (file_disk_faults self.new) }
         ensures later { file_disk_faults self.old ≤ file_disk_faults self.new }
 
         // A refusal counts as one fault, and an Ok as none.
