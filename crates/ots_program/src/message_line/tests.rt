@@ -1,6 +1,6 @@
 use super::write_message_line;
 use cdr_values::Order;
-use giop_frames::{Contexts, Framed, Message, Request, ServiceContext, Target};
+use giop_frames::{Contexts, Framed, Message, Request, ServiceContext, Target, Version};
 use ots_model::Octets;
 use std::alloc::Global;
 use std::test::Fail;
@@ -32,8 +32,10 @@ fn request(
     };
     Ok(Framed {
         place: 0,
+        version: Version::V1_2,
         order: Order::Little,
         size: 60,
+        start: 0,
         message: Message::Request(request),
     })
 }
@@ -60,8 +62,10 @@ fn a_cancelled_request_is_shown(rt: HostRuntime) -> Result<(), Fail> {
     let mut lines = Vec::new(rt.alloc());
     let cancel = Framed {
         place: 12,
+        version: Version::V1_2,
         order: Order::Big,
         size: 4,
+        start: 0,
         message: Message::Cancel(7),
     };
     write_message_line(rt.alloc(), &mut lines, &cancel)?;
