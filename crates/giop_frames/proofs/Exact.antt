@@ -5,7 +5,7 @@ use Rattle.cdr_values.specs.declared.fault.CdrFault.{CdrFault}
 use Rattle.cdr_values.specs.Value.{Value, Octet, ULong, Text}
 use Rattle.cdr_values.specs.Reading.{Reading, ◌>>=◌, octet_at, ulong_at, string_at}
 use Rattle.cdr_values.specs.Values.{ReadsAll}
-use Rattle.cdr_values.specs.Laws.{ReadingLaws, ReadsExactly}
+use Rattle.cdr_values.specs.Laws.{ReadsExactly}
 use Rattle.giop_frames.specs.declared.fault.FrameFault.{FrameFault}
 use Rattle.giop_frames.specs.declared.header.Kind.{Kind}
 use Rattle.giop_frames.specs.declared.header.Kind.TheVariants as kinds
@@ -17,6 +17,7 @@ use Rattle.giop_frames.specs.declared.message.Message.TheVariants as messages
 use Rattle.giop_frames.specs.Fault.{field}
 use Rattle.giop_frames.specs.Layout.{Fields, IsField, AreFields, blank, contexts_values, kept_tail, layout, message_with}
 use Rattle.giop_frames.specs.Message.{IsContent, kind_of}
+use Rattle.giop_frames.specs.ContentInside.{FieldLaws}
 use Rattle.giop_frames.specs.Content.{target_at, contexts_at, field_at, fields_at, fields_in, front_of, message_behind, message_of}
 use Rattle.giop_frames.proofs.Given.{ok_is, read_is, bind_ok, field_ok}
 use Rattle.giop_frames.proofs.Spelled.{reads_then, reads_apart, after, reads_spelled, passed}
@@ -45,19 +46,19 @@ one_only read value tell exact r x new values behind told spelled h =
 -- ---- a field
 
 -- a field that is read stands there
-field_found : ReadingLaws → (one : Field) (old : Fields) (r : Reading) (new : Fields) (behind : Reading) → field_at one old r ≡ Ok (new, behind) → (values : List Value) × IsField one old new values × ReadsAll r values behind
+field_found : FieldLaws → (one : Field) (old : Fields) (r : Reading) (new : Fields) (behind : Reading) → field_at one old r ≡ Ok (new, behind) → (values : List Value) × IsField one old new values × ReadsAll r values behind
 unfolding field_at
 field_found laws fields.Id old r new behind e =
-    let a = one_found ulong_at ULong (λ id. record old { id = id }) laws.ulong r new behind e in
+    let a = one_found ulong_at ULong (λ id. record old { id = id }) laws.values.ulong r new behind e in
     (ULong a.0 ∷ [], (a.0, a.1, refl), a.2)
 field_found laws fields.Flags old r new behind e =
-    let a = one_found octet_at Octet (λ flags. record old { flags = flags }) laws.octet r new behind e in
+    let a = one_found octet_at Octet (λ flags. record old { flags = flags }) laws.values.octet r new behind e in
     (Octet a.0 ∷ [], (a.0, a.1, refl), a.2)
 field_found laws fields.Reserved old r new behind e =
-    let a = one_found octet_at Octet (λ octet. old) laws.octet r new behind e in
+    let a = one_found octet_at Octet (λ octet. old) laws.values.octet r new behind e in
     (Octet a.0 ∷ [], (a.0, a.1, refl), a.2)
 field_found laws fields.Status old r new behind e =
-    let a = one_found ulong_at ULong (λ status. record old { status = status }) laws.ulong r new behind e in
+    let a = one_found ulong_at ULong (λ status. record old { status = status }) laws.values.ulong r new behind e in
     (ULong a.0 ∷ [], (a.0, a.1, refl), a.2)
 field_found laws fields.Target old r new behind e =
     let a = bind_ok (target_at r) _ (new, behind) e in
@@ -65,7 +66,7 @@ field_found laws fields.Target old r new behind e =
     let p = target_found laws r a.0.0 a.0.1 a.1 in
     (p.0, (a.0.0, sym same.0, p.1), subst (λ (s : Reading). ReadsAll r p.0 s) same.1 p.2)
 field_found laws fields.Operation old r new behind e =
-    let a = one_found string_at Text (λ name. record old { operation = name }) laws.string r new behind e in
+    let a = one_found string_at Text (λ name. record old { operation = name }) laws.values.string r new behind e in
     (Text a.0 ∷ [], (a.0, a.1, refl), a.2)
 field_found laws fields.Contexts old r new behind e =
     let a = bind_ok (contexts_at r) _ (new, behind) e in
@@ -74,14 +75,14 @@ field_found laws fields.Contexts old r new behind e =
     (contexts_values a.0.0, (a.0.0, sym same.0, p.0, refl), subst (λ (s : Reading). ReadsAll r (contexts_values a.0.0) s) same.1 p.1)
 
 -- and a field that stands there is read
-field_only : ReadingLaws → (one : Field) (old new : Fields) (values : List Value) (r behind : Reading) → IsField one old new values → ReadsAll r values behind → field_at one old r ≡ Ok (new, behind)
+field_only : FieldLaws → (one : Field) (old new : Fields) (values : List Value) (r behind : Reading) → IsField one old new values → ReadsAll r values behind → field_at one old r ≡ Ok (new, behind)
 unfolding field_at
-field_only laws fields.Id old new values r behind is h = one_only ulong_at ULong (λ id. record old { id = id }) laws.ulong r is.0 new values behind is.1 is.2 h
-field_only laws fields.Flags old new values r behind is h = one_only octet_at Octet (λ flags. record old { flags = flags }) laws.octet r is.0 new values behind is.1 is.2 h
-field_only laws fields.Reserved old new values r behind is h = one_only octet_at Octet (λ octet. old) laws.octet r is.0 new values behind is.1 is.2 h
-field_only laws fields.Status old new values r behind is h = one_only ulong_at ULong (λ status. record old { status = status }) laws.ulong r is.0 new values behind is.1 is.2 h
+field_only laws fields.Id old new values r behind is h = one_only ulong_at ULong (λ id. record old { id = id }) laws.values.ulong r is.0 new values behind is.1 is.2 h
+field_only laws fields.Flags old new values r behind is h = one_only octet_at Octet (λ flags. record old { flags = flags }) laws.values.octet r is.0 new values behind is.1 is.2 h
+field_only laws fields.Reserved old new values r behind is h = one_only octet_at Octet (λ octet. old) laws.values.octet r is.0 new values behind is.1 is.2 h
+field_only laws fields.Status old new values r behind is h = one_only ulong_at ULong (λ status. record old { status = status }) laws.values.ulong r is.0 new values behind is.1 is.2 h
 field_only laws fields.Target old new values r behind is h = rw (target_only laws is.0 values r behind is.2 h) (ap (λ (f : Fields). Ok (f, behind)) (sym is.1))
-field_only laws fields.Operation old new values r behind is h = one_only string_at Text (λ name. record old { operation = name }) laws.string r is.0 new values behind is.1 is.2 h
+field_only laws fields.Operation old new values r behind is h = one_only string_at Text (λ name. record old { operation = name }) laws.values.string r is.0 new values behind is.1 is.2 h
 field_only laws fields.Contexts old new values r behind is h =
     let k : ReadsAll r (contexts_values is.0) behind = subst (λ (v : List Value). ReadsAll r v behind) is.3 h in
     rw (contexts_only laws r is.0 behind is.2 k) (ap (λ (f : Fields). Ok (f, behind)) (sym is.1))
@@ -89,7 +90,7 @@ field_only laws fields.Contexts old new values r behind is h =
 -- ---- fields
 
 -- fields that are read stand there
-pub fields_found : ReadingLaws → (table : List Field) (old : Fields) (r : Reading) (new : Fields) (behind : Reading) → fields_at table old r ≡ Ok (new, behind) → (values : List Value) × AreFields table old new values × ReadsAll r values behind
+pub fields_found : FieldLaws → (table : List Field) (old : Fields) (r : Reading) (new : Fields) (behind : Reading) → fields_at table old r ≡ Ok (new, behind) → (values : List Value) × AreFields table old new values × ReadsAll r values behind
 fields_found laws [] old r new behind e =
     let same = read_is old r new behind e in
     ([], (sym same.0, refl), same.2)
@@ -100,7 +101,7 @@ fields_found laws (one ∷ others) old r new behind e =
     (p.0 ++ q.0, (a.0.0, p.0, q.0, refl, p.1, q.1), reads_then p.0 q.0 r a.0.1 behind p.2 q.2)
 
 -- and fields that stand there are read
-pub fields_only : ReadingLaws → (table : List Field) (old new : Fields) (values : List Value) (r behind : Reading) → AreFields table old new values → ReadsAll r values behind → fields_at table old r ≡ Ok (new, behind)
+pub fields_only : FieldLaws → (table : List Field) (old new : Fields) (values : List Value) (r behind : Reading) → AreFields table old new values → ReadsAll r values behind → fields_at table old r ≡ Ok (new, behind)
 fields_only laws [] old new values r behind is h =
     let k : behind ≡ r = subst (λ (v : List Value). ReadsAll r v behind) is.1 h in
     ap (λ (f : Fields). Ok (f, r)) (sym is.0) ∙ ap (λ (b : Reading). Ok (new, b)) (sym k)
@@ -123,7 +124,7 @@ kind_is order kinds.MessageError told tail m e = ap kind_of (ok_is messages.Erro
 kind_is order kinds.Fragment told tail m e = absurd cc
 
 -- the message that is read has this content
-pub content_found : ReadingLaws → (version : Version) (order : Order) (kind : Kind) (content : List ℕ) (m : Message) → message_of version order kind content ≡ Ok m → (kind ≡ kind_of m) × IsContent version order m content
+pub content_found : FieldLaws → (version : Version) (order : Order) (kind : Kind) (content : List ℕ) (m : Message) → message_of version order kind content ≡ Ok m → (kind ≡ kind_of m) × IsContent version order m content
 unfolding message_of
 content_found laws version order kind content m e =
     let r = front_of order content in
@@ -138,7 +139,7 @@ content_found laws version order kind content m e =
     (kind_same, record { told = a.0.0; values = p.0; fields = q.octets; tail = tail; parts = q.front; spelled = q.spelled; are_fields = both.0; made = both.1 })
 
 -- the message with this content is read
-pub content_only : ReadingLaws → (version : Version) (order : Order) (m : Message) (content : List ℕ) → IsContent version order m content → message_of version order (kind_of m) content ≡ Ok m
+pub content_only : FieldLaws → (version : Version) (order : Order) (m : Message) (content : List ℕ) → IsContent version order m content → message_of version order (kind_of m) content ≡ Ok m
 unfolding message_of
 content_only laws version order m content is =
     let r = front_of order content in

@@ -6,8 +6,9 @@ use Rattle.std.proofs.lemmas.List.{append-nil, drop-drop, drop_at, take_at, drop
 use Rattle.cdr_values.specs.declared.order.Order.{Order}
 use Rattle.cdr_values.specs.Value.{Octet, UShort, ULong, OctetSequence, Text}
 use Rattle.cdr_values.specs.Reading.{Reading, ◌>>=◌, octet_at, ushort_at, ulong_at, octets_at, string_at}
+use Rattle.cdr_values.specs.Sequence.{each_at, sequence_at}
+use Rattle.cdr_values.specs.Tagged.{reference_at, tagged_at}
 use Rattle.cdr_values.specs.Laws.{ReadingLaws}
-use Rattle.cdr_values.specs.declared.fault.CdrFault.{CdrFault}
 use Rattle.cdr_values.specs.declared.fault.CdrFault.TheVariants as cdr
 use Rattle.giop_frames.specs.declared.fault.FrameFault.{FrameFault}
 use Rattle.giop_frames.specs.declared.fault.FrameFault.TheVariants as faults
@@ -24,12 +25,14 @@ use Rattle.giop_frames.specs.declared.walk.Step.TheVariants as steps
 use Rattle.giop_frames.specs.declared.walk.Walk.{Walk}
 use Rattle.giop_frames.specs.declared.message.Message.{Message}
 use Rattle.giop_frames.specs.declared.message.ServiceContext.{ServiceContext}
-use Rattle.giop_frames.specs.Fault.{fault_of}
+use Rattle.giop_frames.specs.declared.message.Target.{Target}
+use Rattle.giop_frames.specs.declared.message.Target.TheVariants.{Reference}
+use Rattle.giop_frames.specs.Fault.{fault_of, too_long}
 use Rattle.giop_frames.specs.Header.{is_fragment}
 use Rattle.giop_frames.specs.Layout.{Fields, kept_tail, message_with}
 use Rattle.giop_frames.specs.Stream.{message_by, so_far, start_by}
-use Rattle.giop_frames.specs.Content.{key_at, profile_at, profiles_at, reference_at, target_at, context_at, each_context_at, contexts_at, field_at, fields_at, body_start, message_of, start_of}
-use Rattle.giop_frames.specs.Walk.{FindsOctets, GoesOn, IsBehind, IsDone, IsPassed, IsWalked, StandsBefore, StandsIn, context_of, fields_by, followed, left_at, standing, step_at, telling_contexts, told_by, walk_left, wants_octets}
+use Rattle.giop_frames.specs.Content.{as_target, telling_target, key_at, profile_at, indexed_at, target_at, context_at, field_at, fields_at, body_start, message_of, start_of}
+use Rattle.giop_frames.specs.Walk.{FindsOctets, FindsTagged, GoesOn, IsBehind, IsDone, IsWalked, StandsBefore, StandsIn, context_of, fields_by, followed, left_at, standing, step_at, telling_contexts, told_by, walk_left, wants_octets}
 use Rattle.giop_frames.specs.Limits.{context_limit, key_limit, profile_limit}
 use Rattle.giop_frames.proofs.Given.{reading_is}
 use Rattle.giop_frames.proofs.Followed.{here, further_on, kept, passed}
@@ -199,7 +202,7 @@ key_told laws old r s span f few =
     }
 
 pub index_passed : ReadingLaws → (old : Found) (r s : Reading) (index : ℕ) → ulong_at r ≡ Ok (index, s) → GoesOn steps.Index old r (Some steps.TypeId) old s
-unfolding step_at reference_at
+unfolding step_at indexed_at
 index_passed laws old r s index e = record {
   behind = passed ulong_at ULong laws.ulong r index s e;
   same = λ more content st. rw (kept ulong_at ULong laws.ulong r index s e more) refl;
@@ -207,17 +210,25 @@ index_passed laws old r s index e = record {
   less = omega arith;
 }
 
+-- what is passed over is the same target, however much of it is kept
+repacked : {A B : Type 0} (t : Target) (pack : A → B) (read : Result (A × Reading) FrameFault) → as_target t (read >>= λ found. Ok (pack found.0, found.1)) ≡ as_target t read
+repacked t pack (Ok found) = refl
+repacked t pack (Err fault) = refl
+
 pub type_id_passed : ReadingLaws → (old : Found) (r s : Reading) (type_id : List ℕ) → string_at r ≡ Ok (type_id, s) → GoesOn steps.TypeId old r (Some steps.Count) old s
-unfolding step_at
+unfolding step_at reference_at
 type_id_passed laws old r s type_id e = record {
   behind = passed string_at Text laws.string r type_id s e;
-  same = λ more content st. rw (kept string_at Text laws.string r type_id s e more) refl;
+  same = λ more content st.
+      let profiles = sequence_at profile_limit fault_of too_long (tagged_at fault_of) (followed s more) in
+      rw (kept string_at Text laws.string r type_id s e more)
+      (ap (telling_target (told_by content old)) (repacked {A = List (ℕ × List ℕ)} {B = List ℕ × List (ℕ × List ℕ)} Reference (λ found. (type_id, found)) profiles));
   room = tt;
   less = omega arith;
 }
 
 pub count_passed : ReadingLaws → (old : Found) (r s : Reading) (count : ℕ) → ulong_at r ≡ Ok (count, s) → count ≤ profile_limit → GoesOn steps.Count old r (Some (steps.Profiles count)) old s
-unfolding step_at
+unfolding step_at sequence_at
 count_passed laws old r s count e few = record {
   behind = passed ulong_at ULong laws.ulong r count s e;
   same = λ more content st. rw (kept ulong_at ULong laws.ulong r count s e more, le-ltb profile_limit count few) refl;
@@ -225,16 +236,20 @@ count_passed laws old r s count e few = record {
   less = omega arith;
 }
 
-pub profile_passed : ReadingLaws → (r a s : Reading) (tag : ℕ) (octets : List ℕ) → ulong_at r ≡ Ok (tag, a) → octets_at a ≡ Ok (octets, s) → IsPassed r s
-unfolding profile_at
-profile_passed laws r a s tag octets one two = record {
-  behind = further_on r a s (passed ulong_at ULong laws.ulong r tag a one) (passed octets_at OctetSequence laws.octets a octets s two);
-  same = λ more. rw (kept ulong_at ULong laws.ulong r tag a one more, kept octets_at OctetSequence laws.octets a octets s two more) refl;
-}
+pub tagged_found : ReadingLaws → (r a s : Reading) (tag : ℕ) (span : Span) → ulong_at r ≡ Ok (tag, a) → FindsOctets octets_at span a s → FindsTagged tag span r s
+unfolding tagged_at
+tagged_found laws r a s tag span one f =
+    let first = passed ulong_at ULong laws.ulong r tag a one in
+    record {
+      octets = f.octets;
+      behind = further_on r a s first (passed octets_at OctetSequence laws.octets a f.octets s f.found);
+      same = λ more. rw (kept ulong_at ULong laws.ulong r tag a one more, kept octets_at OctetSequence laws.octets a f.octets s f.found more) refl;
+      stands = λ more content st. f.stands more content (stands_on content r a more first st);
+    }
 
-pub profile_told : (old : Found) (r s : Reading) → IsPassed r s → GoesOn steps.Profile old r None (record old { target = targets.Profile }) s
-unfolding step_at
-profile_told old r s p = record {
+pub profile_told : (old : Found) (r s : Reading) (tag : ℕ) (span : Span) → FindsTagged tag span r s → GoesOn steps.Profile old r None (record old { target = targets.Profile }) s
+unfolding step_at profile_at
+profile_told old r s tag span p = record {
   behind = p.behind;
   same = λ more content st. rw (p.same more) refl;
   room = tt;
@@ -242,7 +257,7 @@ profile_told old r s p = record {
 }
 
 pub reference_told : (old : Found) (r : Reading) (left : ℕ) → left ≡ 0 → GoesOn (steps.Profiles left) old r None (record old { target = targets.Reference }) r
-unfolding step_at profiles_at
+unfolding step_at each_at
 reference_told old r left none = record {
   behind = here r;
   same = λ more content st. rw none refl;
@@ -250,37 +265,35 @@ reference_told old r left none = record {
   less = omega arith;
 }
 
-pub profiles_passed : (old : Found) (r s : Reading) (left : ℕ) → 0 < left → IsPassed r s → GoesOn (steps.Profiles left) old r (Some (steps.Profiles (left - 1))) old s
-unfolding step_at profiles_at
-profiles_passed old r s zero some p = absurd (omega (arith, some))
-profiles_passed old r s (suc left) some p =
+pub profiles_passed : (old : Found) (r s : Reading) (left tag : ℕ) (span : Span) → 0 < left → FindsTagged tag span r s → GoesOn (steps.Profiles left) old r (Some (steps.Profiles (left - 1))) old s
+unfolding step_at each_at
+profiles_passed old r s zero tag span some p = absurd (omega (arith, some))
+profiles_passed old r s (suc left) tag span some p =
     let one_less : suc left - 1 ≡ left = omega arith in
     record {
       behind = p.behind;
-      same = λ more content st. rw (p.same more, one_less) refl;
+      same = λ more content st.
+          let others = each_at (tagged_at fault_of) left (followed s more) in
+          rw (p.same more, one_less)
+          (ap (telling_target (told_by content old)) (repacked {A = List (ℕ × List ℕ)} {B = List (ℕ × List ℕ)} Reference (λ found. (tag, p.octets) ∷ found) others));
       room = tt;
       less = omega arith;
     }
 
-pub profiles_fail : (left : ℕ) (r : Reading) (fault : FrameFault) → 0 < left → profile_at r ≡ Err fault → (told : Fields) → step_at (steps.Profiles left) told r ≡ Err fault
-unfolding step_at profiles_at
+pub profiles_fail : (left : ℕ) (r : Reading) (fault : FrameFault) → 0 < left → tagged_at fault_of r ≡ Err fault → (told : Fields) → step_at (steps.Profiles left) told r ≡ Err fault
+unfolding step_at each_at
 profiles_fail zero r fault some e told = absurd (omega (arith, some))
 profiles_fail (suc left) r fault some e told = rw e refl
 
 -- ---- contexts
 
-pub id_fails : (left : ℕ) (r : Reading) (fault : CdrFault) → 0 < left → ulong_at r ≡ Err fault → (told : Fields) → step_at (steps.Contexts left) told r ≡ Err (fault_of fault)
-unfolding step_at each_context_at context_at
-id_fails zero r fault some e told = absurd (omega (arith, some))
-id_fails (suc left) r fault some e told = rw e refl
-
-pub bytes_fail : (left : ℕ) (r : Reading) (id : ℕ) (a : Reading) (fault : CdrFault) → 0 < left → ulong_at r ≡ Ok (id, a) → octets_at a ≡ Err fault → (told : Fields) → step_at (steps.Contexts left) told r ≡ Err (fault_of fault)
-unfolding step_at each_context_at context_at
-bytes_fail zero r id a fault some one two told = absurd (omega (arith, some))
-bytes_fail (suc left) r id a fault some one two told = rw (one, two) refl
+pub contexts_fail : (left : ℕ) (r : Reading) (fault : FrameFault) → 0 < left → tagged_at fault_of r ≡ Err fault → (told : Fields) → step_at (steps.Contexts left) told r ≡ Err fault
+unfolding step_at each_at context_at
+contexts_fail zero r fault some e told = absurd (omega (arith, some))
+contexts_fail (suc left) r fault some e told = rw e refl
 
 pub contexts_begun : ReadingLaws → (old : Found) (r s : Reading) (count : ℕ) → ulong_at r ≡ Ok (count, s) → count ≤ context_limit → GoesOn (steps.Front fields.Contexts) old r (Some (steps.Contexts count)) (record old { count = 0 }) s
-unfolding step_at field_at contexts_at
+unfolding step_at field_at sequence_at
 contexts_begun laws old r s count e few = record {
   behind = passed ulong_at ULong laws.ulong r count s e;
   same = λ more content st. rw (kept ulong_at ULong laws.ulong r count s e more, le-ltb context_limit count few) refl;
@@ -289,7 +302,7 @@ contexts_begun laws old r s count e few = record {
 }
 
 pub contexts_told : (old : Found) (r : Reading) (left : ℕ) → left ≡ 0 → GoesOn (steps.Contexts left) old r None old r
-unfolding step_at each_context_at
+unfolding step_at each_at
 contexts_told old r left none = record {
   behind = here r;
   same = λ more content st. rw none (ap (λ (cs : List ServiceContext). Ok (record (told_by content old) { contexts = cs }, followed r more)) (append-nil (told_by content old).contexts));
@@ -306,24 +319,23 @@ regrouped : (told : Fields) (front : List ServiceContext) (c : ServiceContext) (
 regrouped told front c (Ok x) = ap (λ (cs : List ServiceContext). Ok (record told { contexts = cs }, x.1)) (sym (append_assoc front (c ∷ []) x.0))
 regrouped told front c (Err fault) = refl
 
-pub context_told : ReadingLaws → (old : Found) (r a s : Reading) (left id : ℕ) (bytes : Span) → 0 < left → left + old.count ≤ context_limit → old.count < length old.contexts → ulong_at r ≡ Ok (id, a) → FindsOctets octets_at bytes a s
+pub context_told : (old : Found) (r s : Reading) (left id : ℕ) (bytes : Span) → 0 < left → left + old.count ≤ context_limit → old.count < length old.contexts → FindsTagged id bytes r s
     → GoesOn (steps.Contexts left) old r (Some (steps.Contexts (left - 1))) (record old { contexts = set old.contexts old.count (record { id = id; bytes = bytes }); count = old.count + 1 }) s
-unfolding step_at each_context_at context_at
-context_told laws old r a s zero id bytes some room within one f = absurd (omega (arith, some))
-context_told laws old r a s (suc left) id bytes some room within one f =
+unfolding step_at each_at context_at
+context_told old r s zero id bytes some room within f = absurd (omega (arith, some))
+context_told old r s (suc left) id bytes some room within f =
     let one_less : suc left - 1 ≡ left = omega arith in
     let new : Found = record old { contexts = set old.contexts old.count (record { id = id; bytes = bytes }); count = old.count + 1 } in
     record {
-      behind = further_on r a s (passed ulong_at ULong laws.ulong r id a one) (passed octets_at OctetSequence laws.octets a f.octets s f.found);
+      behind = f.behind;
       same = λ more content st.
           let told = told_by content old in
-          let in_a : StandsIn content (followed a more) = stands_on content r a more (passed ulong_at ULong laws.ulong r id a one) st in
-          let context : context_of content (record { id = id; bytes = bytes }) ≡ record { id = id; bytes = f.octets } = ap (λ (x : List ℕ). record { id = id; bytes = x }) (f.stands more content in_a) in
+          let context : context_of content (record { id = id; bytes = bytes }) ≡ record { id = id; bytes = f.octets } = ap (λ (x : List ℕ). record { id = id; bytes = x }) (f.stands more content st) in
           let kept_contexts : map (context_of content) (take (old.count + 1) new.contexts) ≡ told.contexts ++ record { id = id; bytes = f.octets } ∷ [] =
           ap (map (context_of content)) (take_more_set old.contexts old.count (record { id = id; bytes = bytes }) within) ∙ map_push (context_of content) (take old.count old.contexts) (record { id = id; bytes = bytes })
           ∙ ap (λ (c : ServiceContext). told.contexts ++ c ∷ []) context in
-          rw (kept ulong_at ULong laws.ulong r id a one more, kept octets_at OctetSequence laws.octets a f.octets s f.found more, one_less, kept_contexts)
-          (regrouped told told.contexts (record { id = id; bytes = f.octets }) (each_context_at left (followed s more)));
+          rw (f.same more, one_less, kept_contexts)
+          (regrouped told told.contexts (record { id = id; bytes = f.octets }) (each_at context_at left (followed s more)));
       room = omega (arith, room);
       less = omega arith;
     }

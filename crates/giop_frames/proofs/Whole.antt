@@ -3,7 +3,6 @@ use Rattle.std.proofs.Common.{◌≡◌, ℕ, ◌+◌, ◌≤◌, ◌||◌, fals
 use Rattle.std.specs.Prelude.{IfOk, IfErr}
 use Rattle.std.proofs.lemmas.Bool.{le-ltb, ltb-false, or_parts}
 use Rattle.std.proofs.lemmas.List.{take_at, drop_at, length-append}
-use Rattle.cdr_values.specs.Laws.{ReadingLaws}
 use Rattle.giop_frames.specs.declared.fault.FrameFault.{FrameFault}
 use Rattle.giop_frames.specs.declared.fault.FrameFault.TheVariants as faults
 use Rattle.giop_frames.specs.declared.fault.FrameFault.TheVariants.{BadFragment, Short}
@@ -13,6 +12,7 @@ use Rattle.giop_frames.specs.declared.message.Message.TheVariants as messages
 use Rattle.giop_frames.specs.Fault.{Fails, Finds}
 use Rattle.giop_frames.specs.Header.{magic, version_octets, type_octet, is_fragment, header_at}
 use Rattle.giop_frames.specs.Message.{IsMessage, kind_of}
+use Rattle.giop_frames.specs.ContentInside.{FieldLaws}
 use Rattle.giop_frames.specs.Content.{message_of}
 use Rattle.giop_frames.specs.Decode.{decoded}
 use Rattle.giop_frames.proofs.Given.{ok_is, bind_ok, guard_ok}
@@ -60,7 +60,7 @@ steps octets m used e =
     }
 
 -- where the whole gives a message, the octets that it used are that message
-pub is_message : ReadingLaws → (octets : List ℕ) (m : Message) (used : ℕ) → decoded octets ≡ Ok (m, used) → (used ≤ length octets) × IsMessage m (take used octets)
+pub is_message : FieldLaws → (octets : List ℕ) (m : Message) (used : ℕ) → decoded octets ≡ Ok (m, used) → (used ≤ length octets) × IsMessage m (take used octets)
 is_message laws octets m used e =
     let s = steps octets m used e in
     let h = s.header in
@@ -87,7 +87,7 @@ no_fragment messages.Close = refl
 no_fragment messages.Error = refl
 
 -- a message is given by the whole, whatever follows it
-pub is_decoded : ReadingLaws → (m : Message) (octets rest : List ℕ) → IsMessage m octets → decoded (octets ++ rest) ≡ Ok (m, length octets)
+pub is_decoded : FieldLaws → (m : Message) (octets rest : List ℕ) → IsMessage m octets → decoded (octets ++ rest) ≡ Ok (m, length octets)
 is_decoded laws m octets rest is =
     let h = is.header in
     let p = is.part in
@@ -105,12 +105,12 @@ is_decoded laws m octets rest is =
 -- ---- from what a call found to what holds of its answer
 
 -- a call used no more octets than there are
-pub within_from : {X : Type 0} (laws : ReadingLaws) (view : X → Message × ℕ) (octets : List ℕ) (result : Result X FrameFault) → Finds view result (decoded octets) → IfOk result (λ x. (view x).1 ≤ length octets)
+pub within_from : {X : Type 0} (laws : FieldLaws) (view : X → Message × ℕ) (octets : List ℕ) (result : Result X FrameFault) → Finds view result (decoded octets) → IfOk result (λ x. (view x).1 ≤ length octets)
 within_from laws view octets (Ok x) given = (is_message laws octets (view x).0 (view x).1 given).0
 within_from laws view octets (Err fault) given = tt
 
 -- the octets that a call used are its message
-pub found_from : {X : Type 0} (laws : ReadingLaws) (view : X → Message × ℕ) (octets : List ℕ) (result : Result X FrameFault) → Finds view result (decoded octets) → IfOk result (λ x. IsMessage (view x).0 (take (view x).1 octets))
+pub found_from : {X : Type 0} (laws : FieldLaws) (view : X → Message × ℕ) (octets : List ℕ) (result : Result X FrameFault) → Finds view result (decoded octets) → IfOk result (λ x. IsMessage (view x).0 (take (view x).1 octets))
 found_from laws view octets (Ok x) given = (is_message laws octets (view x).0 (view x).1 given).1
 found_from laws view octets (Err fault) given = tt
 
@@ -127,7 +127,7 @@ only_memory faults.NotWritten read y e h = absurd cc
 only_memory faults.Memory read y e h = refl
 
 -- a call finds the message that stands in front, unless memory fails
-pub only_from : {X : Type 0} (laws : ReadingLaws) (view : X → Message × ℕ) (bytes : List ℕ) (result : Result X FrameFault) → Finds view result (decoded bytes) → (m : Message) (octets rest : List ℕ) → IsMessage m octets → bytes ≡ octets ++ rest
+pub only_from : {X : Type 0} (laws : FieldLaws) (view : X → Message × ℕ) (bytes : List ℕ) (result : Result X FrameFault) → Finds view result (decoded bytes) → (m : Message) (octets rest : List ℕ) → IsMessage m octets → bytes ≡ octets ++ rest
     → IfOk result (λ x. ((view x).0 ≡ m) × ((view x).1 ≡ length octets)) × IfErr result (λ fault. fault ≡ faults.Memory)
 only_from laws view bytes (Ok x) given m octets rest is e =
     let same = ok_is (view x) (m, length octets) (sym given ∙ ap decoded e ∙ is_decoded laws m octets rest is) in
@@ -137,7 +137,7 @@ only_from laws view bytes (Err fault) given m octets rest is e = (tt, only_memor
 -- ---- no message begins another
 
 -- two messages in front of the same octets are one
-pub one_message : ReadingLaws → (m n : Message) (a b x y : List ℕ) → IsMessage m a → IsMessage n b → a ++ x ≡ b ++ y → (a ≡ b) × (m ≡ n)
+pub one_message : FieldLaws → (m n : Message) (a b x y : List ℕ) → IsMessage m a → IsMessage n b → a ++ x ≡ b ++ y → (a ≡ b) × (m ≡ n)
 one_message laws m n a b x y p q e =
     let same = ok_is {A = Message × ℕ} (m, length a) (n, length b) (sym (is_decoded laws m a x p) ∙ ap decoded e ∙ is_decoded laws n b y q) in
     let size : length b ≡ length a = ap (λ (z : Message × ℕ). z.1) (sym same) in

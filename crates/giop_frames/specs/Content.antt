@@ -1,9 +1,11 @@
 -- Reading the content of a message from its front, field by field as the table of layouts lists them (CORBA, GIOP
 -- Message Formats), and its first fault (our profile).
-use Rattle.std.specs.Prelude.{ℕ, zero, suc, ◌+◌, ◌%◌, ◌==◌, nat_lt, List, [], ◌∷◌, length, Result, Ok, Err, if◌then◌else◌}
+use Rattle.std.specs.Prelude.{ℕ, ◌+◌, ◌%◌, ◌==◌, nat_lt, List, [], ◌∷◌, length, Result, Ok, Err, if◌then◌else◌}
 use Rattle.cdr_values.specs.declared.order.Order.{Order}
 use Rattle.cdr_values.specs.Value.{gap}
 use Rattle.cdr_values.specs.Reading.{Reading, ◌>>=◌, octet_at, ushort_at, ulong_at, octets_at, string_at}
+use Rattle.cdr_values.specs.Sequence.{Read, sequence_at}
+use Rattle.cdr_values.specs.Tagged.{reference_at, tagged_at}
 use Rattle.giop_frames.specs.declared.fault.FrameFault.{FrameFault}
 use Rattle.giop_frames.specs.declared.fault.FrameFault.TheVariants.{BadType}
 use Rattle.giop_frames.specs.declared.header.Kind.{Kind}
@@ -15,7 +17,7 @@ use Rattle.giop_frames.specs.declared.message.Target.{Target}
 use Rattle.giop_frames.specs.declared.message.Target.TheVariants.{Key, Profile, Reference}
 use Rattle.giop_frames.specs.declared.message.ServiceContext.{ServiceContext}
 use Rattle.giop_frames.specs.Limits.{context_limit, key_limit, profile_limit}
-use Rattle.giop_frames.specs.Fault.{field, too_long}
+use Rattle.giop_frames.specs.Fault.{fault_of, field, too_long}
 use Rattle.giop_frames.specs.Layout.{Fields, blank, body_alignment, kept_tail, layout, message_with}
 
 unfoldable pub key_at : Reading → Result (Target × Reading) FrameFault
@@ -23,51 +25,31 @@ key_at r = do
   key ← field (octets_at r)
   if nat_lt key_limit (length key.0) then Err (too_long r.place (length key.0)) else Ok (Key key.0, key.1)
 
+-- what was passed over is a target of this kind
+abbrev pub as_target : {A : Type 0} → Target → Result (A × Reading) FrameFault → Result (Target × Reading) FrameFault
+as_target target read = read >>= λ passed. Ok (target, passed.1)
+
+-- a tagged profile
 unfoldable pub profile_at : Reading → Result (Target × Reading) FrameFault
-profile_at r = do
-  tag ← field (ulong_at r)
-  octets ← field (octets_at tag.1)
-  Ok (Profile, octets.1)
+profile_at r = as_target Profile (tagged_at fault_of r)
 
--- n tagged profiles, which are passed over
-unfoldable pub profiles_at : ℕ → Reading → Result (Unit {0} × Reading) FrameFault
-profiles_at zero r = Ok (tt, r)
-profiles_at (suc n) r = do
-  profile ← profile_at r
-  profiles_at n profile.1
-
-unfoldable pub reference_at : Reading → Result (Target × Reading) FrameFault
-reference_at r = do
-  index ← field (ulong_at r)
-  type_id ← field (string_at index.1)
-  count ← field (ulong_at type_id.1)
-  if nat_lt profile_limit count.0 then Err (too_long type_id.1.place count.0) else (
-      profiles_at count.0 count.1 >>= λ passed. Ok (Reference, passed.1))
+-- an index, and a reference
+unfoldable pub indexed_at : Reading → Result (Target × Reading) FrameFault
+indexed_at r = field (ulong_at r) >>= λ index. as_target Reference (reference_at profile_limit fault_of too_long index.1)
 
 unfoldable pub target_at : Reading → Result (Target × Reading) FrameFault
 target_at r = do
   way ← field (ushort_at r)
   if way.0 == 0 then key_at way.1 else (
-      if way.0 == 1 then profile_at way.1 else (if way.0 == 2 then reference_at way.1 else Err BadType))
+      if way.0 == 1 then profile_at way.1 else (if way.0 == 2 then indexed_at way.1 else Err BadType))
 
-unfoldable pub context_at : Reading → Result (ServiceContext × Reading) FrameFault
-context_at r = do
-  id ← field (ulong_at r)
-  octets ← field (octets_at id.1)
-  Ok (record { id = id.0; bytes = octets.0 }, octets.1)
+-- a service context
+unfoldable pub context_at : Read ServiceContext FrameFault
+context_at r = tagged_at fault_of r >>= λ found. Ok (record { id = found.0.0; bytes = found.0.1 }, found.1)
 
--- n contexts
-unfoldable pub each_context_at : ℕ → Reading → Result (List ServiceContext × Reading) FrameFault
-each_context_at zero r = Ok ([], r)
-each_context_at (suc n) r = do
-  first ← context_at r
-  others ← each_context_at n first.1
-  Ok (first.0 ∷ others.0, others.1)
-
-unfoldable pub contexts_at : Reading → Result (List ServiceContext × Reading) FrameFault
-contexts_at r = do
-  count ← field (ulong_at r)
-  if nat_lt context_limit count.0 then Err (too_long r.place count.0) else each_context_at count.0 count.1
+-- how many contexts there are, and then each
+abbrev pub contexts_at : Read (List ServiceContext) FrameFault
+contexts_at r = sequence_at context_limit fault_of too_long context_at r
 
 -- what a target that was read tells
 abbrev pub telling_target : Fields → Result (Target × Reading) FrameFault → Result (Fields × Reading) FrameFault

@@ -3,6 +3,7 @@ use Rattle.std.specs.Prelude.{◌≡◌, ◌⊎◌, ℕ, Result, Ok, Err, IfErr}
 use Rattle.cdr_values.specs.declared.fault.CdrFault.{CdrFault}
 use Rattle.cdr_values.specs.Reading.{Reading}
 use Rattle.cdr_values.specs.declared.fault.CdrFault.TheVariants as cdr
+use Rattle.cdr_values.specs.Sequence.{fault_as}
 use Rattle.giop_frames.specs.declared.fault.FrameFault.{FrameFault}
 use Rattle.giop_frames.specs.declared.fault.FrameFault.TheVariants.{Body, Memory}
 
@@ -21,8 +22,7 @@ too_long place length = Body place (cdr.TooLong place length)
 
 -- a field's fault is the message's
 abbrev pub field : {A : Type 0} → Result A CdrFault → Result A FrameFault
-field (Ok x) = Ok x
-field (Err fault) = Err (fault_of fault)
+field read = fault_as fault_of read
 
 -- a fault that a call answers is want of memory, or one of these
 abbrev pub IfRefused : {X : Type 0} → Result X FrameFault → (FrameFault → Type 0) → Type 0

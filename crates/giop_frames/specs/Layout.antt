@@ -1,6 +1,6 @@
 -- The fields of messages (CORBA, General Inter-ORB Protocol, GIOP Message Formats). One table tells which fields a
--- message has in front of its body, and in which order; what each field is stands here once. Reading, writing and which
--- octets are a message at all follow from the table.
+-- message has in front of its body, and in which order; `IsField` tells which values each field is. Reading, writing and
+-- which octets are a message at all go over the table, and laws tie what is read and written of a field to its values.
 use Rattle.std.specs.Prelude.{◌≡◌, ℕ, ◌≤◌, List, [], ◌∷◌, ◌++◌, length, drop, Result, Ok, Err}
 use Rattle.cdr_values.specs.declared.order.Order.{Order}
 use Rattle.cdr_values.specs.Value.{Value, Octet, UShort, ULong, OctetSequence, Text, gap}

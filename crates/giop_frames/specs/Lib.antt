@@ -4,6 +4,7 @@ pub mod Header
 pub mod Layout
 pub mod Message
 pub mod Content
+pub mod ContentInside
 pub mod Decode
 pub mod Stream
 pub mod SeveralParts

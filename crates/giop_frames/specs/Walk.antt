@@ -1,10 +1,12 @@
 -- Walking over the fields of a message whose octets are still coming: what it means that a walk goes on where it stood
 -- (our profile).
-use Rattle.std.specs.Prelude.{◌≡◌, ℕ, ◌+◌, ◌-◌, ◌*◌, ◌^◌, ◌<◌, ◌≤◌, nat_lt, Bool, true, false, List, [], ◌++◌, length, take, drop, map, Option, Some, None, Result, Ok, Err, if◌then◌else◌}
+use Rattle.std.specs.Prelude.{◌≡◌, ℕ, ◌+◌, ◌-◌, ◌*◌, ◌^◌, ◌<◌, ◌≤◌, Bool, true, false, List, [], ◌++◌, length, take, drop, map, Option, Some, None, Result, Ok, Err}
 use Rattle.cdr_values.specs.declared.order.Order.{Order}
 use Rattle.cdr_values.specs.declared.fault.CdrFault.{CdrFault}
 use Rattle.cdr_values.specs.declared.fault.CdrFault.TheVariants as cdr
-use Rattle.cdr_values.specs.Reading.{Reading, ◌>>=◌, ulong_at, string_at}
+use Rattle.cdr_values.specs.Reading.{Reading, ◌>>=◌}
+use Rattle.cdr_values.specs.Sequence.{each_at, sequence_at}
+use Rattle.cdr_values.specs.Tagged.{reference_at, tagged_at}
 use Rattle.giop_frames.specs.declared.fault.FrameFault.{FrameFault}
 use Rattle.giop_frames.specs.declared.fault.FrameFault.TheVariants.{Body}
 use Rattle.giop_frames.specs.declared.header.Header.{Header}
@@ -20,9 +22,9 @@ use Rattle.giop_frames.specs.declared.found.Found.{Found}
 use Rattle.giop_frames.specs.declared.walk.Step.{Step}
 use Rattle.giop_frames.specs.declared.walk.Step.TheVariants as steps
 use Rattle.giop_frames.specs.declared.walk.Walk.{Walk}
-use Rattle.giop_frames.specs.Fault.{field, too_long}
+use Rattle.giop_frames.specs.Fault.{fault_of, too_long}
 use Rattle.giop_frames.specs.Layout.{Fields}
-use Rattle.giop_frames.specs.Content.{field_at, fields_at, fields_in, telling_target, key_at, profile_at, profiles_at, reference_at, each_context_at}
+use Rattle.giop_frames.specs.Content.{field_at, fields_at, fields_in, telling_target, as_target, key_at, profile_at, indexed_at, context_at}
 use Rattle.giop_frames.specs.Limits.{context_limit, profile_limit}
 
 -- ---- what was found
@@ -55,20 +57,6 @@ told_by content found = record {
 
 -- ---- inside a field
 
--- so many profiles of a reference
-abbrev pub behind_count : ℕ → Reading → Result (Target × Reading) FrameFault
-behind_count count r = profiles_at count r >>= λ passed. Ok (Reference, passed.1)
-
--- the count of a reference's profiles, and the profiles
-abbrev pub behind_type_id : Reading → Result (Target × Reading) FrameFault
-behind_type_id r = do
-  count ← field (ulong_at r)
-  if nat_lt profile_limit count.0 then Err (too_long r.place count.0) else behind_count count.0 count.1
-
--- a reference from its type_id on
-abbrev pub behind_index : Reading → Result (Target × Reading) FrameFault
-behind_index r = field (string_at r) >>= λ type_id. behind_type_id type_id.1
-
 -- what contexts that were read tell, behind those that were found
 abbrev pub telling_contexts :
     Fields → List ServiceContext → Result (List ServiceContext × Reading) FrameFault → Result (Fields × Reading) FrameFault
@@ -79,11 +67,12 @@ unfoldable pub step_at : Step → Fields → Reading → Result (Fields × Readi
 step_at (steps.Front one) told r = field_at one told r
 step_at steps.Key told r = telling_target told (key_at r)
 step_at steps.Profile told r = telling_target told (profile_at r)
-step_at steps.Index told r = telling_target told (reference_at r)
-step_at steps.TypeId told r = telling_target told (behind_index r)
-step_at steps.Count told r = telling_target told (behind_type_id r)
-step_at (steps.Profiles left) told r = telling_target told (behind_count left r)
-step_at (steps.Contexts left) told r = telling_contexts told told.contexts (each_context_at left r)
+step_at steps.Index told r = telling_target told (indexed_at r)
+step_at steps.TypeId told r = telling_target told (as_target Reference (reference_at profile_limit fault_of too_long r))
+step_at steps.Count told r =
+    telling_target told (as_target Reference (sequence_at profile_limit fault_of too_long (tagged_at fault_of) r))
+step_at (steps.Profiles left) told r = telling_target told (as_target Reference (each_at (tagged_at fault_of) left r))
+step_at (steps.Contexts left) told r = telling_contexts told told.contexts (each_at context_at left r)
 
 -- the same where the field may be whole
 abbrev pub rest_at : Option Step → Fields → Reading → Result (Fields × Reading) FrameFault
@@ -143,16 +132,6 @@ abbrev pub MakesStep : Step → Found → Reading → Result (Option Step) Frame
 MakesStep step old r (Ok later) new s = GoesOn step old r later new s
 MakesStep step old r (Err fault) new s = ((told : Fields) → step_at step told r ≡ Err fault) × (new ≡ old)
 
--- a profile was passed over, and is so whatever octets follow
-pub record IsPassed (r s : Reading) : Type 0 where
-  pub behind : IsBehind r s
-  pub same : (more : List ℕ) → profile_at (followed r more) ≡ Ok (Profile, followed s more)
-
--- a call passed over a profile, or answered its fault
-abbrev pub PassesProfile : Reading → Result (Unit {0}) FrameFault → Reading → Type 0
-PassesProfile r (Ok nothing) s = IsPassed r s
-PassesProfile r (Err fault) s = profile_at r ≡ Err fault
-
 -- a call found octets by this read, and the reader stands behind them
 pub record FindsOctets (read : Reading → Result (List ℕ × Reading) CdrFault) (span : Span) (r s : Reading) : Type 0 where
   pub octets : List ℕ
@@ -165,6 +144,18 @@ pub record FindsOctets (read : Reading → Result (List ℕ × Reading) CdrFault
 abbrev pub ReadsSpan : (Reading → Result (List ℕ × Reading) CdrFault) → Reading → Result Span CdrFault → Reading → Type 0
 ReadsSpan read r (Ok span) s = FindsOctets read span r s
 ReadsSpan read r (Err fault) s = read r ≡ Err fault
+
+-- a call found octets with a tag, and does so whatever octets follow; the reader stands behind them
+pub record FindsTagged (tag : ℕ) (span : Span) (r s : Reading) : Type 0 where
+  pub octets : List ℕ
+  pub behind : IsBehind r s
+  pub same : (more : List ℕ) → tagged_at fault_of (followed r more) ≡ Ok ((tag, octets), followed s more)
+  pub stands : (more content : List ℕ) → StandsIn content (followed r more) → spanned content span ≡ octets
+
+-- a call found octets with a tag, or answered its fault
+abbrev pub ReadsTagged : Reading → Result (ℕ × Span) FrameFault → Reading → Type 0
+ReadsTagged r (Ok found) s = FindsTagged found.0 found.1 r s
+ReadsTagged r (Err fault) s = tagged_at fault_of r ≡ Err fault
 
 -- ---- a walk
 

@@ -5,8 +5,8 @@ ghost use Rattle.giop_frames.specs.Decode.{Decodes, FindsWhatStands, IsRefusedFo
 use crate::content::read_message;
 use crate::fault::FrameFault;
 use crate::header::{HEADER_LENGTH, read_header};
+use crate::laws::fields_are_read_exactly;
 use crate::message::Message;
-use cdr_values::reading_is_exact;
 use std::alloc::Global;
 
 /// A message, and how many octets spell it.
@@ -28,7 +28,7 @@ pub fn decode(alloc: Global, bytes: &[u8]) -> Result<Decoded, FrameFault>
     ensures exact { Decodes bytes.now result }
     ensures stays { IfErr result (IsRefusedForGood bytes.now) }
 {
-    reading_is_exact();
+    fields_are_read_exactly();
     decode_front(alloc, bytes)
 }
 

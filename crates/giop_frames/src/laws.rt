@@ -1,12 +1,24 @@
+ghost use Rattle.giop_frames.specs.ContentInside.{FieldLaws};
 ghost use Rattle.giop_frames.specs.Laws.{BodiesBeginAtEight, ContentIsRead, FragmentGoesOn, IsCutInOneWay, IsCutOffInOneWay, IsRefusedInOneWay, JoinsByRequestId, NoMessageBeginsAnother, ReadIsContent, RefusalGoesOn, RefusedIsNoStream, WholeIsNotCut};
 
-use cdr_values::reading_is_exact;
+use crate::fault::FrameFault;
+use crate::message::ServiceContext;
+use cdr_values::{reading_is_exact, references_are_read_exactly, sequences_are_exact};
+
+/// What the laws of values say of the fields of messages.
+pub fn fields_are_read_exactly()
+    ensures { FieldLaws }
+{
+    reading_is_exact();
+    references_are_read_exactly::<FrameFault>();
+    sequences_are_exact::<ServiceContext, FrameFault>();
+}
 
 /// A law: no octets that are a message in one part begin others that are one, and no octets are two such messages.
 pub fn no_message_begins_another()
     ensures { NoMessageBeginsAnother }
 {
-    reading_is_exact();
+    fields_are_read_exactly();
 }
 
 /// A law: octets are a stream of messages in one way.
@@ -33,7 +45,7 @@ pub fn a_message_is_its_content()
     ensures found { ReadIsContent }
     ensures only { ContentIsRead }
 {
-    reading_is_exact();
+    fields_are_read_exactly();
 }
 
 /// A law: the unfinished message of a request_id is told by the parts of that request_id alone, whatever parts stand

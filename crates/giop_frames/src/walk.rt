@@ -2,7 +2,7 @@ ghost use Rattle.std.specs.Prelude.{◌≡◌, ◌+◌, ◌<◌, ◌≤◌, ℕ,
 ghost use Rattle.cdr_values.specs.Reading.{octets_at, string_at};
 ghost use Rattle.giop_frames.specs.Limits.{context_limit, size_limit};
 ghost use Rattle.giop_frames.specs.Layout.{Fields};
-ghost use Rattle.giop_frames.specs.Walk.{HasRoom, IsDone, IsWalked, MakesStep, PassesProfile, ReadsSpan, StandsBefore, fields_by};
+ghost use Rattle.giop_frames.specs.Walk.{HasRoom, IsDone, IsWalked, MakesStep, ReadsSpan, ReadsTagged, StandsBefore, fields_by};
 
 use crate::fault::{CONTEXT_LIMIT, FrameFault, KEY_LIMIT, PROFILE_LIMIT, too_long};
 use crate::found::{Found, FoundContext, FoundTarget, Span};
@@ -32,7 +32,7 @@ pub enum Step {
 }
 
 /// A walk over the fields of a message, as its octets come: what comes next, at which offset, and what was found in
-/// front of it. It takes no memory, and no step is made twice.
+/// front of it. It takes no memory. Where octets were wanting, it goes on with the step that wanted them.
 #[derive(Clone, Copy)]
 pub struct Walk {
     /// What comes next of a field that isn't whole.
@@ -174,16 +174,16 @@ fn pass_key(reader: &mut Reader, found: &mut Found) -> Result<Option<Step>, Fram
     Ok(None)
 }
 
-#[tactic(auto, unfolding(crate::specs::Walk::step_at))]
+#[tactic(auto, unfolding(crate::specs::Walk::step_at, crate::specs::Content::profile_at))]
 fn pass_only_profile(reader: &mut Reader, found: &mut Found) -> Result<Option<Step>, FrameFault>
     ensures { MakesStep Step.Profile found.old reader.old result found.new reader.new }
 {
-    pass_profile(reader)?;
+    read_tagged(reader)?;
     found.target = FoundTarget::Profile;
     Ok(None)
 }
 
-#[tactic(auto, unfolding(crate::specs::Walk::step_at, crate::specs::Content::reference_at))]
+#[tactic(auto, unfolding(crate::specs::Walk::step_at, crate::specs::Content::indexed_at))]
 fn pass_index(reader: &mut Reader) -> Result<Option<Step>, FrameFault>
     ensures { (found : Found) → MakesStep Step.Index found reader.old result found reader.new }
 {
@@ -192,7 +192,7 @@ fn pass_index(reader: &mut Reader) -> Result<Option<Step>, FrameFault>
     Ok(Some(Step::TypeId))
 }
 
-#[tactic(auto, unfolding(crate::specs::Walk::step_at))]
+#[tactic(auto, unfolding(crate::specs::Walk::step_at, cdr_values::specs::Tagged::reference_at))]
 fn pass_type_id(reader: &mut Reader) -> Result<Option<Step>, FrameFault>
     ensures { (found : Found) → MakesStep Step.TypeId found reader.old result found reader.new }
 {
@@ -202,7 +202,7 @@ fn pass_type_id(reader: &mut Reader) -> Result<Option<Step>, FrameFault>
 }
 
 /// Passes over the count of a reference's profiles.
-#[tactic(auto, unfolding(crate::specs::Walk::step_at))]
+#[tactic(auto, unfolding(crate::specs::Walk::step_at, cdr_values::specs::Sequence::sequence_at))]
 fn pass_count(reader: &mut Reader) -> Result<Option<Step>, FrameFault>
     ensures { (found : Found) → MakesStep Step.Count found reader.old result found reader.new }
 {
@@ -216,7 +216,7 @@ fn pass_count(reader: &mut Reader) -> Result<Option<Step>, FrameFault>
 }
 
 /// Passes over one of so many profiles, behind which the reference is whole.
-#[tactic(auto, unfolding(crate::specs::Walk::step_at, crate::specs::Content::profiles_at))]
+#[tactic(auto, unfolding(crate::specs::Walk::step_at, cdr_values::specs::Sequence::each_at))]
 fn pass_profiles(
     reader: &mut Reader,
     found: &mut Found,
@@ -228,23 +228,12 @@ fn pass_profiles(
         found.target = FoundTarget::Reference;
         return Ok(None);
     }
-    pass_profile(reader)?;
+    read_tagged(reader)?;
     Ok(Some(Step::Profiles(left - 1)))
 }
 
-/// Passes over a tagged profile.
-#[tactic(auto, unfolding(crate::specs::Content::profile_at))]
-fn pass_profile(reader: &mut Reader) -> Result<(), FrameFault>
-    ensures { PassesProfile reader.old result reader.new }
-{
-    reading_is_exact();
-    reader.ulong()?;
-    reader.octets()?;
-    Ok(())
-}
-
 /// Passes over the count of the service contexts.
-#[tactic(auto, unfolding(crate::specs::Walk::step_at, crate::specs::Content::field_at, crate::specs::Content::contexts_at))]
+#[tactic(auto, unfolding(crate::specs::Walk::step_at, crate::specs::Content::field_at, cdr_values::specs::Sequence::sequence_at))]
 fn begin_contexts(reader: &mut Reader, found: &mut Found) -> Result<Option<Step>, FrameFault>
     ensures { MakesStep (Step.Front Field.Contexts) found.old reader.old result found.new reader.new }
 {
@@ -259,7 +248,7 @@ fn begin_contexts(reader: &mut Reader, found: &mut Found) -> Result<Option<Step>
 }
 
 /// Keeps one of so many contexts, behind which the contexts are whole.
-#[tactic(auto, unfolding(crate::specs::Walk::step_at, crate::specs::Content::each_context_at, crate::specs::Content::context_at))]
+#[tactic(auto, unfolding(crate::specs::Walk::step_at, cdr_values::specs::Sequence::each_at, crate::specs::Content::context_at))]
 fn pass_context(
     reader: &mut Reader,
     found: &mut Found,
@@ -268,15 +257,24 @@ fn pass_context(
     requires { left + found.old.count ≤ context_limit }
     ensures { MakesStep (Step.Contexts left) found.old reader.old result found.new reader.new }
 {
-    reading_is_exact();
     if left == 0 {
         return Ok(None);
     }
-    let id = reader.ulong()?;
-    let bytes = read_octets(reader)?;
+    let (id, bytes) = read_tagged(reader)?;
     found.contexts[found.count] = FoundContext { id, bytes };
     found.count += 1;
     Ok(Some(Step::Contexts(left - 1)))
+}
+
+/// The next number, and where the octets of the sequence behind it stand: a tagged profile, or a service context.
+#[tactic(auto, unfolding(cdr_values::specs::Tagged::tagged_at))]
+fn read_tagged(reader: &mut Reader) -> Result<(u32, Span), FrameFault>
+    ensures { ReadsTagged reader.old result reader.new }
+{
+    reading_is_exact();
+    let tag = reader.ulong()?;
+    let octets = read_octets(reader)?;
+    Ok((tag, octets))
 }
 
 /// Where the octets of the next sequence stand.
