@@ -145,7 +145,8 @@ impl Tree {
         branch
     }
 
-    /// Ends this branch. Only one that isn't marked commits, and only into a parent that has not ended.
+    /// Ends this branch. Only one that isn't marked commits, and only into a parent that has not ended. Live branches below
+    /// it stay as they are: `live_under` names them, and the caller rolls these back first.
     pub fn end_sub(&mut self, branch: u32, committed: bool) -> Result<(), TreeFault>
         requires there { branch < length self.old.rows }
         ensures ok { OnOk result
