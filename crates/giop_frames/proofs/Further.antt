@@ -11,6 +11,7 @@ use Rattle.giop_frames.specs.declared.fault.FrameFault.{FrameFault}
 use Rattle.giop_frames.specs.declared.fault.FrameFault.TheVariants.{BadMagic, BadVersion, BadType, BadFragment, Short}
 use Rattle.giop_frames.specs.declared.fault.FrameFault.TheVariants as faults
 use Rattle.giop_frames.specs.declared.header.Header.{Header}
+use Rattle.giop_frames.specs.declared.layout.Version.{Version}
 use Rattle.giop_frames.specs.declared.layout.Version.TheVariants.{V1_2}
 use Rattle.giop_frames.specs.declared.message.Message.{Message}
 use Rattle.giop_frames.specs.Fault.{Fails, Finds}
@@ -18,12 +19,8 @@ use Rattle.giop_frames.specs.Header.{magic, version_octets, type_octet, is_fragm
 use Rattle.giop_frames.specs.Decode.{IsRefusedForGood, decoded}
 use Rattle.giop_frames.specs.Stream.{Part, IsStreamPart, may_go_on, part_at, part_header_at}
 use Rattle.giop_frames.proofs.Given.{guard_ok}
-use Rattle.giop_frames.proofs.Headers.{header_only}
+use Rattle.giop_frames.proofs.Headers.{known_only}
 use Rattle.giop_frames.proofs.Holding.{part_found}
-
--- the octets of the version
-abbrev version : List ℕ
-version = version_octets V1_2
 
 -- ---- faults of steps
 
@@ -64,7 +61,7 @@ part_only p octets rest is =
     let behind : octets ++ rest ≡ front ++ (p.content ++ rest) = ap (λ (x : List ℕ). x ++ rest) w.parts ∙ append_assoc front p.content rest in
     let content : take h.size (drop 12 (octets ++ rest)) ≡ p.content = ap (λ (x : List ℕ). take h.size (drop 12 x)) behind ∙ ap (take h.size) (drop_at front (p.content ++ rest) 12 size) ∙ take_at p.content rest h.size w.counted in
     let long : ltb (length (octets ++ rest)) (12 + h.size) ≡ false = le-ltb _ _ (omega (arith, all, length-append octets rest)) in
-    rw (header_only h p.content octets rest w, no_fault h.more (may_go_on h) is.goes_on, long, content, drop_at octets rest (12 + h.size) all) refl
+    rw (known_only h p.content octets rest w, no_fault h.more (may_go_on h) is.goes_on, long, content, drop_at octets rest (12 + h.size) all) refl
 
 -- a part that is found is found with more octets too
 pub part_stays : (octets more : List ℕ) (p : Part) (rest : List ℕ) → part_at octets ≡ Ok (p, rest) → part_at (octets ++ more) ≡ Ok (p, rest ++ more)
@@ -121,9 +118,9 @@ slice_same : (i n : ℕ) (octets more : List ℕ) → i + n ≤ length octets �
 slice_same i n octets more long = ap (take n) (drop-append-le i octets more (omega arith)) ∙ take-append-le n (drop i octets) more (omega (arith, length-drop i octets))
 
 -- twelve octets tell the header
-header_same : (octets more : List ℕ) → 12 ≤ length octets → header_at (octets ++ more) ≡ header_at octets
+header_same : (version : Version) (octets more : List ℕ) → 12 ≤ length octets → header_at version (octets ++ more) ≡ header_at version octets
 unfolding header_at
-header_same octets more long =
+header_same version octets more long =
     let first : take 4 (octets ++ more) ≡ take 4 octets = take-append-le 4 octets more (omega arith) in
     let second : take 2 (drop 4 (octets ++ more)) ≡ take 2 (drop 4 octets) = slice_same 4 2 octets more (omega arith) in
     let flags : slice_index (octets ++ more) 6 ≡ slice_index octets 6 = get_or_append_left octets more 0 6 (omega arith) in
@@ -133,50 +130,50 @@ header_same octets more long =
     rw (first, second, flags, kind, size, all, le-ltb (length octets) 12 long) refl
 
 -- a header that is found has twelve octets
-header_long : (octets : List ℕ) (h : Header) → header_at octets ≡ Ok h → 12 ≤ length octets
+header_long : (version : Version) (octets : List ℕ) (h : Header) → header_at version octets ≡ Ok h → 12 ≤ length octets
 unfolding header_at
-header_long octets h e =
+header_long version octets h e =
     let a = guard_ok (lacks magic (take 4 octets)) BadMagic _ h e in
-    let b = guard_ok (lacks version (take 2 (drop 4 octets))) BadVersion _ h a.1 in
+    let b = guard_ok (lacks (version_octets version) (take 2 (drop 4 octets))) BadVersion _ h a.1 in
     let c = guard_ok (ltb 7 (slice_index octets 7)) BadType _ h b.1 in
     let d = guard_ok (ltb (length octets) 12) Short _ h c.1 in
     ltb-false _ _ d.0
 
 -- a bad magic is found before the rest
-bad_magic : (octets more : List ℕ) → lacks magic (take 4 octets) ≡ true → header_at (octets ++ more) ≡ Err BadMagic
+bad_magic : (version : Version) (octets more : List ℕ) → lacks magic (take 4 octets) ≡ true → header_at version (octets ++ more) ≡ Err BadMagic
 unfolding header_at
-bad_magic octets more m = rw (lacks_first magic 4 octets more m) refl
+bad_magic version octets more m = rw (lacks_first magic 4 octets more m) refl
 
 -- a bad version stands behind a whole magic
-bad_version : (octets more : List ℕ) → lacks magic (take 4 octets) ≡ false → lacks version (take 2 (drop 4 octets)) ≡ true → header_at (octets ++ more) ≡ Err BadVersion
+bad_version : (version : Version) (octets more : List ℕ) → lacks magic (take 4 octets) ≡ false → lacks (version_octets version) (take 2 (drop 4 octets)) ≡ true → header_at version (octets ++ more) ≡ Err BadVersion
 unfolding header_at
-bad_version octets more m v =
-    let some : 0 < length (take 2 (drop 4 octets)) = lacks_some version (take 2 (drop 4 octets)) v in
+bad_version version octets more m v =
+    let some : 0 < length (take 2 (drop 4 octets)) = lacks_some (version_octets version) (take 2 (drop 4 octets)) v in
     let long : 4 ≤ length octets = omega (arith, some, length-take 2 (drop 4 octets), length-drop 4 octets) in
-    let lacking : lacks version (take 2 (drop 4 (octets ++ more))) ≡ true = rw (drop-append-le 4 octets more long) (lacks_first version 2 (drop 4 octets) more v) in
+    let lacking : lacks (version_octets version) (take 2 (drop 4 (octets ++ more))) ≡ true = rw (drop-append-le 4 octets more long) (lacks_first (version_octets version) 2 (drop 4 octets) more v) in
     rw (take-append-le 4 octets more long, m, lacking) refl
 
 -- a bad type stands behind a whole version
-bad_type : (octets more : List ℕ) → lacks magic (take 4 octets) ≡ false → lacks version (take 2 (drop 4 octets)) ≡ false → ltb 7 (slice_index octets 7) ≡ true → header_at (octets ++ more) ≡ Err BadType
+bad_type : (version : Version) (octets more : List ℕ) → lacks magic (take 4 octets) ≡ false → lacks (version_octets version) (take 2 (drop 4 octets)) ≡ false → ltb 7 (slice_index octets 7) ≡ true → header_at version (octets ++ more) ≡ Err BadType
 unfolding header_at
-bad_type octets more m v t =
+bad_type version octets more m v t =
     let long : 7 < length octets = octet_there octets 7 7 (ltb-true _ _ t) in
     let kind : slice_index (octets ++ more) 7 ≡ slice_index octets 7 = get_or_append_left octets more 0 7 long in
     rw (take-append-le 4 octets more (omega arith), m, slice_same 4 2 octets more (omega arith), v, kind, t) refl
 
 -- a header's fault that is found stays found
-header_stays : (octets more : List ℕ) (fault : FrameFault) → header_at octets ≡ Err fault → fault ≢ Short → header_at (octets ++ more) ≡ Err fault
+header_stays : (version : Version) (octets more : List ℕ) (fault : FrameFault) → header_at version octets ≡ Err fault → fault ≢ Short → header_at version (octets ++ more) ≡ Err fault
 unfolding header_at
-header_stays octets more fault e other =
+header_stays version octets more fault e other =
     elim (guard_err (lacks magic (take 4 octets)) BadMagic _ fault e) [
-      | inl a ↦ bad_magic octets more a.0 ∙ ap (failed {A = Header}) a.1
-      | inr a ↦ elim (guard_err (lacks version (take 2 (drop 4 octets))) BadVersion _ fault a.1) [
-        | inl b ↦ bad_version octets more a.0 b.0 ∙ ap (failed {A = Header}) b.1
+      | inl a ↦ bad_magic version octets more a.0 ∙ ap (failed {A = Header}) a.1
+      | inr a ↦ elim (guard_err (lacks (version_octets version) (take 2 (drop 4 octets))) BadVersion _ fault a.1) [
+        | inl b ↦ bad_version version octets more a.0 b.0 ∙ ap (failed {A = Header}) b.1
         | inr b ↦ elim (guard_err (ltb 7 (slice_index octets 7)) BadType _ fault b.1) [
-          | inl c ↦ bad_type octets more a.0 b.0 c.0 ∙ ap (failed {A = Header}) c.1
+          | inl c ↦ bad_type version octets more a.0 b.0 c.0 ∙ ap (failed {A = Header}) c.1
           | inr c ↦ elim (guard_err (ltb (length octets) 12) Short _ fault c.1) [
             | inl d ↦ absurd (other (sym d.1))
-            | inr d ↦ header_same octets more (ltb-false _ _ d.0) ∙ e
+            | inr d ↦ header_same version octets more (ltb-false _ _ d.0) ∙ e
           ]
         ]
       ]
@@ -186,9 +183,9 @@ header_stays octets more fault e other =
 part_header_stays : (octets more : List ℕ) (fault : FrameFault) → part_header_at octets ≡ Err fault → fault ≢ Short → part_header_at (octets ++ more) ≡ Err fault
 unfolding part_header_at
 part_header_stays octets more fault e other =
-    elim (bind_err (header_at octets) (λ h. cond (h.more && not (may_go_on h)) (Err BadFragment) (Ok h)) fault e) [
-      | inl a ↦ rw (header_stays octets more fault a other) refl
-      | inr a ↦ rw (header_same octets more (header_long octets a.0 a.1), a.1) a.2
+    elim (bind_err (header_at V1_2 octets) (λ h. cond (h.more && not (may_go_on h)) (Err BadFragment) (Ok h)) fault e) [
+      | inl a ↦ rw (header_stays V1_2 octets more fault a other) refl
+      | inr a ↦ rw (header_same V1_2 octets more (header_long V1_2 octets a.0 a.1), a.1) a.2
     ]
 
 -- a fault of a part stays
@@ -209,11 +206,11 @@ fault_stays octets more fault e other =
 decoded_stays : (octets more : List ℕ) (fault : FrameFault) → decoded octets ≡ Err fault → fault ≢ Short → decoded (octets ++ more) ≡ Err fault
 unfolding decoded
 decoded_stays octets more fault e other =
-    elim (bind_err (header_at octets) _ fault e) [
-      | inl a ↦ rw (header_stays octets more fault a other) refl
+    elim (bind_err (header_at V1_2 octets) _ fault e) [
+      | inl a ↦ rw (header_stays V1_2 octets more fault a other) refl
       | inr a ↦
           let h = a.0 in
-          let same : header_at (octets ++ more) ≡ Ok h = header_same octets more (header_long octets h a.1) ∙ a.1 in
+          let same : header_at V1_2 (octets ++ more) ≡ Ok h = header_same V1_2 octets more (header_long V1_2 octets h a.1) ∙ a.1 in
           elim (guard_err (h.more || is_fragment h.kind) BadFragment _ fault a.2) [
             | inl b ↦ rw (same, b.0) (ap (failed {A = Message × ℕ}) b.1)
             | inr b ↦ elim (guard_err (ltb (length octets) (12 + h.size)) Short _ fault b.1) [

@@ -8,6 +8,7 @@ use Rattle.giop_frames.specs.declared.fault.FrameFault.{FrameFault}
 use Rattle.giop_frames.specs.declared.fault.FrameFault.TheVariants as faults
 use Rattle.giop_frames.specs.declared.framed.Framed.{Framed}
 use Rattle.giop_frames.specs.declared.header.Header.{Header}
+use Rattle.giop_frames.specs.declared.layout.Version.TheVariants.{V1_2}
 use Rattle.giop_frames.specs.Header.{header_at, magic, type_octet, version_octets}
 use Rattle.giop_frames.specs.Stream.{Part, Unfinished, IsStreamPart, IsRefused, IsStream, Refuses, after, given, judged, may_go_on, part_at, part_header_at, says}
 use Rattle.giop_frames.specs.StreamInside.{IsInFront}
@@ -48,18 +49,18 @@ unfolding part_at part_header_at
 part_found octets p rest e =
     let a = bind_ok (part_header_at octets) (λ h. cond (ltb (length octets) (12 + h.size)) (Err faults.Short) (Ok (record { header = h; content = take h.size (drop 12 octets) }, drop (12 + h.size) octets))) (p, rest) e in
     let h : Header = a.0 in
-    let b = bind_ok (header_at octets) (λ h. cond (h.more && not (may_go_on h)) (Err faults.BadFragment) (Ok h)) h a.1 in
+    let b = bind_ok (header_at V1_2 octets) (λ h. cond (h.more && not (may_go_on h)) (Err faults.BadFragment) (Ok h)) h a.1 in
     let c = guard_ok (b.0.more && not (may_go_on b.0)) faults.BadFragment (Ok b.0) h b.2 in
     let same : b.0 ≡ h = ok_is b.0 h c.1 in
     let d = guard_ok (ltb (length octets) (12 + h.size)) faults.Short (Ok (record { header = h; content = take h.size (drop 12 octets) }, drop (12 + h.size) octets)) (p, rest) a.2 in
     let is : (record { header = h; content = take h.size (drop 12 octets) }, drop (12 + h.size) octets) ≡ (p, rest) = ok_is _ (p, rest) d.1 in
     let long : 12 + h.size ≤ length octets = ltb-false _ _ d.0 in
-    let header : header_at octets ≡ Ok h = b.1 ∙ ap (λ (x : Header). Ok x) same in
+    let header : header_at V1_2 octets ≡ Ok h = b.1 ∙ ap (λ (x : Header). Ok x) same in
     let goes : h.more ≡ true → may_go_on h ≡ true = goes_on_from h.more (may_go_on h) (ap (λ (x : Header). x.more && not (may_go_on x)) (sym same) ∙ c.0) in
     let made : Front (record { header = h; content = take h.size (drop 12 octets) }) octets (drop (12 + h.size) octets) = record {
       front = take (12 + h.size) octets;
       parts = sym (take-append-drop (12 + h.size) octets);
-      is_part = record { part = header_found octets h header long; goes_on = goes };
+      is_part = record { part = header_found V1_2 octets h header long; goes_on = goes };
     } in
     subst (λ (x : Part × List ℕ). Front x.0 octets x.1) is made
 

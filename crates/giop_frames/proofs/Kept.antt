@@ -56,24 +56,24 @@ wants false false false false false size h e = absurd cc
 abbrev read : List ℕ → Header
 read octets = record { version = V1_2; order = order_of_flags (slice_index octets 6); more = more_of_flags (slice_index octets 6); kind = kind_at (slice_index octets 7); size = size_at octets }
 
-tested : (octets : List ℕ) → header_at octets ≡ by_tests (not (starts_with nat_eq magic (take 4 octets))) (not (starts_with nat_eq (version_octets V1_2) (take 2 (drop 4 octets)))) (ltb 7 (slice_index octets 7)) (ltb (length octets) 12) (ltb size_limit (size_at octets)) (size_at octets) (read octets)
+tested : (octets : List ℕ) → header_at V1_2 octets ≡ by_tests (not (starts_with nat_eq magic (take 4 octets))) (not (starts_with nat_eq (version_octets V1_2) (take 2 (drop 4 octets)))) (ltb 7 (slice_index octets 7)) (ltb (length octets) 12) (ltb size_limit (size_at octets)) (size_at octets) (read octets)
 unfolding header_at by_tests
 tested octets = refl
 
-small : (octets : List ℕ) (h : Header) → header_at octets ≡ Ok h → h.size ≤ size_limit
+small : (octets : List ℕ) (h : Header) → header_at V1_2 octets ≡ Ok h → h.size ≤ size_limit
 small octets h e =
     let p = passes _ _ _ _ (ltb size_limit (size_at octets)) (size_at octets) (read octets) h (sym (tested octets) ∙ e) in
     let size : size_at octets ≡ h.size = ap (λ (x : Header). x.size) p.1 in
     omega (arith, ltb-false _ _ p.0, size)
 
-short_header : (octets : List ℕ) → header_at octets ≡ Err faults.Short → length octets < 12
+short_header : (octets : List ℕ) → header_at V1_2 octets ≡ Err faults.Short → length octets < 12
 short_header octets e = ltb-true _ _ (wants _ _ _ (ltb (length octets) 12) (ltb size_limit (size_at octets)) (size_at octets) (read octets) (sym (tested octets) ∙ e))
 
 -- so does the header of a part
 header_size : (octets : List ℕ) (h : Header) → part_header_at octets ≡ Ok h → h.size ≤ size_limit
 unfolding part_header_at
 header_size octets h e =
-    let a = bind_ok (header_at octets) (λ h. cond (h.more && not (may_go_on h)) (Err faults.BadFragment) (Ok h)) h e in
+    let a = bind_ok (header_at V1_2 octets) (λ h. cond (h.more && not (may_go_on h)) (Err faults.BadFragment) (Ok h)) h e in
     let b = guard_ok (a.0.more && not (may_go_on a.0)) faults.BadFragment (Ok a.0) h a.2 in
     let same : a.0 ≡ h = ok_is a.0 h b.1 in
     subst (λ (x : Header). x.size ≤ size_limit) same (small octets a.0 a.1)
@@ -83,7 +83,7 @@ pub partial_is_short : (octets : List ℕ) → part_at octets ≡ Err faults.Sho
 unfolding part_at part_header_at
 partial_is_short octets e =
     elim (bind_err (part_header_at octets) (λ h. cond (ltb (length octets) (12 + h.size)) (Err faults.Short) (Ok (part_of h (content_behind h octets), drop (12 + h.size) octets))) faults.Short e) [
-      | inl none ↦ elim (bind_err (header_at octets) (λ h. cond (h.more && not (may_go_on h)) (Err faults.BadFragment) (Ok h)) faults.Short none) [
+      | inl none ↦ elim (bind_err (header_at V1_2 octets) (λ h. cond (h.more && not (may_go_on h)) (Err faults.BadFragment) (Ok h)) faults.Short none) [
         | inl short ↦ omega (arith, short_header octets short)
         | inr header ↦ elim (guard_err (header.0.more && not (may_go_on header.0)) faults.BadFragment faults.Short (Ok header.0) header.2) [
           | inl a ↦ let h : faults.BadFragment ≡ faults.Short = a.1 in absurd cc

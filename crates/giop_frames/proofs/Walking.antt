@@ -29,9 +29,9 @@ use Rattle.giop_frames.specs.declared.message.Target.{Target}
 use Rattle.giop_frames.specs.declared.message.Target.TheVariants.{Reference}
 use Rattle.giop_frames.specs.Fault.{fault_of, too_long}
 use Rattle.giop_frames.specs.Header.{is_fragment}
-use Rattle.giop_frames.specs.Layout.{Fields, kept_tail, message_with}
+use Rattle.giop_frames.specs.Layout.{Fields, kept_tail, message_with, tail_start}
 use Rattle.giop_frames.specs.Stream.{message_by, so_far, start_by}
-use Rattle.giop_frames.specs.Content.{as_target, telling_target, key_at, profile_at, indexed_at, target_at, context_at, field_at, fields_at, body_start, message_of, start_of}
+use Rattle.giop_frames.specs.Content.{as_target, telling_target, key_at, profile_at, indexed_at, target_at, context_at, field_at, fields_at, message_of, start_of}
 use Rattle.giop_frames.specs.Walk.{FindsOctets, FindsTagged, GoesOn, IsBehind, IsDone, IsWalked, StandsBefore, StandsIn, context_of, fields_by, followed, left_at, standing, step_at, telling_contexts, told_by, walk_left, wants_octets}
 use Rattle.giop_frames.specs.Limits.{context_limit, key_limit, profile_limit}
 use Rattle.giop_frames.proofs.Given.{reading_is}
@@ -482,7 +482,7 @@ pub message_walked : (header : Header) (content : List ℕ) (w : Walk) → IsWal
 unfolding message_of
 message_walked header content w is done = rw (all_walked header content w is done) refl
 
-pub start_walked : (header : Header) (content : List ℕ) (w : Walk) → IsWalked header content w → IsDone w → start_by header content ≡ body_start header.version w.place
+pub start_walked : (header : Header) (content : List ℕ) (w : Walk) → IsWalked header content w → IsDone w → start_by header content ≡ tail_start header.version header.kind w.place
 unfolding start_of
 start_walked header content w is done = rw (all_walked header content w is done) refl
 

@@ -7,6 +7,7 @@ use Rattle.giop_frames.specs.declared.fault.FrameFault.{FrameFault}
 use Rattle.giop_frames.specs.declared.fault.FrameFault.TheVariants as faults
 use Rattle.giop_frames.specs.declared.fault.FrameFault.TheVariants.{BadFragment, Short}
 use Rattle.giop_frames.specs.declared.header.Header.{Header}
+use Rattle.giop_frames.specs.declared.layout.Version.TheVariants.{V1_2}
 use Rattle.giop_frames.specs.declared.message.Message.{Message}
 use Rattle.giop_frames.specs.declared.message.Message.TheVariants as messages
 use Rattle.giop_frames.specs.Fault.{Fails, Finds}
@@ -16,17 +17,17 @@ use Rattle.giop_frames.specs.ContentInside.{FieldLaws}
 use Rattle.giop_frames.specs.Content.{message_of}
 use Rattle.giop_frames.specs.Decode.{decoded}
 use Rattle.giop_frames.proofs.Given.{ok_is, bind_ok, guard_ok}
-use Rattle.giop_frames.proofs.Headers.{header_found, header_only}
+use Rattle.giop_frames.proofs.Headers.{header_found, known_only}
 use Rattle.giop_frames.proofs.Exact.{content_found, content_only}
 
 -- a fault of the content is the fault of the whole
-pub decoded_fault : (octets : List ℕ) (h : Header) (fault : FrameFault) → header_at octets ≡ Ok h → (h.more || is_fragment h.kind) ≡ false → 12 + h.size ≤ length octets
+pub decoded_fault : (octets : List ℕ) (h : Header) (fault : FrameFault) → header_at V1_2 octets ≡ Ok h → (h.more || is_fragment h.kind) ≡ false → 12 + h.size ≤ length octets
     → message_of h.version h.order h.kind (take h.size (drop 12 octets)) ≡ Err fault → decoded octets ≡ Err fault
 unfolding decoded
 decoded_fault octets h fault e whole long bad = rw (e, whole, le-ltb (length octets) (12 + h.size) long, bad) refl
 
 -- a message in the content is the message of the whole
-pub decoded_message : (octets : List ℕ) (h : Header) (m : Message) → header_at octets ≡ Ok h → (h.more || is_fragment h.kind) ≡ false → 12 + h.size ≤ length octets
+pub decoded_message : (octets : List ℕ) (h : Header) (m : Message) → header_at V1_2 octets ≡ Ok h → (h.more || is_fragment h.kind) ≡ false → 12 + h.size ≤ length octets
     → message_of h.version h.order h.kind (take h.size (drop 12 octets)) ≡ Ok m → decoded octets ≡ Ok (m, 12 + h.size)
 unfolding decoded
 decoded_message octets h m e whole long good = rw (e, whole, le-ltb (length octets) (12 + h.size) long, good) refl
@@ -34,7 +35,7 @@ decoded_message octets h m e whole long good = rw (e, whole, le-ltb (length octe
 -- the steps of a whole that gives a message
 record Steps (octets : List ℕ) (m : Message) (used : ℕ) : Type 0 where
   header : Header
-  read : header_at octets ≡ Ok header
+  read : header_at V1_2 octets ≡ Ok header
   whole : (header.more || is_fragment header.kind) ≡ false
   long : 12 + header.size ≤ length octets
   content : message_of header.version header.order header.kind (take header.size (drop 12 octets)) ≡ Ok m
@@ -44,7 +45,7 @@ record Steps (octets : List ℕ) (m : Message) (used : ℕ) : Type 0 where
 steps : (octets : List ℕ) (m : Message) (used : ℕ) → decoded octets ≡ Ok (m, used) → Steps octets m used
 unfolding decoded
 steps octets m used e =
-    let a = bind_ok (header_at octets) _ (m, used) e in
+    let a = bind_ok (header_at V1_2 octets) _ (m, used) e in
     let h = a.0 in
     let b = guard_ok (h.more || is_fragment h.kind) BadFragment _ (m, used) a.2 in
     let c = guard_ok (ltb (length octets) (12 + h.size)) Short _ (m, used) b.1 in
@@ -69,7 +70,7 @@ is_message laws octets m used e =
     let message : IsMessage m (take (12 + h.size) octets) = record {
       header = h;
       content = content;
-      part = header_found octets h s.read s.long;
+      part = header_found V1_2 octets h s.read s.long;
       whole = (or_parts h.more (is_fragment h.kind) s.whole).0;
       kind = c.0;
       is_content = c.1;
@@ -100,7 +101,7 @@ is_decoded laws m octets rest is =
     let whole : (h.more || is_fragment h.kind) ≡ false = rw (is.whole, is.kind) (no_fragment m) in
     let long : 12 + h.size ≤ length (octets ++ rest) = omega (arith, used, length-append octets rest) in
     let read : message_of h.version h.order h.kind (take h.size (drop 12 (octets ++ rest))) ≡ Ok m = rw (content, is.kind) (content_only laws h.version h.order m is.content is.is_content) in
-    subst (λ (n : ℕ). decoded (octets ++ rest) ≡ Ok (m, n)) used (decoded_message (octets ++ rest) h m (header_only h is.content octets rest p) whole long read)
+    subst (λ (n : ℕ). decoded (octets ++ rest) ≡ Ok (m, n)) used (decoded_message (octets ++ rest) h m (known_only h is.content octets rest p) whole long read)
 
 -- ---- from what a call found to what holds of its answer
 

@@ -1,8 +1,7 @@
 -- Reading the content of a message from its front, field by field as the table of layouts lists them (CORBA, GIOP
 -- Message Formats), and its first fault (our profile).
-use Rattle.std.specs.Prelude.{ℕ, ◌+◌, ◌%◌, ◌==◌, nat_lt, List, [], ◌∷◌, length, Result, Ok, Err, if◌then◌else◌}
+use Rattle.std.specs.Prelude.{ℕ, ◌==◌, nat_lt, List, [], ◌∷◌, length, Result, Ok, Err, if◌then◌else◌}
 use Rattle.cdr_values.specs.declared.order.Order.{Order}
-use Rattle.cdr_values.specs.Value.{gap}
 use Rattle.cdr_values.specs.Reading.{Reading, ◌>>=◌, octet_at, ushort_at, ulong_at, octets_at, string_at}
 use Rattle.cdr_values.specs.Sequence.{Read, sequence_at}
 use Rattle.cdr_values.specs.Tagged.{reference_at, tagged_at}
@@ -18,7 +17,7 @@ use Rattle.giop_frames.specs.declared.message.Target.TheVariants.{Key, Profile, 
 use Rattle.giop_frames.specs.declared.message.ServiceContext.{ServiceContext}
 use Rattle.giop_frames.specs.Limits.{context_limit, key_limit, profile_limit}
 use Rattle.giop_frames.specs.Fault.{fault_of, field, too_long}
-use Rattle.giop_frames.specs.Layout.{Fields, blank, body_alignment, kept_tail, layout, message_with}
+use Rattle.giop_frames.specs.Layout.{Fields, blank, kept_tail, layout, message_with, tail_start}
 
 unfoldable pub key_at : Reading → Result (Target × Reading) FrameFault
 key_at r = do
@@ -86,15 +85,11 @@ message_behind version order kind read = message_with order kind read.0 (kept_ta
 unfoldable pub message_of : Version → Order → Kind → List ℕ → Result Message FrameFault
 message_of version order kind content = fields_in version order kind content >>= message_behind version order kind
 
--- the offset modulo 8 at which a body begins behind fields that end at this place
-abbrev pub body_start : Version → ℕ → ℕ
-body_start version place = (place + gap (body_alignment version) place) % 8
+-- the offset modulo 8 at which what a message keeps behind the fields that were read begins
+abbrev pub start_behind : Version → Kind → Result (Fields × Reading) FrameFault → ℕ
+start_behind version kind (Ok read) = tail_start version kind read.1.place
+start_behind version kind (Err fault) = 0
 
--- the same behind the fields that were read
-abbrev pub start_behind : Version → Result (Fields × Reading) FrameFault → ℕ
-start_behind version (Ok read) = body_start version read.1.place
-start_behind version (Err fault) = 0
-
--- the offset modulo 8 at which the body of a message of this kind with this content begins
+-- the same of a message of this kind with this content
 unfoldable pub start_of : Version → Order → Kind → List ℕ → ℕ
-start_of version order kind content = start_behind version (fields_in version order kind content)
+start_of version order kind content = start_behind version kind (fields_in version order kind content)

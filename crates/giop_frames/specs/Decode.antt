@@ -1,9 +1,10 @@
 -- Reading one message without fragments from the front of octets (CORBA, GIOP Message Formats), and its first fault
--- (our profile).
+-- (our profile). The version is 1.2 (our profile).
 use Rattle.std.specs.Prelude.{◌≡◌, ◌≢◌, ℕ, ◌+◌, ◌||◌, nat_lt, List, ◌++◌, length, Result, Ok, Err, IfOk, IfErr, if◌then◌else◌}
 use Rattle.cdr_values.specs.Reading.{◌>>=◌}
 use Rattle.giop_frames.specs.declared.fault.FrameFault.{FrameFault}
 use Rattle.giop_frames.specs.declared.fault.FrameFault.TheVariants.{BadFragment, Memory, Short}
+use Rattle.giop_frames.specs.declared.layout.Version.TheVariants.{V1_2}
 use Rattle.giop_frames.specs.declared.decoding.Decoded.{Decoded}
 use Rattle.giop_frames.specs.declared.message.Message.{Message}
 use Rattle.giop_frames.specs.Fault.{Finds}
@@ -14,7 +15,7 @@ use Rattle.giop_frames.specs.Content.{message_of}
 -- the message in front, and how many octets it has
 unfoldable pub decoded : List ℕ → Result (Message × ℕ) FrameFault
 decoded octets = do
-  header ← header_at octets
+  header ← header_at V1_2 octets
   if header.more || is_fragment header.kind then Err BadFragment else (
       if nat_lt (length octets) (12 + header.size) then Err Short else (
       message_of header.version header.order header.kind (content_behind header octets) >>= λ message. Ok (message, 12 + header.size)))

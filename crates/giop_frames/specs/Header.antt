@@ -1,4 +1,4 @@
--- The header in front of each part of a message (CORBA, GIOP Message Formats, MessageHeader_1_1). The version is 1.2 (our profile).
+-- The header in front of each part of a message (CORBA, GIOP Message Formats, MessageHeader_1_1).
 use Rattle.std.specs.Prelude.{◌≡◌, ℕ, ◌/◌, ◌%◌, ◌≤◌, ◌==◌, nat_eq, nat_lt, Bool, true, false, not, List, [], ◌∷◌, ◌++◌, length, take, drop, slice_index, Result, Ok, Err, if◌then◌else◌, codes}
 use Rattle.std.specs.List.{starts_with}
 use Rattle.cdr_values.specs.declared.order.Order.{Order}
@@ -74,16 +74,16 @@ pub record IsPart (header : Header) (content octets : List ℕ) : Type 0 where
 abbrev pub size_at : List ℕ → ℕ
 size_at octets = number_in (order_of_flags (slice_index octets 6)) 4 (take 4 (drop 8 octets))
 
--- the header in front, or the first fault as its octets come
-unfoldable pub header_at : List ℕ → Result Header FrameFault
-header_at octets =
+-- the header in front of a part of this version, or the first fault as its octets come
+unfoldable pub header_at : Version → List ℕ → Result Header FrameFault
+header_at version octets =
     if not (starts_with nat_eq magic (take 4 octets)) then Err BadMagic else (
-    if not (starts_with nat_eq (version_octets V1_2) (take 2 (drop 4 octets))) then Err BadVersion else (
+    if not (starts_with nat_eq (version_octets version) (take 2 (drop 4 octets))) then Err BadVersion else (
     if nat_lt 7 (slice_index octets 7) then Err BadType else (
     if nat_lt (length octets) 12 then Err Short else (
     if nat_lt size_limit (size_at octets) then Err (TooLarge (size_at octets)) else
     Ok (record {
-      version = V1_2;
+      version = version;
       order = order_of_flags (slice_index octets 6);
       more = more_of_flags (slice_index octets 6);
       kind = kind_at (slice_index octets 7);

@@ -1,5 +1,5 @@
 -- What holds of all octets: a message is spelled in one way, and a stream is cut in one way.
-use Rattle.std.specs.Prelude.{◌≡◌, ◌≤◌, ℕ, true, List, ◌++◌, length, Ok}
+use Rattle.std.specs.Prelude.{◌≡◌, ◌≤◌, ◌+◌, ℕ, true, List, ◌++◌, length, Some, Ok}
 use Rattle.cdr_values.specs.declared.order.Order.{Order}
 use Rattle.giop_frames.specs.declared.fault.FrameFault.{FrameFault}
 use Rattle.giop_frames.specs.declared.framed.Framed.{Framed}
@@ -7,10 +7,12 @@ use Rattle.giop_frames.specs.declared.header.Kind.{Kind}
 use Rattle.giop_frames.specs.declared.layout.Version.{Version}
 use Rattle.giop_frames.specs.declared.layout.Version.TheVariants.{V1_2}
 use Rattle.giop_frames.specs.declared.message.Message.{Message}
+use Rattle.giop_frames.specs.declared.header.Header.{Header}
 use Rattle.giop_frames.specs.Header.{is_fragment}
+use Rattle.giop_frames.specs.Layout.{tail_start}
 use Rattle.giop_frames.specs.Message.{IsContent, IsMessage, kind_of}
-use Rattle.giop_frames.specs.Content.{body_start, message_of}
-use Rattle.giop_frames.specs.Stream.{Part, Splits, IsCut, IsRefused, IsStream, IsWhole, continuing, going_on, id_of, numbered, says, unfinished}
+use Rattle.giop_frames.specs.Content.{message_of}
+use Rattle.giop_frames.specs.Stream.{Part, Splits, IsCut, IsRefused, IsStream, IsWhole, continuing, going_on, id_of, numbered, says, unfinished, whole_by}
 
 -- no octets that are a message in one part begin others that are one, and no octets are two such messages
 abbrev pub NoMessageBeginsAnother : Type 0
@@ -79,6 +81,23 @@ FragmentGoesOn =
     → (p : Part) → is_fragment p.header.kind ≡ true → 4 ≤ length p.content
     → says parts p ≡ continuing p (going_on (id_of p) parts)
 
--- in version 1.2 a body begins at a multiple of 8
-abbrev pub BodiesBeginAtEight : Type 0
-BodiesBeginAtEight = (place : ℕ) → body_start V1_2 place ≡ 0
+-- The message of a stream with this content, joined of its parts, whose first part has this place and header: what the
+-- header says, a message by its fields, and where what it keeps behind them begins.
+pub record IsFramed (place : ℕ) (header : Header) (content : List ℕ) (framed : Framed) : Type 0 where
+  pub place_is : framed.place ≡ place
+  pub version_is : framed.version ≡ header.version
+  pub order_is : framed.order ≡ header.order
+  pub size_is : framed.size ≡ header.size
+  pub kind_is : header.kind ≡ kind_of framed.message
+  pub is_content : IsContent header.version header.order framed.message content
+  pub start_is : framed.start ≡ tail_start header.version header.kind (12 + length is_content.fields)
+
+-- a message that is whole is so
+abbrev pub WholeIsFramed : Type 0
+WholeIsFramed =
+    (place : ℕ) (header : Header) (content : List ℕ) (framed : Framed)
+    → whole_by place header content ≡ Ok (Some framed) → IsFramed place header content framed
+
+-- in version 1.2 the body of a message of this kind begins at a multiple of 8
+abbrev pub BeginsAtEight : Kind → Type 0
+BeginsAtEight kind = (place : ℕ) → tail_start V1_2 kind place ≡ 0

@@ -1,7 +1,7 @@
 -- The fields of messages (CORBA, General Inter-ORB Protocol, GIOP Message Formats). One table tells which fields a
 -- message has in front of its body, and in which order; `IsField` tells which values each field is. Reading, writing and
 -- which octets are a message at all go over the table, and laws tie what is read and written of a field to its values.
-use Rattle.std.specs.Prelude.{◌≡◌, ℕ, ◌≤◌, List, [], ◌∷◌, ◌++◌, length, drop, Result, Ok, Err}
+use Rattle.std.specs.Prelude.{◌≡◌, ℕ, ◌+◌, ◌%◌, ◌≤◌, List, [], ◌∷◌, ◌++◌, length, drop, Result, Ok, Err}
 use Rattle.cdr_values.specs.declared.order.Order.{Order}
 use Rattle.cdr_values.specs.Value.{Value, Octet, UShort, ULong, OctetSequence, Text, gap}
 use Rattle.cdr_values.specs.Sequence.{sequence_values}
@@ -91,12 +91,22 @@ AreFields (one ∷ others) old new values =
     (between : Fields) × (front : List Value) × (rest : List Value) × (values ≡ front ++ rest)
     × IsField one old between front × AreFields others between new rest
 
+-- the padding in front of what a message keeps behind its fields, which end at this place: a body stands at a multiple
+abbrev pub tail_gap : Version → Kind → ℕ → ℕ
+tail_gap version kinds.Request place = gap (body_alignment version) place
+tail_gap version kinds.Reply place = gap (body_alignment version) place
+tail_gap version kind place = 0
+
+-- the offset modulo 8 at which that begins, by which values in it are aligned
+abbrev pub tail_start : Version → Kind → ℕ → ℕ
+tail_start version kind place = (place + tail_gap version kind place) % 8
+
 -- what a message keeps of the octets behind its fields, which end at this place: a Request and a Reply keep the body,
 -- which stands from the next multiple on (none, where the octets end before it), a LocateReply all; octets behind the
 -- fields of other messages belong to the message and are passed over (our profile)
 abbrev pub kept_tail : Version → Kind → ℕ → List ℕ → List ℕ
-kept_tail version kinds.Request place octets = drop (gap (body_alignment version) place) octets
-kept_tail version kinds.Reply place octets = drop (gap (body_alignment version) place) octets
+kept_tail version kinds.Request place octets = drop (tail_gap version kinds.Request place) octets
+kept_tail version kinds.Reply place octets = drop (tail_gap version kinds.Reply place) octets
 kept_tail version kinds.LocateReply place octets = octets
 kept_tail version kind place octets = []
 

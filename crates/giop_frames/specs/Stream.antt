@@ -1,5 +1,5 @@
 -- Streams of messages (CORBA, GIOP Message Formats, Fragment Message): parts one after another, each judged by the
--- parts before it. Where parts are in a list, the newest stands first.
+-- parts before it. Where parts are in a list, the newest stands first. The version is 1.2 (our profile).
 use Rattle.std.specs.Prelude.{◌≡◌, ◌≢◌, ◌⊎◌, ℕ, ◌+◌, ◌-◌, ◌^◌, ◌%◌, ◌==◌, nat_le, nat_lt, min, Bool, true, false, ◌||◌, ◌&&◌, not, List, [], ◌∷◌, ◌++◌, length, take, drop, find, Option, Some, None, is_some, Result, Ok, Err, if◌then◌else◌}
 use Rattle.cdr_values.specs.declared.fault.CdrFault.TheVariants as cdr
 use Rattle.cdr_values.specs.Value.{number_in}
@@ -9,6 +9,8 @@ use Rattle.giop_frames.specs.declared.fault.FrameFault.TheVariants.{BadFragment,
 use Rattle.giop_frames.specs.declared.header.Kind.{Kind}
 use Rattle.giop_frames.specs.declared.header.Kind.TheVariants as kinds
 use Rattle.giop_frames.specs.declared.header.Header.{Header}
+use Rattle.giop_frames.specs.declared.layout.Version.{Version}
+use Rattle.giop_frames.specs.declared.layout.Version.TheVariants.{V1_2}
 use Rattle.giop_frames.specs.declared.message.Message.{Message}
 use Rattle.giop_frames.specs.declared.framed.Framed.{Framed}
 use Rattle.giop_frames.specs.Limits.{size_limit, unfinished_limit}
@@ -32,16 +34,16 @@ pub record Unfinished : Type 0 where
   pub content : List ℕ
 
 -- messages of these types come in several parts
-abbrev pub may_be_fragmented : Kind → Bool
-may_be_fragmented kinds.CancelRequest = false
-may_be_fragmented kinds.CloseConnection = false
-may_be_fragmented kinds.MessageError = false
-may_be_fragmented _ = true
+abbrev pub may_be_fragmented : Version → Kind → Bool
+may_be_fragmented V1_2 kinds.CancelRequest = false
+may_be_fragmented V1_2 kinds.CloseConnection = false
+may_be_fragmented V1_2 kinds.MessageError = false
+may_be_fragmented V1_2 _ = true
 
 -- the "more fragments" bit stands where it can: on such a type, and where the part's length is a multiple of 8, as it
 -- has to be but for a message's last part; that another length is refused is our profile
 abbrev pub may_go_on : Header → Bool
-may_go_on header = may_be_fragmented header.kind && ((12 + header.size) % 8 == 0)
+may_go_on header = may_be_fragmented header.version header.kind && ((12 + header.size) % 8 == 0)
 
 -- the octets are this part
 pub record IsStreamPart (p : Part) (octets : List ℕ) : Type 0 where
@@ -57,7 +59,7 @@ AreParts (p ∷ older) octets =
 -- the header of a part in front, or its first fault as its octets come
 unfoldable pub part_header_at : List ℕ → Result Header FrameFault
 part_header_at octets = do
-  header ← header_at octets
+  header ← header_at V1_2 octets
   if header.more && not (may_go_on header) then Err BadFragment else Ok header
 
 -- the part in front and what follows it, or the first fault; Short, where there is less than a whole part
@@ -146,7 +148,8 @@ going_on id (p ∷ older) =
 abbrev pub Judgement : Type 0
 Judgement = Result (Option Framed) FrameFault
 
--- a whole message, whose first part has this place and header, and whose body begins at this offset modulo 8
+-- a whole message, whose first part has this place and header, and what it keeps behind its fields begins at this offset
+-- modulo 8
 abbrev pub whole : ℕ → Header → ℕ → Result Message FrameFault → Judgement
 whole place header start (Ok message) =
     Ok (Some (record {
@@ -173,7 +176,7 @@ without_id = Body 12 (cdr.Short 12)
 abbrev pub message_by : Header → List ℕ → Result Message FrameFault
 message_by header content = message_of header.version header.order header.kind content
 
--- the offset modulo 8 at which its body begins
+-- the offset modulo 8 at which what it keeps behind its fields begins
 abbrev pub start_by : Header → List ℕ → ℕ
 start_by header content = start_of header.version header.order header.kind content
 

@@ -1,21 +1,20 @@
 ghost use Rattle.std.specs.Prelude.{◌≡◌, ◌≤◌, ◌<◌, ◌^◌, length, map, IfOk};
 ghost use Rattle.giop_frames.specs.Limits.{size_limit};
 ghost use Rattle.giop_frames.specs.Fault.{Finds};
-ghost use Rattle.giop_frames.specs.Layout.{kept_tail, message_with};
-ghost use Rattle.giop_frames.specs.Content.{body_start};
+ghost use Rattle.giop_frames.specs.Layout.{kept_tail, message_with, tail_gap, tail_start};
 ghost use Rattle.giop_frames.specs.Stream.{message_by, start_by};
 ghost use Rattle.giop_frames.specs.Walk.{IsWalked, context_of, spanned, target_of, told_by};
 
 use crate::fault::FrameFault;
 use crate::found::{Found, FoundContext, FoundTarget, Span};
 use crate::header::{HEADER_LENGTH, Header, Kind, behind, front};
-use crate::layout::{Version, body_alignment, gap_before};
+use crate::layout::{body_alignment, gap_before};
 use crate::message::{Contexts, Locate, Located, Message, Reply, Request, ServiceContext, Target};
 use crate::walk::Walk;
 use ots_model::Octets;
 use std::alloc::{AllocError, Global};
 
-/// A message, and the offset modulo 8 at which its body begins.
+/// A message, and the offset modulo 8 at which what it keeps behind its fields begins.
 #[derive(Drop)]
 pub struct Content {
     pub message: Message,
@@ -49,7 +48,7 @@ pub fn finish_message(
     let tail = kept_tail(header, place, octets);
     Ok(Content {
         message: build(alloc, header, content, &walk.found, tail)?,
-        start: body_start(header.version, place),
+        start: tail_start(header, place),
     })
 }
 
@@ -136,22 +135,27 @@ fn kept_tail(header: Header, place: u32, octets: &[u8]) -> &[u8]
     ensures { result.now ≡ kept_tail header.version header.kind place octets.now }
 {
     match header.kind {
-        Kind::Request | Kind::Reply => {
-            behind(
-                octets,
-                gap_before(body_alignment(header.version), place as usize),
-            )
-        }
+        Kind::Request | Kind::Reply => behind(octets, tail_gap(header, place)),
         Kind::LocateReply => octets,
         _ => &[],
     }
 }
 
-/// The offset modulo 8 at which a body begins behind fields that end at this place.
-fn body_start(version: Version, place: u32) -> u32
+/// The offset modulo 8 at which that begins.
+fn tail_start(header: Header, place: u32) -> u32
     requires { place < 2 ^ 31 }
-    ensures { result ≡ body_start version place }
+    ensures { result ≡ tail_start header.version header.kind place }
 {
-    let place = place as usize;
-    ((place + gap_before(body_alignment(version), place)) % 8) as u32
+    ((place as usize + tail_gap(header, place)) % 8) as u32
+}
+
+/// The padding in front of it.
+fn tail_gap(header: Header, place: u32) -> usize
+    ensures same { result ≡ tail_gap header.version header.kind place }
+    ensures within { result < 8 }
+{
+    match header.kind {
+        Kind::Request | Kind::Reply => gap_before(body_alignment(header.version), place as usize),
+        _ => 0,
+    }
 }

@@ -6,6 +6,7 @@ use crate::content::read_message;
 use crate::fault::FrameFault;
 use crate::header::{HEADER_LENGTH, read_header};
 use crate::laws::fields_are_read_exactly;
+use crate::layout::Version;
 use crate::message::Message;
 use std::alloc::Global;
 
@@ -37,7 +38,7 @@ fn decode_front(alloc: Global, bytes: &[u8]) -> Result<Decoded, FrameFault>
     requires { length bytes.now < 2 ^ 31 }
     ensures { Decodes bytes.now result }
 {
-    let header = read_header(bytes)?;
+    let header = read_header(Version::V1_2, bytes)?;
     if header.is_fragmented() {
         return Err(FrameFault::BadFragment);
     }

@@ -34,10 +34,27 @@ pub fn encode(alloc: Global, message: &Message, into: &mut Vec<u8>) -> Result<()
     ensures refused { IfRefused result (λ fault. refusal_of V1_2 message.now ≡ Some fault) }
     ensures err { OnErr result (into.new.items ≡ into.old.items) }
 {
+    encode_as(alloc, Version::V1_2, message, into)
+}
+
+/// Appends the octets of the message in this version, as `encode` does in version 1.2.
+pub fn encode_as(
+    alloc: Global,
+    version: Version,
+    message: &Message,
+    into: &mut Vec<u8>,
+) -> Result<(), FrameFault>
+    requires { octets_in message.now < 2 ^ 31 }
+    ensures ok { OnOk result (into.new.items ≡ into.old.items ++ spelling version message.now) }
+    ensures spelled { OnOk result (IsMessage message.now (spelling version message.now)) }
+    ensures fits { OnOk result (refusal_of version message.now ≡ None) }
+    ensures refused { IfRefused result (λ fault. refusal_of version message.now ≡ Some fault) }
+    ensures err { OnErr result (into.new.items ≡ into.old.items) }
+{
     cdr_values::canonical_octets_spell();
-    let size = content_size(Version::V1_2, message)?;
-    let fields = fields_octets(alloc, Version::V1_2, message)?;
-    append(Version::V1_2, message, size as u32, fields.bytes(), into)?;
+    let size = content_size(version, message)?;
+    let fields = fields_octets(alloc, version, message)?;
+    append(version, message, size as u32, fields.bytes(), into)?;
     Ok(())
 }
 

@@ -84,16 +84,16 @@ impl Header {
     }
 }
 
-/// The header in front of the octets, or its first fault, as its octets come.
+/// The header in front of a part of this version, or its first fault, as its octets come.
 #[tactic(auto, unfolding(crate::specs::Header::header_at))]
-pub fn read_header(octets: &[u8]) -> Result<Header, FrameFault>
-    ensures header { result ≡ header_at octets.now }
+pub fn read_header(version: Version, octets: &[u8]) -> Result<Header, FrameFault>
+    ensures header { result ≡ header_at version octets.now }
     ensures small { IfOk result (λ header. header.size ≤ size_limit) }
 {
     if !MAGIC.starts_with(front(octets, 4)) {
         return Err(FrameFault::BadMagic);
     }
-    if !version_octets(Version::V1_2).starts_with(front(behind(octets, 4), 2)) {
+    if !version_octets(version).starts_with(front(behind(octets, 4), 2)) {
         return Err(FrameFault::BadVersion);
     }
     if octets.len() > 7 && octets[7] > 7 {
@@ -108,7 +108,7 @@ pub fn read_header(octets: &[u8]) -> Result<Header, FrameFault>
         return Err(FrameFault::TooLarge(size));
     }
     Ok(Header {
-        version: Version::V1_2,
+        version,
         order,
         more: octets[6] / 2 % 2 == 1,
         kind: Kind::from_octet(octets[7]),

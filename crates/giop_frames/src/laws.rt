@@ -1,7 +1,8 @@
 ghost use Rattle.giop_frames.specs.ContentInside.{FieldLaws};
-ghost use Rattle.giop_frames.specs.Laws.{BodiesBeginAtEight, ContentIsRead, FragmentGoesOn, IsCutInOneWay, IsCutOffInOneWay, IsRefusedInOneWay, JoinsByRequestId, NoMessageBeginsAnother, ReadIsContent, RefusalGoesOn, RefusedIsNoStream, WholeIsNotCut};
+ghost use Rattle.giop_frames.specs.Laws.{BeginsAtEight, ContentIsRead, FragmentGoesOn, IsCutInOneWay, IsCutOffInOneWay, IsRefusedInOneWay, JoinsByRequestId, NoMessageBeginsAnother, ReadIsContent, RefusalGoesOn, RefusedIsNoStream, WholeIsFramed, WholeIsNotCut};
 
 use crate::fault::FrameFault;
+use crate::header::Kind;
 use crate::message::ServiceContext;
 use cdr_values::{reading_is_exact, references_are_read_exactly, sequences_are_exact};
 
@@ -55,7 +56,16 @@ pub fn fragments_join_by_request_id()
     ensures goes_on { FragmentGoesOn }
 {}
 
-/// A law: in version 1.2 a body begins at a multiple of 8, so that the `start` of a message is 0 there.
+/// A law: a message that a stream gives is by its fields the message of its joined octets, with what the header of its
+/// first part says; its `start` is where what it keeps behind the fields begins.
+pub fn a_framed_message_is_its_content()
+    ensures { WholeIsFramed }
+{
+    fields_are_read_exactly();
+}
+
+/// A law: in version 1.2 a body begins at a multiple of 8, so that the `start` of a Request and of a Reply is 0 there.
 pub fn bodies_begin_at_eight()
-    ensures { BodiesBeginAtEight }
+    ensures request { BeginsAtEight Kind.Request }
+    ensures reply { BeginsAtEight Kind.Reply }
 {}

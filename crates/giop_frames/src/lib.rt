@@ -2,13 +2,14 @@
 #![tactic(auto)]
 
 pub use decoding::{Decoded, decode};
-pub use encoding::encode;
+pub use encoding::{encode, encode_as};
 pub use fault::{CONTEXT_LIMIT, FrameFault, KEY_LIMIT, PROFILE_LIMIT, SIZE_LIMIT};
 pub use framed::Framed;
 pub use header::{HEADER_LENGTH, Kind};
 pub use laws::{
-    a_message_is_its_content, a_refusal_stays, a_stream_is_cut_in_one_way, bodies_begin_at_eight,
-    fragments_join_by_request_id, no_message_begins_another, octets_end_in_one_way,
+    a_framed_message_is_its_content, a_message_is_its_content, a_refusal_stays,
+    a_stream_is_cut_in_one_way, bodies_begin_at_eight, fragments_join_by_request_id,
+    no_message_begins_another, octets_end_in_one_way,
 };
 pub use layout::Version;
 pub use message::{Contexts, Locate, Located, Message, Reply, Request, ServiceContext, Target};

@@ -4,13 +4,14 @@ ghost use Rattle.giop_frames.specs.Limits.{size_limit, unfinished_limit};
 ghost use Rattle.giop_frames.specs.Fault.{Fails};
 ghost use Rattle.giop_frames.specs.Header.{content_behind, is_fragment};
 ghost use Rattle.giop_frames.specs.HeldInside.{AreShort, Judges};
-ghost use Rattle.giop_frames.specs.Stream.{may_go_on, opening, numbered, part_at, part_header_at, part_of, with_begun};
+ghost use Rattle.giop_frames.specs.Stream.{may_be_fragmented, may_go_on, opening, numbered, part_at, part_header_at, part_of, with_begun};
 ghost use Rattle.giop_frames.specs.StreamInside.{FindsPart, IsAt, ReadsId};
 
 use crate::content::read_message;
 use crate::fault::{FrameFault, SIZE_LIMIT};
 use crate::framed::{Framed, frame};
 use crate::header::{HEADER_LENGTH, Header, Kind, behind, front, read_header};
+use crate::layout::Version;
 use crate::unfinished::Unfinished;
 use cdr_values::{CdrFault, Order, Reader};
 use std::alloc::Global;
@@ -52,7 +53,7 @@ fn read_part_header(octets: &[u8]) -> Result<Header, FrameFault>
     ensures header { result ≡ part_header_at octets.now }
     ensures small { IfOk result (λ header. header.size ≤ size_limit) }
 {
-    let header = read_header(octets)?;
+    let header = read_header(Version::V1_2, octets)?;
     if header.more && !can_go_on(header) {
         return Err(FrameFault::BadFragment);
     }
@@ -64,10 +65,18 @@ fn can_go_on(header: Header) -> bool
     ensures { result ≡ may_go_on header }
 {
     let length = HEADER_LENGTH as u32 + header.size;
-    !matches!(
-        header.kind,
-        Kind::CancelRequest | Kind::CloseConnection | Kind::MessageError
-    ) && length % 8 == 0
+    can_be_fragmented(header.version, header.kind) && length % 8 == 0
+}
+
+fn can_be_fragmented(version: Version, kind: Kind) -> bool
+    ensures { result ≡ may_be_fragmented version kind }
+{
+    match version {
+        Version::V1_2 => !matches!(
+            kind,
+            Kind::CancelRequest | Kind::CloseConnection | Kind::MessageError
+        ),
+    }
 }
 
 /// What the part at this place says, by the messages that are unfinished before it.

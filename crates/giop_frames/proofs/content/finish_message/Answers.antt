@@ -32,4 +32,4 @@ returns-clause-message c =
 
 pub returns-clause-start : goal.returns-clause-start
 returns-clause-start c =
-    c.body_start.ensures ∙ sym (start_walked c.args.header c.args.content.now c.go_on.new.self c.in_ok-go_on.ensures.walked c.in_ok-go_on.ensures.done)
+    c.tail_start.ensures ∙ sym (start_walked c.args.header c.args.content.now c.go_on.new.self c.in_ok-go_on.ensures.walked c.in_ok-go_on.ensures.done)
