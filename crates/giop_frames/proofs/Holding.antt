@@ -103,14 +103,14 @@ pub holds_refused : (octets : List ℕ) (messages : List Framed) (old : Held) (f
 holds_refused octets messages old fault r h = record { parts = h.parts; rest = old.rest; splits = h.splits; place_is = h.place_is; refused = refuses_parts octets messages old fault h r }
 
 -- a stream takes the part in front of what it holds
-pub took : (messages : List Unfinished) (place : ℕ) (rest : List ℕ) (refused : Option FrameFault) (header : Header) (content : List ℕ) (answer : Option Framed) (new : Held) (old : Held)
-    → record { unfinished = messages; place = place; rest = rest; refused = refused } ≡ old → IsInFront header rest → content ≡ take header.size (drop 12 rest)
+pub took : (messages : List Unfinished) (place : ℕ) (rest : List ℕ) (refused : Option FrameFault) (kept : ℕ) (header : Header) (content : List ℕ) (answer : Option Framed) (new : Held) (old : Held)
+    → record { unfinished = messages; place = place; rest = rest; refused = refused; kept = kept } ≡ old → IsInFront header rest → content ≡ take header.size (drop 12 rest)
     → judged messages place (record { header = header; content = content }) ≡ Ok answer → new.unfinished ≡ after place (record { header = header; content = content }) messages
     → new.place ≡ min (place + (12 + header.size)) (2 ^ 64 - 1) → new.rest ≡ drop (12 + header.size) rest → new.refused ≡ refused → Took old answer new
-took messages place rest refused header content answer new old view front is said messages_are place_is rest_is refused_is =
+took messages place rest refused kept header content answer new old view front is said messages_are place_is rest_is refused_is =
     let part : Part = record { header = header; content = content } in
     let stands : part_at rest ≡ Ok (part, new.rest) = front.part ∙ ap (λ (x : List ℕ). Ok (record { header = header; content = x }, drop (12 + header.size) rest)) (sym is) ∙ ap (λ (x : List ℕ). Ok (part, x)) (sym rest_is) in
-    let held : Held = record { unfinished = messages; place = place; rest = rest; refused = refused } in
+    let held : Held = record { unfinished = messages; place = place; rest = rest; refused = refused; kept = kept } in
     let made : Took held answer new = record { part = part; stands = stands; says = said; unfinished_are = messages_are; place_is = place_is; refused = refused_is } in
     subst (λ (h : Held). Took h answer new) view made
 

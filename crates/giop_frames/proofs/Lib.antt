@@ -18,4 +18,5 @@ pub mod Further
 pub mod Cuts
 pub mod Joining
 pub mod Belonging
+pub mod Ending
 pub mod Kept

@@ -1,19 +1,34 @@
 -- What a stream holds back between two calls, of a stream of messages (CORBA, GIOP Message Formats, Fragment Message).
-use Rattle.std.specs.Prelude.{◌≡◌, ◌≢◌, ◌⊎◌, ◌<◌, ℕ, List, [], ◌∷◌, ◌++◌, length, Option, Some, None, IfSome, IsSome, Result, Ok, Err, IfOk, OnErr, OnOk}
+use Rattle.std.specs.Prelude.{◌≡◌, ◌≢◌, ◌⊎◌, ◌<◌, ◌≤◌, ◌+◌, ℕ, List, [], ◌∷◌, ◌++◌, length, Option, Some, None, IfSome, IsSome, Result, Ok, Err, IfOk, OnErr, OnOk}
+use Rattle.std.specs.List.{AllByRecursion}
 use Rattle.giop_frames.specs.declared.fault.FrameFault.{FrameFault}
 use Rattle.giop_frames.specs.declared.fault.FrameFault.TheVariants.{Short}
 use Rattle.giop_frames.specs.declared.framed.Framed.{Framed}
 use Rattle.giop_frames.specs.declared.message.Message.{Message}
+use Rattle.giop_frames.specs.Limits.{size_limit, unfinished_limit}
 use Rattle.giop_frames.specs.Fault.{IfRefused}
 use Rattle.giop_frames.specs.Stream.{Part, Unfinished, IsRefused, IsStream, Splits, Refuses, earliest, offset, part_at, unfinished}
 
--- the unfinished messages, the octets of no whole part yet and their offset in the stream, and the refusal that is
--- answered for good
+-- the unfinished messages, the octets of no whole part yet and their offset in the stream, the refusal that is answered
+-- for good, and how many octets its buffer has
 pub record Held : Type 0 where
   pub unfinished : List Unfinished
   pub place : ℕ
   pub rest : List ℕ
   pub refused : Option FrameFault
+  pub kept : ℕ
+
+-- no unfinished message is longer than a message may be, and there are at most 8
+pub record AreShort (messages : List Unfinished) : Type 0 where
+  pub few : length messages ≤ unfinished_limit
+  pub short : AllByRecursion (λ u. length u.content ≤ size_limit) messages
+
+-- what a stream holds is bounded: its unfinished messages, and in its buffer the octets of parts that were taken, of
+-- which it has at most as many as of no whole part (our profile)
+pub record IsBounded (h : Held) : Type 0 where
+  pub unfinished_are : AreShort h.unfinished
+  pub held : length h.rest ≤ h.kept
+  pub taken : h.kept ≤ length h.rest + length h.rest
 
 -- Of a stream of these octets these messages were given, and this is held back.
 pub record Holds (octets : List ℕ) (messages : List Framed) (h : Held) : Type 0 where

@@ -1,25 +1,18 @@
 -- What the calls inside a stream do with what it holds back.
 use Rattle.std.specs.Prelude.{◌≡◌, ℕ, ◌+◌, ◌-◌, ◌^◌, ◌≤◌, min, List, length, Option, Some, None, Result, Ok, Err, IfErr, IfOk, OnErr, OnOk}
-use Rattle.std.specs.List.{AllByRecursion}
 use Rattle.giop_frames.specs.declared.fault.FrameFault.{FrameFault}
 use Rattle.giop_frames.specs.declared.fault.FrameFault.TheVariants.{Short, Memory}
 use Rattle.giop_frames.specs.declared.framed.Framed.{Framed}
 use Rattle.giop_frames.specs.declared.stream.Taken.{Taken}
 use Rattle.giop_frames.specs.declared.stream.Taken.TheVariants.{Nothing, Piece, Whole}
-use Rattle.giop_frames.specs.Limits.{size_limit, unfinished_limit}
 use Rattle.giop_frames.specs.Fault.{Fails}
 use Rattle.giop_frames.specs.Stream.{Part, Unfinished, RefusesFront, after, judged, part_at}
-use Rattle.giop_frames.specs.Held.{Held}
+use Rattle.giop_frames.specs.Held.{AreShort, Held}
 
 -- a refusal is answered for good, and want of memory is not
 abbrev pub remembering : Held → FrameFault → Held
 remembering h Memory = h
 remembering h fault = record h { refused = Some fault }
-
--- no unfinished message is longer than a message may be, and there are at most 8
-pub record AreShort (messages : List Unfinished) : Type 0 where
-  pub few : length messages ≤ unfinished_limit
-  pub short : AllByRecursion (λ u. length u.content ≤ size_limit) messages
 
 -- of a buffer from whose front so many octets were taken, the octets that are held are at least as many
 abbrev pub IsMostlyHeld : ℕ → List ℕ → Type 0

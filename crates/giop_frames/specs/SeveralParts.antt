@@ -5,7 +5,7 @@ use Rattle.std.specs.List.{list_any}
 use Rattle.giop_frames.specs.declared.framed.Framed.{Framed}
 use Rattle.giop_frames.specs.Limits.{unfinished_limit}
 use Rattle.giop_frames.specs.Header.{is_fragment}
-use Rattle.giop_frames.specs.Stream.{Part, Unfinished, Splits, earliest, id_of, offset, unfinished, whole_by}
+use Rattle.giop_frames.specs.Stream.{Part, Unfinished, Splits, earliest, id_of, judged, offset, says, unfinished, whole_by}
 
 -- ---- parts and the messages that they are parts of
 
@@ -31,6 +31,23 @@ pub record IsPartOf (fragment : Part) (older : List Part) (first : Part) (before
   pub stand : older ≡ between ++ first ∷ before
   pub unended : is_open first between ≡ true
   pub numbered : id_of first ≡ id_of fragment
+
+-- The last of a message's Fragments is among the parts since the first part, with some later ones and some between.
+pub record IsEndedBy (first : Part) (older since later : List Part) (last : Part) (between : List Part) : Type 0 where
+  pub stand : since ≡ later ++ last ∷ between
+  pub is_last : is_last_of (id_of first) last ≡ true
+  pub belongs : IsPartOf last (between ++ first ∷ older) first older between
+
+-- the message that a first part, behind older parts, began was ended since, and by one Fragment alone
+pub record IsEndedOnce (first : Part) (older since : List Part) : Type 0 where
+  pub later : List Part
+  pub last : Part
+  pub between : List Part
+  pub ended : IsEndedBy first older since later last between
+  pub closed : is_open first since ≡ false
+  pub alone :
+      (l : List Part) (p : Part) (b : List Part) → IsEndedBy first older since l p b
+      → (l ≡ later) × (p ≡ last) × (b ≡ between)
 
 -- what the Fragments of this request_id have behind it, in their order
 abbrev pub octets_of : ℕ → List Part → List ℕ
@@ -112,6 +129,19 @@ BelongsToOne =
     → Splits octets (newer ++ p ∷ older) messages rest → is_fragment p.header.kind ≡ true
     → (first : Part) × (before : List Part) × (between : List Part) × IsPartOf p older first before between
     × ((f : Part) (b c : List Part) → IsPartOf p older f b c → (f ≡ first) × (b ≡ before) × (c ≡ between))
+
+-- the message that a first part began is open, or ended by exactly one Fragment
+abbrev pub EndsOnce : Type 0
+EndsOnce =
+    (octets rest : List ℕ) (messages : List Framed) (since older : List Part) (first : Part)
+    → Splits octets (since ++ first ∷ older) messages rest → is_first first ≡ true
+    → (is_open first since ≡ true) ⊎ IsEndedOnce first older since
+
+-- what one more part says follows from the messages that were begun and not ended
+abbrev pub SaysByOpen : Type 0
+SaysByOpen =
+    (octets rest : List ℕ) (parts : List Part) (messages : List Framed) → Splits octets parts messages rest
+    → (p : Part) → says parts p ≡ judged (open_messages [] parts) (offset parts) p
 
 -- the messages given are those whose last part is there, in the order of their last parts
 abbrev pub GivesEnded : Type 0

@@ -3,7 +3,8 @@ ghost use Rattle.std.specs.List.{position as position_of};
 ghost use Rattle.giop_frames.specs.Limits.{size_limit, unfinished_limit};
 ghost use Rattle.giop_frames.specs.Fault.{Fails};
 ghost use Rattle.giop_frames.specs.Header.{content_behind, is_fragment};
-ghost use Rattle.giop_frames.specs.HeldInside.{AreShort, Judges};
+ghost use Rattle.giop_frames.specs.Held.{AreShort};
+ghost use Rattle.giop_frames.specs.HeldInside.{Judges};
 ghost use Rattle.giop_frames.specs.Stream.{may_be_fragmented, may_go_on, opening, numbered, part_at, part_header_at, part_of, with_begun};
 ghost use Rattle.giop_frames.specs.StreamInside.{FindsPart, IsAt, ReadsId};
 

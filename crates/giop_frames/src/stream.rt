@@ -1,6 +1,6 @@
 ghost use Rattle.std.specs.Prelude.{◌≡◌, ◌↔◌, ◌+◌, ◌<◌, ◌≤◌, ◌^◌, [], length, drop, Option, None, Some, Ok, Err, IfSome, IsTrue, OnErr, OnOk};
 ghost use Rattle.giop_frames.specs.Fault.{IfRefused};
-ghost use Rattle.giop_frames.specs.Held.{Held, Holds, GivesNext, HasCome, HasGiven, HasGivenFramed, IsUnfinished, place_of};
+ghost use Rattle.giop_frames.specs.Held.{Held, Holds, GivesNext, HasCome, HasGiven, HasGivenFramed, IsBounded, IsUnfinished, place_of};
 ghost use Rattle.giop_frames.specs.Limits.{partial_limit};
 ghost use Rattle.giop_frames.specs.Stream.{part_at};
 ghost use Rattle.giop_frames.specs.HeldInside.{IsMostlyHeld, Takes, remembering};
@@ -29,8 +29,8 @@ pub struct Stream {
 
 impl Model for Stream {
     ghost use Rattle.std.specs.Prelude.{◌≤◌, length, drop};
-    ghost use Rattle.giop_frames.specs.Held.{Held};
-    ghost use Rattle.giop_frames.specs.HeldInside.{AreShort, IsMostlyHeld};
+    ghost use Rattle.giop_frames.specs.Held.{AreShort, Held};
+    ghost use Rattle.giop_frames.specs.HeldInside.{IsMostlyHeld};
 
     ghost Value = { Held };
 
@@ -39,6 +39,7 @@ impl Model for Stream {
       place = s.place;
       rest = drop s.start s.buffer.items;
       refused = s.refused;
+      kept = length s.buffer.items;
     } };
 
     ghost invariant = { λ s. IsMostlyHeld s.start s.buffer.items × AreShort s.messages.items };
@@ -58,7 +59,7 @@ impl Stream {
     /// A stream of which nothing has come.
     pub fn new(alloc: Global) -> Stream
         ensures holds { Holds [] [] result }
-        ensures nothing { result ≡ record { unfinished = []; place = 0; rest = []; refused = None } }
+        ensures nothing { result ≡ record { unfinished = []; place = 0; rest = []; refused = None; kept = 0 } }
     {
         Stream {
             alloc,
@@ -135,11 +136,11 @@ impl Stream {
         !self.messages.is_empty() || !behind(&self.buffer, self.start).is_empty()
     }
 
-    /// How many octets its buffer keeps: those that are held of no whole part, and at most as many of parts that were
-    /// taken. The joined octets of unfinished messages are kept beside it.
+    /// How many octets its buffer has: those that are held of no whole part, and at most as many of parts that were
+    /// taken. The joined octets of unfinished messages are beside it.
     pub fn kept(&self) -> usize
-        ensures held { length self.now.rest ≤ result }
-        ensures few { result ≤ length self.now.rest + length self.now.rest }
+        ensures same { result ≡ self.now.kept }
+        ensures bounded { IsBounded self.now }
         ensures partial { part_at self.now.rest ≡ Err FrameFault.Short → result ≤ partial_limit + partial_limit }
     {
         self.buffer.len()

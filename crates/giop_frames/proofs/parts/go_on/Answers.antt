@@ -4,7 +4,7 @@ use Rattle.std.proofs.lemmas.Result.{err_from_is_err_and}
 use Rattle.giop_frames.specs.Header.{is_fragment}
 use Rattle.giop_frames.specs.Stream.{Part, Unfinished, id_of, judged, numbered, part_of, with_more}
 use Rattle.giop_frames.specs.StreamInside.{IsAt}
-use Rattle.giop_frames.specs.HeldInside.{AreShort}
+use Rattle.giop_frames.specs.Held.{AreShort}
 use Rattle.giop_frames.proofs.Loops.{fails_from, fails_on}
 use Rattle.giop_frames.proofs.Numbered.{remove-set}
 use Rattle.giop_frames.proofs.Judging.{fragment_short, fragment_alone, fragment_says, after_more, after_last}

@@ -1,4 +1,6 @@
-use Rattle.std.proofs.Common.{List, sym, subst}
+use Rattle.std.proofs.Common.{List, sym, subst, ap}
+use Rattle.giop_frames.specs.Stream.{Unfinished, judged, offset}
+use Rattle.giop_frames.proofs.Ending.{ended_once}
 use Rattle.giop_frames.specs.declared.framed.Framed.{Framed}
 use Rattle.giop_frames.specs.SeveralParts.{AreEnded}
 use Rattle.giop_frames.proofs.Belonging.{all_ends, belongs_to_one, earliest_told, few, opens}
@@ -11,6 +13,12 @@ pub returns-clause-ended : goal.returns-clause-ended
 returns-clause-ended c octets rest parts messages s =
     let Ends : List Framed → Type 0 = λ ms. AreEnded parts ms in
     subst Ends (sym s.messages_are) (all_ends parts s.taken)
+
+pub returns-clause-once : goal.returns-clause-once
+returns-clause-once c octets rest messages since older first s begun = ended_once first older since begun
+
+pub returns-clause-says : goal.returns-clause-says
+returns-clause-says c octets rest parts messages s p = ap (λ (us : List Unfinished). judged us (offset parts) p) (opens parts s.taken)
 
 pub returns-clause-unended : goal.returns-clause-unended
 returns-clause-unended c octets rest parts messages s = opens parts s.taken

@@ -1,9 +1,19 @@
-use Rattle.std.proofs.Common.{◌≡◌, ◌≤◌, drop, length, ap, arith}
+use Rattle.std.proofs.Common.{◌≡◌, ◌≤◌, drop, length, ap, subst, arith}
 use Rattle.std.proofs.lemmas.List.{length-drop}
-use Rattle.giop_frames.specs.Held.{Held}
+use Rattle.giop_frames.specs.Held.{Held, IsBounded}
 use Rattle.giop_frames.specs.Limits.{partial_limit}
 use Rattle.giop_frames.proofs.Kept.{partial_is_short}
 use Rattle.giop_frames.proofs.stream.Stream.kept.Goals as goal
+
+pub returns-clause-bounded : goal.returns-clause-bounded
+returns-clause-bounded c =
+    let inside = c.self.inside in
+    let size = length-drop inside.start inside.buffer.items in
+    subst IsBounded c.self.view_is (record {
+      unfinished_are = c.self.invariant.1;
+      held = omega (arith, size);
+      taken = omega (arith, size, c.self.invariant.0);
+    })
 
 pub returns-clause-partial : goal.returns-clause-partial
 returns-clause-partial c short =
