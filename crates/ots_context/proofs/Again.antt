@@ -1,15 +1,16 @@
 -- A context that was written is read again.
-use Rattle.std.proofs.Common.{◌≡◌, ℕ, suc, ◌+◌, ◌<◌, ◌≤◌, ◌^◌, ◌&&◌, Bool, true, false, cond, ltb, leb, List, [], ◌∷◌, ◌++◌, length, map, Result, Ok, Err, refl, sym, ap, subst, ◌∙◌, arith, length-append}
+use Rattle.std.proofs.Common.{◌≡◌, ℕ, suc, ◌+◌, ◌<◌, ◌≤◌, ◌^◌, ◌&&◌, Bool, true, false, cond, ltb, leb, List, [], ◌∷◌, ◌++◌, length, map, Result, Ok, Err, refl, sym, ap, subst, ◌∙◌, arith, length-append, append_assoc}
 use Rattle.std.specs.Prelude.{All}
 use Rattle.std.specs.List.{flat_map, list_all}
 use Rattle.std.specs.Int.{w32, cast_signed, cast_unsigned}
 use Rattle.std.proofs.Math.Facts.{Fits-of_z}
 use Rattle.std.proofs.lemmas.Int.{to_z-of_z}
 use Rattle.std.proofs.lemmas.Bool.{ltb-false, lt-ltb, le-leb}
+use Rattle.cdr_values.specs.declared.order.Order.{Order}
 use Rattle.cdr_values.specs.declared.order.Order.TheVariants.{Big}
 use Rattle.cdr_values.specs.declared.fault.CdrFault.TheVariants.{TooLong}
-use Rattle.cdr_values.specs.Again.{AllFit, standing, ValuesAreReadAgain, EncapsulationsAreReadAgain}
-use Rattle.cdr_values.specs.Encapsulation.{begun, inside, opened, IsEncapsulation}
+use Rattle.cdr_values.specs.Again.{AllFit, standing, ValuesAreReadAgain}
+use Rattle.cdr_values.specs.Encapsulation.{begun}
 use Rattle.cdr_values.specs.Laws.{ReadingLaws}
 use Rattle.cdr_values.specs.Reading.{Reading}
 use Rattle.cdr_values.specs.Sequence.{sequence_values}
@@ -23,13 +24,12 @@ use Rattle.ots_context.specs.declared.context.Context.{Context}
 use Rattle.ots_context.specs.declared.context.AnyTail.{AnyTail}
 use Rattle.ots_context.specs.declared.fault.ContextFault.{ContextFault}
 use Rattle.ots_context.specs.declared.fault.ContextFault.TheVariants.{Cdr, TooMany, TailPlace}
-use Rattle.ots_context.specs.Context.{IsContext}
 use Rattle.ots_context.specs.Identity.{Fields, IsIdentity, allows_fields, fields_of, fields_values, identity_of, identity_values, has_lengths, otid_values}
-use Rattle.ots_context.specs.Laws.{IsSound, WrittenContextsAreReadAgain}
-use Rattle.ots_context.specs.Reading.{context_in}
+use Rattle.ots_context.specs.Laws.{ContextsAreReadWhereWritten, IsSound, WrittenContextsAreReadAgain}
+use Rattle.ots_context.specs.Reading.{context_at, context_in}
 use Rattle.ots_context.specs.Tail.{IsTail, can_stand, octets_of_tail, tail_at}
-use Rattle.ots_context.specs.Writing.{behind_current, behind_parents, with_tail, written}
-use Rattle.ots_context.proofs.Exact.{context_only, opened_found}
+use Rattle.ots_context.specs.Writing.{behind_current, behind_parents, with_context, with_tail, written}
+use Rattle.ots_context.proofs.Exact.{context_at_only}
 use Rattle.ots_context.proofs.Given.{ok_is, guard_ok, check_ok, with_values-is, with_values-append, fit-append}
 use Rattle.ots_context.proofs.Tails.{stand_again, tail_found}
 
@@ -84,40 +84,44 @@ identities_fit (i ∷ all) h = fit-append (identity_values i) (flat_map identity
 abbrev values : Context → List Value
 values c = ULong c.timeout ∷ (identity_values c.current ++ sequence_values identity_values c.parents)
 
-front_is : (c : Context) → behind_parents c ≡ with_values (begun Big) (values c)
+front_is : (w : Writing) (c : Context) → behind_parents w c ≡ with_values w (values c)
 unfolding behind_parents behind_current
-front_is c = sym (with_values-append (begun Big) (ULong c.timeout ∷ identity_values c.current) (sequence_values identity_values c.parents))
+front_is w c = sym (with_values-append w (ULong c.timeout ∷ identity_values c.current) (sequence_values identity_values c.parents))
 
-front_place : (c : Context) → place_of (behind_parents c) ≡ 1 + length (canonical_all Big 1 (values c))
-front_place c =
-    let whole : place_of (behind_parents c) ≡ place_of (with_values (begun Big) (values c)) = ap place_of (front_is c) in
-    let parts : place_of (with_values (begun Big) (values c)) ≡ 0 + length ((begun Big).octets ++ canonical_all Big 1 (values c)) = ap place_of (with_values-is (begun Big) (values c)) in
-    omega (arith, whole, parts, length-append (begun Big).octets (canonical_all Big 1 (values c)))
+-- the octets of its values
+abbrev front_octets : Writing → Context → List ℕ
+front_octets w c = canonical_all w.order (place_of w) (values c)
+
+front_place : (w : Writing) (c : Context) → place_of (behind_parents w c) ≡ place_of w + length (front_octets w c)
+front_place w c =
+    let whole : place_of (behind_parents w c) ≡ place_of (with_values w (values c)) = ap place_of (front_is w c) in
+    let parts : place_of (with_values w (values c)) ≡ w.start + length (w.octets ++ front_octets w c) = ap place_of (with_values-is w (values c)) in
+    omega (arith, whole, parts, length-append w.octets (front_octets w c))
 
 -- the writer of what stands in front of the tail
-pub front_of : (c : Context) (w new : Writing) (parents : List Identity) → w ≡ behind_current c → parents ≡ c.parents → new ≡ with_values w (sequence_values identity_values parents) → new ≡ behind_parents c
+pub front_of : (w : Writing) (c : Context) (middle new : Writing) (parents : List Identity) → middle ≡ behind_current w c → parents ≡ c.parents → new ≡ with_values middle (sequence_values identity_values parents) → new ≡ behind_parents w c
 unfolding behind_parents
-front_of c w new parents current same is =
-    is ∙ ap (λ (x : Writing). with_values x (sequence_values identity_values parents)) current ∙ ap (λ (xs : List Identity). with_values (behind_current c) (sequence_values identity_values xs)) same
+front_of w c middle new parents current same is =
+    is ∙ ap (λ (x : Writing). with_values x (sequence_values identity_values parents)) current ∙ ap (λ (xs : List Identity). with_values (behind_current w c) (sequence_values identity_values xs)) same
 
-pub front_order : (c : Context) → (behind_parents c).order ≡ Big
-front_order c = ap (λ (x : Writing). x.order) (front_is c ∙ with_values-is (begun Big) (values c))
+pub front_order : (w : Writing) (c : Context) → (behind_parents w c).order ≡ w.order
+front_order w c = ap (λ (x : Writing). x.order) (front_is w c ∙ with_values-is w (values c))
 
-pub front_start : (c : Context) → (behind_parents c).start ≡ 0
-front_start c = ap (λ (x : Writing). x.start) (front_is c ∙ with_values-is (begun Big) (values c))
+pub front_start : (w : Writing) (c : Context) → (behind_parents w c).start ≡ w.start
+front_start w c = ap (λ (x : Writing). x.start) (front_is w c ∙ with_values-is w (values c))
 
 -- what is written
-pub record IsWritten (c : Context) (octets : List ℕ) : Type 0 where
+pub record IsWritten (w : Writing) (c : Context) (octets : List ℕ) : Type 0 where
   pub few : length c.parents ≤ 16
-  pub stands : can_stand (place_of (behind_parents c)) c.tail ≡ true
-  pub octets_are : (behind_parents c).octets ++ octets_of_tail (place_of (behind_parents c)) c.tail ≡ octets
+  pub stands : can_stand (place_of (behind_parents w c)) c.tail ≡ true
+  pub octets_are : (behind_parents w c).octets ++ octets_of_tail (place_of (behind_parents w c)) c.tail ≡ octets
 
-written_is : (c : Context) (octets : List ℕ) → written c ≡ Ok octets → IsWritten c octets
-unfolding written with_tail
-written_is c octets e =
-    let w = behind_parents c in
+written_is : (w : Writing) (c : Context) (octets : List ℕ) → with_context w c ≡ Ok octets → IsWritten w c octets
+unfolding with_context with_tail
+written_is start c octets e =
+    let w = behind_parents start c in
     let all = w.octets ++ octets_of_tail (place_of w) c.tail in
-    let a = guard_ok (ltb 16 (length c.parents)) (TooMany (place_of (behind_current c))) (with_tail w c.tail) octets e in
+    let a = guard_ok (ltb 16 (length c.parents)) (TooMany (place_of (behind_current start c))) (with_tail w c.tail) octets e in
     let b = guard_ok (ltb 65536 (length all)) (Cdr (TooLong (place_of w) (length all))) (cond (can_stand (place_of w) c.tail) (Ok all) (Err TailPlace)) octets a.1 in
     let d = check_ok (can_stand (place_of w) c.tail) TailPlace (Ok all) octets b.1 in
     record {
@@ -126,34 +130,35 @@ written_is c octets e =
       octets_are = ok_is {F = ContextFault} all octets d.1;
     }
 
--- what is written is the context
-is_context : ReadingLaws → ValuesAreReadAgain → EncapsulationsAreReadAgain → (c : Context) (octets : List ℕ) → IsSound c → IsWritten c octets → IsContext c octets
-is_context laws again enclosed c octets sound is =
-    let w = behind_parents c in
-    let tail = octets_of_tail (place_of w) c.tail in
-    let front = canonical_all Big 1 (values c) in
+-- what is written is read where it stands
+read_there : ReferencesAreReadExactly → ReadingLaws → ValuesAreReadAgain → (w : Writing) (c : Context) (octets : List ℕ) → w.order ≡ Big → IsSound c → IsWritten w c octets
+    → context_at (standing Big (place_of w) (front_octets w c ++ octets_of_tail (place_of (behind_parents w c)) c.tail)) ≡ Ok c
+read_there refs laws again w c octets big sound is =
+    let at = place_of w in
+    let tail = octets_of_tail (place_of (behind_parents w c)) c.tail in
+    let front = canonical_all Big at (values c) in
+    let in_order : front_octets w c ≡ front = ap (λ (o : Order). canonical_all o at (values c)) big in
     let few : length c.parents < 4294967296 = omega (arith, is.few) in
     let fit : AllFit (values c) = (sound.timeout, fit-append (identity_values c.current) (sequence_values identity_values c.parents) (identity_fits c.current sound.current) (few, identities_fit c.parents sound.parents)) in
-    let read = enclosed Big (values c) tail fit in
-    let behind = standing Big (1 + length front) tail in
-    let parts : (with_values (begun Big) (values c)).octets ++ tail ≡ octets = ap (λ (x : Writing). x.octets ++ tail) (sym (front_is c)) ∙ is.octets_are in
-    let here : tail_at (standing Big (place_of w) tail) ≡ c.tail = stand_again laws again (place_of w) c.tail is.stands in
-    let there : tail_at behind ≡ c.tail = subst (λ (n : ℕ). tail_at (standing Big n tail) ≡ c.tail) (front_place c) here in
-    record {
-      current = fields_of c.current;
-      parents = map fields_of c.parents;
-      is_current = identity_again c.current sound.current;
-      are_parents = identities_again c.parents sound.parents;
-      current_allowed = allowed c.current sound.current;
-      parents_allowed = all_allowed c.parents sound.parents;
-      few = omega (arith, length_of c.parents, is.few);
-      reader = inside Big (front ++ tail);
-      behind = behind;
-      opened = opened_found octets (inside Big (front ++ tail)) (ap opened (sym parts) ∙ read.0);
-      stand = subst (λ (vs : List Value). ReadsAll (inside Big (front ++ tail)) (ULong c.timeout ∷ (identity_values c.current ++ vs)) behind) (sym (parents_values c.parents)) read.1;
-      tail = subst (λ (x : AnyTail). IsTail x behind) there (tail_found laws behind);
-    }
+    let read = again Big at (values c) tail fit in
+    let place : place_of (behind_parents w c) ≡ at + length front = front_place w c ∙ ap (λ (xs : List ℕ). at + length xs) in_order in
+    let behind = standing Big (at + length front) tail in
+    let here : tail_at (standing Big (place_of (behind_parents w c)) tail) ≡ c.tail = stand_again laws again (place_of (behind_parents w c)) c.tail is.stands in
+    let there : tail_at behind ≡ c.tail = subst (λ (n : ℕ). tail_at (standing Big n tail) ≡ c.tail) place here in
+    let stand = subst (λ (vs : List Value). ReadsAll (standing Big at (front ++ tail)) (ULong c.timeout ∷ (identity_values c.current ++ vs)) behind) (sym (parents_values c.parents)) read in
+    let found : context_at (standing Big at (front ++ tail)) ≡ Ok c =
+    context_at_only refs laws c (fields_of c.current) (map fields_of c.parents) (standing Big at (front ++ tail)) behind (identity_again c.current sound.current) (identities_again c.parents sound.parents) (allowed c.current sound.current) (all_allowed c.parents sound.parents) (omega (arith, length_of c.parents, is.few)) stand (subst (λ (x : AnyTail). IsTail x behind) there (tail_found laws behind)) in
+    ap (λ (xs : List ℕ). context_at (standing Big at (xs ++ tail))) in_order ∙ found
 
-pub written_again : ReferencesAreReadExactly → ReadingLaws → ValuesAreReadAgain → EncapsulationsAreReadAgain → WrittenContextsAreReadAgain
-written_again refs laws again enclosed c octets sound e =
-    context_only refs laws octets c (is_context laws again enclosed c octets sound (written_is c octets e))
+pub read_where_written : ReferencesAreReadExactly → ReadingLaws → ValuesAreReadAgain → ContextsAreReadWhereWritten
+read_where_written refs laws again w c octets big sound e =
+    let is = written_is w c octets e in
+    let tail = octets_of_tail (place_of (behind_parents w c)) c.tail in
+    let parts : octets ≡ (w.octets ++ front_octets w c) ++ tail = sym is.octets_are ∙ ap (λ (x : Writing). x.octets ++ tail) (front_is w c ∙ with_values-is w (values c)) in
+    (front_octets w c ++ tail, parts ∙ append_assoc w.octets (front_octets w c) tail, read_there refs laws again w c octets big sound is)
+
+pub written_again : ReferencesAreReadExactly → ReadingLaws → ValuesAreReadAgain → WrittenContextsAreReadAgain
+unfolding context_in
+written_again refs laws again c octets sound e =
+    let h = read_where_written refs laws again (begun Big) c octets refl sound e in
+    rw h.1 h.2

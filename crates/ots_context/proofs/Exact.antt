@@ -258,13 +258,20 @@ context_found refs laws octets c e =
       tail = subst (λ (x : AnyTail). IsTail x behind) (ap (λ (x : Context). x.tail) same) (tail_found laws behind);
     }
 
+-- a context stands there, which is all that is left
+pub context_at_only : ReferencesAreReadExactly → ReadingLaws → (c : Context) (current : Fields) (parents : List Fields) (reader behind : Reading) → c.current ≡ identity_of current → c.parents ≡ map identity_of parents → allows_fields current ≡ true → list_all allows_fields parents ≡ true → length parents ≤ 16
+    → ReadsAll reader (ULong c.timeout ∷ (fields_values current ++ sequence_values fields_values parents)) behind → IsTail c.tail behind → context_at reader ≡ Ok c
+unfolding context_at
+context_at_only refs laws c current parents reader behind is are allowed all few s tail =
+    let p = reads_apart (fields_values current) (sequence_values fields_values parents) s.0 behind s.2 in
+    rw (laws.ulong.only reader c.timeout s.0 s.1, identity_only refs laws current s.0 p.0 p.1 allowed, parents_only refs laws parents p.0 behind p.2 all few, tail_only laws c.tail behind tail)
+    (ap (λ (x : Identity). Ok (context c.timeout x (map identity_of parents) c.tail)) (sym is) ∙ ap (λ (xs : List Identity). Ok (context c.timeout c.current xs c.tail)) (sym are))
+
 pub context_only : ReferencesAreReadExactly → ReadingLaws → (octets : List ℕ) (c : Context) → IsContext c octets → context_in octets ≡ Ok c
-unfolding context_in context_at
+unfolding context_in
 context_only refs laws octets c h =
-    let s = h.stand in
-    let p = reads_apart (fields_values h.current) (sequence_values fields_values h.parents) s.0 h.behind s.2 in
-    rw (opened_only octets h.reader h.opened, laws.ulong.only h.reader c.timeout s.0 s.1, identity_only refs laws h.current s.0 p.0 p.1 h.current_allowed, parents_only refs laws h.parents p.0 h.behind p.2 h.parents_allowed h.few, tail_only laws c.tail h.behind h.tail)
-    (ap (λ (x : Identity). Ok (context c.timeout x (map identity_of h.parents) c.tail)) (sym h.is_current) ∙ ap (λ (xs : List Identity). Ok (context c.timeout c.current xs c.tail)) (sym h.are_parents))
+    rw (opened_only octets h.reader h.opened)
+    (context_at_only refs laws c h.current h.parents h.reader h.behind h.is_current h.are_parents h.current_allowed h.parents_allowed h.few h.stand h.tail)
 
 pub contexts_exact : ReferencesAreReadExactly → ReadingLaws → ContextsAreReadExactly
 contexts_exact refs laws octets c = (context_found refs laws octets c, context_only refs laws octets c)

@@ -10,7 +10,7 @@ use Rattle.ots_context.specs.declared.fault.ContextFault.{ContextFault}
 use Rattle.ots_context.specs.declared.fault.ContextFault.TheVariants.{TailPlace}
 use Rattle.ots_context.specs.Fault.{Fails, fault_of}
 use Rattle.ots_context.specs.Tail.{can_stand, octets_of_tail}
-use Rattle.ots_context.specs.Writing.{behind_parents, with_tail, written}
+use Rattle.ots_context.specs.Writing.{behind_parents, with_context, with_tail}
 
 -- there is no room for it
 refused_if : (w : Writing) (tail : AnyTail) (fault : CdrFault) (b : Bool) → ltb 65536 (length (w.octets ++ octets_of_tail (place_of w) tail)) ≡ b
@@ -43,6 +43,6 @@ misplaced w tail room stands =
     rw (room_if (ltb 65536 n) (cdr.TooLong (place_of w) n) room, stands) refl
 
 -- where there are few parents, what is written is the tail behind the rest
-pub few_parents : (c : Context) → length c.parents ≤ 16 → written c ≡ with_tail (behind_parents c) c.tail
-unfolding written
-few_parents c few = rw (le-ltb 16 (length c.parents) few) refl
+pub few_parents : (w : Writing) (c : Context) → length c.parents ≤ 16 → with_context w c ≡ with_tail (behind_parents w c) c.tail
+unfolding with_context
+few_parents w c few = rw (le-ltb 16 (length c.parents) few) refl

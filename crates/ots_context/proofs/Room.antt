@@ -1,6 +1,8 @@
 -- How many octets identities take, and why there is room for them.
-use Rattle.std.proofs.Common.{◌≡◌, ℕ, ◌+◌, ◌-◌, ◌*◌, ◌<◌, ◌≤◌, ◌%◌, ◌⊎◌, inl, inr, Bool, true, false, cond, ltb, leb, Some, None, List, [], ◌∷◌, ◌++◌, length, take, get_or, refl, sym, ap, subst, ◌∙◌, arith, length-append, replicate, Result, Ok, Err, IfErr, OnOk}
+use Rattle.std.proofs.Common.{◌≡◌, ℕ, suc, ◌+◌, ◌-◌, ◌*◌, ◌<◌, ◌≤◌, ◌%◌, ◌⊎◌, inl, inr, Bool, true, false, cond, ltb, leb, Some, None, List, [], ◌∷◌, ◌++◌, length, take, get_or, refl, sym, ap, subst, ◌∙◌, arith, length-append, replicate, Result, Ok, Err, IfErr, OnOk}
+use Rattle.std.specs.Prelude.{All}
 use Rattle.std.specs.List.{flat_map}
+use Rattle.cdr_values.specs.Sequence.{sequence_values}
 use Rattle.std.specs.Int.{w32, cast_unsigned}
 use Rattle.std.proofs.lemmas.List.{append-nil, length-replicate, take_more}
 use Rattle.std.proofs.lemmas.Grind.{flat_map-append}
@@ -21,7 +23,6 @@ use Rattle.otid_names.specs.Otid.{OtidParts, IsOtid}
 use Rattle.ots_context.specs.declared.context.Identity.{Identity}
 use Rattle.ots_context.specs.declared.context.Context.{Context}
 use Rattle.ots_context.specs.Writing.{behind_current}
-use Rattle.cdr_values.specs.Encapsulation.{begun}
 use Rattle.ots_context.specs.Identity.{IsIdentity, identity_values, otid_values}
 use Rattle.ots_context.specs.RoomInside.{reference_size, otid_size, identity_size}
 use Rattle.ots_context.proofs.Given.{with_values-is, with_values-append, fit_behind}
@@ -201,8 +202,32 @@ goes_on w now new all i x lt is so_far more =
     more ∙ ap (λ (y : Writing). with_values y (identity_values x)) so_far ∙ sym (with_values-append w (flat_map identity_values (take i all)) (identity_values x)) ∙ ap (with_values w) (sym (one_more all i x lt is))
 
 -- what is written in front of the parents is short
-pub current_room : (c : Context) → IsIdentity c.current → length (behind_current c).octets ≤ 3837
+pub current_room : (w : Writing) (c : Context) → length w.octets ≤ 1 → IsIdentity c.current → length (behind_current w c).octets ≤ 3837
 unfolding behind_current
-current_room c is =
-    let one = with_values (begun Big) (ULong c.timeout ∷ []) in
-    omega (arith, few_behind (begun Big) (ULong c.timeout ∷ []) (tt, tt), identity_room one c.current is)
+current_room w c front is =
+    let one = with_values w (ULong c.timeout ∷ []) in
+    omega (arith, front, few_behind w (ULong c.timeout ∷ []) (tt, tt), identity_room one c.current is)
+
+-- and so is a writer of the timeout
+pub timeout_room : (w middle : Writing) (timeout : ℕ) → length w.octets ≤ 1 → middle ≡ with_value w (ULong timeout) → length middle.octets ≤ 8
+timeout_room w middle timeout front is =
+    omega (arith, front, few_behind w (ULong timeout ∷ []) (tt, tt), ap (λ (x : Writing). length x.octets) is)
+
+-- a writer that has so few octets has room for a timeout
+pub timeout_refused : (w : Writing) (timeout : ℕ) (fault : CdrFault) → length w.octets ≤ 1 → (fault ≡ cdr.Memory) ⊎ (refusal w (ULong timeout) ≡ Some fault) → fault ≡ cdr.Memory
+timeout_refused w timeout fault front h =
+    has_room (ULong timeout) [] fault w refl (omega (arith, front, few_behind w (ULong timeout ∷ []) (tt, tt))) h
+
+-- there is room for identities
+each_room : (w : Writing) (all : List Identity) → All IsIdentity all → length (with_values w (flat_map identity_values all)).octets ≤ length w.octets + identity_size * length all
+each_room w [] are = omega arith
+each_room w (i ∷ all) are =
+    let one = with_values w (identity_values i) in
+    let parts : with_values w (flat_map identity_values (i ∷ all)) ≡ with_values one (flat_map identity_values all) = with_values-append w (identity_values i) (flat_map identity_values all) in
+    omega (arith, ap (λ (x : Writing). length x.octets) parts, identity_room w i (are 0 i (omega arith)), each_room one all (λ k d lt. are (suc k) d (omega arith)))
+
+-- a writer that has written the parents has no more than a writer has
+pub parents_room : (w new : Writing) (all : List Identity) → length w.octets ≤ 3837 → length all ≤ 16 → All IsIdentity all → new ≡ with_values w (sequence_values identity_values all) → length new.octets ≤ output_limit
+parents_room w new all short few are is =
+    let counted = with_values w (ULong (length all) ∷ []) in
+    omega (arith, short, few, ap (λ (x : Writing). length x.octets) is, few_behind w (ULong (length all) ∷ []) (tt, tt), each_room counted all are)

@@ -1,11 +1,12 @@
 -- What reading and writing contexts have to do with each other.
-use Rattle.std.specs.Prelude.{◌≡◌, ◌↔◌, ◌<◌, ◌^◌, ℕ, true, All, List, Ok}
+use Rattle.std.specs.Prelude.{◌≡◌, ◌↔◌, ◌<◌, ◌^◌, ℕ, true, All, List, ◌++◌, Ok}
 use Rattle.cdr_values.specs.declared.order.Order.TheVariants.{Big}
 use Rattle.cdr_values.specs.Again.{standing}
+use Rattle.cdr_values.specs.Writing.{Writing, place_of}
 use Rattle.ots_context.specs.Context.{IsContext}
 use Rattle.ots_context.specs.Identity.{IsIdentity}
-use Rattle.ots_context.specs.Writing.{written}
-use Rattle.ots_context.specs.Reading.{context_in}
+use Rattle.ots_context.specs.Writing.{with_context, written}
+use Rattle.ots_context.specs.Reading.{context_at, context_in}
 use Rattle.ots_context.specs.Tail.{can_stand, octets_of_tail, tail_at}
 use Rattle.ots_context.specs.declared.context.Context.{Context}
 use Rattle.ots_context.specs.declared.context.AnyTail.{AnyTail}
@@ -29,3 +30,9 @@ pub record IsSound (c : Context) : Type 0 where
 abbrev pub WrittenContextsAreReadAgain : Type 0
 WrittenContextsAreReadAgain = (c : Context) (octets : List ℕ) → IsSound c → written c ≡ Ok octets
     → context_in octets ≡ Ok c
+
+-- the same of one that was written behind what a writer had
+abbrev pub ContextsAreReadWhereWritten : Type 0
+ContextsAreReadWhereWritten = (w : Writing) (c : Context) (octets : List ℕ) → w.order ≡ Big → IsSound c
+    → with_context w c ≡ Ok octets
+    → (spelled : List ℕ) × (octets ≡ w.octets ++ spelled) × (context_at (standing Big (place_of w) spelled) ≡ Ok c)

@@ -18,13 +18,13 @@ use Rattle.ots_context.specs.declared.context.Context.{Context}
 use Rattle.ots_context.specs.declared.context.AnyTail.{AnyTail}
 use Rattle.ots_context.specs.declared.context.AnyTail.TheVariants.{Null, Kept}
 
--- a writer of a context that has written what stands in front of the parents
-unfoldable pub behind_current : Context → Writing
-behind_current c = with_values (begun Big) (ULong c.timeout ∷ identity_values c.current)
+-- a writer that has written what stands in front of the parents of a context
+unfoldable pub behind_current : Writing → Context → Writing
+behind_current w c = with_values w (ULong c.timeout ∷ identity_values c.current)
 
 -- and the parents
-unfoldable pub behind_parents : Context → Writing
-behind_parents c = with_values (behind_current c) (sequence_values identity_values c.parents)
+unfoldable pub behind_parents : Writing → Context → Writing
+behind_parents w c = with_values (behind_current w c) (sequence_values identity_values c.parents)
 
 -- the octets with a tail behind them
 unfoldable pub with_tail : Writing → AnyTail → Result (List ℕ) ContextFault
@@ -33,11 +33,15 @@ with_tail w tail =
     if nat_lt output_limit (length octets) then Err (Cdr (TooLong (place_of w) (length octets))) else
     if can_stand (place_of w) tail then Ok octets else Err TailPlace
 
+-- the octets of a writer with a context behind them, or why it isn't written
+unfoldable pub with_context : Writing → Context → Result (List ℕ) ContextFault
+with_context w c =
+    if nat_lt parent_limit (length c.parents) then Err (TooMany (place_of (behind_current w c))) else
+    with_tail (behind_parents w c) c.tail
+
 -- the octets of a context, or why it isn't written
-unfoldable pub written : Context → Result (List ℕ) ContextFault
-written c =
-    if nat_lt parent_limit (length c.parents) then Err (TooMany (place_of (behind_current c))) else
-    with_tail (behind_parents c) c.tail
+abbrev pub written : Context → Result (List ℕ) ContextFault
+written c = with_context (begun Big) c
 
 -- how many octets a tail has that is kept
 abbrev pub kept_length : AnyTail → ℕ

@@ -58,8 +58,9 @@ fn first_context(contexts: &[ServiceContext]) -> Option<&[u8]>
     Some(context.bytes.bytes())
 }
 
+/// Reads a context as a parameter has it: it is all that the reader has left.
 #[tactic(auto, unfolding(crate::specs::Reading::context_at))]
-fn read_context(alloc: Global, reader: &mut Reader) -> Result<Context, ContextFault>
+pub fn read_context(alloc: Global, reader: &mut Reader) -> Result<Context, ContextFault>
     ensures { Finds (λ c. c) result (context_at reader.old) }
 {
     let timeout = reader.ulong()?;

@@ -10,11 +10,12 @@ ghost use Rattle.cdr_values.specs.Writing.{place_of};
 ghost use Rattle.ots_context.specs.Context.{IsContext};
 ghost use Rattle.ots_context.specs.Fault.{Finds};
 ghost use Rattle.ots_context.specs.Identity.{IsIdentity, identity_values};
+ghost use Rattle.ots_context.specs.Laws.{IsSound};
 ghost use Rattle.ots_context.specs.Limits.{parent_limit};
 ghost use Rattle.ots_context.specs.RoomInside.{identity_size};
 ghost use Rattle.ots_context.specs.Reading.{context_in};
 ghost use Rattle.ots_context.specs.Tail.{octets_of_tail};
-ghost use Rattle.ots_context.specs.Writing.{behind_current, kept_length, with_tail, written};
+ghost use Rattle.ots_context.specs.Writing.{behind_current, kept_length, with_context, with_tail, written};
 
 use crate::context::{AnyTail, Context, Identity};
 use crate::fault::ContextFault;
@@ -29,7 +30,6 @@ use std::alloc::Global;
 pub const PARENT_LIMIT: usize = 16;
 
 /// The octets of a context, big endian. A kept tail is written only where it means what it meant where it stood.
-#[tactic(auto, unfolding(crate::specs::Writing::written))]
 pub fn encode_context(alloc: Global, c: &Context) -> Result<Octets, ContextFault>
     requires { kept_length c.now.tail < 2 ^ 31 }
     ensures exact { Finds (λ octets. octets) result (written c.now) }
@@ -38,29 +38,43 @@ pub fn encode_context(alloc: Global, c: &Context) -> Result<Octets, ContextFault
 {
     contexts_are_read_exactly();
     written_contexts_are_read_again();
-    let mut writer = write_current(alloc, c)?;
+    let mut writer = Writer::encapsulation(alloc, Order::Big)?;
+    write_context(&mut writer, c)?;
+    Ok(writer.finish())
+}
+
+/// Writes a context as a parameter has it, with nothing or one octet in front of it. After a refusal the writer may have
+/// written some of its values.
+#[tactic(auto, unfolding(crate::specs::Writing::with_context))]
+pub fn write_context(writer: &mut Writer, c: &Context) -> Result<(), ContextFault>
+    requires tail { kept_length c.now.tail < 2 ^ 31 }
+    requires big { writer.old.order ≡ Big }
+    requires start { writer.old.start ≡ 0 }
+    requires front { length writer.old.octets ≤ 1 }
+    ensures exact { Finds (λ nothing. writer.new.octets) result (with_context writer.old c.now) }
+    ensures sound { OnOk result (IsSound c.now) }
+{
+    write_current(writer, c)?;
     let parents = c.parents.items();
     if parents.len() > PARENT_LIMIT {
         return Err(ContextFault::TooMany(writer.place()));
     }
-    write_parents(&mut writer, parents)?;
-    write_tail(&mut writer, &c.tail)?;
-    Ok(writer.finish())
+    write_parents(writer, parents)?;
+    write_tail(writer, &c.tail)
 }
 
-/// A writer that has written what stands in front of the parents.
+/// Writes what stands in front of the parents.
 #[tactic(auto, unfolding(crate::specs::Writing::behind_current))]
-fn write_current(alloc: Global, c: &Context) -> Result<Writer, CdrFault>
-    ensures ok { IfOk result (λ writer. writer ≡ behind_current c.now) }
-    ensures current { IfOk result (λ writer. IsIdentity c.now.current) }
+fn write_current(writer: &mut Writer, c: &Context) -> Result<(), CdrFault>
+    requires front { length writer.old.octets ≤ 1 }
+    ensures ok { OnOk result (writer.new ≡ behind_current writer.old c.now) }
+    ensures current { OnOk result (IsIdentity c.now.current) }
     ensures timeout { c.now.timeout < 2 ^ 32 }
     ensures memory { IfErr result (λ fault. fault ≡ cdr.Memory) }
 {
     let timeout = c.timeout;
-    let mut writer = Writer::encapsulation(alloc, Order::Big)?;
     writer.ulong(timeout)?;
-    write_identity(&mut writer, &c.current)?;
-    Ok(writer)
+    write_identity(writer, &c.current)
 }
 
 /// Writes the parents, for which there is room.

@@ -56,8 +56,8 @@ pub fn write_identity(writer: &mut Writer, identity: &Identity) -> Result<(), Cd
     write_otid(writer, &identity.otid)
 }
 
-/// Writes a reference, for which there is room.
-fn write_reference(writer: &mut Writer, reference: &ObjectRef) -> Result<(), CdrFault>
+/// Writes a reference, for which there is room. It is wanted memory alone that refuses it.
+pub fn write_reference(writer: &mut Writer, reference: &ObjectRef) -> Result<(), CdrFault>
     requires room { length writer.old.octets + reference_size ≤ output_limit }
     ensures ok { OnOk result (writer.new ≡ with_values writer.old (reference_values reference.now)) }
     ensures reference { IsReference reference.now }

@@ -1,4 +1,4 @@
-ghost use Rattle.ots_context.specs.Laws.{ContextsAreReadExactly, TailsStandWhereReadAgain, WrittenContextsAreReadAgain};
+ghost use Rattle.ots_context.specs.Laws.{ContextsAreReadExactly, ContextsAreReadWhereWritten, TailsStandWhereReadAgain, WrittenContextsAreReadAgain};
 
 /// A law: octets are read as a context exactly where they are that context.
 pub fn contexts_are_read_exactly()
@@ -23,5 +23,13 @@ pub fn written_contexts_are_read_again()
     ior_refs::references_are_read_exactly();
     cdr_values::reading_is_exact();
     cdr_values::values_are_read_again();
-    cdr_values::encapsulations_are_read_again();
+}
+
+/// A law: a context that was written behind what a writer had is read again, from where that ends.
+pub fn contexts_are_read_where_written()
+    ensures { ContextsAreReadWhereWritten }
+{
+    ior_refs::references_are_read_exactly();
+    cdr_values::reading_is_exact();
+    cdr_values::values_are_read_again();
 }

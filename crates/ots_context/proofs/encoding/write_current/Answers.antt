@@ -1,12 +1,18 @@
-use Rattle.std.proofs.Common.{ap, ◌∙◌}
+use Rattle.std.proofs.Common.{◌≡◌, ap, ◌∙◌, arith, length, Err}
+use Rattle.std.proofs.lemmas.Result.{err_from_is_err_and}
 use Rattle.cdr_values.specs.Value.{ULong}
 use Rattle.cdr_values.specs.Values.{with_values}
 use Rattle.cdr_values.specs.Writing.{Writing, with_value}
 use Rattle.ots_context.specs.Identity.{identity_values}
 use Rattle.ots_context.specs.Writing.{behind_current}
+use Rattle.ots_context.proofs.Room.{map_ok, timeout_room}
 use Rattle.ots_context.proofs.encoding.write_current.Goals as goal
+
+pub write_identity-requires : goal.write_identity-requires
+write_identity-requires c =
+    omega (arith, timeout_room c.args.writer.now c.ulong.new.self c.args.c.now.timeout c.requires.front c.in_ok-ulong.ensures.ok)
 
 pub returns-clause-ok : goal.returns-clause-ok
 unfolding behind_current
 returns-clause-ok c =
-    c.in_ok-write_identity.ensures.ok ∙ ap (λ (x : Writing). with_values x (identity_values c.args.c.now.current)) (c.in_ok-ulong.ensures.ok ∙ ap (λ (x : Writing). with_value x (ULong c.args.c.now.timeout)) c.in_ok-writer.ensures.ok)
+    map_ok c.write_identity.result (λ (e : c.write_identity.new.writer ≡ with_values c.ulong.new.self (identity_values c.args.c.now.current)). e ∙ ap (λ (x : Writing). with_values x (identity_values c.args.c.now.current)) c.in_ok-ulong.ensures.ok) c.write_identity.ensures.ok
