@@ -10,3 +10,4 @@ pub mod Exact
 pub mod Texts
 pub mod Endpoints
 pub mod TakenBack
+pub mod Passing

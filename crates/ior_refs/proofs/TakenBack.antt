@@ -1,5 +1,5 @@
 -- A writer that takes back what it wrote is as it was.
-use Rattle.std.proofs.Common.{◌≡◌, ◌+◌, ◌-◌, ◌≤◌, List, ◌++◌, ap, ◌∙◌, arith, length, take}
+use Rattle.std.proofs.Common.{◌≡◌, ◌-◌, ◌≤◌, List, ap, ◌∙◌, arith}
 use Rattle.std.proofs.lemmas.List.{take_at}
 use Rattle.cdr_values.specs.declared.fault.CdrFault.{CdrFault}
 use Rattle.cdr_values.specs.Value.{Value}

@@ -3,7 +3,7 @@
 use Rattle.std.specs.Prelude.{ℕ, ◌==◌, Bool, true, false, ◌&&◌, ◌||◌, nat_le, nat_lt, List, [], ◌∷◌, Option, Some, None, find, Result, Ok, Err}
 use Rattle.std.specs.Option.{option_map}
 use Rattle.cdr_values.specs.Value.{Value, Octet, UShort, OctetSequence, Text}
-use Rattle.cdr_values.specs.Reading.{◌>>=◌, octet_at, ushort_at, octets_at, string_at}
+use Rattle.cdr_values.specs.Reading.{Reading, ◌>>=◌, octet_at, ushort_at, octets_at, string_at}
 use Rattle.cdr_values.specs.Sequence.{Read, fault_as, sequence_values}
 use Rattle.cdr_values.specs.Encapsulation.{opened}
 use Rattle.cdr_values.specs.Tagged.{tagged_values}
@@ -33,11 +33,13 @@ iiop_values i components =
     Octet i.major ∷ Octet i.minor ∷ Text i.host ∷ UShort i.port ∷ OctetSequence i.key
     ∷ components_values (has_components i.major i.minor) components
 
+-- what was read is passed over
+abbrev pub passed : {A : Type 0} → Result (A × Reading) IorFault → Result (Unit {0} × Reading) IorFault
+passed read = read >>= λ found. Ok (tt, found.1)
+
 -- passes over the components, where there are some
 unfoldable pub components_at : Bool → Read (Unit {0}) IorFault
-components_at true r = do
-  components ← each_tagged_at r
-  Ok (tt, components.1)
+components_at true r = passed (each_tagged_at r)
 components_at false r = Ok (tt, r)
 
 -- what a profile says

@@ -5,7 +5,7 @@ ghost use Rattle.ior_refs.specs.Iiop.{components_at, has_components, iiop_at, ii
 use crate::fault::IorFault;
 use crate::profile::Iiop;
 use crate::reference::ObjectRef;
-use crate::tagged::read_all_tagged;
+use crate::tagged::skip_all_tagged;
 use cdr_values::Reader;
 use ots_model::Octets;
 use std::alloc::Global;
@@ -43,7 +43,7 @@ fn read_iiop(alloc: Global, reader: &mut Reader) -> Result<Iiop, IorFault>
     let host = Octets::new(alloc, reader.string()?)?;
     let port = reader.ushort()?;
     let key = Octets::new(alloc, reader.octets()?)?;
-    skip_components(alloc, reader, has_components(major, minor))?;
+    skip_components(reader, has_components(major, minor))?;
     Ok(Iiop {
         major,
         minor,
@@ -61,11 +61,11 @@ fn has_components(major: u8, minor: u8) -> bool
 }
 
 #[tactic(auto, unfolding(crate::specs::Iiop::components_at))]
-fn skip_components(alloc: Global, reader: &mut Reader, has_components: bool) -> Result<(), IorFault>
+fn skip_components(reader: &mut Reader, has_components: bool) -> Result<(), IorFault>
     ensures { Gives (λ nothing. nothing) result reader.new (components_at has_components reader.old) }
 {
     if has_components {
-        read_all_tagged(alloc, reader)?;
+        skip_all_tagged(reader)?;
     }
     Ok(())
 }

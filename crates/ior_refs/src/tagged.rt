@@ -4,6 +4,7 @@ ghost use Rattle.cdr_values.specs.Again.{AllFit};
 ghost use Rattle.cdr_values.specs.Sequence.{each_at, sequence_values};
 ghost use Rattle.cdr_values.specs.Tagged.{tagged_at, tagged_values};
 ghost use Rattle.ior_refs.specs.Fault.{fault_of, Gives};
+ghost use Rattle.ior_refs.specs.Iiop.{passed};
 ghost use Rattle.ior_refs.specs.Reading.{each_tagged_at, HasReadSome};
 ghost use Rattle.ior_refs.specs.Writing.{WritesAll};
 
@@ -60,6 +61,41 @@ fn read_tagged(alloc: Global, reader: &mut Reader) -> Result<(u32, Octets), IorF
     let tag = reader.ulong()?;
     let octets = Octets::new(alloc, reader.octets()?)?;
     Ok((tag, octets))
+}
+
+/// Passes over the components of a profile. It takes no memory.
+#[tactic(auto, unfolding(crate::specs::Reading::each_tagged_at, cdr_values::specs::Sequence::sequence_at))]
+pub fn skip_all_tagged(reader: &mut Reader) -> Result<(), IorFault>
+    ensures { Gives (λ nothing. nothing) result reader.new (passed (each_tagged_at reader.old)) }
+{
+    let place = reader.place();
+    let count = reader.ulong()?;
+    if count > COUNT_LIMIT {
+        return Err(IorFault::Cdr(CdrFault::TooLong {
+            place,
+            length: count,
+        }));
+    }
+    skip_each_tagged(reader, count)
+}
+
+fn skip_each_tagged(reader: &mut Reader, count: u32) -> Result<(), IorFault>
+    ensures { Gives (λ nothing. nothing) result reader.new
+        (passed (each_at (tagged_at fault_of) count reader.old)) }
+{
+    for _ in 0..count {
+        skip_tagged(reader)?;
+    }
+    Ok(())
+}
+
+#[tactic(auto, unfolding(cdr_values::specs::Tagged::tagged_at))]
+fn skip_tagged(reader: &mut Reader) -> Result<(), IorFault>
+    ensures { Gives (λ nothing. nothing) result reader.new (passed (tagged_at fault_of reader.old)) }
+{
+    reader.ulong()?;
+    reader.octets()?;
+    Ok(())
 }
 
 /// Writes profiles or components.
