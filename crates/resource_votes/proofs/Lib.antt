@@ -3,3 +3,4 @@ pub mod Joined
 pub mod Handed
 pub mod Upward
 pub mod Tallies
+pub mod Few

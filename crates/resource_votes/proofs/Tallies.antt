@@ -399,7 +399,7 @@ tallied law stays _ _ _ (registers_aware rows b e p to l within allowed) =
 tallied law stays _ _ _ (registers_sync rows b e p to l within allowed) =
     let h = tallied law stays rows b e l in
     record { tree = h.tree; few = h.few; size = h.size; as_many = h.as_many; top_open = h.top_open; known = h.known; empty = h.empty; shares = h.shares }
-tallied law stays _ _ _ (votes rows b e registration v l) =
+tallied law stays _ _ _ (votes rows b e registration v l some there) =
     let h = tallied law stays rows b e l in
     record { tree = h.tree; few = h.few; size = h.size; as_many = h.as_many; top_open = h.top_open; known = h.known; empty = h.empty; shares = h.shares }
 tallied law stays _ _ _ (rolls_back rows b e p l within allowed) =

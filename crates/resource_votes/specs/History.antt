@@ -1,6 +1,6 @@
 -- Who takes part in a top-level transaction (nested transactions of the Transaction Service): each resource that was
 -- registered with it, or with a subtransaction that was committed up to it.
-use Rattle.std.specs.Prelude.{◌≡◌, ℕ, ◌<◌, ◌==◌, Bool, true, false, List, [], ◌∷◌, ◌++◌, length, count_by, Option, Some, None, if◌then◌else◌}
+use Rattle.std.specs.Prelude.{◌≡◌, ℕ, ◌<◌, ◌≤◌, ◌==◌, Bool, true, false, List, [], ◌∷◌, ◌++◌, length, count_by, Option, Some, None, if◌then◌else◌}
 use Rattle.std.specs.Option.{option_map_or, option_and_then}
 use Rattle.ots_model.specs.declared.completion.Vote.{Vote}
 use Rattle.txn_tree.specs.declared.row.Row.{Row}
@@ -24,7 +24,7 @@ pub data Leave : List Row → Ballots → List (Option ℕ) → Type 0 where
       → Leave rows (registered_aware p to b) (e ++ None ∷ [])
   registers_sync : (rows : List Row) (b : Ballots) (e : List (Option ℕ)) (p : ℕ) (to : List ℕ) → Leave rows b e → p < length rows → registering_sync rows p b ≡ None
       → Leave rows (registered_sync p to b) e
-  votes : (rows : List Row) (b : Ballots) (e : List (Option ℕ)) (registration : ℕ) (v : Vote) → Leave rows b e
+  votes : (rows : List Row) (b : Ballots) (e : List (Option ℕ)) (registration : ℕ) (v : Vote) → Leave rows b e → 0 < registration → registration ≤ length b.registrations
       → Leave rows (voted registration v b) e
   rolls_back : (rows : List Row) (b : Ballots) (e : List (Option ℕ)) (p : ℕ) → Leave rows b e → p < length rows → ending rows p false ≡ None
       → Leave (ended rows p false) b e

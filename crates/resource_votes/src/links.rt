@@ -66,6 +66,7 @@ impl Links {
         requires there { list < list_count }
         ensures numbers { result ≡ list_at self.now.lists list }
         ensures within { AreNumbers self.now.count result }
+        ensures few { length result ≤ self.now.count }
     {
         let first = self.ends[list as usize].first;
         Numbers {

@@ -144,7 +144,8 @@ impl Votes {
     /// Whom this transaction asks, in the order in which it asks them. Of the top these are all who take part in the tree.
     pub fn participants(&self, top: u32) -> Walk<'_>
         requires there { top < list_count }
-        ensures { result ≡ ballots.participants top self.now.ballots }
+        ensures participants { result ≡ ballots.participants top self.now.ballots }
+        ensures few { length result ≤ registration_limit }
     {
         Walk {
             registrations: self.registrations.as_slice(),
