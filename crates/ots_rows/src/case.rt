@@ -1,8 +1,8 @@
 ghost use Rattle.std.specs.Prelude.{◌≡◌, false};
 ghost use Rattle.ots_program.specs.Words.{IsShow};
 
-use crate::input;
 use crate::pieces::Pieces;
+use crate::{input, values};
 use ots_outside::{Failure, MemSink, MemSource};
 use ots_program::{Devices, Word, run, run_plain};
 use std::alloc::Global;
@@ -10,9 +10,30 @@ use std::io;
 use std::io::{ErrorKind, Write};
 use std::sync::Wait;
 
+/// What a case is of.
+#[derive(Clone, Copy)]
+enum Subject {
+    Command,
+    Reference,
+    Context,
+    Request,
+}
+
+impl Subject {
+    fn of(words: &str) -> Subject {
+        match words.trim() {
+            "ior" => Subject::Reference,
+            "context" => Subject::Context,
+            "request" => Subject::Request,
+            _ => Subject::Command,
+        }
+    }
+}
+
 /// How a case is run.
 #[derive(Drop)]
 pub struct Case {
+    subject: Subject,
     words: Vec<Word>,
     /// How many octets a read gives at most.
     most: usize,
@@ -33,10 +54,12 @@ impl Case {
     pub fn of(alloc: Global, head: &str) -> io::Result<Case> {
         let mut parts = head.split('|');
         let mut words = Vec::new(alloc);
-        for word in parts.next().unwrap_or("").split_whitespace() {
+        let first = parts.next().unwrap_or("");
+        for word in first.split_whitespace() {
             words.push(Word::new(word.as_bytes().to_vec(alloc)?))?;
         }
         let mut case = Case {
+            subject: Subject::of(first),
             words,
             most: usize::MAX,
             failing_reads: Vec::new(alloc),
@@ -85,8 +108,20 @@ impl Case {
         Ok(input)
     }
 
-    /// Runs the case on this input, and tells what came.
+    /// Tries the case with this input, and tells what came.
     pub fn told<R: Wait>(&self, rt: &R, alloc: Global, input: &[u8]) -> io::Result<Vec<u8>> {
+        let mut told = Vec::new(alloc);
+        match self.subject {
+            Subject::Command => return self.run(rt, alloc, input),
+            Subject::Reference => values::tell_text(alloc, &mut told, input)?,
+            Subject::Context => values::tell_octets(alloc, &mut told, input)?,
+            Subject::Request => values::tell_request(alloc, &mut told, input)?,
+        }
+        Ok(told)
+    }
+
+    /// Runs the command on this input, and tells what came.
+    fn run<R: Wait>(&self, rt: &R, alloc: Global, input: &[u8]) -> io::Result<Vec<u8>> {
         let source = MemSource::new(input.to_vec(alloc)?, self.failing_reads.clone()?);
         let mut devices = Devices {
             source: Pieces {

@@ -1,6 +1,13 @@
 //! Runs the cases on standard input, each with a source and a sink in memory, and tells what came of it.
 //!
-//! A case begins with a line `== WORDS | PART | PART ..`. The words are the command line. Each part is one of these:
+//! A case begins with a line `== WORDS | PART | PART ..`. The words are the command line, or one of these, which is no
+//! command:
+//!
+//! - `ior`: the input is a stringified reference. What it says is told, and how it is printed.
+//! - `context`: the input is a transaction context. What it says is told, and how it is written.
+//! - `request`: the input is a Request. The same is told of its transaction context.
+//!
+//! Each part is one of these:
 //!
 //! - `pieces N`: a read gives at most N octets.
 //! - `fail read N`, `fail write N taken K`: that call fails, counted from 0. Of what it was to write K octets go out.
@@ -15,7 +22,7 @@
 //! The lines up to the next case are the input, each with a line feed. A line `= N M LINE` stands for N times M lines:
 //! in LINE `&` counts from 1 to N, and for each of these `%` from 1 to M. What stands before the first case is a remark.
 //!
-//! What is told of a case: its first line; what the sink has taken, with a `\` where its last line has no line feed;
+//! What is told of a command: its first line; what the sink has taken, with a `\` where its last line has no line feed;
 //! a line with the status, its number and how often the source and the sink have failed; and the line of the status on
 //! standard error.
 #![tactic(auto)]
@@ -29,6 +36,7 @@ mod case;
 mod frames;
 mod input;
 mod pieces;
+mod values;
 
 fn main(rt: HostRuntime) -> io::Result<()> {
     let mut out = rt.stdout();
