@@ -1,7 +1,7 @@
 #!/usr/bin/env bash
 # Shows streams of about 1 MB and 32 MB of requests and replies, and streams of about 8 MB whose messages, of 2,000 up to
-# 64,000 octets, come in Fragments of 8 octets, and behind whose type_id and operation, of 2,000 up to 64,000 octets, come
-# Fragments without octets. Prints octets per second and how the time per octet grows. Run it anywhere; it builds the
+# 64,000 octets, come in Fragments of 8 octets, one after another or eight at once, and behind whose type_id and operation,
+# of 2,000 up to 64,000 octets, come Fragments without octets. Prints octets per second and how the time per octet grows. Run it anywhere; it builds the
 # program first. Sizes of the first streams in octets may be given as arguments.
 set -euo pipefail
 . "$(dirname "$0")/timing.sh"
@@ -132,6 +132,29 @@ for _ in range(max(1, 8000000 // len(round))):
 ' "$1"
 }
 
+# A stream of about 8 MB of replies of about that many octets, eight of which are unfinished at once: each comes in
+# Fragments of 8 octets, one of each reply in turn, and where a reply ends the next one of its number begins.
+eight_at_once() {
+  python3 -c "$parts"'
+size = int(sys.argv[1])
+ids = range(8)
+first = [part("<", True, 1, struct.pack("<III", id, 0, 0)) for id in ids]
+piece = [part("<", True, 7, struct.pack("<I", id) + bytes(8)) for id in ids]
+last = [part("<", False, 7, struct.pack("<I", id) + bytes(8)) for id in ids]
+left = [size * (id + 1) // 64 for id in ids]
+stream = first[:]
+for _ in range(8000000 // len(b"".join(piece))):
+    for id in ids:
+        left[id] -= 1
+        if left[id] > 0:
+            stream.append(piece[id])
+        else:
+            stream += last[id], first[id]
+            left[id] = size // 8
+sys.stdout.buffer.write(b"".join(stream + last))
+' "$1"
+}
+
 report() {
   python3 -c '
 import sys
@@ -148,5 +171,7 @@ echo "Requests and replies, by the size of the stream:"
 rows show mixed "$@" | report
 echo "Messages in Fragments of 8 octets, by the size of a message:"
 rows show fragments 2000 16000 64000 | report
+echo "Eight messages at once in Fragments of 8 octets, by the size of a message:"
+rows show eight_at_once 2000 16000 64000 | report
 echo "Messages that stand still while Fragments without octets come, by the length of the field in front of these:"
 rows show standing_still 2000 16000 64000 | report

@@ -60,7 +60,8 @@ fn build(
     found: &Found,
     tail: &[u8],
 ) -> Result<Message, FrameFault>
-    ensures { Finds (λ m. m) result (message_with header.order header.kind (told_by content.now found.now) tail.now) }
+    ensures { Finds (λ m. m) result
+        (message_with header.order header.kind (told_by content.now found.now) tail.now) }
 {
     let order = header.order;
     match header.kind {

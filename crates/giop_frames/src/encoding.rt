@@ -135,7 +135,8 @@ fn append_body(
     body: &[u8],
     into: &mut Vec<u8>,
 ) -> Result<(), AllocError>
-    ensures { AppendsSome (padded_body (body_alignment version) at body.now) result into.old.items into.new.items }
+    ensures { AppendsSome (padded_body (body_alignment version) at body.now)
+        result into.old.items into.new.items }
 {
     if body.is_empty() {
         return Ok(());

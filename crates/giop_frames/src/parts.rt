@@ -118,7 +118,8 @@ fn begin(
     ensures after { OnOk result
         (unfinished.new.items ≡ with_begun place (part_of header content.now) unfinished.old.items) }
     ensures room { OnOk result (length unfinished.old.items < unfinished_limit) }
-    ensures refused { IfErr result (λ fault. Fails fault (opening unfinished.old.items (part_of header content.now))) }
+    ensures refused { IfErr result
+        (λ fault. Fails fault (opening unfinished.old.items (part_of header content.now))) }
     ensures err { OnErr result (unfinished.new.items ≡ unfinished.old.items) }
 {
     let id = read_id(header.order, content)?;
@@ -143,7 +144,8 @@ fn go_on(
     requires unfinished { AreShort unfinished.old.items }
     requires content { length content.now ≤ size_limit }
     requires fragment { header.kind ≡ Kind.Fragment }
-    ensures { (place : ℕ) → Judges place (part_of header content.now) result unfinished.old.items unfinished.new.items }
+    ensures { (place : ℕ) → Judges place (part_of header content.now)
+        result unfinished.old.items unfinished.new.items }
 {
     let id = read_id(header.order, content)?;
     let Some(index) = position(unfinished, id) else {

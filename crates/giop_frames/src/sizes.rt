@@ -46,7 +46,8 @@ fn fields_end(version: Version, message: &Message) -> Result<usize, FrameFault>
 fn field_end(message: &Message, at: usize, field: Field) -> Result<usize, FrameFault>
     requires { at + octets_in_field (told_of message.now) field < 2 ^ 31 + 4096 }
     ensures end { result ≡ field_end (told_of message.now) at field }
-    ensures within { IfOk result (λ end. (at ≤ end) × (end ≤ at + octets_in_field (told_of message.now) field + 256)) }
+    ensures within { IfOk result
+        (λ end. (at ≤ end) × (end ≤ at + octets_in_field (told_of message.now) field + 256)) }
 {
     match field {
         Field::Id | Field::Status => Ok(number_end(at)),
@@ -104,7 +105,8 @@ fn each_context_end(at: usize, contexts: &[ServiceContext]) -> usize
     requires small { at + octets_in_contexts contexts.now < 2 ^ 33 }
     requires few { length contexts.now ≤ context_limit }
     ensures end { result ≡ end_of at (flat_map context_values contexts.now) }
-    ensures within { (at ≤ result) × (result ≤ at + octets_in_contexts contexts.now + 14 * length contexts.now) }
+    ensures within { (at ≤ result)
+        × (result ≤ at + octets_in_contexts contexts.now + 14 * length contexts.now) }
 {
     let mut end = at;
     for context in contexts {

@@ -59,7 +59,8 @@ impl Stream {
     /// A stream of which nothing has come.
     pub fn new(alloc: Global) -> Stream
         ensures holds { Holds [] [] result }
-        ensures nothing { result ≡ record { unfinished = []; place = 0; rest = []; refused = None; kept = 0 } }
+        ensures nothing { result
+            ≡ record { unfinished = []; place = 0; rest = []; refused = None; kept = 0 } }
     {
         Stream {
             alloc,
@@ -141,7 +142,8 @@ impl Stream {
     pub fn kept(&self) -> usize
         ensures same { result ≡ self.now.kept }
         ensures bounded { IsBounded self.now }
-        ensures partial { part_at self.now.rest ≡ Err FrameFault.Short → result ≤ partial_limit + partial_limit }
+        ensures partial { part_at self.now.rest ≡ Err FrameFault.Short
+            → result ≤ partial_limit + partial_limit }
     {
         self.buffer.len()
     }
