@@ -1,0 +1,6 @@
+pub mod Given
+pub mod Tables
+pub mod Written
+pub mod Bodies
+pub mod Requests
+pub mod Contexts

@@ -1,0 +1,83 @@
+-- Each operation is found by its name, and only by its name.
+use Rattle.std.proofs.Common.{◌≡◌, ℕ, ◌&&◌, ◌||◌, Bool, true, false, eqb, List, [], ◌∷◌, Some, refl, sym, subst, arith}
+use Rattle.std.specs.List.{list_any}
+use Rattle.std.specs.Str.{bytes_eq}
+use Rattle.std.proofs.lemmas.Bool.{and_parts}
+use Rattle.std.proofs.lemmas.Slice.Eq.{bytes_eq-Decides}
+use Rattle.ots_calls.specs.declared.operation.Bare.TheVariants.{GetTerminator, GetCoordinator, RollbackTransaction, GetStatus, GetParentStatus, GetTopLevelStatus, IsTopLevelTransaction, HashTransaction, HashTopLevelTran, RollbackOnly, GetTransactionName, CreateSubtransaction, GetTxcontext, Prepare, Rollback, Commit, CommitOnePhase, Forget, BeforeCompletion, RollbackSubtransaction, NonExistent}
+use Rattle.ots_calls.specs.declared.operation.Handing.TheVariants.{IsSameTransaction, IsRelatedTransaction, IsAncestorTransaction, IsDescendantTransaction, RegisterResource, RegisterSynchronization, RegisterSubtranAware, ReplayCompletion, CommitSubtransaction}
+use Rattle.ots_calls.specs.declared.operation.Operation.{Operation}
+use Rattle.ots_calls.specs.declared.operation.Operation.TheVariants.{Bare, Handing, Create, Recreate, CommitTransaction, AfterCompletion, Put, Get, IsA}
+use Rattle.ots_calls.specs.Table.{aware_resource, cells, control, coordinator, any_object, factory, operation_named, operations, recovery_coordinator, resource, serves, synchronization, terminator, word_of}
+use Rattle.ots_calls.specs.Laws.{NamesTellOperations}
+use Rattle.ots_calls.proofs.Given.{found}
+
+-- P holds of each of these kinds
+abbrev OfEach : (ℕ → Type 0) → List ℕ → Type 0
+OfEach P [] = Unit {0}
+OfEach P (kind ∷ kinds) = P kind × OfEach P kinds
+
+same_kind : (n m : ℕ) → eqb n m ≡ true → n ≡ m
+same_kind n m e = grind arith
+
+at_first : (P : ℕ → Type 0) (kind first : ℕ) (kinds : List ℕ) (b : Bool) → eqb kind first ≡ b → P first → (list_any (λ one. eqb kind one) kinds ≡ true → P kind) → (b || list_any (λ one. eqb kind one) kinds) ≡ true → P kind
+at_first P kind first kinds true e p more h = subst P (sym (same_kind kind first e)) p
+at_first P kind first kinds false e p more h = more h
+
+-- what holds of each of these kinds holds of one of them
+at_each : (kinds : List ℕ) (P : ℕ → Type 0) → OfEach P kinds → (kind : ℕ) → list_any (λ one. eqb kind one) kinds ≡ true → P kind
+at_each [] P all kind h = absurd cc
+at_each (first ∷ kinds) P all kind h = at_first P kind first kinds (eqb kind first) refl all.0 (at_each kinds P all.1 kind) h
+
+-- objects of this kind have the operation by its name
+abbrev Finds : Operation → ℕ → Type 0
+Finds operation kind = operation_named kind (word_of operation) ≡ Some operation
+
+named : (operation : Operation) (kind : ℕ) → serves kind operation ≡ true → Finds operation kind
+unfolding operation_named
+named Create kind h = at_each factory (Finds Create) (refl, tt) kind h
+named Recreate kind h = at_each factory (Finds Recreate) (refl, tt) kind h
+named (Bare GetTerminator) kind h = at_each control (Finds (Bare GetTerminator)) (refl, tt) kind h
+named (Bare GetCoordinator) kind h = at_each control (Finds (Bare GetCoordinator)) (refl, tt) kind h
+named CommitTransaction kind h = at_each terminator (Finds CommitTransaction) (refl, tt) kind h
+named (Bare RollbackTransaction) kind h = at_each terminator (Finds (Bare RollbackTransaction)) (refl, tt) kind h
+named (Bare GetStatus) kind h = at_each coordinator (Finds (Bare GetStatus)) (refl, tt) kind h
+named (Bare GetParentStatus) kind h = at_each coordinator (Finds (Bare GetParentStatus)) (refl, tt) kind h
+named (Bare GetTopLevelStatus) kind h = at_each coordinator (Finds (Bare GetTopLevelStatus)) (refl, tt) kind h
+named (Handing IsSameTransaction) kind h = at_each coordinator (Finds (Handing IsSameTransaction)) (refl, tt) kind h
+named (Handing IsRelatedTransaction) kind h = at_each coordinator (Finds (Handing IsRelatedTransaction)) (refl, tt) kind h
+named (Handing IsAncestorTransaction) kind h = at_each coordinator (Finds (Handing IsAncestorTransaction)) (refl, tt) kind h
+named (Handing IsDescendantTransaction) kind h = at_each coordinator (Finds (Handing IsDescendantTransaction)) (refl, tt) kind h
+named (Bare IsTopLevelTransaction) kind h = at_each coordinator (Finds (Bare IsTopLevelTransaction)) (refl, tt) kind h
+named (Bare HashTransaction) kind h = at_each coordinator (Finds (Bare HashTransaction)) (refl, tt) kind h
+named (Bare HashTopLevelTran) kind h = at_each coordinator (Finds (Bare HashTopLevelTran)) (refl, tt) kind h
+named (Handing RegisterResource) kind h = at_each coordinator (Finds (Handing RegisterResource)) (refl, tt) kind h
+named (Handing RegisterSynchronization) kind h = at_each coordinator (Finds (Handing RegisterSynchronization)) (refl, tt) kind h
+named (Handing RegisterSubtranAware) kind h = at_each coordinator (Finds (Handing RegisterSubtranAware)) (refl, tt) kind h
+named (Bare RollbackOnly) kind h = at_each coordinator (Finds (Bare RollbackOnly)) (refl, tt) kind h
+named (Bare GetTransactionName) kind h = at_each coordinator (Finds (Bare GetTransactionName)) (refl, tt) kind h
+named (Bare CreateSubtransaction) kind h = at_each coordinator (Finds (Bare CreateSubtransaction)) (refl, tt) kind h
+named (Bare GetTxcontext) kind h = at_each coordinator (Finds (Bare GetTxcontext)) (refl, tt) kind h
+named (Handing ReplayCompletion) kind h = at_each recovery_coordinator (Finds (Handing ReplayCompletion)) (refl, tt) kind h
+named (Bare Prepare) kind h = at_each resource (Finds (Bare Prepare)) (refl, (refl, (refl, tt))) kind h
+named (Bare Rollback) kind h = at_each resource (Finds (Bare Rollback)) (refl, (refl, (refl, tt))) kind h
+named (Bare Commit) kind h = at_each resource (Finds (Bare Commit)) (refl, (refl, (refl, tt))) kind h
+named (Bare CommitOnePhase) kind h = at_each resource (Finds (Bare CommitOnePhase)) (refl, (refl, (refl, tt))) kind h
+named (Bare Forget) kind h = at_each resource (Finds (Bare Forget)) (refl, (refl, (refl, tt))) kind h
+named (Bare BeforeCompletion) kind h = at_each synchronization (Finds (Bare BeforeCompletion)) (refl, tt) kind h
+named AfterCompletion kind h = at_each synchronization (Finds AfterCompletion) (refl, tt) kind h
+named (Handing CommitSubtransaction) kind h = at_each aware_resource (Finds (Handing CommitSubtransaction)) (refl, tt) kind h
+named (Bare RollbackSubtransaction) kind h = at_each aware_resource (Finds (Bare RollbackSubtransaction)) (refl, tt) kind h
+named Put kind h = at_each cells (Finds Put) (refl, tt) kind h
+named Get kind h = at_each cells (Finds Get) (refl, tt) kind h
+named IsA kind h = at_each any_object (Finds IsA) (refl, (refl, (refl, (refl, (refl, (refl, (refl, (refl, (refl, (refl, tt)))))))))) kind h
+named (Bare NonExistent) kind h = at_each any_object (Finds (Bare NonExistent)) (refl, (refl, (refl, (refl, (refl, (refl, (refl, (refl, (refl, (refl, tt)))))))))) kind h
+
+pub names_tell : NamesTellOperations
+unfolding operation_named
+names_tell kind word operation = (
+  (λ (e : operation_named kind word ≡ Some operation).
+      let both = and_parts (serves kind operation) (bytes_eq word (word_of operation)) (found (λ (o : Operation). serves kind o && bytes_eq word (word_of o)) operations operation e) in
+      (both.0, (bytes_eq-Decides word (word_of operation)).0 both.1)),
+  (λ h. subst (λ (w : List ℕ). operation_named kind w ≡ Some operation) (sym h.1) (named operation kind h.0)),
+)

@@ -1,0 +1,18 @@
+-- What the table, calls and requests have to do with each other.
+use Rattle.std.specs.Prelude.{◌≡◌, ◌↔◌, ℕ, List, Some, Ok, IsTrue}
+use Rattle.giop_frames.specs.declared.message.Request.{Request}
+use Rattle.ots_calls.specs.declared.operation.Operation.{Operation}
+use Rattle.ots_calls.specs.Request.{IsCall, IsFor, called_with}
+use Rattle.ots_calls.specs.declared.call.Called.{Called}
+use Rattle.ots_calls.specs.Table.{operation_named, serves, word_of}
+
+-- a kind of keys and a name have an operation exactly where that is the operation's name, and objects of that kind have
+-- it: so no two operations of one object have the same name
+abbrev pub NamesTellOperations : Type 0
+NamesTellOperations = (kind : ℕ) (word : List ℕ) (operation : Operation)
+    → (operation_named kind word ≡ Some operation) ↔ (IsTrue (serves kind operation) × (word ≡ word_of operation))
+
+-- a request for one of our keys is read as a call exactly where it is that call
+abbrev pub RequestsAreReadExactly : Type 0
+RequestsAreReadExactly = (c : Called) (r : Request) → IsFor c.key r.target
+    → (called_with c.key r ≡ Ok c) ↔ IsCall c r

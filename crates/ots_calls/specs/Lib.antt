@@ -1,0 +1,9 @@
+pub mod Limits
+pub mod Table
+pub mod Fault
+pub mod Call
+pub mod Reading
+pub mod Retry
+pub mod Request
+pub mod Writing
+pub mod Laws

@@ -1,0 +1,103 @@
+-- The request of a call, and why there is none (our profile). It is big endian, with padding 0, and a reply is wanted.
+use Rattle.std.specs.Prelude.{ℕ, Bool, not, List, [], ◌∷◌, ◌++◌, length, Option, Some, None, Result, Ok, Err, if◌then◌else◌}
+use Rattle.cdr_values.specs.declared.fault.CdrFault.{CdrFault}
+use Rattle.cdr_values.specs.declared.order.Order.TheVariants.{Big}
+use Rattle.cdr_values.specs.Encapsulation.{begun}
+use Rattle.cdr_values.specs.Reading.{◌>>=◌}
+use Rattle.cdr_values.specs.Tagged.{reference_values}
+use Rattle.cdr_values.specs.Value.{ULongLong, Text}
+use Rattle.cdr_values.specs.Values.{with_values}
+use Rattle.cdr_values.specs.Writing.{Writing, refusal}
+use Rattle.giop_frames.specs.declared.message.Request.{Request}
+use Rattle.giop_frames.specs.declared.message.ServiceContext.{ServiceContext}
+use Rattle.giop_frames.specs.declared.message.Target.TheVariants.{Key}
+use Rattle.ior_refs.specs.Key.{is_kind, octets_of_key}
+use Rattle.ots_model.specs.declared.service.RetryKey.{RetryKey}
+use Rattle.ots_context.specs.Limits.{transaction_service}
+use Rattle.ots_context.specs.Writing.{kept_length, with_context, written}
+use Rattle.ots_context.specs.declared.context.Context.{Context}
+use Rattle.ots_calls.specs.Call.{arguments, operation_of}
+use Rattle.ots_calls.specs.Fault.{fault_of, fault_of_context, told_as}
+use Rattle.ots_calls.specs.Limits.{retry_context}
+use Rattle.ots_calls.specs.Reading.{is_nil}
+use Rattle.ots_calls.specs.Table.{serves, word_of}
+use Rattle.ots_calls.specs.declared.call.Call.{Call}
+use Rattle.ots_calls.specs.declared.call.Call.TheVariants as calls
+use Rattle.ots_calls.specs.declared.call.Called.{Called}
+use Rattle.ots_calls.specs.declared.fault.CallFault.{CallFault}
+use Rattle.ots_calls.specs.declared.fault.CallFault.TheVariants.{BadKey, BadOperation, BadParam}
+
+-- a writer of a body, which has written nothing
+abbrev pub blank : Writing
+blank = record { order = Big; start = 0; octets = [] }
+
+-- the octets, unless a value is refused
+abbrev pub unless_refused : Option CdrFault → List ℕ → Result (List ℕ) CallFault
+unless_refused None octets = Ok octets
+unless_refused (Some fault) octets = Err (fault_of fault)
+
+-- the octets of a reference that names an object
+abbrev pub if_object : Bool → List ℕ → Result (List ℕ) CallFault
+if_object nil octets = if nil then Err BadParam else Ok octets
+
+-- the body of a call
+abbrev pub body_of : Call → Result (List ℕ) CallFault
+body_of (calls.Handing handing reference) =
+    if_object (is_nil reference) (with_values blank (reference_values reference)).octets
+body_of (calls.Recreate context) = told_as fault_of_context (with_context blank context)
+body_of (calls.IsA id) = unless_refused (refusal blank (Text id)) (with_values blank (Text id ∷ [])).octets
+body_of call = Ok (with_values blank (arguments call)).octets
+
+-- a service context
+abbrev pub service_context : ℕ → List ℕ → ServiceContext
+service_context id octets = record { id = id; bytes = octets }
+
+-- these service contexts, and that of the transaction, where there is one
+abbrev pub with_transaction : Option Context → List ServiceContext → Result (List ServiceContext) CallFault
+with_transaction None contexts = Ok contexts
+with_transaction (Some context) contexts =
+    told_as fault_of_context (written context)
+    >>= λ octets. Ok (contexts ++ service_context transaction_service octets ∷ [])
+
+-- the octets of a retry key
+unfoldable pub retry_octets : RetryKey → List ℕ
+retry_octets key = (with_values (begun Big) (ULongLong key.client ∷ ULongLong key.number ∷ [])).octets
+
+-- these service contexts, and that of the retry key, where there is one
+abbrev pub with_retry : Option RetryKey → List ServiceContext → List ServiceContext
+with_retry None contexts = contexts
+with_retry (Some key) contexts = contexts ++ service_context retry_context (retry_octets key) ∷ []
+
+-- the service contexts of a call
+unfoldable pub contexts_of : Called → Result (List ServiceContext) CallFault
+contexts_of c = with_transaction c.context [] >>= λ contexts. Ok (with_retry c.retry contexts)
+
+-- the request with these contexts and this body
+abbrev pub request_with : ℕ → Called → List ServiceContext → List ℕ → Request
+request_with id c contexts body = record {
+  id = id;
+  flags = 3;
+  target = Key (octets_of_key c.key);
+  operation = word_of (operation_of c.call);
+  contexts = contexts;
+  order = Big;
+  body = body;
+}
+
+-- the request of a call
+unfoldable pub request_of : ℕ → Called → Result Request CallFault
+request_of id c =
+    if not (is_kind c.key.kind) then Err BadKey else
+    if not (serves c.key.kind (operation_of c.call)) then Err BadOperation else
+    (contexts_of c >>= λ contexts. body_of c.call >>= λ body. Ok (request_with id c contexts body))
+
+-- how many octets of no fixed limit a call hands over
+abbrev pub handed_length : Call → ℕ
+handed_length (calls.Recreate context) = kept_length context.tail
+handed_length (calls.IsA id) = length id
+handed_length call = 0
+
+-- and its context
+abbrev pub carried_length : Option Context → ℕ
+carried_length (Some context) = kept_length context.tail
+carried_length None = 0

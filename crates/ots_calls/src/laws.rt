@@ -1,0 +1,16 @@
+ghost use Rattle.ots_calls.specs.Laws.{NamesTellOperations, RequestsAreReadExactly};
+
+/// A law: a kind of keys and a name tell one operation, and each operation is told by its name and each of its kinds.
+pub fn names_tell_operations()
+    ensures { NamesTellOperations }
+{}
+
+/// A law: a request for one of our keys is read as a call exactly where it is that call.
+pub fn requests_are_read_exactly()
+    ensures { RequestsAreReadExactly }
+{
+    names_tell_operations();
+    ots_context::contexts_are_read_exactly();
+    ior_refs::references_are_read_exactly();
+    cdr_values::reading_is_exact();
+}
