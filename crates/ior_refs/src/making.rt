@@ -1,4 +1,4 @@
-ghost use Rattle.std.specs.Prelude.{◌≡◌, ◌⊎◌, ◌^◌, ◌<◌, ◌≤◌, length, false, IsOk, IfOk, IfErr, Some, None};
+ghost use Rattle.std.specs.Prelude.{◌≡◌, ◌⊎◌, ◌≤◌, length, false, IsOk, IfOk, IfErr, Some, None};
 ghost use Rattle.ots_model.specs.Limits.{reference_limit};
 ghost use Rattle.cdr_values.specs.Value.{has_nul};
 ghost use Rattle.cdr_values.specs.declared.fault.CdrFault.TheVariants as cdr;
@@ -21,8 +21,6 @@ pub fn make_ref(
     at: &Endpoint,
     key: &ObjectKey,
 ) -> Result<ObjectRef, IorFault>
-    requires type_id { length type_id.now < 2 ^ 31 }
-    requires host { length at.now.host < 2 ^ 31 }
     ensures made { IfOk result (λ o. o ≡ reference_to type_id.now at.now key.now) }
     ensures fits { IsOk result → refusal_to type_id.now at.now key.now ≡ None }
     ensures refused { IfErr result (λ fault.

@@ -1,4 +1,4 @@
-ghost use Rattle.std.specs.Prelude.{◌≤◌, ◌<◌, ◌^◌, length, IfOk};
+ghost use Rattle.std.specs.Prelude.{◌≤◌, length, IfOk};
 
 use crate::{
     IorFault, ObjectKey, ObjectRef, iiop, key_octets, key_of, make_ref, parse_ior, print_ior,
@@ -52,10 +52,7 @@ fn key() -> ObjectKey {
 }
 
 /// An endpoint of this host, at port 1.
-fn endpoint(alloc: Global, host: &[u8]) -> Result<Endpoint, Fail>
-    requires { length host.now < 9 }
-    ensures { IfOk result (λ at. length at.host < 2 ^ 31) }
-{
+fn endpoint(alloc: Global, host: &[u8]) -> Result<Endpoint, Fail> {
     let host = Octets::new(alloc, host)?;
     Ok(Endpoint { host, port: 1 })
 }
@@ -96,7 +93,7 @@ fn our_own_reference_has_its_octets(rt: HostRuntime) -> Result<(), Fail> {
 
 fn our_own(alloc: Global) -> Result<ObjectRef, Fail> {
     let at = endpoint(alloc, b"e1")?;
-    Ok(make_ref(alloc, short(resource_id()), &at, &key())?)
+    Ok(make_ref(alloc, resource_id(), &at, &key())?)
 }
 
 fn key_within(alloc: Global, octets: &RefBytes) -> Result<Option<ObjectKey>, Fail> {
