@@ -20,4 +20,5 @@ mod piece;
 mod response;
 mod safety;
 mod service;
+pub mod tree;
 mod words;

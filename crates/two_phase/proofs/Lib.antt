@@ -6,3 +6,9 @@ pub mod Keeping
 pub mod Lawful
 pub mod Named
 pub mod Ends
+pub mod Answered
+pub mod Opened
+pub mod Overtaken
+pub mod Rests
+pub mod Stays
+pub mod OneWay

@@ -1,5 +1,5 @@
 -- Whom a decision record names.
-use Rattle.std.proofs.Common.{◌≡◌, ℕ, ◌+◌, ◌<◌, suc, Bool, true, false, cond, List, [], ◌∷◌, length, take, ◌-◌, ◌≤◌, Option, Some, None, sym, ap, ◌∙◌, refl, arith, subst, ◌⊎◌, inl, inr}
+use Rattle.std.proofs.Common.{◌≡◌, ℕ, ◌+◌, ◌<◌, suc, Bool, true, false, List, [], ◌∷◌, length, take, ◌-◌, ◌≤◌, Option, Some, None, sym, ap, ◌∙◌, refl, arith, subst, ◌⊎◌, inl, inr}
 use Prim.Native.Nat.{zero}
 use Rattle.std.specs.List.{slice_get, Contains}
 use Rattle.std.proofs.lemmas.Bool.{cases_Bool, cond-true, cond-false}

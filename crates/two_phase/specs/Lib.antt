@@ -7,3 +7,11 @@ pub mod Plan
 pub mod RoomInside
 pub mod RoundInside
 pub mod CompletionInside
+pub mod Parties
+pub mod Course
+pub mod CourseInside
+pub mod StockInside
+pub mod Stages
+pub mod StandingInside
+pub mod LawsOfCourses
+pub mod LawsOfReached

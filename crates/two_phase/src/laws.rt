@@ -1,4 +1,6 @@
 // Laws of the definitions: these functions do nothing, and their contracts are the laws.
+ghost use Rattle.two_phase.specs.LawsOfCourses.{TreeWordsGoRightly};
+ghost use Rattle.two_phase.specs.LawsOfReached.{TreeOneWay, TreeOutcomeStays};
 ghost use Rattle.two_phase.specs.LawsOfPolls.{OutcomeAwaitsAll, OutcomeStays, WordsGoRightly};
 
 /// An outcome that is fixed stays, whatever goes out, is answered or is recorded.
@@ -15,4 +17,22 @@ pub fn an_outcome_awaits_all()
 /// and consent alone, and rollback by the outcome.
 pub fn words_go_rightly()
     ensures { WordsGoRightly }
+{}
+
+/// Each word of the completion of a tree goes to a participant, with the next number. A participant is asked while the
+/// outcome is open; commit goes out by record and consent alone, rollback by the outcome, forget to one that has raised a
+/// heuristic exception; and nothing else goes out.
+pub fn tree_words_go_rightly()
+    ensures { TreeWordsGoRightly }
+{}
+
+/// In a completion of a tree an outcome that is fixed stays, whatever goes out, is answered, is recorded, or comes from
+/// outside.
+pub fn a_tree_outcome_stays()
+    ensures { TreeOutcomeStays }
+{}
+
+/// In a completion of a tree no rollback goes out once a commit word has gone out: each participant is told one way.
+pub fn a_tree_goes_one_way()
+    ensures { TreeOneWay }
 {}

@@ -23,7 +23,7 @@ impl Blank {
     }
 
     /// A copy of the reference, which needs no memory.
-    fn filled(self, reference: &RefBytes) -> RefBytes
+    pub fn filled(self, reference: &RefBytes) -> RefBytes
         ensures { result ≡ reference.now }
     {
         let Blank { mut octets } = self;
@@ -114,7 +114,7 @@ impl Room {
 }
 
 /// Adds blanks until there are so many.
-fn add_blanks(count: usize, blanks: &mut Vec<Blank>) -> Result<(), AllocError>
+pub(crate) fn add_blanks(count: usize, blanks: &mut Vec<Blank>) -> Result<(), AllocError>
     ensures ok { OnOk result (count ≤ vec_len blanks.new) }
     ensures more { vec_len blanks.old ≤ vec_len blanks.new }
 {

@@ -1,0 +1,47 @@
+-- An outcome that is fixed stays, and each participant is told one way, in every completion of a tree that there is (Transaction Service, the operations of
+-- interface Resource).
+use Rattle.std.specs.Prelude.{◌≡◌, ℕ, Bool, List, Option, Some}
+use Rattle.ots_model.specs.declared.completion.CallNumber.{CallNumber}
+use Rattle.ots_model.specs.declared.completion.Heard.{Heard}
+use Rattle.ots_model.specs.declared.completion.Stood.{Stood}
+use Rattle.ots_model.specs.declared.tree.Reason.{Reason}
+use Rattle.ots_model.specs.declared.tree.Outcome.{Outcome}
+use Rattle.ots_model.specs.declared.tree.Outward.{Outward}
+use Rattle.ots_model.specs.declared.tree.Word.{Word}
+use Rattle.ots_model.specs.declared.tree.Word.TheVariants as words
+use Rattle.resource_votes.specs.declared.registration.Registration.{Registration}
+use Rattle.two_phase.specs.Course.{Course, begun, outcome, next_word, after_next, after_answer, after_decided, after_reread, after_rollback}
+
+-- what a completion becomes: a word goes out, an answer comes, the journal answers, a reread tells, or it is rolled back from
+-- outside
+pub data TreeBecomes : Course → Course → Type 0 where
+  by_word : (c : Course) → TreeBecomes c (after_next c)
+  by_answer : (c : Course) (number : CallNumber) (heard : Heard) → TreeBecomes c (after_answer number heard c)
+  by_record : (c : Course) (stood : Stood) → TreeBecomes c (after_decided stood c)
+  by_reread : (c : Course) (found : Option ℕ) → TreeBecomes c (after_reread found c)
+  by_rollback : (c : Course) (reason : Reason) → TreeBecomes c (after_rollback reason c)
+
+-- the completions that there are: one that begins, and what it becomes
+pub data IsReached : Course → Type 0 where
+  begins : (participants : List Registration) (asked : Bool) (first : CallNumber) (one_phase : Bool) → IsReached (begun participants asked first one_phase)
+  goes_on : (c later : Course) → IsReached c → TreeBecomes c later → IsReached later
+
+-- an outcome that is fixed stays
+abbrev pub TreeOutcomeStays : Type 0
+TreeOutcomeStays = (c later : Course) (fixed : Outcome) → IsReached c → TreeBecomes c later → outcome c ≡ Some fixed → outcome later ≡ Some fixed
+
+-- what a completion becomes by any number of steps
+pub data TreeGoesOn (c : Course) : Course → Type 0 where
+  still : TreeGoesOn c c
+  further : (between later : Course) → TreeGoesOn c between → TreeBecomes between later → TreeGoesOn c later
+
+-- a word that makes updates last
+abbrev pub IsCommitWord : Word → Type 0
+IsCommitWord words.Commit = Unit {0}
+IsCommitWord words.CommitOnePhase = Unit {0}
+IsCommitWord _ = ⊥
+
+-- once a commit word has gone out, no rollback goes out: each participant is told one way
+abbrev pub TreeOneWay : Type 0
+TreeOneWay = (c later : Course) (first second : Outward) → IsReached c → next_word c ≡ Some first → IsCommitWord first.word
+    → TreeGoesOn (after_next c) later → next_word later ≡ Some second → second.word ≡ words.Rollback → ⊥

@@ -1,0 +1,97 @@
+-- One participant of a completion, and what it has answered to each word that it may be sent: the first one, prepare or
+-- commit_one_phase; the one that tells the outcome; and forget (Transaction Service, the operations of interface Resource).
+use Rattle.std.specs.Prelude.{ℕ, ◌+◌, Bool, true, false, not, ◌&&◌, ◌||◌, Option, Some, None, is_none}
+use Rattle.std.specs.Option.{option_map_or}
+use Rattle.ots_model.specs.declared.completion.Heard.{Heard}
+use Rattle.ots_model.specs.declared.completion.Heard.TheVariants as hears
+use Rattle.ots_model.specs.declared.completion.Vote.TheVariants.{VoteRollback, VoteReadOnly}
+use Rattle.ots_model.specs.declared.completion.Ground.TheVariants.{OnePhase}
+use Rattle.ots_model.specs.declared.tree.Reason.{Reason}
+use Rattle.ots_model.specs.declared.tree.Reason.TheVariants as reasons
+use Rattle.ots_model.specs.declared.tree.Outcome.{Outcome}
+use Rattle.ots_model.specs.declared.tree.Outcome.TheVariants as outcomes
+use Rattle.resource_votes.specs.declared.registration.Registration.{Registration}
+use Rattle.two_phase.specs.Poll.{consents, is_commit_vote}
+use Rattle.two_phase.specs.declared.party.Party.{Party}
+
+-- a registration that takes part, and has answered nothing yet
+abbrev pub party_of : Registration → Party
+party_of r = record { index = r.index; to = r.to; ballot = None; told = None; forgot = None }
+
+-- it has answered its first word by VoteCommit or VoteReadOnly
+abbrev pub has_consented : Party → Bool
+has_consented p = option_map_or consents p.ballot false
+
+-- it has answered its first word by anything else
+abbrev pub has_refused : Party → Bool
+has_refused p = option_map_or (λ h. not (consents h)) p.ballot false
+
+-- it has answered its first word by VoteCommit
+abbrev pub has_voted_commit : Party → Bool
+has_voted_commit p = option_map_or is_commit_vote p.ballot false
+
+-- it hasn't answered its first word
+abbrev pub is_unasked : Party → Bool
+is_unasked p = is_none p.ballot
+
+-- why a vote that is no consent rolls the transaction back
+abbrev pub reason_of : ℕ → Heard → Reason
+reason_of g (hears.Voted vote) = reasons.Vote g
+reason_of g hears.Lost = reasons.PrepareLost g
+reason_of g hears.Starved = reasons.PrepareStarved g
+reason_of g _ = reasons.PrepareFault g
+
+-- the outcome by the answer to commit_one_phase: commit by a plain one, rollback by TRANSACTION_ROLLEDBACK; else nobody knows
+abbrev pub by_answer : ℕ → Heard → Outcome
+by_answer g hears.Done = outcomes.Commit OnePhase
+by_answer g hears.RolledBack = outcomes.Rollback (reasons.Vote g)
+by_answer g _ = outcomes.Unknown
+
+-- a rollback is told to all but those that have voted rollback or read-only, and not to one that was to decide alone and
+-- has answered
+abbrev pub hears_rollback : Bool → Option Heard → Bool
+hears_rollback alone None = true
+hears_rollback alone (Some (hears.Voted VoteRollback)) = false
+hears_rollback alone (Some (hears.Voted VoteReadOnly)) = false
+hears_rollback alone (Some _) = not alone
+
+-- whether an outcome is told to a participant, where `alone` says that it was to decide alone
+abbrev pub is_told : Bool → Outcome → Party → Bool
+is_told alone (outcomes.Commit basis) p = has_voted_commit p
+is_told alone (outcomes.Rollback reason) p = hears_rollback alone p.ballot
+is_told alone outcomes.Unknown p = false
+
+-- it is still to be told
+abbrev pub is_untold : Bool → Outcome → Party → Bool
+is_untold alone fixed p = is_none p.told && is_told alone fixed p
+
+-- an answer that completes a participant: a plain one, OBJECT_NOT_EXIST, or a heuristic exception
+abbrev pub completes : Heard → Bool
+completes hears.Done = true
+completes hears.NoObject = true
+completes (hears.Heuristic d) = true
+completes _ = false
+
+-- it was told and has not completed
+abbrev pub is_incomplete : Party → Bool
+is_incomplete p = option_map_or (λ h. not (completes h)) p.told false
+
+abbrev pub is_heuristic : Heard → Bool
+is_heuristic (hears.Heuristic d) = true
+is_heuristic _ = false
+
+-- it has raised a heuristic exception, and keeps its outcome until forget
+abbrev pub has_raised : Party → Bool
+has_raised p = option_map_or is_heuristic p.ballot false || option_map_or is_heuristic p.told false
+
+-- it is still to be told to forget
+abbrev pub is_unforgotten : Party → Bool
+is_unforgotten p = is_none p.forgot && has_raised p
+
+-- how many answers it has given
+abbrev pub one_where : Option Heard → ℕ
+one_where None = 0
+one_where (Some h) = 1
+
+abbrev pub answers : Party → ℕ
+answers p = one_where p.ballot + one_where p.told + one_where p.forgot

@@ -1,0 +1,71 @@
+-- A completion of a tree of transactions, from its making on.
+use Rattle.std.specs.Prelude.{ℕ, ◌≤◌, max, Bool, false, List, Option, Some, None}
+use Rattle.ots_model.specs.declared.completion.CallNumber.{CallNumber}
+use Rattle.ots_model.specs.declared.completion.Heard.{Heard}
+use Rattle.ots_model.specs.declared.completion.Stood.{Stood}
+use Rattle.ots_model.specs.declared.tree.Reason.{Reason}
+use Rattle.ots_model.specs.declared.tree.Outcome.{Outcome}
+use Rattle.ots_model.specs.declared.tree.Outward.{Outward}
+use Rattle.resource_votes.specs.declared.registration.Registration.{Registration}
+use Rattle.two_phase.specs.Course as course
+use Rattle.two_phase.specs.Course.{Course}
+
+-- it hasn't started, and has room for so many participants; or it is under way
+pub data Standing : Type 0 where
+  Waiting : (room : ℕ) → Standing
+  Going : (c : Course) → Standing
+
+-- it begins
+abbrev pub started : List Registration → Bool → CallNumber → Bool → Standing
+started participants asked first one_phase = Going (course.begun participants asked first one_phase)
+
+-- it hasn't started, and has room for so many participants
+abbrev pub HasRoom : Standing → ℕ → Type 0
+HasRoom (Waiting room) n = n ≤ room
+HasRoom (Going c) n = ⊥
+
+-- room for so many participants was taken, where it hasn't started
+abbrev pub after_reserve : ℕ → Standing → Standing
+after_reserve participants (Waiting room) = Waiting (max room participants)
+after_reserve participants (Going c) = Going c
+
+-- from here on: what `Course` says of a completion under way
+abbrev pub next_word : Standing → Option Outward
+next_word (Waiting room) = None
+next_word (Going c) = course.next_word c
+
+abbrev pub after_next : Standing → Standing
+after_next (Waiting room) = Waiting room
+after_next (Going c) = Going (course.after_next c)
+
+abbrev pub after_answer : CallNumber → Heard → Standing → Standing
+after_answer n h (Waiting room) = Waiting room
+after_answer n h (Going c) = Going (course.after_answer n h c)
+
+abbrev pub wants_decision : Standing → Bool
+wants_decision (Waiting room) = false
+wants_decision (Going c) = course.wants_decision c
+
+abbrev pub after_decided : Stood → Standing → Standing
+after_decided stood (Waiting room) = Waiting room
+after_decided stood (Going c) = Going (course.after_decided stood c)
+
+abbrev pub is_doubtful : Standing → Bool
+is_doubtful (Waiting room) = false
+is_doubtful (Going c) = course.is_doubtful c
+
+abbrev pub after_reread : Option ℕ → Standing → Standing
+after_reread found (Waiting room) = Waiting room
+after_reread found (Going c) = Going (course.after_reread found c)
+
+abbrev pub after_rollback : Reason → Standing → Standing
+after_rollback reason (Waiting room) = Waiting room
+after_rollback reason (Going c) = Going (course.after_rollback reason c)
+
+abbrev pub outcome : Standing → Option Outcome
+outcome (Waiting room) = None
+outcome (Going c) = course.outcome c
+
+abbrev pub is_named : Standing → ℕ → Bool
+is_named (Waiting room) g = false
+is_named (Going c) g = course.is_named c g

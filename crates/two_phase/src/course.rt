@@ -1,0 +1,492 @@
+// The completion of a tree of transactions, under way.
+ghost use Rattle.std.specs.Prelude.{◌≡◌, ℕ, ◌+◌, ◌^◌, ◌<◌, ◌≤◌, length, None, Some, IfSome};
+ghost use Rattle.std.specs.Option.{option_copied, option_map};
+ghost use Rattle.std.specs.List.{slice_get};
+ghost use Rattle.ots_model.specs.Limits.{registration_limit};
+ghost use Rattle.two_phase.specs.Course as course;
+ghost use Rattle.two_phase.specs.CourseInside.{IsOpen};
+
+use crate::party::{Errand, Party, Stage, by_answer, cause_of};
+use crate::room::Blank;
+use crate::stock::{Stock, enter};
+use ots_model::tree::{Outcome, Outward, Reason, Word};
+use ots_model::{CallNumber, Ground, Heard, Receipt, Stood};
+use resource_votes::Walk;
+use std::marker::Model;
+
+/// What was told and heard of a completion, with empty buffers for the references of the words to come.
+#[derive(Drop)]
+pub(crate) struct Course {
+    pub parties: Vec<Party>,
+    pub asked: bool,
+    pub one_phase: bool,
+    pub number: CallNumber,
+    pub out: Option<Errand>,
+    pub overtaken: Option<Reason>,
+    pub stood: Option<Stood>,
+    pub reread: Option<Option<u32>>,
+    pub blanks: Vec<Blank>,
+}
+
+impl Model for Course {
+    ghost use Rattle.two_phase.specs.Course.{Course as Told};
+
+    ghost Value = { Told };
+
+    ghost use Rattle.two_phase.specs.CourseInside.{shown, IsSound};
+
+    ghost view = { shown };
+
+    ghost invariant = { IsSound };
+}
+
+impl Course {
+    /// Begins, with participants that have answered nothing. It needs no memory.
+    pub fn begin(
+        stock: Stock,
+        walk: Walk<'_>,
+        asked: bool,
+        first: CallNumber,
+        one_phase: bool,
+    ) -> Course
+        requires room { length walk ≤ stock }
+        requires few { length walk ≤ registration_limit }
+        requires serial { first.serial < 2 ^ 31 }
+        ensures { result ≡ course.begun walk.entry asked first one_phase }
+    {
+        let Stock {
+            size: _,
+            mut parties,
+            mut blanks,
+        } = stock;
+        enter(walk, &mut blanks, &mut parties);
+        Course {
+            parties,
+            asked,
+            one_phase,
+            number: first,
+            out: None,
+            overtaken: None,
+            stood: None,
+            reread: None,
+            blanks,
+        }
+    }
+
+    /// The word that goes out next.
+    #[tactic(auto, unfolding(crate::specs::Course::next_word))]
+    pub fn next(&mut self) -> Option<Outward>
+        ensures word { result ≡ course.next_word self.old }
+        ensures after { self.new ≡ course.after_next self.old }
+    {
+        if self.out.is_some() {
+            return None;
+        }
+        let errand = self.errand()?;
+        let word = self.word_of(errand.stage);
+        Some(self.send(errand, word))
+    }
+
+    /// Sends a word to a participant.
+    fn send(&mut self, errand: Errand, word: Word) -> Outward
+        requires idle { (self.old).out ≡ None }
+        requires unheard { IsOpen (self.old).parties (Some errand) }
+        ensures word { Some result
+            ≡ option_map (course.outward self.old word) (slice_get (self.old).parties errand.place) }
+        ensures after { self.new ≡ record self.old { out = Some errand } }
+    {
+        let place = self.record_place();
+        let blank = self.blanks.pop().unwrap();
+        let party = &self.parties[errand.place];
+        let outward = Outward {
+            number: self.number,
+            registration: party.index,
+            to: blank.filled(&party.to),
+            word,
+            receipt: receipt_of(word, place, party.index),
+        };
+        self.out = Some(errand);
+        outward
+    }
+
+    /// What was heard of the word with this number.
+    pub fn answer(&mut self, number: CallNumber, heard: Heard)
+        ensures { self.new ≡ course.after_answer number heard self.old }
+    {
+        let Some(errand) = self.out else {
+            return;
+        };
+        if number == self.number {
+            let next = following(self.number);
+            hear(&mut self.parties, errand, heard);
+            self.number = next;
+            self.out = None;
+        }
+    }
+
+    /// Whether each participant has consented, one waits for the outcome, and the journal was not asked yet.
+    pub fn wants_decision(&self) -> bool
+        ensures { result ≡ course.wants_decision self.now }
+    {
+        !self.decides_alone()
+            && self.overtaken.is_none()
+            && self.stood.is_none()
+            && self.all_consent()
+            && self.some_commit()
+    }
+
+    /// What the journal answered to the decision record.
+    pub fn decided(&mut self, stood: Stood)
+        ensures { self.new ≡ course.after_decided stood self.old }
+    {
+        if self.wants_decision() {
+            self.stood = Some(stood);
+        }
+    }
+
+    /// Whether the journal was unsure, and was not read again.
+    pub fn is_doubtful(&self) -> bool
+        ensures { result ≡ course.is_doubtful self.now }
+    {
+        matches!(self.stood, Some(Stood::Unsure(_))) && self.reread.is_none()
+    }
+
+    /// Where the record stands in the journal that was read again, if it does.
+    pub fn reread(&mut self, found: Option<u32>)
+        ensures { self.new ≡ course.after_reread found self.old }
+    {
+        if self.is_doubtful() {
+            self.reread = Some(found);
+        }
+    }
+
+    /// Rolls back for a reason from outside.
+    pub fn roll_back(&mut self, reason: Reason)
+        ensures { self.new ≡ course.after_rollback reason self.old }
+    {
+        if !self.may_roll_back() {
+            return;
+        }
+        let number = self.overtaken_number();
+        self.number = number;
+        self.out = None;
+        self.overtaken = Some(reason);
+    }
+
+    /// The number of the next word, where one that is out is heard no more.
+    fn overtaken_number(&self) -> CallNumber
+        ensures { result ≡ course.overtaken_number self.now }
+    {
+        if self.out.is_some() {
+            following(self.number)
+        } else {
+            self.number
+        }
+    }
+
+    /// Whether the outcome isn't fixed, the journal was not asked, and nobody was told to decide alone.
+    fn may_roll_back(&self) -> bool
+        ensures { result ≡ course.may_roll_back self.now }
+    {
+        self.outcome().is_none()
+            && self.stood.is_none()
+            && !(self.decides_alone() && self.out.is_some())
+    }
+
+    /// How the transaction ends, as soon as that is fixed.
+    #[tactic(auto, unfolding(crate::specs::Course::outcome))]
+    pub fn outcome(&self) -> Option<Outcome>
+        ensures { result ≡ course.outcome self.now }
+    {
+        if let Some(reason) = self.overtaken {
+            return Some(Outcome::Rollback(reason));
+        }
+        if self.decides_alone() {
+            by_one(&self.parties)
+        } else {
+            self.by_votes()
+        }
+    }
+
+    /// The outcome by the votes, and by the record.
+    fn by_votes(&self) -> Option<Outcome>
+        ensures { result ≡ course.by_votes self.now }
+    {
+        if let Some(party) = first_refuser(&self.parties) {
+            return by_refusal(party);
+        }
+        if !self.all_consent() {
+            None
+        } else if self.some_commit() {
+            by_record(self.stood, self.reread)
+        } else {
+            Some(Outcome::Commit(Ground::Nobody))
+        }
+    }
+
+    /// Whether the decision record names this registration.
+    pub fn is_named(&self, registration: u32) -> bool
+        ensures { result ≡ course.is_named self.now registration }
+    {
+        self.parties
+            .iter()
+            .any(|p| p.index == registration && p.has_voted_commit())
+    }
+
+    /// Whether there is a single participant, which is to decide alone.
+    fn decides_alone(&self) -> bool
+        ensures { result ≡ course.decides_alone self.now }
+    {
+        self.one_phase && self.parties.len() == 1
+    }
+
+    /// Whether each participant has consented.
+    #[tactic(auto, unfolding(crate::specs::Course::all_consent))]
+    fn all_consent(&self) -> bool
+        ensures { result ≡ course.all_consent self.now }
+    {
+        self.parties.iter().all(|p| p.has_consented())
+    }
+
+    /// Whether one has voted commit.
+    #[tactic(auto, unfolding(crate::specs::Course::some_commit))]
+    fn some_commit(&self) -> bool
+        ensures { result ≡ course.some_commit self.now }
+    {
+        self.parties.iter().any(|p| p.has_voted_commit())
+    }
+
+    /// Who is sent a word next.
+    #[tactic(auto, unfolding(crate::specs::Course::errand))]
+    fn errand(&self) -> Option<Errand>
+        ensures { result ≡ course.errand self.now }
+    {
+        match self.outcome() {
+            Some(fixed) => self.telling(fixed),
+            None => self.asking(),
+        }
+    }
+
+    /// The next one that is asked.
+    fn asking(&self) -> Option<Errand>
+        ensures { result ≡ course.asking self.now }
+    {
+        errand_at(Stage::Asking, next_asked(&self.parties))
+    }
+
+    /// The next one that is told this outcome, and then to forget.
+    fn telling(&self, fixed: Outcome) -> Option<Errand>
+        ensures { result ≡ course.telling self.now fixed }
+    {
+        match next_told(self.decides_alone(), fixed, &self.parties) {
+            Some(place) => Some(errand_to(Stage::Telling, place)),
+            None => self.forgetting(fixed),
+        }
+    }
+
+    /// The next one that is told to forget.
+    fn forgetting(&self, fixed: Outcome) -> Option<Errand>
+        ensures { result ≡ course.forgetting self.now fixed }
+    {
+        if self.may_forget(fixed) {
+            errand_at(Stage::Forgetting, next_forgetting(&self.parties))
+        } else {
+            None
+        }
+    }
+
+    /// Whether forget goes out once the outcome was told.
+    fn may_forget(&self, fixed: Outcome) -> bool
+        ensures { result ≡ course.may_forget self.now fixed }
+    {
+        match fixed {
+            Outcome::Commit(_) => !self.waits_for_superior() && !self.some_incomplete(),
+            _ => !self.waits_for_superior(),
+        }
+    }
+
+    /// Whether one was told the outcome and has not completed.
+    #[tactic(auto, unfolding(crate::specs::Course::some_incomplete))]
+    fn some_incomplete(&self) -> bool
+        ensures { result ≡ course.some_incomplete self.now }
+    {
+        self.parties.iter().any(|p| p.is_incomplete())
+    }
+
+    /// Whether a superior has the record, and tells forget itself.
+    #[tactic(auto, unfolding(crate::specs::Course::waits_for_superior))]
+    fn waits_for_superior(&self) -> bool
+        ensures { result ≡ course.waits_for_superior self.now }
+    {
+        !self.one_phase && (self.record_place().is_some() || self.is_overtaken_prepared())
+    }
+
+    /// Whether all had consented when it was rolled back from outside.
+    fn is_overtaken_prepared(&self) -> bool
+        ensures { result ≡ course.is_overtaken_prepared self.now }
+    {
+        self.overtaken.is_some() && self.all_consent() && self.some_commit()
+    }
+
+    /// The word of a stage.
+    fn word_of(&self, stage: Stage) -> Word
+        ensures { result ≡ course.word_of self.now stage }
+    {
+        match stage {
+            Stage::Asking => first_word(self.decides_alone()),
+            Stage::Telling => outcome_word(self.outcome()),
+            Stage::Forgetting => Word::Forget,
+        }
+    }
+
+    /// The place at which the record stands.
+    fn record_place(&self) -> Option<u32>
+        ensures { result ≡ course.record_place (self.now).stood (self.now).reread }
+    {
+        match (self.stood, self.reread) {
+            (Some(Stood::Stands(place)), _) => Some(place),
+            (Some(Stood::Unsure(_)), Some(found)) => found,
+            _ => None,
+        }
+    }
+}
+
+/// What a participant answers to a word.
+fn hear(parties: &mut [Party], errand: Errand, heard: Heard)
+    requires there { errand.place < length parties.old }
+    ensures { parties.new ≡ course.heard_by parties.old errand heard }
+{
+    parties[errand.place].hear(errand.stage, heard);
+}
+
+/// A word of this stage to the participant at this place.
+fn errand_to(stage: Stage, place: usize) -> Errand
+    ensures { result ≡ record { stage = stage; place = place } }
+{
+    Errand { stage, place }
+}
+
+/// The same, where there is such a participant.
+fn errand_at(stage: Stage, place: Option<usize>) -> Option<Errand>
+    ensures { result ≡ course.errand_at stage place }
+{
+    match place {
+        Some(place) => Some(errand_to(stage, place)),
+        None => None,
+    }
+}
+
+/// The first participant whose answer is no consent.
+#[tactic(auto, unfolding(crate::specs::Course::first_refuser))]
+fn first_refuser(parties: &[Party]) -> Option<&Party>
+    ensures { option_copied result ≡ course.first_refuser parties.now }
+{
+    parties.iter().find(|p| p.has_refused())
+}
+
+/// The place of the next participant that is asked.
+#[tactic(auto, unfolding(crate::specs::Course::next_asked))]
+fn next_asked(parties: &[Party]) -> Option<usize>
+    ensures { result ≡ course.next_asked parties.now }
+{
+    parties.iter().position(|p| p.is_unasked())
+}
+
+/// The place of the next participant that is told this outcome.
+#[tactic(auto, unfolding(crate::specs::Course::next_told))]
+fn next_told(alone: bool, fixed: Outcome, parties: &[Party]) -> Option<usize>
+    ensures { result ≡ course.next_told alone fixed parties.now }
+{
+    parties.iter().position(|p| p.is_untold(alone, fixed))
+}
+
+/// The place of the next participant that is told to forget.
+#[tactic(auto, unfolding(crate::specs::Course::next_forgetting))]
+fn next_forgetting(parties: &[Party]) -> Option<usize>
+    ensures { result ≡ course.next_forgetting parties.now }
+{
+    parties.iter().position(|p| p.is_unforgotten())
+}
+
+/// The outcome where one was asked to decide alone.
+fn by_one(parties: &[Party]) -> Option<Outcome>
+    ensures { result ≡ course.by_one (slice_get parties.now 0) }
+{
+    let party = parties.first()?;
+    let heard = party.ballot?;
+    Some(by_answer(party.index, heard))
+}
+
+/// The outcome by an answer that is no consent.
+fn by_refusal(party: &Party) -> Option<Outcome>
+    ensures { result ≡ course.by_refusal party.now }
+{
+    let heard = party.ballot?;
+    Some(Outcome::Rollback(cause_of(party.index, heard)))
+}
+
+/// The outcome by the record.
+fn by_record(stood: Option<Stood>, reread: Option<Option<u32>>) -> Option<Outcome>
+    ensures { result ≡ course.by_record stood reread }
+{
+    match stood? {
+        Stood::Stands(_) => Some(Outcome::Commit(Ground::Record)),
+        Stood::Full(used, need) => Some(Outcome::Rollback(Reason::JournalFull(used, need))),
+        Stood::Unsure(_) => by_reread(reread),
+    }
+}
+
+/// The outcome by what a reread found.
+fn by_reread(reread: Option<Option<u32>>) -> Option<Outcome>
+    ensures { result ≡ course.by_reread reread }
+{
+    match reread? {
+        Some(_) => Some(Outcome::Commit(Ground::Record)),
+        None => Some(Outcome::Rollback(Reason::NotStored)),
+    }
+}
+
+/// What each participant is sent first.
+fn first_word(alone: bool) -> Word
+    ensures { result ≡ course.first_word alone }
+{
+    if alone {
+        Word::CommitOnePhase
+    } else {
+        Word::Prepare
+    }
+}
+
+/// The word that tells an outcome.
+fn outcome_word(fixed: Option<Outcome>) -> Word
+    ensures { result ≡ course.outcome_word fixed }
+{
+    match fixed {
+        Some(Outcome::Commit(_)) => Word::Commit,
+        _ => Word::Rollback,
+    }
+}
+
+/// The record that a commit word rests on.
+fn receipt_of(word: Word, place: Option<u32>, registration: u32) -> Option<Receipt>
+    ensures { result ≡ course.receipt_of word place registration }
+{
+    match (word, place) {
+        (Word::Commit, Some(place)) => Some(Receipt {
+            place,
+            registration,
+        }),
+        _ => None,
+    }
+}
+
+/// The next number.
+fn following(number: CallNumber) -> CallNumber
+    requires { number.serial + 1 < 2 ^ 32 }
+    ensures { result ≡ course.following number }
+{
+    CallNumber {
+        serial: number.serial + 1,
+        ..number
+    }
+}

@@ -1,0 +1,162 @@
+// One participant, and what it has answered.
+ghost use Rattle.std.specs.Prelude.{◌≡◌};
+ghost use Rattle.two_phase.specs.Course as course;
+ghost use Rattle.two_phase.specs.Parties as parties;
+
+use crate::verdict::consents;
+use ots_model::tree::{Outcome, Reason};
+use ots_model::{Ground, Heard, RefBytes, Vote};
+
+/// A participant of a completion: its registration, where its words go, and what it has answered to the first one, to
+/// the one that tells the outcome, and to forget.
+#[derive(Drop)]
+pub(crate) struct Party {
+    pub index: u32,
+    pub to: RefBytes,
+    pub ballot: Option<Heard>,
+    pub told: Option<Heard>,
+    pub forgot: Option<Heard>,
+}
+
+/// The words that a participant is sent: one that asks it, one that tells the outcome, and forget.
+#[derive(Clone, Copy)]
+pub(crate) enum Stage {
+    Asking,
+    Telling,
+    Forgetting,
+}
+
+/// A word to the participant at this place.
+#[derive(Clone, Copy)]
+pub(crate) struct Errand {
+    pub stage: Stage,
+    pub place: usize,
+}
+
+impl Party {
+    /// Whether it has answered its first word by a vote that lets the asking go on.
+    pub fn has_consented(&self) -> bool
+        ensures { result ≡ parties.has_consented self.now }
+    {
+        self.ballot.is_some_and(|h| consents(h))
+    }
+
+    /// Whether it has answered its first word by anything else.
+    pub fn has_refused(&self) -> bool
+        ensures { result ≡ parties.has_refused self.now }
+    {
+        self.ballot.is_some_and(|h| !consents(h))
+    }
+
+    /// Whether it has voted commit.
+    pub fn has_voted_commit(&self) -> bool
+        ensures { result ≡ parties.has_voted_commit self.now }
+    {
+        matches!(self.ballot, Some(Heard::Voted(Vote::VoteCommit)))
+    }
+
+    /// Whether it hasn't answered its first word.
+    pub fn is_unasked(&self) -> bool
+        ensures { result ≡ parties.is_unasked self.now }
+    {
+        self.ballot.is_none()
+    }
+
+    /// Whether this outcome is told to it, where `alone` says that it was to decide alone.
+    pub fn is_told(&self, alone: bool, fixed: Outcome) -> bool
+        ensures { result ≡ parties.is_told alone fixed self.now }
+    {
+        match fixed {
+            Outcome::Commit(_) => self.has_voted_commit(),
+            Outcome::Rollback(_) => hears_rollback(alone, self.ballot),
+            Outcome::Unknown => false,
+        }
+    }
+
+    /// Whether it is still to be told this outcome.
+    pub fn is_untold(&self, alone: bool, fixed: Outcome) -> bool
+        ensures { result ≡ parties.is_untold alone fixed self.now }
+    {
+        self.told.is_none() && self.is_told(alone, fixed)
+    }
+
+    /// Whether it was told the outcome and has not completed.
+    pub fn is_incomplete(&self) -> bool
+        ensures { result ≡ parties.is_incomplete self.now }
+    {
+        self.told.is_some_and(|h| !completes(h))
+    }
+
+    /// Whether it is still to be told to forget a heuristic outcome.
+    pub fn is_unforgotten(&self) -> bool
+        ensures { result ≡ parties.is_unforgotten self.now }
+    {
+        self.forgot.is_none() && self.has_raised()
+    }
+
+    /// What it answers to the word of this stage.
+    pub fn hear(&mut self, stage: Stage, heard: Heard)
+        ensures { self.new ≡ course.heard_at stage heard self.old }
+    {
+        match stage {
+            Stage::Asking => self.ballot = Some(heard),
+            Stage::Telling => self.told = Some(heard),
+            Stage::Forgetting => self.forgot = Some(heard),
+        }
+    }
+
+    /// Whether it has raised a heuristic exception.
+    fn has_raised(&self) -> bool
+        ensures { result ≡ parties.has_raised self.now }
+    {
+        self.ballot.is_some_and(|h| is_heuristic(h)) || self.told.is_some_and(|h| is_heuristic(h))
+    }
+}
+
+/// Whether a rollback is told to a participant with this answer to its first word.
+fn hears_rollback(alone: bool, ballot: Option<Heard>) -> bool
+    ensures { result ≡ parties.hears_rollback alone ballot }
+{
+    match ballot {
+        None => true,
+        Some(Heard::Voted(Vote::VoteRollback | Vote::VoteReadOnly)) => false,
+        Some(_) => !alone,
+    }
+}
+
+/// Whether an answer to the word that tells the outcome completes a participant.
+fn completes(heard: Heard) -> bool
+    ensures { result ≡ parties.completes heard }
+{
+    matches!(heard, Heard::Done | Heard::NoObject | Heard::Heuristic(_))
+}
+
+/// Whether an answer is a heuristic exception.
+fn is_heuristic(heard: Heard) -> bool
+    ensures { result ≡ parties.is_heuristic heard }
+{
+    matches!(heard, Heard::Heuristic(_))
+}
+
+/// Why an answer to prepare rolls the transaction back.
+pub(crate) fn cause_of(registration: u32, heard: Heard) -> Reason
+    ensures { result ≡ parties.reason_of registration heard }
+{
+    match heard {
+        Heard::Voted(_) => Reason::Vote(registration),
+        Heard::Lost => Reason::PrepareLost(registration),
+        Heard::Starved => Reason::PrepareStarved(registration),
+        _ => Reason::PrepareFault(registration),
+    }
+}
+
+/// What the answer to commit_one_phase says of the outcome.
+pub(crate) fn by_answer(registration: u32, heard: Heard) -> Outcome
+    ensures { result ≡ parties.by_answer registration heard }
+{
+    match heard {
+        Heard::Done => Outcome::Commit(Ground::OnePhase),
+        Heard::RolledBack => Outcome::Rollback(Reason::Vote(registration)),
+        _ => Outcome::Unknown,
+    }
+}

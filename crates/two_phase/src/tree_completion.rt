@@ -1,0 +1,205 @@
+ghost use Rattle.std.specs.Prelude.{◌≡◌, ℕ, ◌^◌, ◌<◌, ◌≤◌, length, IfOk, OnOk, OnErr};
+ghost use Rattle.ots_model.specs.declared.completion.Heard.TheVariants.{Lost};
+ghost use Rattle.resource_votes.specs.Limits.{list_count};
+ghost use Rattle.resource_votes.specs.Ballots.{participants};
+ghost use Rattle.two_phase.specs.Stages as stages;
+ghost use Rattle.two_phase.specs.Stages.{Waiting, HasRoom};
+
+use crate::course::Course;
+use crate::stock::Stock;
+use ots_model::tree::{Outcome, Outward, Reason};
+use ots_model::{CallNumber, Heard, Stood};
+use resource_votes::Votes;
+use std::alloc::{AllocError, Global};
+use std::marker::Model;
+
+/// The completion of a tree of transactions: whom the top-level transaction asks and tells, and how it ends. Contracts see
+/// it as what it was told and has heard.
+#[derive(Drop)]
+pub struct TreeCompletion {
+    state: Standing,
+}
+
+/// Whether it has started.
+#[derive(Drop)]
+enum Standing {
+    Waiting(Stock),
+    Going(Course),
+}
+
+impl Model for TreeCompletion {
+    ghost use Rattle.two_phase.specs.Stages.{Standing as Stands};
+
+    ghost Value = { Stands };
+
+    ghost use Rattle.two_phase.specs.StandingInside.{shown};
+
+    ghost view = { shown };
+}
+
+impl TreeCompletion {
+    /// A completion that hasn't started, and has no room.
+    pub fn idle(alloc: Global) -> TreeCompletion
+        ensures idle { result ≡ Waiting 0 }
+    {
+        TreeCompletion {
+            state: Standing::Waiting(Stock::new(alloc)),
+        }
+    }
+
+    /// Takes room for so many participants and for all words to them, where it hasn't started. Want of memory leaves it
+    /// as it was.
+    pub fn reserve(&mut self, participants: u32) -> Result<(), AllocError>
+        ensures ok { OnOk result (self.new ≡ stages.after_reserve participants self.old) }
+        ensures err { OnErr result (self.new ≡ self.old) }
+    {
+        match &mut self.state {
+            Standing::Waiting(stock) => stock.reserve(participants),
+            Standing::Going(_) => Ok(()),
+        }
+    }
+
+    /// Begins. It needs no memory. `first` is the number of the first word. Where `one_phase` is false a single
+    /// participant is sent prepare as well.
+    pub fn start(
+        &mut self,
+        votes: &Votes,
+        top: u32,
+        asked: bool,
+        first: CallNumber,
+        one_phase: bool,
+    )
+        requires there { top < list_count }
+        requires room { HasRoom self.old (length (participants top votes.now.ballots)) }
+        requires serial { first.serial < 2 ^ 31 }
+        ensures started { self.new
+            ≡ stages.started (participants top votes.now.ballots) asked first one_phase }
+    {
+        if let Standing::Waiting(stock) = &mut self.state {
+            let stock = stock.take();
+            let walk = votes.participants(top);
+            self.state = Standing::Going(Course::begin(stock, walk, asked, first, one_phase));
+        }
+    }
+
+    /// A completion that begins with the participants of this transaction: `idle`, `reserve` and `start` in one.
+    pub fn begin(
+        alloc: Global,
+        votes: &Votes,
+        top: u32,
+        asked: bool,
+        first: CallNumber,
+        one_phase: bool,
+    ) -> Result<TreeCompletion, AllocError>
+        requires there { top < list_count }
+        requires serial { first.serial < 2 ^ 31 }
+        ensures started { IfOk result (λ c. c
+            ≡ stages.started (participants top votes.now.ballots) asked first one_phase) }
+    {
+        let mut completion = TreeCompletion::idle(alloc);
+        completion.reserve(votes.participants(top).count() as u32)?;
+        completion.start(votes, top, asked, first, one_phase);
+        Ok(completion)
+    }
+
+    /// The word that goes out next. There is none while one is out, while a decision is wanted or nobody knows whether it
+    /// stands, and at the end.
+    pub fn next(&mut self) -> Option<Outward>
+        ensures word { result ≡ stages.next_word self.old }
+        ensures after { self.new ≡ stages.after_next self.old }
+    {
+        match &mut self.state {
+            Standing::Waiting(_) => None,
+            Standing::Going(course) => course.next(),
+        }
+    }
+
+    /// What was heard of the word with this number. A number that isn't out changes nothing.
+    pub fn answer(&mut self, number: &CallNumber, heard: &Heard)
+        ensures after { self.new ≡ stages.after_answer number.now heard.now self.old }
+    {
+        if let Standing::Going(course) = &mut self.state {
+            course.answer(*number, *heard);
+        }
+    }
+
+    /// The word with this number is lost. A number that isn't out changes nothing.
+    pub fn lost(&mut self, number: &CallNumber)
+        ensures after { self.new ≡ stages.after_answer number.now Lost self.old }
+    {
+        self.answer(number, &Heard::Lost);
+    }
+
+    /// Whether each participant has consented, one waits for the outcome, and the journal was not asked yet.
+    pub fn wants_decision(&self) -> bool
+        ensures wanted { result ≡ stages.wants_decision self.now }
+    {
+        match &self.state {
+            Standing::Waiting(_) => false,
+            Standing::Going(course) => course.wants_decision(),
+        }
+    }
+
+    /// What the journal answered to the decision record. Where no decision is wanted, this changes nothing.
+    pub fn decided(&mut self, stood: Stood)
+        ensures after { self.new ≡ stages.after_decided stood self.old }
+    {
+        if let Standing::Going(course) = &mut self.state {
+            course.decided(stood);
+        }
+    }
+
+    /// Whether nobody knows whether the decision record stands: the journal was unsure, and was not read again.
+    pub fn is_doubtful(&self) -> bool
+        ensures doubtful { result ≡ stages.is_doubtful self.now }
+    {
+        match &self.state {
+            Standing::Waiting(_) => false,
+            Standing::Going(course) => course.is_doubtful(),
+        }
+    }
+
+    /// Where a reread of the journal found the decision record, if it did. Where the record isn't in doubt, this changes
+    /// nothing.
+    pub fn reread(&mut self, found: Option<u32>)
+        ensures after { self.new ≡ stages.after_reread found self.old }
+    {
+        if let Standing::Going(course) = &mut self.state {
+            course.reread(found);
+        }
+    }
+
+    /// Rolls back for a reason from outside, as the client's rollback, a mark, or the superior's word. The word that is out
+    /// is heard no more. Where the outcome is fixed, the journal was asked, or the only participant was told to decide, this
+    /// changes nothing.
+    pub fn roll_back(&mut self, reason: Reason)
+        ensures after { self.new ≡ stages.after_rollback reason self.old }
+    {
+        if let Standing::Going(course) = &mut self.state {
+            course.roll_back(reason);
+        }
+    }
+
+    /// Whether the decision record names this registration: it takes part, and has voted commit.
+    pub fn is_named(&self, registration: u32) -> bool
+        ensures named { result ≡ stages.is_named self.now registration }
+    {
+        match &self.state {
+            Standing::Waiting(_) => false,
+            Standing::Going(course) => course.is_named(registration),
+        }
+    }
+
+    /// How the transaction ends, as soon as that is fixed.
+    pub fn outcome(&self) -> Option<Outcome>
+        ensures outcome { result ≡ stages.outcome self.now }
+    {
+        match &self.state {
+            Standing::Waiting(_) => None,
+            Standing::Going(course) => course.outcome(),
+        }
+    }
+}
+
+#[cfg(test)]
+mod tests;
