@@ -11,6 +11,7 @@ use Rattle.giop_frames.specs.declared.fault.FrameFault.{FrameFault}
 use Rattle.giop_frames.specs.declared.fault.FrameFault.TheVariants.{Body}
 use Rattle.giop_frames.specs.declared.header.Header.{Header}
 use Rattle.giop_frames.specs.declared.layout.Field.{Field}
+use Rattle.giop_frames.specs.declared.message.Message.{Message}
 use Rattle.giop_frames.specs.declared.message.Target.{Target}
 use Rattle.giop_frames.specs.declared.message.Target.TheVariants.{Key, Profile, Reference}
 use Rattle.giop_frames.specs.declared.message.ServiceContext.{ServiceContext}
@@ -23,7 +24,7 @@ use Rattle.giop_frames.specs.declared.walk.Step.{Step}
 use Rattle.giop_frames.specs.declared.walk.Step.TheVariants as steps
 use Rattle.giop_frames.specs.declared.walk.Walk.{Walk}
 use Rattle.giop_frames.specs.Fault.{fault_of, too_long}
-use Rattle.giop_frames.specs.Layout.{Fields}
+use Rattle.giop_frames.specs.Layout.{Fields, message_with}
 use Rattle.giop_frames.specs.Content.{field_at, fields_at, fields_in, telling_target, as_target, key_at, profile_at, indexed_at, context_at}
 use Rattle.giop_frames.specs.Limits.{context_limit, profile_limit}
 
@@ -54,6 +55,10 @@ told_by content found = record {
   operation = spanned content found.operation;
   contexts = contexts_of content found;
 }
+
+-- the message whose fields were found in a content, and what it keeps behind them
+abbrev pub message_found : Header → List ℕ → Found → List ℕ → Result Message FrameFault
+message_found header content found tail = message_with header.order header.kind (told_by content found) tail
 
 -- ---- inside a field
 

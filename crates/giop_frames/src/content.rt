@@ -1,9 +1,9 @@
 ghost use Rattle.std.specs.Prelude.{◌≡◌, ◌≤◌, ◌<◌, ◌^◌, length, map, IfOk};
 ghost use Rattle.giop_frames.specs.Limits.{size_limit};
 ghost use Rattle.giop_frames.specs.Fault.{Finds};
-ghost use Rattle.giop_frames.specs.Layout.{kept_tail, message_with, tail_gap, tail_start};
+ghost use Rattle.giop_frames.specs.Layout.{kept_tail, tail_gap, tail_start};
 ghost use Rattle.giop_frames.specs.Stream.{message_by, start_by};
-ghost use Rattle.giop_frames.specs.Walk.{IsWalked, context_of, spanned, target_of, told_by};
+ghost use Rattle.giop_frames.specs.Walk.{IsWalked, context_of, message_found, spanned, target_of};
 
 use crate::fault::FrameFault;
 use crate::found::{Found, FoundContext, FoundTarget, Span};
@@ -60,8 +60,7 @@ fn build(
     found: &Found,
     tail: &[u8],
 ) -> Result<Message, FrameFault>
-    ensures { Finds (λ m. m) result
-        (message_with header.order header.kind (told_by content.now found.now) tail.now) }
+    ensures { Finds (λ m. m) result (message_found header content.now found.now tail.now) }
 {
     let order = header.order;
     match header.kind {

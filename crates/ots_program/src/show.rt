@@ -57,7 +57,8 @@ fn show_piece<K: Sink>(
 ) -> Result<(), Status>
     requires accepts { stream.old.refused ≡ None }
     requires few { length piece.now ≤ piece_limit }
-    ensures took { OnOk result (TookPiece stream.old stream.new piece.now (K.taken sink.old) (K.taken sink.new)) }
+    ensures took { OnOk result
+        (TookPiece stream.old stream.new piece.now (K.taken sink.old) (K.taken sink.new)) }
     ensures broken { IfErr result (λ status.
         BrokeOff status stream.old piece.now (K.taken sink.old) (K.taken sink.new)) }
     ensures write_fault { result ≡ Err Status.WriteFault → HasRisen (K.faults sink.old) (K.faults sink.new) }
