@@ -9,7 +9,6 @@ use std::test::Fail;
 
 mod reading;
 mod refused_messages;
-mod refused_parts;
 mod streaming;
 mod types;
 pub mod vectors;
@@ -83,7 +82,7 @@ fn next_framed(stream: &mut Stream) -> Result<Option<Framed>, FrameFault> {
     stream.next_framed()
 }
 
-/// The stream's place, and whether a message is unfinished.
-fn standing(stream: &Stream) -> (u64, bool) {
-    (stream.place(), stream.unfinished())
+/// The stream's place, whether a message is unfinished, and how many octets its buffer has.
+fn standing(stream: &Stream) -> (u64, bool, usize) {
+    (stream.place(), stream.unfinished(), stream.kept())
 }

@@ -112,6 +112,12 @@ fn request_of(
     Ok(request(alloc, id, &key, operation, body)?)
 }
 
+const LITTLE_REQUEST: &str =
+    "47494f50 01020100 25000000 04000000 03000000 00000000 02000000 61620000 07000000 636f6d6d69740000 00000000 01";
+
+const LITTLE_REPLY: &str =
+    "47494f50 01020101 20000000 05000000 02000000 01000000 07000000 02000000 6162000000000000 626f6479";
+
 #[test]
 fn prepare_request_is_written(rt: HostRuntime) -> Result<(), Fail> {
     let found = request_of(&rt, rt.alloc(), 4, PREPARE_KEY, b"prepare", b"")?;
@@ -148,4 +154,33 @@ fn commit_request(rt: &impl Abort, alloc: Global) -> Result<Message, Fail>
 fn commit_request_is_written(rt: HostRuntime) -> Result<(), Fail> {
     let found = commit_request(&rt, rt.alloc())?;
     check(&rt, rt.alloc(), found, COMMIT_REQUEST)
+}
+
+#[test]
+fn little_endian_request_is_written(rt: HostRuntime) -> Result<(), Fail> {
+    let big = request_of(&rt, rt.alloc(), 4, "6162", b"commit", &[1])?;
+    let little = Request {
+        order: Order::Little,
+        ..big
+    };
+    check(&rt, rt.alloc(), Message::Request(little), LITTLE_REQUEST)
+}
+
+/// A little endian Reply with one context.
+fn little_reply(rt: &impl Abort, alloc: Global) -> Result<Message, Fail>
+    ensures { IfOk result (λ m. octets_in m ≤ 3000) }
+{
+    Ok(Message::Reply(Reply {
+        id: 5,
+        status: 2,
+        contexts: one_context(rt, alloc, 7, "6162")?,
+        order: Order::Little,
+        body: Octets::new(alloc, b"body")?,
+    }))
+}
+
+#[test]
+fn little_endian_reply_with_a_context_is_written(rt: HostRuntime) -> Result<(), Fail> {
+    let found = little_reply(&rt, rt.alloc())?;
+    check(&rt, rt.alloc(), found, LITTLE_REPLY)
 }
