@@ -1,19 +1,18 @@
 -- The outcome, by what was answered and recorded.
-use Rattle.std.proofs.Common.{◌≡◌, ℕ, ◌+◌, ◌<◌, ◌≤◌, suc, Bool, true, false, not, ◌||◌, ◌⊎◌, inl, inr, cond, ltb, List, [], ◌∷◌, length, take, Option, Some, None, sym, ap, ◌∙◌, refl, arith, subst, get_or}
+use Rattle.std.proofs.Common.{◌≡◌, ℕ, ◌<◌, ◌≤◌, suc, Bool, true, false, not, ◌||◌, inl, inr, cond, ltb, List, [], ◌∷◌, length, take, Option, Some, None, sym, ap, ◌∙◌, refl, arith, subst, get_or}
 use Prim.Native.Nat.{zero}
-use Rattle.std.specs.List.{slice_get, list_any, list_all, position, Contains}
+use Rattle.std.specs.List.{slice_get, list_any, list_all}
 use Rattle.std.specs.Option.{option_map}
 use Rattle.std.proofs.lemmas.Bool.{cases_Bool, cases_lt, cond-true, cond-false, lt-ltb, le-ltb, and_parts, eqb-true}
 use Rattle.std.proofs.lemmas.List.{length-take}
 use Rattle.std.proofs.lemmas.Option.{same_Some, slice_get-get_or, slice_get_within}
 use Rattle.std.proofs.lemmas.List.Quantifiers.{position-Some}
-use Rattle.ots_model.specs.Outcome.{Recorded, Polled, Consents, HaveConsented, AllReadOnly, NamesEach, by_answer, reason_of, HasOutcome, answered, read_only, recorded, refused, full}
+use Rattle.ots_model.specs.Outcome.{Recorded, Consents, HaveConsented, AllReadOnly, NamesEach, by_answer, reason_of, HasOutcome, answered, read_only, recorded, refused, full}
 use Rattle.ots_model.specs.declared.completion.Ground.TheVariants.{Nobody}
 use Rattle.ots_model.specs.declared.completion.Heard.{Heard}
 use Rattle.ots_model.specs.declared.completion.Heard.TheVariants as hears
 use Rattle.ots_model.specs.declared.completion.Outcome.{Outcome}
 use Rattle.ots_model.specs.declared.completion.Outcome.TheVariants as outcomes
-use Rattle.ots_model.specs.declared.completion.Reason.TheVariants as reasons
 use Rattle.ots_model.specs.declared.completion.Stood.{Stood}
 use Rattle.ots_model.specs.declared.completion.Stood.TheVariants as answers
 use Rattle.ots_model.specs.declared.completion.Vote.TheVariants.{VoteCommit, VoteRollback, VoteReadOnly}

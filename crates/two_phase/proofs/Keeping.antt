@@ -10,7 +10,6 @@ use Rattle.std.proofs.lemmas.List.{reverse-append, length_push, take_all, nil_fr
 use Rattle.std.proofs.lemmas.Option.{same_Some, slice_get_within}
 use Rattle.ots_model.specs.declared.completion.CallNumber.{CallNumber}
 use Rattle.ots_model.specs.declared.completion.Heard.{Heard}
-use Rattle.ots_model.specs.declared.completion.Heard.TheVariants as hears
 use Rattle.ots_model.specs.declared.completion.Outcome.{Outcome}
 use Rattle.ots_model.specs.declared.completion.Outcome.TheVariants as outcomes
 use Rattle.ots_model.specs.declared.completion.Outward.{Outward}

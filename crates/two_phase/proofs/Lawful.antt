@@ -17,7 +17,7 @@ use Rattle.ots_model.specs.declared.completion.Outward.{Outward}
 use Rattle.ots_model.specs.declared.completion.Stood.{Stood}
 use Rattle.ots_model.specs.declared.completion.Stood.TheVariants as answers
 use Rattle.ots_model.specs.declared.completion.CallNumber.{CallNumber}
-use Rattle.ots_model.specs.declared.completion.Vote.TheVariants.{VoteCommit, VoteRollback, VoteReadOnly}
+use Rattle.ots_model.specs.declared.completion.Vote.TheVariants.{VoteCommit}
 use Rattle.ots_model.specs.declared.completion.Word.{Word}
 use Rattle.ots_model.specs.declared.completion.Word.TheVariants as words
 use Rattle.ots_model.specs.Outcome.{reason_of}

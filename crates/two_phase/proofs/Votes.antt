@@ -13,7 +13,7 @@ use Rattle.ots_model.specs.declared.completion.Heard.{Heard}
 use Rattle.ots_model.specs.declared.completion.Heard.TheVariants as hears
 use Rattle.ots_model.specs.declared.completion.Outcome.{Outcome}
 use Rattle.ots_model.specs.declared.completion.Outcome.TheVariants as outcomes
-use Rattle.ots_model.specs.Outcome.{by_answer, reason_of}
+use Rattle.ots_model.specs.Outcome.{reason_of}
 use Rattle.ots_model.specs.declared.completion.Ground.TheVariants.{Nobody}
 use Rattle.two_phase.specs.Judged.{judged}
 use Rattle.two_phase.specs.Poll.{Poll, consents, is_commit_vote, replies, refuser, asked_count, decides_alone, outcome_alone, outcome_by_record, outcome_by_votes, outcome}

@@ -1,4 +1,4 @@
-use Rattle.std.specs.Prelude.{◌≡◌, ◌*◌, ◌^◌, ◌<◌, ◌≤◌, [], vec_len, vec_capacity}
+use Rattle.std.specs.Prelude.{◌≡◌, ◌*◌, ◌≤◌, [], vec_len, vec_capacity}
 use Rattle.two_phase.specs.declared.room.Room.TheInside.{Inside}
 
 -- there is room for that many participants: two words to each, and three copies of each reference

@@ -1,5 +1,5 @@
 -- A completion of a tree of transactions, from its making on.
-use Rattle.std.specs.Prelude.{ℕ, ◌≤◌, max, Bool, false, List, Option, Some, None}
+use Rattle.std.specs.Prelude.{ℕ, ◌≤◌, max, Bool, false, List, Option, None}
 use Rattle.ots_model.specs.declared.completion.CallNumber.{CallNumber}
 use Rattle.ots_model.specs.declared.completion.Heard.{Heard}
 use Rattle.ots_model.specs.declared.completion.Stood.{Stood}

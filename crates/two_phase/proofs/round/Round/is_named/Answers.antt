@@ -1,4 +1,4 @@
-use Rattle.std.proofs.Common.{◌≡◌, ◌-◌, ◌<◌, ◌≤◌, true, false, length, sym, ap, ◌∙◌, arith}
+use Rattle.std.proofs.Common.{◌-◌, sym, ap, ◌∙◌, arith}
 use Rattle.std.specs.List.{slice_get}
 use borrow.Author.Tests.{leb-true, leb-false, ltb-true}
 use Rattle.two_phase.specs.RoundInside.{shown}
