@@ -211,7 +211,8 @@ impl Board {
 
     /// A message goes out. Its number is the answer.
     fn send(&mut self, message: Message) -> Result<u32, WorldFault>
-        ensures ok { IfOk result (λ number. (number ≡ board.next_message self.old) × (self.new ≡ board.sending message self.old)) }
+        ensures ok { IfOk result (λ number. (number ≡ board.next_message self.old)
+            × (self.new ≡ board.sending message self.old)) }
         ensures err { IfErr result (λ fault. CannotSend self.old fault) }
     {
         if self.messages.len() >= MESSAGE_LIMIT {
@@ -235,7 +236,8 @@ impl Board {
         message: u32,
         response: Response,
     ) -> Result<(), WorldFault>
-        ensures does { Does (board.replies message response self.old) self.new lines.old.items lines.new.items result }
+        ensures does { Does (board.replies message response self.old)
+            self.new lines.old.items lines.new.items result }
     {
         let content = Content::Reply {
             request: message,
@@ -290,7 +292,8 @@ impl Board {
         place: u32,
         word: Word,
     ) -> Result<(), WorldFault>
-        ensures does { Does (board.obeys message place word self.old) self.new lines.old.items lines.new.items result }
+        ensures does { Does (board.obeys message place word self.old)
+            self.new lines.old.items lines.new.items result }
     {
         let Some(resource) = self.resources.get(place as usize) else {
             return Ok(());
@@ -344,7 +347,8 @@ impl Board {
         transaction: Name,
         decision: u32,
     ) -> Result<(), WorldFault>
-        ensures does { Does (board.closes transaction decision self.old) self.new lines.old.items lines.new.items result }
+        ensures does { Does (board.closes transaction decision self.old)
+            self.new lines.old.items lines.new.items result }
     {
         self.records.push(Record::Done { place: decision })?;
         tell(lines, &[Line::Done { transaction }])
@@ -354,7 +358,8 @@ impl Board {
     fn end(&mut self, lines: &mut Vec<u8>, place: u32) -> Result<(), WorldFault>
         requires there { place < length self.old.transactions }
         ensures does { (t : Transaction) → slice_get self.old.transactions place ≡ Some t →
-            Does (board.ending t (progress.outcome t.completion) t.decision self.old) self.new lines.old.items lines.new.items result }
+            Does (board.ending t (progress.outcome t.completion) t.decision self.old)
+            self.new lines.old.items lines.new.items result }
     {
         let transaction = &self.transactions[place as usize];
         let Some(outcome) = transaction.completion.outcome() else {
@@ -395,7 +400,8 @@ impl Board {
     /// The name of a transaction's registration, counted from 1.
     fn registered(&self, place: u32, registration: u32) -> Option<Name>
         requires there { place < length self.now.transactions }
-        ensures name { (t : Transaction) → slice_get self.now.transactions place ≡ Some t → result ≡ board.registered self.now t registration }
+        ensures name { (t : Transaction) → slice_get self.now.transactions place ≡ Some t →
+            result ≡ board.registered self.now t registration }
     {
         let transaction = &self.transactions[place as usize];
         self.name_at(transaction.registrations.place_of(registration))
@@ -405,7 +411,8 @@ impl Board {
     #[tactic(auto, unfolding(crate::specs::Board::cause_of))]
     fn cause_of(&self, place: u32, reason: Reason) -> Option<Reason<Name>>
         requires there { place < length self.now.transactions }
-        ensures cause { (t : Transaction) → slice_get self.now.transactions place ≡ Some t → result ≡ board.cause_of self.now t reason }
+        ensures cause { (t : Transaction) → slice_get self.now.transactions place ≡ Some t →
+            result ≡ board.cause_of self.now t reason }
     {
         match reason {
             Reason::Vote(g) => self.registered(place, g).map(Reason::Vote),
@@ -479,7 +486,8 @@ impl Board {
         resource: u32,
         response: Response,
     ) -> Result<(), WorldFault>
-        ensures does { Does (board.telling (λ name. board.counted name response) (board.name_at self.now.resources resource) self.now)
+        ensures does { Does (board.telling (λ name. board.counted name response)
+            (board.name_at self.now.resources resource) self.now)
             self.now lines.old.items lines.new.items result }
     {
         match (self.name_at(resource), response) {
@@ -509,7 +517,8 @@ impl Board {
         resource: u32,
         response: Response,
     ) -> Result<(), WorldFault>
-        ensures does { Does (board.votes place resource response self.old) self.new lines.old.items lines.new.items result }
+        ensures does { Does (board.votes place resource response self.old)
+            self.new lines.old.items lines.new.items result }
     {
         self.count(lines, resource, response)?;
         self.settle(lines, place)
@@ -524,7 +533,8 @@ impl Board {
         resource: u32,
         response: Response,
     ) -> Result<(), WorldFault>
-        ensures does { Does (board.goes_on_after word place resource response self.old) self.new lines.old.items lines.new.items result }
+        ensures does { Does (board.goes_on_after word place resource response self.old)
+            self.new lines.old.items lines.new.items result }
     {
         match word {
             Word::Prepare => {
@@ -542,7 +552,8 @@ impl Board {
         request: u32,
         response: Response,
     ) -> Result<(), WorldFault>
-        ensures does { Does (board.hears request response self.old) self.new lines.old.items lines.new.items result }
+        ensures does { Does (board.hears request response self.old)
+            self.new lines.old.items lines.new.items result }
     {
         let Some(message) = self.messages.get_mut(request.saturating_sub(1) as usize) else {
             return Ok(());
@@ -566,7 +577,8 @@ impl Board {
 
     /// A message reaches its receiver.
     fn act(&mut self, lines: &mut Vec<u8>, message: u32, content: Content) -> Result<(), WorldFault>
-        ensures does { Does (board.acts message content self.old) self.new lines.old.items lines.new.items result }
+        ensures does { Does (board.acts message content self.old)
+            self.new lines.old.items lines.new.items result }
     {
         match content {
             Content::Request { word, resource, .. } => self.obey(lines, message, resource, word),
@@ -623,7 +635,8 @@ fn tell_decided(
     transaction: Name,
     outcome: Outcome<Name>,
 ) -> Result<(), WorldFault>
-    ensures told { MatchResult result (λ _. Tells (Decide transaction outcome ∷ []) lines.old.items lines.new.items)
+    ensures told { MatchResult result (λ _. Tells (Decide transaction outcome ∷ [])
+        lines.old.items lines.new.items)
         (λ fault. (fault ≡ Memory) × TellsPart (Decide transaction outcome ∷ []) lines.old.items lines.new.items) }
 {
     tell(

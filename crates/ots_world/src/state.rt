@@ -107,7 +107,8 @@ impl State {
     /// `node N`.
     fn make_node(&mut self, lines: &mut Vec<u8>, name: &Name) -> Result<(), WorldFault>
         requires { IsIndexed self.old }
-        ensures carries { Carries (world.makes_node name.now (shown self.old)) (shown self.old) (shown self.new) lines.old.items lines.new.items result }
+        ensures carries { Carries (world.makes_node name.now (shown self.old))
+            (shown self.old) (shown self.new) lines.old.items lines.new.items result }
         ensures names { IsErrOf result faults.Names → self.new ≡ self.old }
         ensures indexed { OnOk result (IsIndexed self.new) }
     {
@@ -135,7 +136,8 @@ impl State {
     /// `end E`.
     fn make_end(&mut self, lines: &mut Vec<u8>, name: &Name) -> Result<(), WorldFault>
         requires { IsIndexed self.old }
-        ensures carries { Carries (world.makes_end name.now (shown self.old)) (shown self.old) (shown self.new) lines.old.items lines.new.items result }
+        ensures carries { Carries (world.makes_end name.now (shown self.old))
+            (shown self.old) (shown self.new) lines.old.items lines.new.items result }
         ensures names { IsErrOf result faults.Names → self.new ≡ self.old }
         ensures indexed { OnOk result (IsIndexed self.new) }
     {
@@ -169,7 +171,8 @@ impl State {
         seconds: u32,
     ) -> Result<(), WorldFault>
         requires { IsIndexed self.old }
-        ensures carries { Carries (world.begins node.now transaction.now seconds (shown self.old)) (shown self.old) (shown self.new) lines.old.items lines.new.items result }
+        ensures carries { Carries (world.begins node.now transaction.now seconds (shown self.old))
+            (shown self.old) (shown self.new) lines.old.items lines.new.items result }
         ensures names { IsErrOf result faults.Names → self.new ≡ self.old }
         ensures indexed { OnOk result (IsIndexed self.new) }
     {
@@ -192,7 +195,8 @@ impl State {
 
     /// Whether a transaction of that name and that time limit can begin.
     fn can_begin(&self, name: &Name, seconds: u32) -> bool
-        ensures { result ≡ (world.is_free (shown self.now) name.now && seconds == 0 && nat_lt (length self.now.board.transactions) transaction_limit) }
+        ensures { result ≡ (world.is_free (shown self.now) name.now && seconds == 0
+            && nat_lt (length self.now.board.transactions) transaction_limit) }
     {
         self.is_free(name) && seconds == 0 && self.board.transactions().len() < TRANSACTION_LIMIT
     }
@@ -206,7 +210,8 @@ impl State {
         resource: &Name,
     ) -> Result<(), WorldFault>
         requires { IsIndexed self.old }
-        ensures carries { Carries (world.registers transaction.now end.now resource.now (shown self.old)) (shown self.old) (shown self.new) lines.old.items lines.new.items result }
+        ensures carries { Carries (world.registers transaction.now end.now resource.now (shown self.old))
+            (shown self.old) (shown self.new) lines.old.items lines.new.items result }
         ensures names { IsErrOf result faults.Names → self.new ≡ self.old }
         ensures indexed { OnOk result (IsIndexed self.new) }
     {
@@ -236,7 +241,8 @@ impl State {
     /// `put G C V`.
     fn put(&mut self, resource: &Name, cell: u64, value: u64) -> Result<(), WorldFault>
         requires { IsIndexed self.old }
-        ensures carries { (lines : _) → Carries (world.puts resource.now cell value (shown self.old)) (shown self.old) (shown self.new) lines lines result }
+        ensures carries { (lines : _) → Carries (world.puts resource.now cell value (shown self.old))
+            (shown self.old) (shown self.new) lines lines result }
         ensures names { IsErrOf result faults.Names → self.new ≡ self.old }
         ensures indexed { OnOk result (IsIndexed self.new) }
     {
@@ -276,7 +282,8 @@ impl State {
     /// `refuse G`.
     fn refuse(&mut self, resource: &Name) -> Result<(), WorldFault>
         requires { IsIndexed self.old }
-        ensures carries { (lines : _) → Carries (world.refuses resource.now (shown self.old)) (shown self.old) (shown self.new) lines lines result }
+        ensures carries { (lines : _) → Carries (world.refuses resource.now (shown self.old))
+            (shown self.old) (shown self.new) lines lines result }
         ensures names { IsErrOf result faults.Names → self.new ≡ self.old }
         ensures indexed { OnOk result (IsIndexed self.new) }
     {
@@ -315,7 +322,8 @@ impl State {
         reports: bool,
     ) -> Result<(), WorldFault>
         requires { IsIndexed self.old }
-        ensures carries { Carries (world.commits transaction.now reports (shown self.old)) (shown self.old) (shown self.new) lines.old.items lines.new.items result }
+        ensures carries { Carries (world.commits transaction.now reports (shown self.old))
+            (shown self.old) (shown self.new) lines.old.items lines.new.items result }
         ensures names { IsErrOf result faults.Names → self.new ≡ self.old }
         ensures indexed { OnOk result (IsIndexed self.new) }
     {
@@ -358,7 +366,8 @@ impl State {
     /// `flow K`.
     fn flow(&mut self, lines: &mut Vec<u8>, count: u32) -> Result<(), WorldFault>
         requires { IsIndexed self.old }
-        ensures carries { Carries (world.flow count (shown self.old)) (shown self.old) (shown self.new) lines.old.items lines.new.items result }
+        ensures carries { Carries (world.flow count (shown self.old))
+            (shown self.old) (shown self.new) lines.old.items lines.new.items result }
         ensures names { IsErrOf result faults.Names → self.new ≡ self.old }
         ensures indexed { OnOk result (IsIndexed self.new) }
     {
@@ -374,7 +383,8 @@ impl State {
     #[tactic(auto, unfolding(crate::specs::World::step))]
     pub fn step(&mut self, event: &ScriptEvent, lines: &mut Vec<u8>) -> Result<(), WorldFault>
         requires { IsIndexed self.old }
-        ensures carries { Carries (world.step event.now (shown self.old)) (shown self.old) (shown self.new) lines.old.items lines.new.items result }
+        ensures carries { Carries (world.step event.now (shown self.old))
+            (shown self.old) (shown self.new) lines.old.items lines.new.items result }
         ensures names { IsErrOf result faults.Names → self.new ≡ self.old }
         ensures indexed { OnOk result (IsIndexed self.new) }
     {
@@ -443,8 +453,10 @@ fn tell_registered(
     end: &Name,
     resource: &Name,
 ) -> Result<(), WorldFault>
-    ensures told { MatchResult result (λ _. Tells (world.registered_lines message transaction.now end.now resource.now) lines.old.items lines.new.items)
-        (λ fault. (fault ≡ faults.Memory) × TellsPart (world.registered_lines message transaction.now end.now resource.now) lines.old.items lines.new.items) }
+    ensures told { MatchResult result (λ _. Tells (world.registered_lines message transaction.now end.now resource.now)
+        lines.old.items lines.new.items)
+        (λ fault. (fault ≡ faults.Memory) × TellsPart
+        (world.registered_lines message transaction.now end.now resource.now) lines.old.items lines.new.items) }
 {
     let operation = Operation::RegisterResource;
     tell(

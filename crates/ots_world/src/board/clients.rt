@@ -44,7 +44,8 @@ impl Board {
     /// A transaction of the node at a place is made. Its place is the answer.
     pub fn open(&mut self, alloc: Global, name: &Name, node: u32) -> Result<u32, WorldFault>
         requires few { length self.old.transactions < transaction_limit }
-        ensures ok { IfOk result (λ place. (place ≡ length self.old.transactions) × (self.new ≡ clients.opening name.now node self.old)) }
+        ensures ok { IfOk result (λ place. (place ≡ length self.old.transactions)
+            × (self.new ≡ clients.opening name.now node self.old)) }
         ensures err { IfErr result (λ fault. fault ≡ Memory) }
     {
         let place = self.transactions.len() as u32;
@@ -62,9 +63,11 @@ impl Board {
     /// A resource is registered as the last of the transaction at a place. The number of the client's call is the answer.
     pub fn register(&mut self, place: u32, resource: Resource) -> Result<u32, WorldFault>
         requires there { place < length self.old.transactions }
-        requires few { (t : Transaction) → slice_get self.old.transactions place ≡ Some t → length t.registrations < registration_limit }
+        requires few { (t : Transaction) → slice_get self.old.transactions place ≡ Some t →
+            length t.registrations < registration_limit }
         ensures ok { (t : Transaction) → slice_get self.old.transactions place ≡ Some t →
-            IfOk result (λ number. (number ≡ board.next_message self.old) × (self.new ≡ clients.registering place t resource self.old)) }
+            IfOk result (λ number. (number ≡ board.next_message self.old)
+            × (self.new ≡ clients.registering place t resource self.old)) }
         ensures err { IfErr result (λ fault. CannotSend self.old fault) }
     {
         if self.messages.len() >= MESSAGE_LIMIT {

@@ -38,7 +38,8 @@ pub(super) fn name(word: &[u8]) -> Option<Name>
 // The number that the digits write, where it is below 2^64.
 fn value_of_digits(digits: &[u8]) -> Option<u64>
     ensures { result
-        ≡ (if list_all is_digit digits.now && nat_lt (digits_value 10 digits.now) (2 ^ 64) then Some (digits_value 10 digits.now) else None) }
+        ≡ (if list_all is_digit digits.now && nat_lt (digits_value 10 digits.now) (2 ^ 64)
+        then Some (digits_value 10 digits.now) else None) }
 {
     let mut value = 0u64;
     for digit in digits {
