@@ -1,17 +1,17 @@
 -- What an append leaves of a journal that is kept.
-use Rattle.std.proofs.Common.{◌≡◌, inl, ℕ, ◌+◌, ◌*◌, ◌<◌, ◌≤◌, Bool, true, false, cond, ◌-◌, List, [], ◌∷◌, ◌++◌, length, take, Option, Some, None, refl, sym, ap, subst, ◌∙◌, arith, length-append}
+use Rattle.std.proofs.Common.{◌≡◌, inl, inr, ℕ, ◌+◌, ◌*◌, ◌<◌, ◌≤◌, Bool, true, false, cond, ◌-◌, List, [], ◌∷◌, ◌++◌, length, take, Option, Some, None, refl, sym, ap, subst, ◌∙◌, arith, length-append}
 use Rattle.std.specs.Prelude.{IsTrue, IfSome, nat_lt}
-use Rattle.ots_outside.specs.Disk.{DiskState, LeavesOnlySince, Tells}
+use Rattle.ots_outside.specs.Disk.{DiskState, LeavesOnly, LeavesOnlySince, Tells}
 use Rattle.decision_journal.specs.declared.record.JournalRecord.{JournalRecord}
 use Rattle.decision_journal.specs.Limits.{area_limit, standing_limit}
 use Rattle.decision_journal.specs.Layout.{Fits, record_octets}
-use Rattle.decision_journal.specs.Journal.{Found, can_follow, is_decision, front, AreRecords, IsFilled, StandsAt, StandsFor, StandsForEither}
+use Rattle.decision_journal.specs.Journal.{Found, can_follow, with_record, is_decision, front, AreRecords, IsFilled, StandsAt, StandsFor, StandsForEither}
 use Rattle.decision_journal.specs.Laws.{CanAppend, IsOnTheWay, IsSettled, appended, behind_gate}
 use Rattle.std.proofs.lemmas.List.{take_at}
-use Rattle.decision_journal.specs.State.{decisions, need, AppendIsDone, AppendIsSafe, IsAtRest, IsKept}
-use Rattle.decision_journal.proofs.Append.{append_safe, body, front_more, leaves_at}
-use Rattle.decision_journal.proofs.Images.{image_settled}
-use Rattle.decision_journal.proofs.OneList.{one_list}
+use Rattle.decision_journal.specs.State.{decisions, need, used, AppendIsDone, AppendIsSafe, BeginsWithEither, IsAtRest, IsKept, IsOldOrMore, IsSound, IsWithinArea, MayFind, MayHold}
+use Rattle.decision_journal.proofs.Append.{append_safe, body, front_more}
+use Rattle.decision_journal.proofs.Scans.{more_records}
+use Rattle.decision_journal.proofs.Since.{image_of, leaves_now, since_weaker}
 use Rattle.decision_journal.proofs.Ways.{on_the_way}
 
 pub stands_from : (service : ℕ) (octets c : List ℕ) (found : Found) (rs : List JournalRecord) → AreRecords service octets found rs → StandsAt octets c → StandsFor service c rs
@@ -45,18 +45,6 @@ module _ (service : ℕ) (octets : List ℕ) (found : Found) (item : JournalReco
   abbrev rs : List JournalRecord
   rs = filled.0
 
-  start : (s : DiskState) → IsAtRest octets s → AppendIsSafe service item s s
-  start s rest rs2 stands = record {
-    more = [];
-    moments = refl;
-    at_start = leaves_at (StandsForEither service rs2 item) s.present _ rest.settled (λ c image. inl (subst (λ l. StandsFor service l rs2) (sym (image_settled s.reads c image)) stands));
-    later = tt;
-  }
-
-  pub start_safe : (told : Option DiskState) → IfSome told (IsAtRest octets) → Tells told told (AppendIsSafe service item)
-  start_safe None rest = tt
-  start_safe (Some s) rest = start s rest
-
   module _ (fits : Fits item) (follows : IsTrue (can_follow found item)) (within : length octets + length (record_octets item) < area_limit) where
     abbrev End : DiskState → DiskState
     End s = appended (length octets) (behind_gate item) s
@@ -68,24 +56,44 @@ module _ (service : ℕ) (octets : List ℕ) (found : Found) (item : JournalReco
         (sym (ap length filled.1.octets_are))
         (append_safe service rs item s rest.settled (stands_from service octets s.reads found rs filled.1 rest.stands) (can_from service octets found rs item filled.1 fits follows within))
 
-    same : (s : DiskState) (rs2 : List JournalRecord) → IsAtRest octets s → StandsFor service s.reads rs2 → rs ≡ rs2
-    same s rs2 rest stands = one_list service s.reads rs rs2 (stands_from service octets s.reads found rs filled.1 rest.stands) stands
+    holds : (s : DiskState) → IsAtRest octets s → MayHold service s rs
+    holds s rest = record { image = s.reads; is_image = image_of s rest.settled; stands = stands_from service octets s.reads found rs filled.1 rest.stands }
 
-    on_way : (s t : DiskState) → IsAtRest octets s → IsOnTheWay s (End s) t → AppendIsSafe service item s t
-    on_way s t rest way rs2 stands =
-        subst (λ (l : List JournalRecord). LeavesOnlySince (StandsForEither service l item) s t) (same s rs2 rest stands) (on_the_way (StandsForEither service rs item) s (End s) t (whole s rest).0 way)
+    on_way : (s t : DiskState) → IsAtRest octets s → IsOnTheWay s (End s) t → LeavesOnlySince (StandsForEither service rs item) s t
+    on_way s t rest way = on_the_way (StandsForEither service rs item) s (End s) t (whole s rest).0 way
+
+    safe : (s t : DiskState) → IsAtRest octets s → IsOnTheWay s (End s) t → AppendIsSafe service item s t
+    safe s t rest way = since_weaker (StandsForEither service rs item) (IsOldOrMore service s item) s t (λ c either. (rs, (holds s rest, either))) (on_way s t rest way)
 
     pub way_safe : (told after : Option DiskState) → IfSome told (IsAtRest octets) → Tells told after (λ s t. IsOnTheWay s (End s) t) → Tells told after (AppendIsSafe service item)
     way_safe None None rest way = tt
     way_safe None (Some t) rest way = absurd way
     way_safe (Some s) None rest way = absurd way
-    way_safe (Some s) (Some t) rest way = on_way s t rest way
+    way_safe (Some s) (Some t) rest way = safe s t rest way
 
     is_done : (s t : DiskState) → IsAtRest octets s → t ≡ End s → AppendIsDone service item s t
-    is_done s t rest is rs2 stands =
+    is_done s t rest is =
         let w = whole s rest in
-        subst (λ (l : List JournalRecord). StandsFor service t.reads (l ++ item ∷ []) × IsSettled t) (same s rs2 rest stands)
-        (subst (λ (t : DiskState). StandsFor service t.reads (rs ++ item ∷ []) × IsSettled t) (sym is) (w.1, w.2))
+        record {
+          records = rs;
+          held = holds s rest;
+          stands = subst (λ (t : DiskState). StandsFor service t.reads (rs ++ item ∷ [])) (sym is) w.1;
+          settled = subst IsSettled (sym is) w.2;
+        }
+
+    front_is : octets ++ record_octets item ≡ front service (rs ++ item ∷ [])
+    front_is = ap (λ (l : List ℕ). l ++ record_octets item) filled.1.octets_are ∙ sym (front_more service rs item)
+
+    begins : (c : List ℕ) → StandsForEither service rs item c → BeginsWithEither octets (Some item) c
+    begins c (inl old) = inl (stands_back service octets c rs filled.1.octets_are old)
+    begins c (inr more) = inr (stands_back service (octets ++ record_octets item) c (rs ++ item ∷ []) front_is more)
+
+    -- and the record is in doubt, where a call was refused
+    pub doubt_kept : (told after : Option DiskState) → IfSome told (IsAtRest octets) → Tells told after (λ s t. IsOnTheWay s (End s) t) → IfSome after (λ t. LeavesOnly (BeginsWithEither octets (Some item)) t.present)
+    doubt_kept None None rest way = tt
+    doubt_kept None (Some t) rest way = absurd way
+    doubt_kept (Some s) None rest way = absurd way
+    doubt_kept (Some s) (Some t) rest way = λ c image. begins c (leaves_now (StandsForEither service rs item) s t (on_way s t rest way) c image)
 
     pub end_done : (told after : Option DiskState) → IfSome told (IsAtRest octets) → Tells told after (λ s t. t ≡ End s) → Tells told after (AppendIsDone service item)
     end_done None None rest is = tt
@@ -99,27 +107,50 @@ module _ (service : ℕ) (octets : List ℕ) (found : Found) (item : JournalReco
     end_kept (Some s) None rest is = absurd is
     end_kept (Some s) (Some t) rest is =
         let w = whole s rest in
-        let front_is : octets ++ record_octets item ≡ front service (rs ++ item ∷ []) = ap (λ (l : List ℕ). l ++ record_octets item) filled.1.octets_are ∙ sym (front_more service rs item) in
         subst (IsAtRest (octets ++ record_octets item)) (sym is) (record { settled = w.2; stands = stands_back service (octets ++ record_octets item) (End s).reads (rs ++ item ∷ []) front_is w.1 })
 
 -- what is kept of a journal that needn't read its disk again
-pub at_rest : (failed : Bool) (octets : List ℕ) (told : Option DiskState) → failed ≡ false → IsKept failed octets told → IfSome told (IsAtRest octets)
-at_rest true octets told e kept = absurd cc
-at_rest false octets told e kept = kept
+pub at_rest : (failed : Bool) (octets : List ℕ) (doubted : Option JournalRecord) (told : Option DiskState) → failed ≡ false → IsKept failed octets doubted told → IfSome told (IsAtRest octets)
+at_rest true octets doubted told e kept = absurd cc
+at_rest false octets None told e kept = kept
+at_rest false octets (Some r) told e kept = absurd kept
+
+pub no_doubt : (failed : Bool) (octets : List ℕ) (doubted : Option JournalRecord) (told : Option DiskState) → failed ≡ false → IsKept failed octets doubted told → doubted ≡ None
+no_doubt true octets doubted told e kept = absurd cc
+no_doubt false octets None told e kept = refl
+no_doubt false octets (Some r) told e kept = absurd kept
+
+-- what is known is what may be found
+pub known : (octets : List ℕ) (found : Found) (doubted : Option JournalRecord) → MayFind octets found doubted octets found
+known octets found None = (refl, refl)
+known octets found (Some r) = inl ((refl, refl))
+
+pub within_now : (told : Option DiskState) (area service : ℕ) (octets : List ℕ) (found : Found) (failed : Bool) (doubted : Option JournalRecord) → IsSound told area service octets found failed doubted → IsWithinArea area service octets found
+within_now told area service octets found failed doubted sound = sound.each octets found (known octets found doubted)
+
+-- with a record more, what may be found is within the area
+pub each_doubted : (area service : ℕ) (octets : List ℕ) (found : Found) (item : JournalRecord) → IsWithinArea area service octets found → area < area_limit + 1 → Fits item → IsTrue (can_follow found item)
+    → used (octets ++ record_octets item) (with_record found (length octets) item) ≤ area → IsWithinArea area service (octets ++ record_octets item) (with_record found (length octets) item)
+each_doubted area service octets found item now small fits follows room = record {
+  filled = more_records service (length octets) octets found (with_record found (length octets) item) item now.filled refl fits follows (omega (arith, room, small, length-append octets (record_octets item))) refl;
+  room = room;
+}
+
+same_within : (area service : ℕ) (octets more : List ℕ) (found after : Found) → more ≡ octets → after ≡ found → IsWithinArea area service octets found → IsWithinArea area service more after
+same_within area service octets more found after same_octets same_found now =
+    subst (λ (l : List ℕ). IsWithinArea area service l after) (sym same_octets) (subst (λ (f : Found). IsWithinArea area service octets f) (sym same_found) now)
+
+pub each_of : (area service : ℕ) (octets : List ℕ) (found : Found) (doubted : Option JournalRecord) → IsWithinArea area service octets found → IfSome doubted (λ r. IsWithinArea area service (octets ++ record_octets r) (with_record found (length octets) r))
+    → (more : List ℕ) (after : Found) → MayFind octets found doubted more after → IsWithinArea area service more after
+each_of area service octets found None now then more after may = same_within area service octets more found after may.0 may.1 now
+each_of area service octets found (Some r) now then more after (inl may) = same_within area service octets more found after may.0 may.1 now
+each_of area service octets found (Some r) now then more after (inr may) =
+    same_within area service (octets ++ record_octets r) more (with_record found (length octets) r) after may.0 may.1 then
 
 -- the same of a gate and of octets that are known
 pub retold : (told after : Option DiskState) (R : ℕ → List ℕ → DiskState → DiskState → Type 0) (g h : ℕ) (b d : List ℕ) → g ≡ h → b ≡ d → Tells told after (R g b) → Tells told after (R h d)
 retold told after R g h b d gate behind t =
     subst (λ (d : List ℕ). Tells told after (R h d)) behind (subst (λ (h : ℕ). Tells told after (R h b)) gate t)
-
--- a record for which there is room ends within the limit
-pub room_within : (area gate : ℕ) (found : Found) (r : JournalRecord) → gate + 1 + 10 * decisions found + need area found r ≤ area → area < area_limit + 1 → gate + length (record_octets r) < area_limit
-room_within area gate found r room small = by_kind (is_decision r) (nat_lt (decisions found) standing_limit) (length (record_octets r)) room
-  where
-    by_kind : (b d : Bool) (n : ℕ) → gate + 1 + 10 * decisions found + cond b (cond d (n + 10) (area + 1)) n ≤ area → gate + n < area_limit
-    by_kind true true n room = omega arith
-    by_kind true false n room = absurd (omega arith)
-    by_kind false d n room = omega arith
 
 -- the octets of a record, from those that were written behind its gate
 pub body_kept : (item : JournalRecord) (b : List ℕ) (n : ℕ) → b ≡ behind_gate item → n ≡ length b - 1 → 1 ∷ take n b ≡ record_octets item

@@ -11,3 +11,10 @@ pub mod Scans
 pub mod Pieces
 pub mod Few
 pub mod Kept
+pub mod Since
+pub mod Begins
+pub mod Using
+pub mod Writes
+pub mod Rereads
+pub mod Joined
+pub mod Starts

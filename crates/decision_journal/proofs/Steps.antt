@@ -1,6 +1,6 @@
 -- A record behind an open gate is read where there is one.
 use Rattle.std.proofs.Common.{◌≡◌, ℕ, ◌+◌, ◌-◌, ◌<◌, ◌≤◌, ◌^◌, Bool, true, false, ltb, List, ◌∷◌, ◌++◌, length, take, drop, Option, Some, None, refl, sym, ap, subst, ◌∙◌, arith, append_assoc, length-append, length-take}
-use Rattle.std.specs.Prelude.{IsTrue, IsErrOf, Err}
+use Rattle.std.specs.Prelude.{IsTrue, IsErrOf, OnOk, Result, Ok, Err, is_err}
 use Rattle.std.proofs.lemmas.Bool.{ltb-false, le-ltb}
 use Rattle.std.proofs.lemmas.List.{take_at, drop_at, take-append-drop}
 use Rattle.decision_journal.specs.declared.record.JournalRecord.{JournalRecord}
@@ -110,3 +110,7 @@ outside_read gate behind found item after are read bad =
 -- where it can't follow
 pub unfit_read : (gate : ℕ) (behind : List ℕ) (found : Found) (item : JournalRecord) (after : List ℕ) → body_at behind ≡ Some (item, after) → can_follow found item ≡ false → HasNoStep gate behind found
 unfit_read gate behind found item after read bad = other_read gate behind found item after read (λ more within follows. both_ways (can_follow found item) follows bad)
+
+pub ok_of : {T E P : Type 0} (r : Result T E) → is_err r ≡ false → OnOk r P → P
+ok_of (Ok x) e p = p
+ok_of (Err x) e p = absurd cc

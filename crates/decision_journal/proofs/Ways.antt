@@ -1,7 +1,8 @@
 -- A disk on its way through the calls of an append.
-use Rattle.std.proofs.Common.{◌≡◌, inl, inr, ℕ, zero, suc, ◌+◌, ◌≤◌, List, [], ◌∷◌, ◌++◌, length, length-append, drop, Option, Some, None, refl, ap, ◌∙◌, arith}
+use Rattle.std.proofs.Common.{◌≡◌, inl, inr, ℕ, zero, suc, ◌+◌, ◌≤◌, Bool, true, false, cond, sym, subst, List, [], ◌∷◌, ◌++◌, length, length-append, drop, Option, Some, None, refl, ap, ◌∙◌, arith}
 use Rattle.ots_outside.specs.Disk.{DiskState, Moment, IsImage, IsAfterRefusal, EachLeavesOnly, LeavesOnlySince, ReadsImage, Tells, moments, synced, written}
-use Rattle.decision_journal.specs.Laws.{IsOnTheWay, appended}
+use Rattle.std.specs.Option.{ForSome}
+use Rattle.decision_journal.specs.Laws.{IsOnTheWay, appended, cleared, is_letter_due}
 
 -- two calls, one after the other
 pub tells_then : (a b c : Option DiskState) (R S : DiskState → DiskState → Type 0) → Tells a b R → Tells b c S → Tells a c (λ s u. (t : DiskState) × R s t × S t u)
@@ -40,8 +41,8 @@ module _ (gate : ℕ) (behind : List ℕ) where
   refused_at : (s before done t : DiskState) (early late : ℕ) → early + length (moments s) ≤ length (moments (appended gate behind s)) → late + length (moments s) ≤ length (moments (appended gate behind s))
       → moments before ≡ drop early (moments (appended gate behind s)) → moments done ≡ drop late (moments (appended gate behind s)) → IsAfterRefusal before done t → Way s t
   refused_at s before done t early late le1 le2 m1 m2 h = elim h.moments [
-    | inl same ↦ record { left = early; within = le1; moments_are = same ∙ m1; image = h.image }
-    | inr same ↦ record { left = late; within = le2; moments_are = same ∙ m2; image = h.image }
+    | inl same ↦ record { left = early; within = le1; moments_are = same ∙ m1 }
+    | inr same ↦ record { left = late; within = le2; moments_are = same ∙ m2 }
   ]
 
   pub way_1 : (s t : DiskState) → IsAfterRefusal s (wrote s) t → Way s t
@@ -56,8 +57,8 @@ module _ (gate : ℕ) (behind : List ℕ) where
   pub way_4 : (s m t : DiskState) → m ≡ opened s → IsAfterRefusal m (synced m) t → Way s t
   way_4 s m t e h = refused_at s m (synced m) t 1 0 (omega arith) (omega arith) (ap moments e) (ap (λ (m : DiskState). moments (synced m)) e) h
 
-  pub way_5 : (s t : DiskState) → IsImage t.present t.reads → t ≡ appended gate behind s → Way s t
-  way_5 s t image e = record { left = 0; within = omega arith; moments_are = ap moments e; image = image }
+  pub way_5 : (s t : DiskState) → t ≡ appended gate behind s → Way s t
+  way_5 s t e = record { left = 0; within = omega arith; moments_are = ap moments e }
 
 -- what a crash leaves on the way to an end, it leaves up to the end
 each_dropped : (P : List ℕ → Type 0) (n : ℕ) (more : List Moment) → EachLeavesOnly P more → EachLeavesOnly P (drop n more)
@@ -77,3 +78,68 @@ on_the_way P start end now since way = record {
   at_start = since.at_start;
   later = each_dropped P way.left since.more since.later;
 }
+
+-- ---- a write and a sync, and several of them
+
+abbrev pub wrote_synced : ℕ → List ℕ → DiskState → DiskState
+wrote_synced place octets s = synced (written place octets s)
+
+module _ (place : ℕ) (octets : List ℕ) where
+  pub pair_first : (s t : DiskState) → IsAfterRefusal s (written place octets s) t → IsOnTheWay s (wrote_synced place octets s) t
+  pair_first s t h = elim h.moments [
+    | inl same ↦ record { left = 2; within = omega arith; moments_are = same }
+    | inr same ↦ record { left = 1; within = omega arith; moments_are = same }
+  ]
+
+  pub pair_second : (s m t : DiskState) → m ≡ written place octets s → IsAfterRefusal m (synced m) t → IsOnTheWay s (wrote_synced place octets s) t
+  pair_second s m t e h = elim h.moments [
+    | inl same ↦ record { left = 1; within = omega arith; moments_are = same ∙ ap moments e }
+    | inr same ↦ record { left = 0; within = omega arith; moments_are = same ∙ ap (λ (m : DiskState). moments (synced m)) e }
+  ]
+
+  pub pair_whole : (s t : DiskState) → t ≡ wrote_synced place octets s → IsOnTheWay s (wrote_synced place octets s) t
+  pair_whole s t e = record { left = 0; within = omega arith; moments_are = ap moments e }
+
+  -- on the way to what is written over
+  pub way_before : (s m t : DiskState) → IsOnTheWay s m t → IsOnTheWay s (wrote_synced place octets m) t
+  way_before s m t way = record { left = suc (suc way.left); within = omega (arith, way.within); moments_are = way.moments_are }
+
+pub way_behind : (s m end t : DiskState) → length (moments s) ≤ length (moments m) → IsOnTheWay m end t → IsOnTheWay s end t
+way_behind s m end t longer way = record { left = way.left; within = omega (arith, way.within, longer); moments_are = way.moments_are }
+
+cleared_by_longer : (b : Bool) (s : DiskState) → length (moments s) ≤ length (moments (cond b (synced (written 0 (0 ∷ []) s)) s))
+cleared_by_longer true s = omega arith
+cleared_by_longer false s = omega arith
+
+pub cleared_longer : (s : DiskState) → length (moments s) ≤ length (moments (cleared s))
+cleared_longer s = cleared_by_longer (is_letter_due s.reads) s
+
+pub cleared_due : (s : DiskState) → is_letter_due s.reads ≡ true → synced (written 0 (0 ∷ []) s) ≡ cleared s
+cleared_due s due = sym (ap (λ (b : Bool). cond b (synced (written 0 (0 ∷ []) s)) s) due)
+
+pub cleared_not_due : (s : DiskState) → is_letter_due s.reads ≡ false → s ≡ cleared s
+cleared_not_due s due = sym (ap (λ (b : Bool). cond b (synced (written 0 (0 ∷ []) s)) s) due)
+
+some_octets : (o : List ℕ) → is_letter_due o ≡ false → 1 ≤ length o
+some_octets [] e = absurd cc
+some_octets (x ∷ o) e = omega arith
+
+cleared_by_some : (b : Bool) (s : DiskState) → is_letter_due s.reads ≡ b → 1 ≤ length (cond b (synced (written 0 (0 ∷ []) s)) s).reads
+cleared_by_some true s e = omega arith
+cleared_by_some false s e = some_octets s.reads e
+
+pub cleared_some : (s : DiskState) → 1 ≤ length (cleared s).reads
+cleared_some s = cleared_by_some (is_letter_due s.reads) s refl
+
+none_some : (t : DiskState) → None ≡ Some t → ⊥
+none_some t e = absurd cc
+
+some_same : (t u : DiskState) → Some t ≡ Some u → t ≡ u
+some_same t u e = cc
+
+-- a state of a disk that tells its states
+pub for_told : (a b : Option DiskState) (R : DiskState → DiskState → Type 0) (P : DiskState → Type 0) → ((s t : DiskState) → R s t → P t) → Tells a b R → ForSome b P
+for_told None None R P f h = λ t e. absurd (none_some t e)
+for_told None (Some t) R P f h = absurd h
+for_told (Some s) None R P f h = absurd h
+for_told (Some s) (Some t) R P f h = λ u e. subst P (some_same t u e) (f s t h)

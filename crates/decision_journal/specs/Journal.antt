@@ -203,11 +203,11 @@ pub record StandsAt (before octets : List ℕ) : Type 0 where
   pub octets_are : octets ≡ before ++ gate ∷ behind
   pub closed : gate ≢ 1
 
--- why octets are not opened: they are too few for a journal, or stand for nothing
-abbrev pub IsOpenedFault : ℕ → List ℕ → JournalFault → Type 0
-IsOpenedFault service octets DiskFault = ⊥
-IsOpenedFault service octets (Full used need) = ⊥
-IsOpenedFault service octets (BadHeader place) = (length octets < 17) ⊎ IsOtherHeader service octets place
-IsOpenedFault service octets (BadRecord place) = IsBroken service octets place
-IsOpenedFault service octets LivesSpent = ⊥
-IsOpenedFault service octets Memory = Unit {0}
+-- why octets are not those that were expected: they stand for nothing, or begin otherwise
+abbrev pub IsOther : JournalFault → Type 0
+IsOther DiskFault = ⊥
+IsOther (Full used need) = ⊥
+IsOther (BadHeader place) = Unit {0}
+IsOther (BadRecord place) = Unit {0}
+IsOther LivesSpent = ⊥
+IsOther Memory = Unit {0}

@@ -1,7 +1,7 @@
 -- What a crash can leave of a journal (our profile). The calls of a disk in an append, in the creation of a journal, and in
 -- a load are written out; each image of each of their moments holds the records of before, or those and the new one.
 use Rattle.std.specs.Prelude.{◌≡◌, ℕ, ◌+◌, ◌<◌, ◌≤◌, List, [], ◌∷◌, ◌++◌, length, drop, ◌==◌, Bool, true, IsTrue, if◌then◌else◌}
-use Rattle.ots_outside.specs.Disk.{DiskState, IsImage, LeavesOnlySince, moments, synced, written}
+use Rattle.ots_outside.specs.Disk.{DiskState, LeavesOnlySince, moments, synced, written}
 use Rattle.decision_journal.specs.declared.record.JournalRecord.{JournalRecord}
 use Rattle.decision_journal.specs.Limits.{area_limit}
 use Rattle.decision_journal.specs.Layout.{record_octets, payload, Fits}
@@ -66,9 +66,8 @@ CreationsAreSafe = (service : ℕ) (disk : DiskState) → IsSettled disk → IsF
     → let after = created service (cleared disk) in
     LeavesOnlySince (λ c. Holds service c []) disk after × StandsFor service after.reads [] × IsSettled after
 
--- a disk on the way from a start to an end: it has the moments of the end, but the last ones, and reads one of its images
+-- a disk on the way from a start to an end: it has the moments of the end, but the last ones
 pub record IsOnTheWay (start end now : DiskState) : Type 0 where
   pub left : ℕ
   pub within : left + length (moments start) ≤ length (moments end)
   pub moments_are : moments now ≡ drop left (moments end)
-  pub image : IsImage now.present now.reads

@@ -4,3 +4,4 @@ pub mod Reading
 pub mod Journal
 pub mod Laws
 pub mod State
+pub mod Loading

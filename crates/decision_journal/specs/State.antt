@@ -1,18 +1,19 @@
--- A journal as its callers see it, and what an append answers (our profile).
-use Rattle.std.specs.Prelude.{◌≡◌, ℕ, ◌+◌, ◌*◌, ◌<◌, ◌⊎◌, Bool, true, false, nat_lt, if◌then◌else◌, List, [], ◌∷◌, ◌++◌, length, Option, IfSome}
-use Rattle.std.specs.List.{count_by}
-use Rattle.ots_outside.specs.Disk.{DiskState, LeavesOnlySince}
+-- A journal as its callers see it, and what its calls answer (our profile).
+use Rattle.std.specs.Prelude.{◌≡◌, ℕ, ◌+◌, ◌*◌, ◌<◌, ◌≤◌, ◌⊎◌, Bool, true, false, not, nat_lt, if◌then◌else◌, List, [], ◌∷◌, ◌++◌, length, Option, Some, None, IfSome, IsTrue}
+use Rattle.std.specs.List.{count_by, list_any}
+use Rattle.ots_outside.specs.Disk.{DiskState, IsImage, LeavesOnly, LeavesOnlySince}
 use Rattle.ots_outside.specs.Source.{HasRisen}
 use Rattle.decision_journal.specs.declared.journal.JournalFault.{JournalFault}
 use Rattle.decision_journal.specs.declared.journal.JournalFault.TheVariants.{DiskFault, Full, BadHeader, BadRecord, LivesSpent, Memory}
 use Rattle.decision_journal.specs.declared.record.JournalRecord.{JournalRecord}
+use Rattle.decision_journal.specs.declared.record.JournalRecord.TheVariants.{Done}
 use Rattle.decision_journal.specs.Limits.{area_limit, standing_limit}
-use Rattle.decision_journal.specs.Layout.{record_octets}
-use Rattle.decision_journal.specs.Journal.{Found, IsBroken, IsFilled, IsOtherHeader, StandsAt, StandsFor, StandsForEither, is_decision, with_record}
+use Rattle.decision_journal.specs.Layout.{Fits, record_octets}
+use Rattle.decision_journal.specs.Journal.{Found, IsFilled, StandsAt, StandsFor, StandsForEither, can_follow, is_decision, is_decision_at, with_record}
 use Rattle.decision_journal.specs.Laws.{IsSettled}
 
 -- a journal: its disk, how large its area is, its service, the octets before the gate at the end, what their records leave,
--- and whether the next call has to read the disk again
+-- whether the next call has to read the disk again, and the record that the failed call may have appended
 pub record JournalState (D : Type 0) : Type 0 where
   pub disk : D
   pub area : ℕ
@@ -20,22 +21,46 @@ pub record JournalState (D : Type 0) : Type 0 where
   pub octets : List ℕ
   pub found : Found
   pub failed : Bool
+  pub doubted : Option JournalRecord
+
+-- what reading the disk again may find: the octets that are known and what they leave, or these and the record in doubt
+abbrev pub MayFind : List ℕ → Found → Option JournalRecord → List ℕ → Found → Type 0
+MayFind octets found None more after = (more ≡ octets) × (after ≡ found)
+MayFind octets found (Some r) more after =
+    ((more ≡ octets) × (after ≡ found)) ⊎ ((more ≡ octets ++ record_octets r) × (after ≡ with_record found (length octets) r))
+
+-- what a journal may find
+abbrev pub MayHave : {D : Type 0} → JournalState D → List ℕ → Found → Type 0
+MayHave journal octets found = MayFind journal.octets journal.found journal.doubted octets found
+
+-- a record can follow whatever a journal may find
+abbrev pub MayFollow : {D : Type 0} → JournalState D → JournalRecord → Type 0
+MayFollow journal r = (octets : List ℕ) (found : Found) → MayHave journal octets found → IsTrue (can_follow found r)
 
 -- the disk reads these octets and a gate that isn't open, and all is synced
 pub record IsAtRest (octets : List ℕ) (disk : DiskState) : Type 0 where
   pub settled : IsSettled disk
   pub stands : StandsAt octets disk.reads
 
--- where the disk tells its state, and no call has failed since it was read, it is at rest
-abbrev pub IsKept : Bool → List ℕ → Option DiskState → Type 0
-IsKept true octets told = Unit {0}
-IsKept false octets told = IfSome told (IsAtRest octets)
+-- octets begin with those that are known and a gate that isn't open, or with these, the record in doubt, and such a gate
+abbrev pub BeginsWithEither : List ℕ → Option JournalRecord → List ℕ → Type 0
+BeginsWithEither octets None image = StandsAt octets image
+BeginsWithEither octets (Some r) image = StandsAt octets image ⊎ StandsAt (octets ++ record_octets r) image
 
--- what holds of a journal at any time
-pub record IsSound (told : Option DiskState) (area service : ℕ) (octets : List ℕ) (found : Found) (failed : Bool) : Type 0 where
-  pub filled : IsFilled service octets found
-  pub area_is : area < area_limit + 1
-  pub kept : IsKept failed octets told
+-- these octets and the record in doubt are more, with which an image begins
+abbrev pub IsDoubted : List ℕ → Option JournalRecord → List ℕ → List ℕ → Type 0
+IsDoubted octets doubted image more = (r : JournalRecord) × ((doubted ≡ Some r) × (more ≡ octets ++ record_octets r) × StandsAt more image)
+
+-- an image doesn't begin with these octets and the record in doubt
+abbrev pub IsNotDoubted : List ℕ → Option JournalRecord → List ℕ → Type 0
+IsNotDoubted octets doubted image = IfSome doubted (λ r. StandsAt (octets ++ record_octets r) image → ⊥)
+
+-- where the disk tells its state: if no call has failed since it was read, it is at rest; else a crash leaves what was
+-- known, or that and the record in doubt
+abbrev pub IsKept : Bool → List ℕ → Option JournalRecord → Option DiskState → Type 0
+IsKept true octets doubted told = IfSome told (λ disk. LeavesOnly (BeginsWithEither octets doubted) disk.present)
+IsKept false octets None told = IfSome told (IsAtRest octets)
+IsKept false octets (Some r) told = ⊥
 
 -- how many decisions and prepared records stand
 abbrev pub decisions : Found → ℕ
@@ -45,6 +70,18 @@ decisions found = count_by (λ s. is_decision s.item) found.standing
 abbrev pub used : List ℕ → Found → ℕ
 used octets found = length octets + 1 + 10 * decisions found
 
+-- octets are records that leave what was found, and what they use is within the area
+pub record IsWithinArea (area service : ℕ) (octets : List ℕ) (found : Found) : Type 0 where
+  pub filled : IsFilled service octets found
+  pub room : used octets found ≤ area
+
+-- what holds of a journal at any time
+pub record IsSound (told : Option DiskState) (area service : ℕ) (octets : List ℕ) (found : Found) (failed : Bool) (doubted : Option JournalRecord) : Type 0 where
+  pub each : (more : List ℕ) (after : Found) → MayFind octets found doubted more after → IsWithinArea area service more after
+  pub fits : IfSome doubted Fits
+  pub area_is : area < area_limit + 1
+  pub kept : IsKept failed octets doubted told
+
 -- the octets that a record needs: its own, and ten for its Done if it is a decision; where too many stand, none will do
 abbrev pub need : ℕ → Found → JournalRecord → ℕ
 need area found r =
@@ -52,48 +89,138 @@ need area found r =
     else length (record_octets r)
 
 -- why there is no room for a record behind so many octets
-abbrev pub IsRoomFault : ℕ → ℕ → Found → JournalRecord → JournalFault → Type 0
-IsRoomFault area gate found r DiskFault = ⊥
-IsRoomFault area gate found r (Full u n) = (u ≡ gate + 1 + 10 * decisions found) × (n ≡ need area found r) × (area < u + n)
-IsRoomFault area gate found r (BadHeader place) = ⊥
-IsRoomFault area gate found r (BadRecord place) = ⊥
-IsRoomFault area gate found r LivesSpent = ⊥
-IsRoomFault area gate found r Memory = Unit {0}
+abbrev pub IsRoomFault : ℕ → List ℕ → Found → JournalRecord → JournalFault → Type 0
+IsRoomFault area octets found r DiskFault = ⊥
+IsRoomFault area octets found r (Full u n) = (u ≡ used octets found) × (n ≡ need area found r) × (area < u + n)
+IsRoomFault area octets found r (BadHeader place) = ⊥
+IsRoomFault area octets found r (BadRecord place) = ⊥
+IsRoomFault area octets found r LivesSpent = ⊥
+IsRoomFault area octets found r Memory = Unit {0}
 
--- why a record was not appended, of a disk whose count of faults was and is so
-abbrev pub IsAppendFault : {D : Type 0} → JournalState D → JournalRecord → ℕ → ℕ → JournalFault → Type 0
-IsAppendFault journal r before after DiskFault = HasRisen before after
-IsAppendFault journal r before after (Full u n) =
-    (u ≡ used journal.octets journal.found) × (n ≡ need journal.area journal.found r) × (journal.area < u + n)
-IsAppendFault journal r before after (BadHeader place) = ⊥
-IsAppendFault journal r before after (BadRecord place) = ⊥
-IsAppendFault journal r before after LivesSpent = ⊥
-IsAppendFault journal r before after Memory = Unit {0}
+-- one of the disk's images stands for these records
+pub record MayHold (service : ℕ) (disk : DiskState) (rs : List JournalRecord) : Type 0 where
+  pub image : List ℕ
+  pub is_image : IsImage disk.present image
+  pub stands : StandsFor service image rs
 
--- the journal has this record behind those that it had
-pub record HasMore {D : Type 0} (before after : JournalState D) (r : JournalRecord) : Type 0 where
-  pub area : after.area ≡ before.area
-  pub service : after.service ≡ before.service
-  pub octets : after.octets ≡ before.octets ++ record_octets r
-  pub found : after.found ≡ with_record before.found (length before.octets) r
-  pub failed : after.failed ≡ false
+-- octets stand for records that the disk may hold
+abbrev pub IsOld : ℕ → DiskState → List ℕ → Type 0
+IsOld service disk octets = (rs : List JournalRecord) × (MayHold service disk rs × StandsFor service octets rs)
+
+-- octets stand for records that the disk may hold, or for these and one more
+abbrev pub IsOldOrMore : ℕ → DiskState → JournalRecord → List ℕ → Type 0
+IsOldOrMore service disk r octets = (rs : List JournalRecord) × (MayHold service disk rs × StandsForEither service rs r octets)
+
+-- a crash at any moment of a reading leaves the records of before
+abbrev pub ReadIsSafe : ℕ → DiskState → DiskState → Type 0
+ReadIsSafe service before after = LeavesOnlySince (IsOld service before) before after
 
 -- a crash at any moment of an append leaves the records of before, or these and the new one
 abbrev pub AppendIsSafe : ℕ → JournalRecord → DiskState → DiskState → Type 0
-AppendIsSafe service r before after = (rs : List JournalRecord) → StandsFor service before.reads rs
-    → LeavesOnlySince (StandsForEither service rs r) before after
+AppendIsSafe service r before after = LeavesOnlySince (IsOldOrMore service before r) before after
 
--- and once it is done, the new one is there
-abbrev pub AppendIsDone : ℕ → JournalRecord → DiskState → DiskState → Type 0
-AppendIsDone service r before after = (rs : List JournalRecord) → StandsFor service before.reads rs
-    → StandsFor service after.reads (rs ++ r ∷ []) × IsSettled after
+-- all is synced, and stands for records that the disk held
+pub record ReadIsDone (service : ℕ) (before after : DiskState) : Type 0 where
+  pub old : IsOld service before after.reads
+  pub settled : IsSettled after
 
--- why a disk was not opened, of octets that it reads where it tells them, and whose count of faults was and is so
-abbrev pub IsOpenFault : ℕ → Option DiskState → ℕ → ℕ → JournalFault → Type 0
-IsOpenFault service told before after DiskFault = HasRisen before after
-IsOpenFault service told before after (Full u n) = ⊥
-IsOpenFault service told before after (BadHeader place) =
-    IfSome told (λ s. (length s.reads < 17) ⊎ IsOtherHeader service s.reads place)
-IsOpenFault service told before after (BadRecord place) = IfSome told (λ s. IsBroken service s.reads place)
-IsOpenFault service told before after LivesSpent = ⊥
-IsOpenFault service told before after Memory = Unit {0}
+-- all is synced, and stands for records that the disk held and the new one
+pub record AppendIsDone (service : ℕ) (r : JournalRecord) (before after : DiskState) : Type 0 where
+  pub records : List JournalRecord
+  pub held : MayHold service before records
+  pub stands : StandsFor service after.reads (records ++ r ∷ [])
+  pub settled : IsSettled after
+
+-- the disk was read again: the journal has what it could find, and doubts nothing
+pub record HasReread {D : Type 0} (before after : JournalState D) : Type 0 where
+  pub area : after.area ≡ before.area
+  pub service : after.service ≡ before.service
+  pub known : MayHave before after.octets after.found
+  pub failed : after.failed ≡ false
+  pub doubted : after.doubted ≡ None
+
+-- the disk was not read again, and the journal knows and doubts what it did
+pub record IsUnread {D : Type 0} (before after : JournalState D) : Type 0 where
+  pub area : after.area ≡ before.area
+  pub service : after.service ≡ before.service
+  pub octets : after.octets ≡ before.octets
+  pub found : after.found ≡ before.found
+  pub doubted : after.doubted ≡ before.doubted
+  pub failed : after.failed ≡ true
+
+-- the record may have been appended to what the journal could find
+pub record IsUnsure {D : Type 0} (before : JournalState D) (r : JournalRecord) (after : JournalState D) : Type 0 where
+  pub area : after.area ≡ before.area
+  pub service : after.service ≡ before.service
+  pub known : MayHave before after.octets after.found
+  pub doubted : after.doubted ≡ Some r
+  pub failed : after.failed ≡ true
+
+-- a journal after a refused append: the disk was not read again, or nothing was written, or the record is in doubt
+abbrev pub IsAfterAppend : {D : Type 0} → JournalState D → JournalRecord → JournalState D → Type 0
+IsAfterAppend before r after = IsUnread before after ⊎ (HasReread before after ⊎ IsUnsure before r after)
+
+-- the record stands behind what the journal could find, at this place
+pub record HasMore {D : Type 0} (before after : JournalState D) (r : JournalRecord) (place : ℕ) : Type 0 where
+  pub octets : List ℕ
+  pub found : Found
+  pub known : MayHave before octets found
+  pub place_is : place ≡ length octets
+  pub area : after.area ≡ before.area
+  pub service : after.service ≡ before.service
+  pub octets_are : after.octets ≡ octets ++ record_octets r
+  pub found_is : after.found ≡ with_record found (length octets) r
+  pub failed : after.failed ≡ false
+  pub doubted : after.doubted ≡ None
+
+-- the record was appended at this place, and there was room for it
+pub record HasAppended {D : Type 0} (before after : JournalState D) (r : JournalRecord) (place : ℕ) : Type 0 where
+  pub more : HasMore before after r place
+  pub room : used more.octets more.found + need before.area more.found r ≤ before.area
+
+-- why a disk was not read again, of one that was and is so, and whose count of faults was and is so. One that tells its
+-- state reads what is expected
+abbrev pub IsReadFault : Option DiskState → ℕ → ℕ → JournalFault → Type 0
+IsReadFault told before after DiskFault = HasRisen before after
+IsReadFault told before after (Full u n) = ⊥
+IsReadFault told before after (BadHeader place) = told ≡ None
+IsReadFault told before after (BadRecord place) = told ≡ None
+IsReadFault told before after LivesSpent = ⊥
+IsReadFault told before after Memory = Unit {0}
+
+-- there was no room for a record behind what the journal could find
+pub record HasNoRoom {D : Type 0} (journal : JournalState D) (r : JournalRecord) (u n : ℕ) : Type 0 where
+  pub octets : List ℕ
+  pub found : Found
+  pub known : MayHave journal octets found
+  pub used_is : u ≡ used octets found
+  pub need_is : n ≡ need journal.area found r
+  pub more : journal.area < u + n
+
+-- why a record was not appended, to a disk that is so, and whose count of faults was and is so
+abbrev pub IsAppendFault : {D : Type 0} → JournalState D → JournalRecord → Option DiskState → ℕ → ℕ → JournalFault → Type 0
+IsAppendFault journal r told before after DiskFault = HasRisen before after
+IsAppendFault journal r told before after (Full u n) = HasNoRoom journal r u n
+IsAppendFault journal r told before after (BadHeader place) = told ≡ None
+IsAppendFault journal r told before after (BadRecord place) = told ≡ None
+IsAppendFault journal r told before after LivesSpent = ⊥
+IsAppendFault journal r told before after Memory = Unit {0}
+
+-- a Done of a record that stood was appended
+pub record HasDone {D : Type 0} (before after : JournalState D) (place : ℕ) : Type 0 where
+  pub at : ℕ
+  pub more : HasMore before after (Done place) at
+  pub stood : IsTrue (list_any (is_decision_at place) more.found.standing)
+
+-- no decision or prepared record stood at this place, and nothing was written
+pub record HasNone {D : Type 0} (before after : JournalState D) (place : ℕ) : Type 0 where
+  pub same : HasReread before after
+  pub none : IsTrue (not (list_any (is_decision_at place) after.found.standing))
+
+-- the record at this place is done, or didn't stand
+abbrev pub IsAfterDone : {D : Type 0} → JournalState D → JournalState D → ℕ → Type 0
+IsAfterDone before after place = HasDone before after place ⊎ HasNone before after place
+
+-- all is synced, and stands for records that the disk held, or for these and the Done
+abbrev pub DoneIsDone : ℕ → ℕ → DiskState → DiskState → Type 0
+DoneIsDone service place before after = AppendIsDone service (Done place) before after ⊎ (ReadIsSafe service before after × ReadIsDone service before after)

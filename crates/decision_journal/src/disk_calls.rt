@@ -1,10 +1,11 @@
 ghost use Rattle.std.specs.Prelude.{◌≡◌, ◌<◌, ◌≤◌, ◌+◌, ◌^◌, length, replicate, IsErrOf, OnOk, IfOk, IfSome};
 ghost use Rattle.std.specs.Option.{ForSome};
 ghost use Rattle.ots_outside.specs.declared.disk.DiskRefusal.TheVariants.{Failed};
-ghost use Rattle.ots_outside.specs.Disk.{IsAfterRefusal, ReadsImage, Tells, synced};
+ghost use Rattle.ots_outside.specs.Disk.{IsAfterRefusal, ReadsImage, Tells, synced, written};
 ghost use Rattle.ots_outside.specs.Source.{HasRisen};
-ghost use Rattle.decision_journal.specs.Laws.{IsOnTheWay, appended};
+ghost use Rattle.decision_journal.specs.Laws.{IsOnTheWay, appended, cleared, created, is_letter_due};
 
+use crate::scan::{FIRST_LETTER, behind_letter_of};
 use ots_outside::{Disk, DiskRefusal};
 use std::alloc::Global;
 
@@ -23,6 +24,50 @@ pub(crate) fn append_at<D: Disk>(disk: &mut D, gate: u64, behind: &[u8]) -> Resu
     disk.sync()?;
     disk.write_at(gate, &[1])?;
     disk.sync()
+}
+
+/// Writes octets from a place on, and syncs.
+fn write_and_sync<D: Disk>(disk: &mut D, place: u64, octets: &[u8]) -> Result<(), DiskRefusal>
+    requires { ForSome (D.told disk.old) (λ s. place ≤ length s.reads) }
+    ensures ok { OnOk result
+        (Tells (D.told disk.old) (D.told disk.new) (λ s t. t ≡ synced (written place octets.now s))) }
+    ensures way { Tells (D.told disk.old) (D.told disk.new)
+        (λ s t. IsOnTheWay s (synced (written place octets.now s)) t) }
+    ensures cause { IsErrOf result Failed → HasRisen (D.faults disk.old) (D.faults disk.new) }
+    ensures later { D.faults disk.old ≤ D.faults disk.new }
+{
+    disk.write_at(place, octets)?;
+    disk.sync()
+}
+
+/// Takes the first letter away, where that is due.
+fn clear_letter<D: Disk>(disk: &mut D, due: bool) -> Result<(), DiskRefusal>
+    requires { ForSome (D.told disk.old) (λ s. is_letter_due s.reads ≡ due) }
+    ensures ok { OnOk result (Tells (D.told disk.old) (D.told disk.new) (λ s t. t ≡ cleared s)) }
+    ensures way { Tells (D.told disk.old) (D.told disk.new) (λ s t. IsOnTheWay s (cleared s) t) }
+    ensures cause { IsErrOf result Failed → HasRisen (D.faults disk.old) (D.faults disk.new) }
+    ensures later { D.faults disk.old ≤ D.faults disk.new }
+{
+    if !due {
+        return Ok(());
+    }
+    write_and_sync(disk, 0, &[0])
+}
+
+/// Makes a disk that holds no records a journal without records.
+pub(crate) fn create_at<D: Disk>(disk: &mut D, service: u64, due: bool) -> Result<(), DiskRefusal>
+    requires { ForSome (D.told disk.old) (λ s. is_letter_due s.reads ≡ due) }
+    ensures ok { OnOk result
+        (Tells (D.told disk.old) (D.told disk.new) (λ s t. t ≡ created service (cleared s))) }
+    ensures way { Tells (D.told disk.old) (D.told disk.new)
+        (λ s t. IsOnTheWay s (created service (cleared s)) t) }
+    ensures cause { IsErrOf result Failed → HasRisen (D.faults disk.old) (D.faults disk.new) }
+    ensures later { D.faults disk.old ≤ D.faults disk.new }
+{
+    clear_letter(disk, due)?;
+    let behind = behind_letter_of(service);
+    write_and_sync(disk, 1, &behind)?;
+    write_and_sync(disk, 0, &[FIRST_LETTER])
 }
 
 /// How many octets are read at a time.

@@ -1,10 +1,10 @@
-ghost use Rattle.std.specs.Prelude.{◌≡◌, ◌+◌, ◌==◌, position, OnOk, OnErr};
+ghost use Rattle.std.specs.Prelude.{◌≡◌, ◌+◌, ◌==◌, position, OnOk, OnErr, IfErr};
 ghost use Rattle.std.specs.List.{list_any};
 ghost use Rattle.decision_journal.specs.Journal.{are_cells_at, can_follow, is_cells_prepared, is_decision, is_decision_at, nothing_found, taken_away, with_record};
 
 use crate::journal::Standing;
 use crate::record::JournalRecord;
-use std::alloc::{AllocError, Global};
+use std::alloc::Global;
 use std::marker::Model;
 
 /// What the records of a journal leave: the life, and what stands. Contracts see it as a `Found`.
@@ -56,17 +56,29 @@ impl Index {
         }
     }
 
-    /// Adds a record whose gate is at this place.
-    pub(crate) fn add(&mut self, place: u32, item: JournalRecord) -> Result<(), AllocError>
+    /// Adds a record whose gate is at this place, or gives it back where memory runs out.
+    pub(crate) fn add(&mut self, place: u32, item: JournalRecord) -> Result<(), JournalRecord>
         ensures ok { OnOk result (self.new ≡ with_record self.old place item) }
         ensures err { OnErr result (self.new ≡ self.old) }
+        ensures back { IfErr result (λ back. back ≡ item) }
     {
         match item {
             JournalRecord::Life(life) => self.life = life,
             JournalRecord::Done(named) => take_away(&mut self.standing, named),
-            item => self.standing.push(Standing { place, item })?,
+            item => {
+                if let Err(refused) = self.standing.push(Standing { place, item }) {
+                    return Err(refused.value.item);
+                }
+            }
         }
         Ok(())
+    }
+
+    /// Whether a decision or prepared record stands at this place.
+    pub(crate) fn stands(&self, place: u32) -> bool
+        ensures { result ≡ list_any (is_decision_at place) self.now.standing }
+    {
+        has_decision(&self.standing, place)
     }
 }
 

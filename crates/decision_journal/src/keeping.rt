@@ -1,15 +1,19 @@
-ghost use Rattle.std.specs.Prelude.{◌≡◌, ◌≤◌, ◌+◌, length, false, IsTrue, IfOk, IfErr, IfSome, OnOk};
-ghost use Rattle.decision_journal.specs.Layout.{Fits};
-ghost use Rattle.decision_journal.specs.Journal.{can_follow};
+ghost use Rattle.std.specs.Prelude.{◌≡◌, ◌≤◌, ◌+◌, ◌++◌, length, false, None, IsTrue, IfOk, IfErr, IfSome, OnOk, OnErr};
+ghost use Rattle.std.specs.List.{list_any};
+ghost use Rattle.std.specs.Option.{ForSome};
+ghost use Rattle.ots_outside.specs.Disk.{Tells};
+ghost use Rattle.decision_journal.specs.Layout.{Fits, record_octets};
+ghost use Rattle.decision_journal.specs.Laws.{IsSettled, behind_gate};
 ghost use Rattle.decision_journal.specs.Limits.{area_limit};
-ghost use Rattle.ots_outside.specs.Disk.{IsAfterRefusal, Tells, synced};
+ghost use Rattle.decision_journal.specs.Journal.{IsFilled, can_follow, is_decision_at, with_record};
 
 use crate::disk_calls::{append_at, read_whole};
 use crate::found::Index;
 use crate::journal::{JournalFault, Standing, fault_of};
+use crate::loading::start_within;
 use crate::record::JournalRecord;
-use crate::room::{keep, prepared};
-use crate::scan::opened;
+use crate::room::{add_doubted, doubt, drop_doubt, found_again, keep, prepared, written_behind};
+use crate::scan::{other, stands_at};
 use ots_outside::{Back, Disk};
 use std::alloc::Global;
 use std::marker::Model;
@@ -24,6 +28,7 @@ pub struct Journal<D: Disk> {
     octets: Vec<u8>,
     index: Index,
     failed: bool,
+    doubted: Option<JournalRecord>,
 }
 
 impl<D: Disk> Model for Journal<D> {
@@ -38,14 +43,16 @@ impl<D: Disk> Model for Journal<D> {
       octets = j.octets.items;
       found = j.index;
       failed = j.failed;
+      doubted = j.doubted;
     } };
 
-    ghost invariant = { λ j. IsSound (D.told j.disk) j.area j.service j.octets.items j.index j.failed };
+    ghost invariant = { λ j.
+        IsSound (D.told j.disk) j.area j.service j.octets.items j.index j.failed j.doubted };
 }
 
 impl<D: Disk> Journal<D> {
-    ghost use Rattle.decision_journal.specs.State.{AppendIsDone, AppendIsSafe, HasMore, IsAppendFault, IsAtRest, IsOpenFault, need, used};
-    ghost use Rattle.decision_journal.specs.Journal.{IsFilled};
+    ghost use Rattle.decision_journal.specs.Loading.{IsLoadFault, LoadIsDone, LoadIsSafe};
+    ghost use Rattle.decision_journal.specs.State.{AppendIsDone, AppendIsSafe, HasAppended, HasMore, HasReread, DoneIsDone, IsAfterAppend, IsAtRest, IsAfterDone, IsAppendFault, IsReadFault, IsRoomFault, IsUnread, IsUnsure, MayFollow, ReadIsDone, ReadIsSafe, need, used};
 
     /// Whether the next call reads the disk again.
     pub fn failed(&self) -> bool
@@ -68,14 +75,6 @@ impl<D: Disk> Journal<D> {
         self.index.standing()
     }
 
-    /// The octets before the gate at the end.
-    pub fn octets(&self) -> &[u8]
-        ensures octets { result.now ≡ self.now.octets }
-        ensures filled { IsFilled self.now.service result.now self.now.found }
-    {
-        self.octets.as_slice()
-    }
-
     /// The disk.
     pub fn disk(&self) -> &D
         ensures { result.now ≡ self.now.disk }
@@ -90,8 +89,163 @@ impl<D: Disk> Journal<D> {
         self.index.takes(item)
     }
 
-    /// Opens the journal that a disk holds: syncs the disk, and reads all of it. It writes nothing.
-    pub fn open(
+    /// Syncs the disk, and reads it again. Where a call had failed, this tells whether its record is there.
+    pub fn reopen(&mut self) -> Result<(), JournalFault>
+        ensures read { OnOk result (HasReread self.old self.new) }
+        ensures done { OnOk result
+            (Tells (D.told self.old.disk) (D.told self.new.disk) (ReadIsDone self.old.service)) }
+        ensures unread { OnErr result (IsUnread self.old self.new) }
+        ensures fault { IfErr result
+            (IsReadFault (D.told self.new.disk) (D.faults self.old.disk) (D.faults self.new.disk)) }
+        ensures later { D.faults self.old.disk ≤ D.faults self.new.disk }
+        ensures safe { Tells (D.told self.old.disk) (D.told self.new.disk) (ReadIsSafe self.old.service) }
+    {
+        self.failed = true;
+        let read = match read_whole(self.alloc, &mut self.disk) {
+            Ok(read) => read,
+            Err(refusal) => return Err(fault_of(refusal)),
+        };
+        if stands_at(&self.octets, &read) {
+            self.failed = false;
+            drop_doubt(&mut self.doubted);
+            return Ok(());
+        }
+        let found = found_again(self.alloc, &self.octets, &self.doubted, &read)?;
+        let more = match found {
+            Some(more) => more,
+            None => return Err(other(self.alloc, self.service, &self.octets, read)),
+        };
+        add_doubted(&mut self.index, self.octets.len() as u32, &mut self.doubted)?;
+        self.octets = more;
+        self.failed = false;
+        Ok(())
+    }
+
+    /// Reads the disk again where a call has failed.
+    fn ready(&mut self) -> Result<(), JournalFault>
+        ensures read { OnOk result (HasReread self.old self.new) }
+        ensures done { OnOk result
+            (Tells (D.told self.old.disk) (D.told self.new.disk) (ReadIsDone self.old.service)) }
+        ensures unread { OnErr result (IsUnread self.old self.new) }
+        ensures fault { IfErr result
+            (IsReadFault (D.told self.new.disk) (D.faults self.old.disk) (D.faults self.new.disk)) }
+        ensures later { D.faults self.old.disk ≤ D.faults self.new.disk }
+        ensures safe { Tells (D.told self.old.disk) (D.told self.new.disk) (ReadIsSafe self.old.service) }
+    {
+        if self.failed {
+            return self.reopen();
+        }
+        Ok(())
+    }
+
+    /// What an append writes behind the gate, where there is room for it.
+    fn prepared(&self, item: &JournalRecord) -> Result<Vec<u8>, JournalFault>
+        requires fits { Fits item.now }
+        requires kept { self.now.failed ≡ false }
+        ensures behind { IfOk result (λ behind. behind.items ≡ behind_gate item.now) }
+        ensures room { OnOk result (used self.now.octets self.now.found
+            + need self.now.area self.now.found item.now ≤ self.now.area) }
+        ensures within { OnOk result (used (self.now.octets ++ record_octets item.now)
+            (with_record self.now.found (length self.now.octets) item.now) ≤ self.now.area) }
+        ensures fault { IfErr result
+            (IsRoomFault self.now.area self.now.octets self.now.found item.now) }
+    {
+        prepared(self.alloc, self.area, &self.octets, &self.index, item)
+    }
+
+    /// Whether a decision or prepared record stands at this place. There is room for its Done.
+    fn stands(&self, place: u32) -> bool
+        requires kept { self.now.failed ≡ false }
+        ensures stands { result ≡ list_any (is_decision_at place) self.now.found.standing }
+        ensures within { IsTrue result → used (self.now.octets ++ record_octets (JournalRecord.Done place))
+            (with_record self.now.found (length self.now.octets) (JournalRecord.Done place)) ≤ self.now.area }
+    {
+        self.index.stands(place)
+    }
+
+    /// Writes a record behind the gate at the end, and then opens that gate.
+    fn write(&mut self, item: JournalRecord, behind: &[u8]) -> Result<u32, JournalFault>
+        requires kept { self.old.failed ≡ false }
+        requires behind { behind.now ≡ behind_gate item }
+        requires fits { Fits item }
+        requires follows { IsTrue (can_follow self.old.found item) }
+        requires within { used (self.old.octets ++ record_octets item)
+            (with_record self.old.found (length self.old.octets) item) ≤ self.old.area }
+        ensures more { IfOk result (HasMore self.old self.new item) }
+        ensures done { OnOk result
+            (Tells (D.told self.old.disk) (D.told self.new.disk) (AppendIsDone self.old.service item)) }
+        ensures unsure { OnErr result (IsUnsure self.old item self.new) }
+        ensures fault { IfErr result
+            (IsReadFault (D.told self.new.disk) (D.faults self.old.disk) (D.faults self.new.disk)) }
+        ensures later { D.faults self.old.disk ≤ D.faults self.new.disk }
+        ensures safe { Tells (D.told self.old.disk) (D.told self.new.disk) (AppendIsSafe self.old.service item) }
+    {
+        let gate = self.octets.len();
+        self.failed = true;
+        if let Err(refusal) = append_at(&mut self.disk, gate as u64, behind) {
+            doubt(&mut self.doubted, item);
+            return Err(fault_of(refusal));
+        }
+        let body = &behind[..behind.len() - 1];
+        if let Err(item) = keep(&mut self.octets, &mut self.index, body, item) {
+            doubt(&mut self.doubted, item);
+            return Err(JournalFault::Memory);
+        }
+        self.failed = false;
+        Ok(gate as u32)
+    }
+
+    /// Appends a record, and tells the place of its gate. Where a call has failed, the disk is read again first.
+    pub fn append(&mut self, item: JournalRecord) -> Result<u32, JournalFault>
+        requires fits { Fits item }
+        requires follows { MayFollow self.old item }
+        ensures more { IfOk result (HasAppended self.old self.new item) }
+        ensures done { OnOk result
+            (Tells (D.told self.old.disk) (D.told self.new.disk) (AppendIsDone self.old.service item)) }
+        ensures refused { OnErr result (IsAfterAppend self.old item self.new) }
+        ensures fault { IfErr result (IsAppendFault self.old item (D.told self.new.disk)
+            (D.faults self.old.disk) (D.faults self.new.disk)) }
+        ensures later { D.faults self.old.disk ≤ D.faults self.new.disk }
+        ensures safe { Tells (D.told self.old.disk) (D.told self.new.disk) (AppendIsSafe self.old.service item) }
+    {
+        self.ready()?;
+        let behind = self.prepared(&item)?;
+        self.write(item, &behind)
+    }
+
+    /// Appends a Done of the decision or prepared record at this place, where one stands; else it writes nothing. Where a
+    /// call has failed, the disk is read again first.
+    pub fn done(&mut self, place: u32) -> Result<(), JournalFault>
+        ensures after { OnOk result (IsAfterDone self.old self.new place) }
+        ensures done { OnOk result
+            (Tells (D.told self.old.disk) (D.told self.new.disk) (DoneIsDone self.old.service place)) }
+        ensures refused { OnErr result (IsAfterAppend self.old (JournalRecord.Done place) self.new) }
+        ensures fault { IfErr result
+            (IsReadFault (D.told self.new.disk) (D.faults self.old.disk) (D.faults self.new.disk)) }
+        ensures later { D.faults self.old.disk ≤ D.faults self.new.disk }
+        ensures safe { Tells (D.told self.old.disk) (D.told self.new.disk)
+            (AppendIsSafe self.old.service (JournalRecord.Done place)) }
+    {
+        self.ready()?;
+        if !self.stands(place) {
+            return Ok(());
+        }
+        let item = JournalRecord::Done(place);
+        let behind = written_behind(self.alloc, &item)?;
+        self.write(item, &behind)?;
+        Ok(())
+    }
+
+    /// Gives the disk back.
+    pub fn into_disk(self) -> D
+        ensures { result ≡ self.disk }
+    {
+        self.disk
+    }
+
+    /// Loads the journal that a disk holds, or makes one where there is none, and begins its next life. Where that is
+    /// refused, the disk comes back.
+    pub fn load(
         alloc: Global,
         mut disk: D,
         area: u64,
@@ -100,65 +254,40 @@ impl<D: Disk> Journal<D> {
         requires { area ≤ area_limit }
         ensures area { IfOk result (λ journal. journal.area ≡ area) }
         ensures service { IfOk result (λ journal. journal.service ≡ service) }
-        ensures kept { IfOk result (λ journal. journal.failed ≡ false) }
+        ensures failed { IfOk result (λ journal. journal.failed ≡ false) }
+        ensures doubted { IfOk result (λ journal. journal.doubted ≡ None) }
         ensures filled { IfOk result (λ journal. IsFilled service journal.octets journal.found) }
         ensures rest { IfOk result (λ journal. IfSome (D.told journal.disk) (IsAtRest journal.octets)) }
-        ensures synced { IfOk result
-            (λ journal. Tells (D.told disk) (D.told journal.disk) (λ s t. t ≡ synced s)) }
-        ensures back { IfErr result
-            (λ back. Tells (D.told disk) (D.told back.value) (λ s t. IsAfterRefusal s (synced s) t)) }
-        ensures fault { IfErr result
-            (λ back. IsOpenFault service (D.told back.value) (D.faults disk)
+        ensures done { IfOk result
+            (λ journal. Tells (D.told disk) (D.told journal.disk) (LoadIsDone service)) }
+        ensures safe_ok { IfOk result
+            (λ journal. Tells (D.told disk) (D.told journal.disk) (LoadIsSafe service)) }
+        ensures safe_err { IfErr result
+            (λ back. Tells (D.told disk) (D.told back.value) (LoadIsSafe service)) }
+        ensures fault { IfErr result (λ back. IsLoadFault area service (D.told disk) (D.faults disk)
             (D.faults back.value) back.fault) }
     {
-        let mut octets = match read_whole(alloc, &mut disk) {
-            Ok(octets) => octets,
-            Err(refusal) => {
-                return Err(Back {
-                    value: disk,
-                    fault: fault_of(refusal),
-                });
-            }
+        let start = match start_within(alloc, &mut disk, area, service) {
+            Ok(start) => start,
+            Err(fault) => return Err(Back { value: disk, fault }),
         };
-        match opened(alloc, service, &mut octets) {
-            Ok(index) => Ok(Journal {
-                alloc,
-                disk,
-                area,
-                service,
-                octets,
-                index,
-                failed: false,
+        let life = JournalRecord::Life(start.index.life() + 1);
+        let mut journal = Journal {
+            alloc,
+            disk,
+            area,
+            service,
+            octets: start.octets,
+            index: start.index,
+            failed: false,
+            doubted: None,
+        };
+        match journal.append(life) {
+            Ok(_) => Ok(journal),
+            Err(fault) => Err(Back {
+                value: journal.into_disk(),
+                fault,
             }),
-            Err(fault) => Err(Back { value: disk, fault }),
         }
-    }
-
-    /// Appends a record, and tells the place of its gate. After a fault of the disk `failed` is true, and
-    /// nothing can be appended.
-    pub fn append(&mut self, item: JournalRecord) -> Result<u32, JournalFault>
-        requires kept { self.old.failed ≡ false }
-        requires fits { Fits item }
-        requires follows { IsTrue (can_follow self.old.found item) }
-        ensures place { IfOk result (λ place. place ≡ length self.old.octets) }
-        ensures more { OnOk result (HasMore self.old self.new item) }
-        ensures room { OnOk result (used self.old.octets self.old.found
-            + need self.old.area self.old.found item ≤ self.old.area) }
-        ensures fault { IfErr result
-            (IsAppendFault self.old item (D.faults self.old.disk) (D.faults self.new.disk)) }
-        ensures safe { Tells (D.told self.old.disk) (D.told self.new.disk) (AppendIsSafe self.old.service item) }
-        ensures done { OnOk result
-            (Tells (D.told self.old.disk) (D.told self.new.disk) (AppendIsDone self.old.service item)) }
-    {
-        let gate = self.octets.len();
-        let behind = prepared(self.alloc, self.area, gate, &self.index, &item)?;
-        self.failed = true;
-        if let Err(refusal) = append_at(&mut self.disk, gate as u64, &behind) {
-            return Err(fault_of(refusal));
-        }
-        let body = &behind[..behind.len() - 1];
-        keep(&mut self.octets, &mut self.index, gate as u32, body, item)?;
-        self.failed = false;
-        Ok(gate as u32)
     }
 }

@@ -13,6 +13,7 @@ mod found;
 mod journal;
 mod keeping;
 mod laws;
+mod loading;
 mod reading;
 mod record;
 mod room;

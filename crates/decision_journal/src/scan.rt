@@ -1,7 +1,8 @@
-ghost use Rattle.std.specs.Prelude.{◌≡◌, ◌<◌, ◌++◌, ◌↔◌, IsTrue, length, drop, IfOk, IfErr, IfSome, IfNone, OnOk, IsErrOf};
+ghost use Rattle.std.specs.Prelude.{◌≡◌, ◌<◌, ◌≤◌, ◌^◌, ◌++◌, ◌↔◌, IsTrue, length, drop, IfOk, IfErr, IfSome, IfNone, OnOk, IsErrOf};
 ghost use Rattle.decision_journal.specs.declared.reading.ReadFault.TheVariants.{NoRecord};
 ghost use Rattle.decision_journal.specs.Limits.{area_limit};
-ghost use Rattle.decision_journal.specs.Journal.{HasNoStep, IsFilled, IsOpenedFault, IsOtherHeader, IsScanFault, IsScanned, IsStep, IsWithin, StandsAt, header, nothing_found};
+ghost use Rattle.decision_journal.specs.Laws.{behind_letter, is_letter_due};
+ghost use Rattle.decision_journal.specs.Journal.{HasNoStep, IsFilled, IsFresh, IsOther, IsOtherHeader, IsScanFault, IsScanned, IsStep, IsWithin, StandsAt, header, nothing_found};
 
 use crate::found::Index;
 use crate::journal::JournalFault;
@@ -30,7 +31,9 @@ fn step<'a>(
     if !index.takes(&item) {
         return Err(ReadFault::NoRecord);
     }
-    index.add(gate as u32, item)?;
+    if index.add(gate as u32, item).is_err() {
+        return Err(ReadFault::Memory);
+    }
     Ok(rest)
 }
 
@@ -82,6 +85,38 @@ pub(crate) fn header_of(service: u64) -> [u8; HEADER_LENGTH]
     octets
 }
 
+/// What the header of a journal begins with, once the journal is there.
+pub(crate) const FIRST_LETTER: u8 = b'O';
+
+/// All octets of an empty journal, but the first letter.
+pub(crate) fn behind_letter_of(service: u64) -> [u8; HEADER_LENGTH]
+    ensures { result ≡ behind_letter service }
+{
+    let mut octets = [b'T', b'S', b'J', 0, 0, 0, 1, 0, 0, 0, 0, 0, 0, 0, 0, 0];
+    BigEndian::write_u64(&mut octets[7..15], service);
+    octets
+}
+
+/// Whether octets are not yet a journal.
+pub(crate) fn is_fresh(octets: &[u8]) -> bool
+    ensures { IsTrue result ↔ IsFresh octets.now }
+{
+    if octets.len() <= HEADER_LENGTH {
+        return true;
+    }
+    octets.len() == HEADER_LENGTH + 1 && octets[0] != FIRST_LETTER
+}
+
+/// Whether the first letter stands there, or nothing does.
+pub(crate) fn is_due(octets: &[u8]) -> bool
+    ensures { result ≡ is_letter_due octets.now }
+{
+    match octets {
+        [] => true,
+        [first, ..] => *first == FIRST_LETTER,
+    }
+}
+
 /// The place where the header is another, if it is.
 fn other_header(service: u64, octets: &[u8]) -> Option<u32>
     requires { 16 < length octets.now }
@@ -95,6 +130,17 @@ fn other_header(service: u64, octets: &[u8]) -> Option<u32>
         }
     }
     None
+}
+
+/// Whether octets begin with these, and then comes a gate that isn't open.
+pub(crate) fn stands_at(before: &[u8], octets: &[u8]) -> bool
+    ensures { IsTrue result ↔ StandsAt before.now octets.now }
+{
+    let gate = before.len();
+    if octets.len() <= gate {
+        return false;
+    }
+    octets[..gate] == before[..] && octets[gate] != OPEN
 }
 
 /// Reads the records of octets, and leaves those before the gate at the end.
@@ -118,18 +164,32 @@ pub(crate) fn filled(
     Ok(index)
 }
 
-/// Reads the records of octets, where these are a journal, and leaves those before the gate at the end.
-pub(crate) fn opened(
-    alloc: Global,
-    service: u64,
-    octets: &mut Vec<u8>,
-) -> Result<Index, JournalFault>
-    ensures filled { IfOk result (IsFilled service octets.new.items) }
-    ensures stands { OnOk result (StandsAt octets.new.items octets.old.items) }
-    ensures fault { IfErr result (IsOpenedFault service octets.old.items) }
+/// Why octets that were read are not those that are known: they stand for nothing, or the first place that differs.
+pub(crate) fn other(alloc: Global, service: u64, known: &[u8], mut read: Vec<u8>) -> JournalFault
+    requires { length known.now < 2 ^ 32 }
+    ensures { IsOther result }
 {
-    if octets.len() <= HEADER_LENGTH {
-        return Err(JournalFault::BadHeader(octets.len() as u32));
+    let place = first_other(known, &read);
+    if read.len() > HEADER_LENGTH {
+        if let Err(fault) = filled(alloc, service, &mut read) {
+            return fault;
+        }
     }
-    filled(alloc, service, octets)
+    if place < HEADER_LENGTH {
+        JournalFault::BadHeader(place as u32)
+    } else {
+        JournalFault::BadRecord(place as u32)
+    }
+}
+
+/// The first place at which octets are not those that are known.
+fn first_other(known: &[u8], read: &[u8]) -> usize
+    ensures { result ≤ length known.now }
+{
+    for (place, octet) in known.iter().enumerate() {
+        if read.get(place) != Some(octet) {
+            return place;
+        }
+    }
+    known.len()
 }

@@ -1,5 +1,5 @@
 use crate::{Journal, JournalFault, JournalRecord};
-use ots_outside::MemDisk;
+use ots_outside::{Back, MemDisk};
 use std::alloc::Global;
 use std::test::Fail;
 
@@ -22,23 +22,33 @@ const FINISHED: [u8; 323] = [
 /// How many of its octets stand before the Done's gate.
 const DECIDED: usize = 312;
 
-fn open(
+fn load(
     alloc: Global,
     octets: &[u8],
     failing: Vec<u64>,
-) -> Result<Result<Journal<MemDisk>, JournalFault>, Fail> {
+) -> Result<Result<Journal<MemDisk>, Back<MemDisk, JournalFault>>, Fail> {
     let disk = MemDisk::new(alloc, octets.to_vec(alloc)?, failing)?;
-    Ok(Journal::open(alloc, disk, 400, 1).map_err(|back| back.fault))
+    Ok(Journal::load(alloc, disk, 400, 1))
+}
+
+/// The journal that octets are, after the next life began.
+fn loaded(alloc: Global, octets: &[u8]) -> Result<Journal<MemDisk>, Fail> {
+    Ok(
+        load(alloc, octets, Vec::new(alloc))?
+            .ok()
+            .ok_or("the octets are a journal")?,
+    )
 }
 
 #[test]
 fn a_finished_journal_has_nothing_standing(rt: HostRuntime) -> Result<(), Fail> {
-    let journal = open(rt.alloc(), &FINISHED, Vec::new(rt.alloc()))?
-        .ok()
-        .ok_or("the octets are a journal")?;
-    assert_eq!(rt; journal.life(), 1);
+    let journal = loaded(rt.alloc(), &FINISHED)?;
+    assert_eq!(rt; journal.life(), 2);
     assert!(rt; journal.standing().is_empty());
-    assert_eq!(rt; journal.octets(), &FINISHED[..322]);
+    let octets = journal.disk().octets();
+    assert_eq!(rt; octets.len(), 333);
+    assert!(rt; octets.starts_with(&FINISHED[..322]));
+    assert!(rt; octets.ends_with(&[1, 0, 0, 0, 5, 1, 0, 0, 0, 2, 0]));
     Ok(())
 }
 
@@ -46,9 +56,7 @@ fn a_finished_journal_has_nothing_standing(rt: HostRuntime) -> Result<(), Fail> 
 fn a_decision_stands_until_its_done(rt: HostRuntime) -> Result<(), Fail> {
     let mut octets = FINISHED[..DECIDED].to_vec(rt.alloc())?;
     octets.push(0)?;
-    let journal = open(rt.alloc(), &octets, Vec::new(rt.alloc()))?
-        .ok()
-        .ok_or("the octets are a journal")?;
+    let mut journal = loaded(rt.alloc(), &octets)?;
     for standing in journal.standing() {
         assert_eq!(rt; standing.place, 26);
         match &standing.item {
@@ -62,6 +70,21 @@ fn a_decision_stands_until_its_done(rt: HostRuntime) -> Result<(), Fail> {
         }
     }
     assert_eq!(rt; journal.standing().len(), 1);
+    assert_eq!(rt; journal.done(16), Ok(()));
+    assert_eq!(rt; journal.standing().len(), 1);
+    assert_eq!(rt; journal.disk().octets().len(), 323);
+    assert_eq!(rt; journal.done(26), Ok(()));
+    assert!(rt; journal.standing().is_empty());
+    assert_eq!(rt; journal.disk().octets().len(), 333);
+    assert_eq!(rt; journal.reopen(), Ok(()));
+    Ok(())
+}
+
+#[test]
+fn an_empty_disk_is_made_a_journal(rt: HostRuntime) -> Result<(), Fail> {
+    let journal = loaded(rt.alloc(), &[])?;
+    assert!(rt; journal.disk().octets().starts_with(&FINISHED[..26]));
+    assert_eq!(rt; journal.disk().octets().len(), 27);
     Ok(())
 }
 
@@ -82,7 +105,7 @@ fn garbage_is_refused_at_its_place(rt: HostRuntime) -> Result<(), Fail> {
         (0, 88, 323, JournalFault::BadHeader(0)),
         (7, 2, 323, JournalFault::BadHeader(7)),
         (15, 2, 323, JournalFault::BadHeader(15)),
-        (0, 79, 16, JournalFault::BadHeader(16)),
+        (15, 2, 17, JournalFault::BadHeader(15)),
         (25, 2, 323, JournalFault::BadRecord(16)),
         (21, 8, 323, JournalFault::BadRecord(16)),
         (48, 2, 323, JournalFault::BadRecord(26)),
@@ -92,47 +115,43 @@ fn garbage_is_refused_at_its_place(rt: HostRuntime) -> Result<(), Fail> {
     ];
     for (place, octet, length, fault) in table {
         let octets = altered(rt.alloc(), place, octet, length)?;
-        let opened = open(rt.alloc(), &octets, Vec::new(rt.alloc()))?;
-        assert_eq!(rt; opened.err(), Some(fault));
+        let answer = load(rt.alloc(), &octets, Vec::new(rt.alloc()))?;
+        assert_eq!(rt; answer.err().map(|back| back.fault), Some(fault));
     }
     Ok(())
 }
 
-/// Appends the first life to an empty journal on a disk of which a call fails. Gives the octets that the disk then reads.
+/// Loads an empty disk of which a call fails, then appends the Done of nothing. Gives the octets that the disk then reads.
 fn octets_after(alloc: Global, call: u64) -> Result<Vec<u8>, Fail> {
-    let mut empty = FINISHED[..17].to_vec(alloc)?;
-    empty[16] = 9;
     let failing = vec![in alloc; call]?;
-    match open(alloc, &empty, failing)? {
-        Ok(mut journal) => {
-            let life = JournalRecord::Life(1);
-            if !journal.failed() && journal.takes(&life) {
-                journal.append(life).ok();
-            }
-            Ok(journal.disk().octets().to_vec(alloc)?)
-        }
-        Err(_) => Ok(empty),
+    match load(alloc, &[], failing)? {
+        Ok(journal) => Ok(journal.disk().octets().to_vec(alloc)?),
+        Err(back) => Ok(back.value.octets().to_vec(alloc)?),
     }
 }
 
 #[test]
 fn each_call_of_the_disk_may_fail(rt: HostRuntime) -> Result<(), Fail> {
-    // The call that fails, from 0, and the life that is found then. The last one is none.
+    // The call that fails, from 0, and the life that the next load begins: the first life was there from the write of its
+    // gate on.
     let table = [
-        (0, 0),
-        (1, 0),
-        (2, 0),
-        (3, 0),
-        (4, 0),
-        (5, 0),
+        (0, 1),
+        (1, 1),
+        (2, 1),
+        (3, 1),
+        (4, 1),
+        (5, 1),
         (6, 1),
         (7, 1),
+        (8, 1),
+        (9, 1),
+        (10, 1),
+        (11, 2),
+        (12, 2),
     ];
     for (call, life) in table {
         let octets = octets_after(rt.alloc(), call)?;
-        let journal = open(rt.alloc(), &octets, Vec::new(rt.alloc()))?
-            .ok()
-            .ok_or("the octets are a journal")?;
+        let journal = loaded(rt.alloc(), &octets)?;
         assert_eq!(rt; journal.life(), life);
     }
     Ok(())

@@ -1,6 +1,6 @@
 use Rattle.std.proofs.Common.{◌∙◌, sym, arith}
 use Rattle.std.proofs.lemmas.Result.{err_from_is_err_and}
-use Rattle.decision_journal.proofs.Steps.{failed_read, outside_read, unfit_read, both_ways, is_step}
+use Rattle.decision_journal.proofs.Steps.{failed_read, outside_read, unfit_read, both_ways, is_step, ok_of}
 use Rattle.decision_journal.proofs.scan.step.Goals as goal
 
 pub returns-in_err-item-clause-none : goal.returns-in_err-item-clause-none
@@ -21,4 +21,4 @@ pub returns-clause-next : goal.returns-clause-next
 returns-clause-next c =
     let w = c.is_within.ensures.0 c.if-not-is_within.false in
     is_step c.args.behind.now c.in_ok-item.item c.in_ok-item.rest.now (λ i. omega (arith, c.type_inv.behind i)) c.in_ok-item.ensures c.args.gate c.args.index.now c.add.new.self
-    w.0 w.1 (sym c.takes.ensures ∙ c.if-not-takes.false) c.in_ok-add.ensures.ok
+    w.0 w.1 (sym c.takes.ensures ∙ c.if-not-takes.false) (ok_of c.add.result (sym c.is_err.ensures.value ∙ c.if-is_err.false) c.add.ensures.ok)

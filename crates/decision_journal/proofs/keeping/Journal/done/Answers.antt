@@ -1,0 +1,39 @@
+use Rattle.std.proofs.Common.{◌≡◌, ◌∙◌, ◌+◌, ◌≤◌, ℕ, List, Option, Some, None, inl, inr, ap, sym, subst, arith, length, refl}
+use Rattle.std.proofs.lemmas.Result.{err_from_is_err_and, on_ok_weaker, IfOk-weaker}
+use Rattle.decision_journal.specs.declared.record.JournalRecord.{JournalRecord}
+use Rattle.decision_journal.specs.declared.record.JournalRecord.TheVariants.{Done}
+use Rattle.decision_journal.specs.State.{AppendIsDone, AppendIsSafe}
+use Rattle.decision_journal.proofs.Joined.{read_only, safe_then, done_then, done_written, done_unwritten, at_service, more_then, appended_then, has_done, if_err_weaker, read_fault_then, append_fault}
+use Rattle.decision_journal.proofs.keeping.Journal.done.Goals as goal
+
+pub returns-in_err-ready-clause-safe : goal.returns-in_err-ready-clause-safe
+returns-in_err-ready-clause-safe g c =
+    read_only c.args.self.now.service (Done c.args.place) (g.D.Disk.told c.args.self.now.disk) (g.D.Disk.told c.ready.new.self.disk) c.ready.ensures.safe
+
+pub returns-then-not-stands-clause-safe : goal.returns-then-not-stands-clause-safe
+returns-then-not-stands-clause-safe g c =
+    read_only c.args.self.now.service (Done c.args.place) (g.D.Disk.told c.args.self.now.disk) (g.D.Disk.told c.ready.new.self.disk) c.ready.ensures.safe
+
+pub returns-in_err-behind-clause-safe : goal.returns-in_err-behind-clause-safe
+returns-in_err-behind-clause-safe g c =
+    read_only c.args.self.now.service (Done c.args.place) (g.D.Disk.told c.args.self.now.disk) (g.D.Disk.told c.ready.new.self.disk) c.ready.ensures.safe
+
+pub returns-in_err-write-clause-safe : goal.returns-in_err-write-clause-safe
+returns-in_err-write-clause-safe g c =
+    safe_then c.args.self.now.service (Done c.args.place) (g.D.Disk.told c.args.self.now.disk) (g.D.Disk.told c.ready.new.self.disk) (g.D.Disk.told c.write.new.self.disk) c.ready.ensures.safe c.in_ok-ready.ensures.done (at_service (λ n. AppendIsSafe n (Done c.args.place)) _ _ _ _ c.in_ok-ready.ensures.read.service c.write.ensures.safe)
+
+pub returns-clause-safe : goal.returns-clause-safe
+returns-clause-safe g c =
+    safe_then c.args.self.now.service (Done c.args.place) (g.D.Disk.told c.args.self.now.disk) (g.D.Disk.told c.ready.new.self.disk) (g.D.Disk.told c.write.new.self.disk) c.ready.ensures.safe c.in_ok-ready.ensures.done (at_service (λ n. AppendIsSafe n (Done c.args.place)) _ _ _ _ c.in_ok-ready.ensures.read.service c.write.ensures.safe)
+
+pub returns-clause-done : goal.returns-clause-done
+returns-clause-done g c =
+    done_written c.args.self.now.service c.args.place _ _ (done_then c.args.self.now.service (Done c.args.place) (g.D.Disk.told c.args.self.now.disk) (g.D.Disk.told c.ready.new.self.disk) (g.D.Disk.told c.write.new.self.disk) c.in_ok-ready.ensures.done (at_service (λ n. AppendIsDone n (Done c.args.place)) _ _ _ _ c.in_ok-ready.ensures.read.service c.in_ok-write.ensures.done))
+
+pub returns-in_err-write-clause-fault : goal.returns-in_err-write-clause-fault
+returns-in_err-write-clause-fault g c =
+    let p = err_from_is_err_and c.from_residual-in_err-write.result c.from_residual-in_err-write.ensures.1 in rw (p.1, p.2) (read_fault_then _ _ _ _ c.ready.ensures.later c.write.ensures.later _ c.in_err-write.ensures.fault)
+
+pub returns-clause-after : goal.returns-clause-after
+returns-clause-after g c =
+    inl (has_done c.args.self.now c.ready.new.self c.write.new.self c.args.place _ c.in_ok-ready.ensures.read c.in_ok-write.ensures.more (sym c.stands.ensures.stands ∙ c.if-not-stands.false))

@@ -1,0 +1,58 @@
+use Rattle.std.proofs.Common.{◌≡◌, ◌∙◌, ℕ, List, Option, Some, None, ap, sym, subst, arith, length, refl}
+use Rattle.std.specs.Prelude.{IsTrue}
+use Rattle.decision_journal.specs.Journal.{StandsAt}
+use Rattle.decision_journal.proofs.Rereads.{read_safe, read_done, read_unread, read_known, read_doubted, read_other, other_fault, doubted_small, known_small, may_known, may_doubted, sound_same, added_at, doubted_same}
+use Rattle.decision_journal.proofs.Begins.{stands_same}
+use Rattle.decision_journal.proofs.keeping.Journal.reopen.Goals as goal
+
+pub returns-in-Err-clause-safe : goal.returns-in-Err-clause-safe
+returns-in-Err-clause-safe g c = rw (← c.self.view_is) (read_safe (g.D.Disk.told c.self.inside.disk) c.self.inside.area c.self.inside.service c.self.inside.octets.items c.self.inside.index c.self.inside.failed c.self.inside.doubted c.self.invariant (g.D.Disk.told c.read_whole.new.disk) c.read_whole.ensures.image c.read_whole.ensures.way)
+
+pub returns-then-stands_at-clause-safe : goal.returns-then-stands_at-clause-safe
+returns-then-stands_at-clause-safe g c = rw (← c.self.view_is) (read_safe (g.D.Disk.told c.self.inside.disk) c.self.inside.area c.self.inside.service c.self.inside.octets.items c.self.inside.index c.self.inside.failed c.self.inside.doubted c.self.invariant (g.D.Disk.told c.read_whole.new.disk) c.read_whole.ensures.image c.read_whole.ensures.way)
+
+pub returns-in_err-found-clause-safe : goal.returns-in_err-found-clause-safe
+returns-in_err-found-clause-safe g c = rw (← c.self.view_is) (read_safe (g.D.Disk.told c.self.inside.disk) c.self.inside.area c.self.inside.service c.self.inside.octets.items c.self.inside.index c.self.inside.failed c.self.inside.doubted c.self.invariant (g.D.Disk.told c.read_whole.new.disk) c.read_whole.ensures.image c.read_whole.ensures.way)
+
+pub returns-in_err-add_doubted-clause-safe : goal.returns-in_err-add_doubted-clause-safe
+returns-in_err-add_doubted-clause-safe g c = rw (← c.self.view_is) (read_safe (g.D.Disk.told c.self.inside.disk) c.self.inside.area c.self.inside.service c.self.inside.octets.items c.self.inside.index c.self.inside.failed c.self.inside.doubted c.self.invariant (g.D.Disk.told c.read_whole.new.disk) c.read_whole.ensures.image c.read_whole.ensures.way)
+
+pub returns-clause-safe : goal.returns-clause-safe
+returns-clause-safe g c = rw (← c.self.view_is) (read_safe (g.D.Disk.told c.self.inside.disk) c.self.inside.area c.self.inside.service c.self.inside.octets.items c.self.inside.index c.self.inside.failed c.self.inside.doubted c.self.invariant (g.D.Disk.told c.read_whole.new.disk) c.read_whole.ensures.image c.read_whole.ensures.way)
+
+pub returns-then-stands_at-clause-done : goal.returns-then-stands_at-clause-done
+returns-then-stands_at-clause-done g c = rw (← c.self.view_is) (read_done (g.D.Disk.told c.self.inside.disk) c.self.inside.area c.self.inside.service c.self.inside.octets.items c.self.inside.index c.self.inside.failed c.self.inside.doubted c.self.invariant (g.D.Disk.told c.read_whole.new.disk) c.read_whole.ensures.image c.in-Ok.ensures.settled)
+
+pub returns-clause-done : goal.returns-clause-done
+returns-clause-done g c = rw (← c.self.view_is) (read_done (g.D.Disk.told c.self.inside.disk) c.self.inside.area c.self.inside.service c.self.inside.octets.items c.self.inside.index c.self.inside.failed c.self.inside.doubted c.self.invariant (g.D.Disk.told c.read_whole.new.disk) c.read_whole.ensures.image c.in-Ok.ensures.settled)
+
+pub invariant_of-self : goal.invariant_of-self
+invariant_of-self g c = read_unread (g.D.Disk.told c.self.inside.disk) c.self.inside.area c.self.inside.service c.self.inside.octets.items c.self.inside.index c.self.inside.failed c.self.inside.doubted c.self.invariant (g.D.Disk.told c.read_whole.new.disk) c.read_whole.ensures.image c.read_whole.ensures.way
+
+pub invariant_of-self-in_err-found : goal.invariant_of-self-in_err-found
+invariant_of-self-in_err-found g c = read_unread (g.D.Disk.told c.self.inside.disk) c.self.inside.area c.self.inside.service c.self.inside.octets.items c.self.inside.index c.self.inside.failed c.self.inside.doubted c.self.invariant (g.D.Disk.told c.read_whole.new.disk) c.read_whole.ensures.image c.read_whole.ensures.way
+
+pub found_again-requires : goal.found_again-requires
+found_again-requires g c = doubted_small (g.D.Disk.told c.self.inside.disk) c.self.inside.area c.self.inside.service c.self.inside.octets.items c.self.inside.index c.self.inside.failed c.self.inside.doubted c.self.invariant
+
+pub other-requires : goal.other-requires
+other-requires g c = omega (arith, known_small (g.D.Disk.told c.self.inside.disk) c.self.inside.area c.self.inside.service c.self.inside.octets.items c.self.inside.index c.self.inside.failed c.self.inside.doubted c.self.invariant, ap length c.deref-in-None.ensures.value)
+
+pub overflow_cast-len : goal.overflow_cast-len
+overflow_cast-len g c = omega (arith, known_small (g.D.Disk.told c.self.inside.disk) c.self.inside.area c.self.inside.service c.self.inside.octets.items c.self.inside.index c.self.inside.failed c.self.inside.doubted c.self.invariant, c.len.ensures)
+
+pub invariant_of-self-then-stands_at : goal.invariant_of-self-then-stands_at
+invariant_of-self-then-stands_at g c =
+    read_known (g.D.Disk.told c.self.inside.disk) c.self.inside.area c.self.inside.service c.self.inside.octets.items c.self.inside.index c.self.inside.failed c.self.inside.doubted c.self.invariant (g.D.Disk.told c.read_whole.new.disk) c.read_whole.ensures.image c.in-Ok.read.items c.in-Ok.ensures.octets c.in-Ok.ensures.settled _ c.drop_doubt.ensures (stands_same _ _ _ _ c.deref.ensures.value c.deref-2.ensures.value (c.stands_at.ensures.0 c.if-stands_at.true))
+
+pub invariant_of-self-in_err-add_doubted : goal.invariant_of-self-in_err-add_doubted
+invariant_of-self-in_err-add_doubted g c =
+    sound_same _ _ _ _ _ _ _ _ c.in_err-add_doubted.ensures.same_found c.in_err-add_doubted.ensures.same_doubted (read_unread (g.D.Disk.told c.self.inside.disk) c.self.inside.area c.self.inside.service c.self.inside.octets.items c.self.inside.index c.self.inside.failed c.self.inside.doubted c.self.invariant (g.D.Disk.told c.read_whole.new.disk) c.read_whole.ensures.image c.read_whole.ensures.way)
+
+pub invariant_of-self-2 : goal.invariant_of-self-2
+invariant_of-self-2 g c =
+    let found = (rw c.in-Some.is at c.in_ok-found.ensures) in
+    let doubted = doubted_same _ _ c.self.inside.doubted _ _ c.in-Some.more.items c.deref-3.ensures.value c.deref-4.ensures.value found in
+    let gate : c.len.result ≡ length c.self.inside.octets.items = omega (arith, c.len.ensures) in
+    read_doubted (g.D.Disk.told c.self.inside.disk) c.self.inside.area c.self.inside.service c.self.inside.octets.items c.self.inside.index c.self.inside.failed c.self.inside.doubted c.self.invariant (g.D.Disk.told c.read_whole.new.disk) c.read_whole.ensures.image c.in-Ok.read.items c.in-Ok.ensures.octets c.in-Ok.ensures.settled _ _ _ doubted
+    (added_at c.self.inside.doubted c.add_doubted.new.index c.self.inside.index _ _ gate c.in_ok-add_doubted.ensures.added) c.in_ok-add_doubted.ensures.none

@@ -1,0 +1,86 @@
+-- What a load of a journal leaves, and what it answers (our profile).
+use Rattle.std.specs.Prelude.{◌≡◌, ℕ, ◌+◌, ◌-◌, ◌^◌, ◌<◌, ◌⊎◌, List, [], ◌∷◌, ◌++◌, Option, IfSome}
+use Rattle.ots_outside.specs.Disk.{DiskState, IsImage, LeavesOnly, LeavesOnlySince}
+use Rattle.ots_outside.specs.Source.{HasRisen}
+use Rattle.decision_journal.specs.declared.journal.JournalFault.{JournalFault}
+use Rattle.decision_journal.specs.declared.journal.JournalFault.TheVariants.{DiskFault, Full, BadHeader, BadRecord, LivesSpent, Memory}
+use Rattle.decision_journal.specs.declared.record.JournalRecord.{JournalRecord}
+use Rattle.decision_journal.specs.declared.record.JournalRecord.TheVariants.{Life}
+use Rattle.decision_journal.specs.Journal.{Found, AreRecords, Holds, IsBroken, IsFresh, IsOtherHeader, StandsFor, found_in, front}
+use Rattle.decision_journal.specs.Laws.{IsSettled}
+use Rattle.decision_journal.specs.State.{IsAtRest, used}
+
+-- the octets hold some records
+abbrev pub IsHeld : ℕ → List ℕ → Type 0
+IsHeld service octets = (rs : List JournalRecord) × Holds service octets rs
+
+-- one of the disk's images holds these records
+pub record CanHold (service : ℕ) (disk : DiskState) (rs : List JournalRecord) : Type 0 where
+  pub image : List ℕ
+  pub is_image : IsImage disk.present image
+  pub holds : Holds service image rs
+
+-- the record that begins the next life
+abbrev pub next_life : List JournalRecord → JournalRecord
+next_life rs = Life ((found_in rs).life + 1)
+
+-- octets hold records that the disk could hold, or stand for these and the next life
+abbrev pub IsHeldOrBegun : ℕ → DiskState → List ℕ → Type 0
+IsHeldOrBegun service disk octets =
+    (rs : List JournalRecord) × (CanHold service disk rs × (Holds service octets rs ⊎ StandsFor service octets (rs ++ next_life rs ∷ [])))
+
+-- where a crash before it leaves records, a crash at any moment of a load leaves these, or these and the next life
+abbrev pub LoadIsSafe : ℕ → DiskState → DiskState → Type 0
+LoadIsSafe service before after = LeavesOnly (IsHeld service) before.present → LeavesOnlySince (IsHeldOrBegun service before) before after
+
+-- all is synced, and stands for the records that the disk read and the next life
+pub record LoadIsDone (service : ℕ) (before after : DiskState) : Type 0 where
+  pub records : List JournalRecord
+  pub held : Holds service before.reads records
+  pub stands : StandsFor service after.reads (records ++ next_life records ∷ [])
+  pub settled : IsSettled after
+
+-- a disk was read, and made a journal where it was none: these are the octets of the records that it read
+pub record IsStarted (service : ℕ) (octets : List ℕ) (found : Found) (before after : DiskState) : Type 0 where
+  pub records : List JournalRecord
+  pub held : Holds service before.reads records
+  pub are : AreRecords service octets found records
+  pub rest : IsAtRest octets after
+  pub image : IsImage before.present before.reads
+
+-- the last of all lives
+abbrev pub last_life : ℕ
+last_life = 2 ^ 32 - 1
+
+-- why a disk that was so was not loaded, and whose count of faults was and is so
+abbrev pub IsLoadFault : ℕ → ℕ → Option DiskState → ℕ → ℕ → JournalFault → Type 0
+IsLoadFault area service told before after DiskFault = HasRisen before after
+IsLoadFault area service told before after (Full u n) = (area < u + n) × (n ≡ 10) × IfSome told
+    (λ disk. (rs : List JournalRecord) × (Holds service disk.reads rs × (u ≡ used (front service rs) (found_in rs))))
+IsLoadFault area service told before after (BadHeader place) =
+    IfSome told (λ disk. (IsFresh disk.reads → ⊥) × IsOtherHeader service disk.reads place)
+IsLoadFault area service told before after (BadRecord place) =
+    IfSome told (λ disk. (IsFresh disk.reads → ⊥) × IsBroken service disk.reads place)
+IsLoadFault area service told before after LivesSpent =
+    IfSome told (λ disk. (rs : List JournalRecord) × (Holds service disk.reads rs × ((found_in rs).life ≡ last_life)))
+IsLoadFault area service told before after Memory = Unit {0}
+
+-- why a disk was not made a journal, whose count of faults was and is so
+abbrev pub IsDiskFault : ℕ → ℕ → JournalFault → Type 0
+IsDiskFault before after DiskFault = HasRisen before after
+IsDiskFault before after (Full u n) = ⊥
+IsDiskFault before after (BadHeader place) = ⊥
+IsDiskFault before after (BadRecord place) = ⊥
+IsDiskFault before after LivesSpent = ⊥
+IsDiskFault before after Memory = Unit {0}
+
+-- why a disk that was so was neither read nor made a journal
+abbrev pub IsStartFault : ℕ → Option DiskState → ℕ → ℕ → JournalFault → Type 0
+IsStartFault service told before after DiskFault = HasRisen before after
+IsStartFault service told before after (Full u n) = ⊥
+IsStartFault service told before after (BadHeader place) =
+    IfSome told (λ disk. (IsFresh disk.reads → ⊥) × IsOtherHeader service disk.reads place)
+IsStartFault service told before after (BadRecord place) =
+    IfSome told (λ disk. (IsFresh disk.reads → ⊥) × IsBroken service disk.reads place)
+IsStartFault service told before after LivesSpent = ⊥
+IsStartFault service told before after Memory = Unit {0}
