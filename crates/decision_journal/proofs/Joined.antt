@@ -1,19 +1,19 @@
 -- A reading of a disk, and then a write of a record.
-use Rattle.std.proofs.Common.{◌≡◌, inl, inr, ℕ, ◌+◌, ◌<◌, ◌≤◌, false, List, [], ◌++◌, length, Option, Some, None, Result, Ok, Err, refl, sym, ap, subst, ◌∙◌, arith}
+use Rattle.std.proofs.Common.{◌≡◌, inl, inr, ℕ, ◌+◌, ◌≤◌, List, Option, Some, None, Result, Ok, Err, sym, subst, ◌∙◌, arith}
 use Rattle.std.specs.Prelude.{IfErr, IsTrue}
 use Rattle.std.specs.List.{list_any}
 use Rattle.std.proofs.lemmas.Bool.{cases_lt}
 use Rattle.ots_outside.specs.Disk.{DiskState, Tells}
-use Rattle.ots_outside.specs.Source.{HasRisen, count_end}
+use Rattle.ots_outside.specs.Source.{HasRisen}
 use Rattle.decision_journal.specs.declared.record.JournalRecord.{JournalRecord}
 use Rattle.decision_journal.specs.declared.record.JournalRecord.TheVariants.{Done}
 use Rattle.decision_journal.specs.declared.journal.JournalFault.{JournalFault}
 use Rattle.decision_journal.specs.declared.journal.JournalFault.TheVariants.{DiskFault, Full, BadHeader, BadRecord, LivesSpent, Memory}
 use Rattle.decision_journal.specs.Journal.{Found, StandsFor, is_decision_at}
-use Rattle.decision_journal.specs.State.{AppendIsDone, AppendIsSafe, DoneIsDone, HasAppended, HasDone, HasMore, HasReread, IsAppendFault, IsOld, IsOldOrMore, IsReadFault, IsRoomFault, HasNoRoom, JournalState, MayFind, MayHold, ReadIsDone, ReadIsSafe, need, used}
+use Rattle.decision_journal.specs.State.{AppendIsDone, AppendIsSafe, DoneIsDone, HasAppended, HasDone, HasMore, HasReread, IsAppendFault, IsOld, IsOldOrMore, IsReadFault, JournalState, MayFind, MayHold, ReadIsDone, ReadIsSafe, need, used}
 use Rattle.decision_journal.proofs.Images.{image_settled}
 use Rattle.decision_journal.proofs.OneList.{one_list}
-use Rattle.decision_journal.proofs.Since.{image_of, since_then, since_weaker}
+use Rattle.decision_journal.proofs.Since.{since_then, since_weaker}
 use Rattle.decision_journal.proofs.Ways.{tells_then, tells_weaker}
 use Rattle.ots_outside.specs.Disk.{IsImage}
 

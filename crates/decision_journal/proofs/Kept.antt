@@ -1,14 +1,14 @@
 -- What an append leaves of a journal that is kept.
-use Rattle.std.proofs.Common.{◌≡◌, inl, inr, ℕ, ◌+◌, ◌*◌, ◌<◌, ◌≤◌, Bool, true, false, cond, ◌-◌, List, [], ◌∷◌, ◌++◌, length, take, Option, Some, None, refl, sym, ap, subst, ◌∙◌, arith, length-append}
-use Rattle.std.specs.Prelude.{IsTrue, IfSome, nat_lt}
+use Rattle.std.proofs.Common.{◌≡◌, inl, inr, ℕ, ◌+◌, ◌<◌, ◌≤◌, Bool, true, false, ◌-◌, List, [], ◌∷◌, ◌++◌, length, take, Option, Some, None, refl, sym, ap, subst, ◌∙◌, arith, length-append}
+use Rattle.std.specs.Prelude.{IsTrue, IfSome}
 use Rattle.ots_outside.specs.Disk.{DiskState, LeavesOnly, LeavesOnlySince, Tells}
 use Rattle.decision_journal.specs.declared.record.JournalRecord.{JournalRecord}
-use Rattle.decision_journal.specs.Limits.{area_limit, standing_limit}
+use Rattle.decision_journal.specs.Limits.{area_limit}
 use Rattle.decision_journal.specs.Layout.{Fits, record_octets}
-use Rattle.decision_journal.specs.Journal.{Found, can_follow, with_record, is_decision, front, AreRecords, IsFilled, StandsAt, StandsFor, StandsForEither}
+use Rattle.decision_journal.specs.Journal.{Found, can_follow, with_record, front, AreRecords, IsFilled, StandsAt, StandsFor, StandsForEither}
 use Rattle.decision_journal.specs.Laws.{CanAppend, IsOnTheWay, IsSettled, appended, behind_gate}
 use Rattle.std.proofs.lemmas.List.{take_at}
-use Rattle.decision_journal.specs.State.{decisions, need, used, AppendIsDone, AppendIsSafe, BeginsWithEither, IsAtRest, IsKept, IsOldOrMore, IsSound, IsWithinArea, MayFind, MayHold}
+use Rattle.decision_journal.specs.State.{used, AppendIsDone, AppendIsSafe, BeginsWithEither, IsAtRest, IsKept, IsOldOrMore, IsSound, IsWithinArea, MayFind, MayHold}
 use Rattle.decision_journal.proofs.Append.{append_safe, body, front_more}
 use Rattle.decision_journal.proofs.Scans.{more_records}
 use Rattle.decision_journal.proofs.Since.{image_of, leaves_now, since_weaker}

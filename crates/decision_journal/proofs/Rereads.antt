@@ -9,7 +9,7 @@ use Rattle.decision_journal.specs.Limits.{area_limit}
 use Rattle.decision_journal.specs.Layout.{Fits, record_octets}
 use Rattle.decision_journal.specs.Journal.{Found, IsFilled, IsOther, StandsAt, with_record}
 use Rattle.decision_journal.specs.State.{BeginsWithEither, IsAtRest, IsDoubted, IsKept, IsNotDoubted, IsOld, IsReadFault, IsSound, IsWithinArea, MayFind, ReadIsDone, ReadIsSafe}
-use Rattle.decision_journal.proofs.Kept.{at_rest, each_of, known, stands_from, within_now}
+use Rattle.decision_journal.proofs.Kept.{at_rest, each_of, stands_from, within_now}
 use Rattle.decision_journal.proofs.Since.{image_of, leaves_now, leaves_settled, since_refused, since_start}
 
 leaves_known : (failed : Bool) (octets : List ℕ) (doubted : Option JournalRecord) (told : Option DiskState) → IsKept failed octets doubted told → IfSome told (λ s. LeavesOnly (BeginsWithEither octets doubted) s.present)

@@ -3,18 +3,17 @@ use Rattle.std.proofs.Common.{◌≡◌, inl, inr, ℕ, ◌+◌, ◌<◌, ◌≤
 use Rattle.std.specs.Prelude.{IfSome}
 use Rattle.std.specs.Option.{ForSome}
 use Rattle.std.proofs.lemmas.List.{append-nil}
-use Rattle.ots_outside.specs.Disk.{DiskState, Moment, IsImage, IsAfterRefusal, LeavesOnly, LeavesOnlySince, ReadsImage, Tells, moments, synced, written}
-use Rattle.ots_outside.specs.Source.{HasRisen}
+use Rattle.ots_outside.specs.Disk.{DiskState, Moment, IsImage, IsAfterRefusal, LeavesOnly, ReadsImage, Tells, synced, written}
 use Rattle.decision_journal.specs.declared.record.JournalRecord.{JournalRecord}
 use Rattle.decision_journal.specs.declared.record.JournalRecord.TheVariants.{Life}
 use Rattle.decision_journal.specs.declared.journal.JournalFault.{JournalFault}
 use Rattle.decision_journal.specs.declared.journal.JournalFault.TheVariants.{DiskFault, Full, BadHeader, BadRecord, LivesSpent, Memory}
 use Rattle.decision_journal.specs.Limits.{area_limit}
 use Rattle.decision_journal.specs.Layout.{record_octets}
-use Rattle.decision_journal.specs.Journal.{Found, with_record, AreRecords, Holds, IsBroken, IsFilled, IsFresh, IsOtherHeader, IsScanFault, StandsAt, StandsFor, found_in, front, header, first_letter, nothing_found}
+use Rattle.decision_journal.specs.Journal.{Found, with_record, Holds, IsBroken, IsFilled, IsFresh, IsOtherHeader, IsScanFault, StandsAt, StandsFor, found_in, front, header, first_letter, nothing_found}
 use Rattle.decision_journal.specs.Laws.{IsOnTheWay, IsSettled, behind_letter, cleared, created}
-use Rattle.decision_journal.specs.State.{AppendIsDone, AppendIsSafe, IsAppendFault, IsAtRest, IsOldOrMore, IsWithinArea, JournalState, HasNoRoom, MayHold, need, used}
-use Rattle.decision_journal.specs.Loading.{CanHold, IsDiskFault, IsHeld, IsHeldOrBegun, IsLoadFault, IsStartFault, IsStarted, LoadIsDone, LoadIsSafe, last_life, next_life}
+use Rattle.decision_journal.specs.State.{AppendIsDone, AppendIsSafe, IsAppendFault, IsAtRest, IsOldOrMore, IsWithinArea, JournalState, MayHold, used}
+use Rattle.decision_journal.specs.Loading.{IsDiskFault, IsHeld, IsHeldOrBegun, IsLoadFault, IsStartFault, IsStarted, LoadIsDone, LoadIsSafe, last_life, next_life}
 use Rattle.decision_journal.proofs.Creation.{creation_safe}
 use Rattle.decision_journal.proofs.Images.{image_settled}
 use Rattle.decision_journal.proofs.Joined.{known_now, risen_later}

@@ -1,5 +1,5 @@
 -- What a write of a record leaves of a journal.
-use Rattle.std.proofs.Common.{◌≡◌, inl, inr, ℕ, ◌+◌, ◌<◌, ◌≤◌, Bool, true, false, List, ◌++◌, length, Option, Some, None, refl, sym, ap, subst, ◌∙◌, arith, length-append}
+use Rattle.std.proofs.Common.{◌≡◌, ℕ, ◌+◌, ◌<◌, ◌≤◌, Bool, true, false, List, ◌++◌, length, Option, Some, None, sym, subst, arith, length-append}
 use Rattle.std.specs.Prelude.{IsTrue, IfSome}
 use Rattle.ots_outside.specs.Disk.{DiskState, Tells}
 use Rattle.decision_journal.specs.declared.record.JournalRecord.{JournalRecord}

@@ -1,4 +1,4 @@
-use Rattle.std.proofs.Common.{◌≡◌, ◌∙◌, ℕ, List, length, ap, sym, arith, refl}
+use Rattle.std.proofs.Common.{◌∙◌, ℕ, List, length, ap, sym, arith, refl}
 use Rattle.decision_journal.specs.State.{used}
 use Rattle.decision_journal.proofs.Few.{few}
 use Rattle.decision_journal.proofs.Starts.{spent_told, full_told}

@@ -1,4 +1,4 @@
-use Rattle.std.proofs.Common.{◌≡◌, ◌∙◌, ◌++◌, ◌-◌, ℕ, List, Option, Some, None, ap, sym, subst, arith, length, refl}
+use Rattle.std.proofs.Common.{◌≡◌, ◌∙◌, ◌++◌, ◌-◌, ℕ, List, ap, sym, subst, arith, length}
 use Rattle.decision_journal.specs.Journal.{StandsAt}
 use Rattle.decision_journal.specs.Layout.{record_octets}
 use Rattle.decision_journal.proofs.Kept.{body_kept}

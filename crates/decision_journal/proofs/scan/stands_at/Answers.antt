@@ -1,5 +1,4 @@
-use Rattle.std.proofs.Common.{◌≡◌, ◌≢◌, ◌∙◌, sym, length, take, get_or, arith}
-use Rattle.std.proofs.lemmas.Grind.{common_steps}
+use Rattle.std.proofs.Common.{◌≡◌, ◌∙◌, sym}
 use Rattle.decision_journal.proofs.Begins.{stands_by, stands_begins, stands_closed, same_test, test_same, gate_test, test_gate}
 use Rattle.decision_journal.proofs.scan.stands_at.Goals as goal
 

@@ -1,9 +1,6 @@
-use Rattle.std.proofs.Common.{◌≡◌, ◌∙◌, ◌+◌, ◌≤◌, ℕ, List, Option, Some, None, inl, inr, ap, sym, subst, arith, length, refl}
-use Rattle.std.proofs.lemmas.Result.{err_from_is_err_and, on_ok_weaker, IfOk-weaker}
-use Rattle.decision_journal.specs.declared.record.JournalRecord.{JournalRecord}
-use Rattle.decision_journal.specs.declared.record.JournalRecord.TheVariants.{Done}
+use Rattle.std.proofs.lemmas.Result.{on_ok_weaker, IfOk-weaker}
 use Rattle.decision_journal.specs.State.{AppendIsDone, AppendIsSafe}
-use Rattle.decision_journal.proofs.Joined.{read_only, safe_then, done_then, done_written, done_unwritten, at_service, more_then, appended_then, has_done, if_err_weaker, read_fault_then, append_fault}
+use Rattle.decision_journal.proofs.Joined.{read_only, safe_then, done_then, at_service, appended_then, if_err_weaker, read_fault_then, append_fault}
 use Rattle.decision_journal.proofs.keeping.Journal.append.Goals as goal
 
 pub returns-in_err-ready-clause-safe : goal.returns-in_err-ready-clause-safe

@@ -1,4 +1,4 @@
-use Rattle.std.proofs.Common.{◌≡◌, ◌∙◌, ◌+◌, ℕ, List, Option, Some, None, length, ap, sym, subst, arith, refl}
+use Rattle.std.proofs.Common.{◌+◌, ℕ, None, ap, sym, subst, refl}
 use Rattle.ots_outside.specs.Disk.{Tells}
 use Rattle.decision_journal.specs.declared.record.JournalRecord.TheVariants.{Life}
 use Rattle.decision_journal.specs.Loading.{LoadIsSafe}

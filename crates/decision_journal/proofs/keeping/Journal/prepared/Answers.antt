@@ -1,4 +1,4 @@
-use Rattle.std.proofs.Common.{◌≡◌, ◌+◌, ◌≤◌, ℕ, List, length, ap, sym, subst, arith}
+use Rattle.std.proofs.Common.{◌+◌, ◌≤◌, ℕ, List, length, ap, subst, arith}
 use Rattle.std.specs.Prelude.{OnOk}
 use Rattle.std.proofs.lemmas.Result.{on_ok_weaker}
 use Rattle.decision_journal.specs.State.{need, used}

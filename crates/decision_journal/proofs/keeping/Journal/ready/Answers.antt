@@ -1,5 +1,3 @@
-use Rattle.std.proofs.Common.{◌≡◌, ◌∙◌, ℕ, List, Option, Some, None, ap, sym, subst, arith, length, refl}
-use Rattle.decision_journal.proofs.Kept.{known, no_doubt}
 use Rattle.decision_journal.proofs.Rereads.{rest_safe, rest_done}
 use Rattle.decision_journal.proofs.keeping.Journal.ready.Goals as goal
 

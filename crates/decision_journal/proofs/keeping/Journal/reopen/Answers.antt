@@ -1,7 +1,5 @@
-use Rattle.std.proofs.Common.{◌≡◌, ◌∙◌, ℕ, List, Option, Some, None, ap, sym, subst, arith, length, refl}
-use Rattle.std.specs.Prelude.{IsTrue}
-use Rattle.decision_journal.specs.Journal.{StandsAt}
-use Rattle.decision_journal.proofs.Rereads.{read_safe, read_done, read_unread, read_known, read_doubted, read_other, other_fault, doubted_small, known_small, may_known, may_doubted, sound_same, added_at, doubted_same}
+use Rattle.std.proofs.Common.{◌≡◌, ap, arith, length}
+use Rattle.decision_journal.proofs.Rereads.{read_safe, read_done, read_unread, read_known, read_doubted, doubted_small, known_small, sound_same, added_at, doubted_same}
 use Rattle.decision_journal.proofs.Begins.{stands_same}
 use Rattle.decision_journal.proofs.keeping.Journal.reopen.Goals as goal
 

@@ -1,4 +1,4 @@
-use Rattle.std.proofs.Common.{◌≡◌, ◌∙◌, ℕ, List, length, ap, sym, subst, arith}
+use Rattle.std.proofs.Common.{◌∙◌, sym, arith}
 use Rattle.decision_journal.proofs.Kept.{within_now}
 use Rattle.decision_journal.proofs.Using.{room_done}
 use Rattle.decision_journal.proofs.keeping.Journal.stands.Goals as goal

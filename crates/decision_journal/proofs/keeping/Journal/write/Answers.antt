@@ -1,11 +1,10 @@
-use Rattle.std.proofs.Common.{◌≡◌, ◌∙◌, ◌-◌, ◌≤◌, ◌++◌, ℕ, List, Option, Some, None, ap, sym, subst, arith, length, refl}
+use Rattle.std.proofs.Common.{◌≡◌, ◌∙◌, ◌-◌, ◌≤◌, ◌++◌, ℕ, List, Some, ap, sym, subst, arith, length, refl}
 use Rattle.std.specs.Prelude.{IsTrue}
 use Rattle.decision_journal.specs.Layout.{record_octets}
-use Rattle.decision_journal.specs.State.{IsSound, JournalState, used}
-use Rattle.decision_journal.specs.Journal.{Found, can_follow, with_record}
+use Rattle.decision_journal.specs.State.{JournalState, used}
+use Rattle.decision_journal.specs.Journal.{can_follow, with_record}
 use Rattle.decision_journal.proofs.Kept.{body_kept, known, no_doubt}
 use Rattle.decision_journal.proofs.Writes.{write_safe, write_done, write_unsure, write_sound}
-use Rattle.decision_journal.proofs.keeping.Journal.write.Given as given
 use Rattle.decision_journal.proofs.keeping.Journal.write.Goals as goal
 
 pub returns-in-Err-clause-safe : goal.returns-in-Err-clause-safe
