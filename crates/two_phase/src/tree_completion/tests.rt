@@ -265,7 +265,8 @@ fn forget_waits_until_all_have_completed(rt: HostRuntime) -> Result<(), Fail> {
 fn each_call_once(rt: HostRuntime) -> Result<(), Fail> {
     let votes = votes_of(rt.alloc(), 2)?;
     let mut completion = TreeCompletion::idle(rt.alloc());
-    completion.reserve(2)?;
+    let count = votes.participants(0).count() as u32;
+    completion.reserve(count)?;
     completion.start(&votes, 0, false, FIRST, false);
     for _participant in 0..2 {
         let outward = completion.next().ok_or("no word")?;
