@@ -18,3 +18,6 @@ pub mod Writes
 pub mod Rereads
 pub mod Joined
 pub mod Starts
+pub mod Meaning
+pub mod Meant
+pub mod Loads

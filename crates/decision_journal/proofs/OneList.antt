@@ -33,7 +33,7 @@ record_first r s x y fr fs lr ls e =
     let parts = same_parts (payload r) (payload s) x y lengths.0 lengths.1 in
     (payloads_tell r s fr fs parts.0, parts.1)
 
-head_of : (x y : ℕ) (xs ys : List ℕ) → x ∷ xs ≡ y ∷ ys → x ≡ y
+pub head_of : (x y : ℕ) (xs ys : List ℕ) → x ∷ xs ≡ y ∷ ys → x ≡ y
 head_of x y xs ys e = cc
 
 -- the octets of a record, and of those behind it

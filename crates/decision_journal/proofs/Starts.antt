@@ -59,7 +59,7 @@ module _ (service : ℕ) where
 -- ---- a creation, of a settled disk that is not yet a journal
 
 module _ (service : ℕ) where
-  to_begun : (s : DiskState) (c : List ℕ) → IsSettled s → IsFresh s.reads → Holds service c [] → IsHeldOrBegun service s c
+  pub to_begun : (s : DiskState) (c : List ℕ) → IsSettled s → IsFresh s.reads → Holds service c [] → IsHeldOrBegun service s c
   to_begun s c settled fresh holds = ([], (record { image = s.reads; is_image = image_of s settled; holds = inr (fresh, refl) }, inl holds))
 
   pub made_safe : (s t : DiskState) → IsSettled s → IsFresh s.reads → IsOnTheWay s (created service (cleared s)) t → LoadIsSafe service s t
@@ -83,7 +83,7 @@ module _ (service : ℕ) where
 -- ---- a reading, and then more
 
 module _ (service : ℕ) (s : DiskState) (image : IsImage s.present s.reads) where
-  begun_at : LeavesOnly (IsHeld service) s.present → LeavesOnly (IsHeldOrBegun service s) s.present
+  pub begun_at : LeavesOnly (IsHeld service) s.present → LeavesOnly (IsHeldOrBegun service s) s.present
   begun_at premise c i = let held = premise c i in (held.0, (record { image = c; is_image = i; holds = held.1 }, inl held.1))
 
   pub unread_safe : (t : DiskState) → IsAfterRefusal s (synced s) t → LoadIsSafe service s t
@@ -261,7 +261,7 @@ module _ (service : ℕ) (octets : List ℕ) (found : Found) (l : ℕ) (l_is : l
     begun c (rs, (held, inr stands)) =
         (started.records, (record { image = s.reads; is_image = started.image; holds = started.held }, inr (more_is rs c (same_records rs held) stands)))
 
-    safe_from : (u : DiskState) → LoadIsSafe service s t → AppendIsSafe service (Life l) t u → LoadIsSafe service s u
+    pub safe_from : (u : DiskState) → LoadIsSafe service s t → AppendIsSafe service (Life l) t u → LoadIsSafe service s u
     safe_from u first second premise =
         since_then (IsHeldOrBegun service s) s t u (first premise) (since_weaker (IsOldOrMore service t (Life l)) (IsHeldOrBegun service s) t u begun second)
 

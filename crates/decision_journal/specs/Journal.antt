@@ -1,6 +1,6 @@
 -- What the octets of a journal stand for (our profile). A journal is a header, records with open gates, and a gate that
 -- isn't open; what stands behind that gate doesn't count. A gate is open where it is 1.
-use Rattle.std.specs.Prelude.{◌≡◌, ◌≢◌, ℕ, ◌+◌, ◌-◌, ◌<◌, ◌⊎◌, ◌==◌, Bool, true, false, ◌&&◌, List, [], ◌∷◌, ◌++◌, length, drop, slice_index, position, Option, Some, None, IsTrue}
+use Rattle.std.specs.Prelude.{◌≡◌, ◌≢◌, ℕ, ◌+◌, ◌-◌, ◌<◌, ◌⊎◌, ◌==◌, nat_lt, not, Bool, true, false, ◌&&◌, ◌||◌, List, [], ◌∷◌, ◌++◌, length, drop, slice_index, position, Option, Some, None, IsTrue}
 use Rattle.std.specs.List.{flat_map, list_any, remove, AllByRecursion}
 use Rattle.decision_journal.specs.declared.record.JournalRecord.{JournalRecord}
 use Rattle.decision_journal.specs.declared.record.JournalRecord.TheVariants.{Life, Decision, Done, Prepared, CellsPrepared, CellsOutcome, CellsOnePhase}
@@ -121,6 +121,10 @@ pub record StandsFor (service : ℕ) (octets : List ℕ) (rs : List JournalRecor
 abbrev pub IsFresh : List ℕ → Type 0
 IsFresh octets = (length octets < 17) ⊎ ((length octets ≡ 17) × (slice_index octets 0 ≢ first_letter))
 
+-- whether octets are not yet a journal
+abbrev pub is_fresh : List ℕ → Bool
+is_fresh octets = nat_lt (length octets) 17 || (length octets == 17 && not (slice_index octets 0 == first_letter))
+
 -- the octets hold these records: they stand for them, or they are not yet a journal and there are none
 abbrev pub Holds : ℕ → List ℕ → List JournalRecord → Type 0
 Holds service octets rs = StandsFor service octets rs ⊎ (IsFresh octets × (rs ≡ []))
@@ -211,3 +215,15 @@ IsOther (BadHeader place) = Unit {0}
 IsOther (BadRecord place) = Unit {0}
 IsOther LivesSpent = ⊥
 IsOther Memory = Unit {0}
+
+-- what octets can mean: records, or the place where they break a rule, or the place from which their header is another
+pub data Meaning : Type 0 where
+  Records : List JournalRecord → Meaning
+  Broken : ℕ → Meaning
+  OtherHeader : ℕ → Meaning
+
+-- octets mean this
+abbrev pub Means : ℕ → List ℕ → Meaning → Type 0
+Means service octets (Records rs) = StandsFor service octets rs
+Means service octets (Broken place) = IsBroken service octets place
+Means service octets (OtherHeader place) = IsOtherHeader service octets place

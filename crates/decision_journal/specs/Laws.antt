@@ -1,16 +1,30 @@
 -- What a crash can leave of a journal (our profile). The calls of a disk in an append, in the creation of a journal, and in
 -- a load are written out; each image of each of their moments holds the records of before, or those and the new one.
 use Rattle.std.specs.Prelude.{◌≡◌, ℕ, ◌+◌, ◌<◌, ◌≤◌, List, [], ◌∷◌, ◌++◌, length, drop, ◌==◌, Bool, true, IsTrue, if◌then◌else◌}
+use Rattle.std.specs.List.{AllByRecursion}
 use Rattle.ots_outside.specs.Disk.{DiskState, LeavesOnlySince, moments, synced, written}
 use Rattle.decision_journal.specs.declared.record.JournalRecord.{JournalRecord}
 use Rattle.decision_journal.specs.Limits.{area_limit}
 use Rattle.decision_journal.specs.Layout.{record_octets, payload, Fits}
-use Rattle.decision_journal.specs.Journal.{StandsFor, StandsForEither, IsFresh, Holds, first_letter, header, front, can_follow, found_in}
+use Rattle.decision_journal.specs.Journal.{Meaning, Means, first_gate, StandsFor, StandsForEither, IsFresh, Holds, first_letter, header, front, can_follow, found_in}
+
+-- these are octets
+abbrev pub AreOctets : List ℕ → Type 0
+AreOctets octets = AllByRecursion (λ octet. octet < 256) octets
 
 -- octets stand for one list of records
 abbrev pub OctetsStandForOneList : Type 0
 OctetsStandForOneList = (service : ℕ) (octets : List ℕ) (rs more : List JournalRecord)
     → StandsFor service octets rs → StandsFor service octets more → rs ≡ more
+
+-- octets mean one thing: where they stand for records, they break no rule, and their header is no other; where they don't, it
+-- is for one reason, at one place
+abbrev pub OctetsMeanOneThing : Type 0
+OctetsMeanOneThing = (service : ℕ) (octets : List ℕ) (m n : Meaning) → Means service octets m → Means service octets n → m ≡ n
+
+-- octets that are long enough for a header and a gate mean something
+abbrev pub OctetsMeanSomething : Type 0
+OctetsMeanSomething = (service : ℕ) (octets : List ℕ) → AreOctets octets → first_gate < length octets → (m : Meaning) × Means service octets m
 
 -- a payload is that of one record
 abbrev pub PayloadsTellRecords : Type 0

@@ -1,13 +1,13 @@
 -- What a load of a journal leaves, and what it answers (our profile).
-use Rattle.std.specs.Prelude.{◌≡◌, ℕ, ◌+◌, ◌-◌, ◌^◌, ◌<◌, ◌⊎◌, List, [], ◌∷◌, ◌++◌, Option, IfSome}
-use Rattle.ots_outside.specs.Disk.{DiskState, IsImage, LeavesOnly, LeavesOnlySince}
+use Rattle.std.specs.Prelude.{◌≡◌, ℕ, ◌+◌, ◌-◌, ◌^◌, ◌<◌, ◌⊎◌, List, [], ◌∷◌, ◌++◌, length, Option, IfSome, if◌then◌else◌}
+use Rattle.ots_outside.specs.Disk.{DiskState, IsImage, LeavesOnly, LeavesOnlySince, synced}
 use Rattle.ots_outside.specs.Source.{HasRisen}
 use Rattle.decision_journal.specs.declared.journal.JournalFault.{JournalFault}
 use Rattle.decision_journal.specs.declared.journal.JournalFault.TheVariants.{DiskFault, Full, BadHeader, BadRecord, LivesSpent, Memory}
 use Rattle.decision_journal.specs.declared.record.JournalRecord.{JournalRecord}
 use Rattle.decision_journal.specs.declared.record.JournalRecord.TheVariants.{Life}
-use Rattle.decision_journal.specs.Journal.{Found, AreRecords, Holds, IsBroken, IsFresh, IsOtherHeader, StandsFor, found_in, front}
-use Rattle.decision_journal.specs.Laws.{IsSettled}
+use Rattle.decision_journal.specs.Journal.{Found, AreRecords, Holds, IsBroken, IsFresh, IsOtherHeader, StandsFor, found_in, front, is_fresh}
+use Rattle.decision_journal.specs.Laws.{CanAppend, IsSettled, appended, behind_gate, cleared, created}
 use Rattle.decision_journal.specs.State.{IsAtRest, used}
 
 -- the octets hold some records
@@ -32,6 +32,24 @@ IsHeldOrBegun service disk octets =
 -- where a crash before it leaves records, a crash at any moment of a load leaves these, or these and the next life
 abbrev pub LoadIsSafe : ℕ → DiskState → DiskState → Type 0
 LoadIsSafe service before after = LeavesOnly (IsHeld service) before.present → LeavesOnlySince (IsHeldOrBegun service before) before after
+
+-- the disk after a journal was made of it, where it is not yet one
+abbrev pub readied : ℕ → DiskState → DiskState
+readied service disk = if is_fresh disk.reads then created service (cleared disk) else disk
+
+-- the disk after a load of these records: a sync, the creation where it is due, and the append of the next life
+abbrev pub loaded : ℕ → List JournalRecord → DiskState → DiskState
+loaded service rs disk = appended (length (front service rs)) (behind_gate (next_life rs)) (readied service (synced disk))
+
+-- where a crash before it leaves records, a crash at any moment of a load leaves these, or these and the next life; once it is
+-- done, the next life is there
+abbrev pub LoadsAreSafe : Type 0
+LoadsAreSafe = (service : ℕ) (rs : List JournalRecord) (disk : DiskState)
+    → LeavesOnly (IsHeld service) disk.present → IsImage disk.present disk.reads
+    → Holds service disk.reads rs → CanAppend service rs (next_life rs)
+    → let after = loaded service rs disk in
+    LeavesOnlySince (IsHeldOrBegun service disk) disk after
+    × StandsFor service after.reads (rs ++ next_life rs ∷ []) × IsSettled after
 
 -- all is synced, and stands for the records that the disk read and the next life
 pub record LoadIsDone (service : ℕ) (before after : DiskState) : Type 0 where

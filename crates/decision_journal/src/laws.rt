@@ -1,4 +1,5 @@
-ghost use Rattle.decision_journal.specs.Laws.{AppendsAreSafe, CreationsAreSafe, OctetsStandForOneList, PayloadsTellRecords};
+ghost use Rattle.decision_journal.specs.Laws.{AppendsAreSafe, CreationsAreSafe, OctetsMeanOneThing, OctetsMeanSomething, OctetsStandForOneList, PayloadsTellRecords};
+ghost use Rattle.decision_journal.specs.Loading.{LoadsAreSafe};
 
 /// A payload is that of one record.
 pub fn payloads_tell_records()
@@ -19,4 +20,21 @@ pub fn appends_are_safe()
 /// A crash at any moment of the creation of a journal leaves octets without records.
 pub fn creations_are_safe()
     ensures { CreationsAreSafe }
+{}
+
+/// A crash at any moment of a load leaves the records of before, or these and the next life. Once it is done, the next life is
+/// there.
+pub fn loads_are_safe()
+    ensures { LoadsAreSafe }
+{}
+
+/// Octets mean one thing: they stand for one list of records, or break a rule at one place, or have another header from one
+/// place on.
+pub fn octets_mean_one_thing()
+    ensures { OctetsMeanOneThing }
+{}
+
+/// Octets that are long enough for a header and a gate mean something.
+pub fn octets_mean_something()
+    ensures { OctetsMeanSomething }
 {}

@@ -4,7 +4,8 @@
 pub use journal::{JournalFault, Standing};
 pub use keeping::Journal;
 pub use laws::{
-    appends_are_safe, creations_are_safe, octets_stand_for_one_list, payloads_tell_records,
+    appends_are_safe, creations_are_safe, loads_are_safe, octets_mean_one_thing,
+    octets_mean_something, octets_stand_for_one_list, payloads_tell_records,
 };
 pub use record::{CellsEnd, JournalRecord, Put, Puts, Registration, Registrations};
 
