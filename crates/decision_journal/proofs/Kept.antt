@@ -8,7 +8,7 @@ use Rattle.decision_journal.specs.Layout.{Fits, record_octets}
 use Rattle.decision_journal.specs.Journal.{Found, can_follow, with_record, front, AreRecords, IsFilled, StandsAt, StandsFor, StandsForEither}
 use Rattle.decision_journal.specs.Laws.{CanAppend, IsOnTheWay, IsSettled, appended, behind_gate}
 use Rattle.std.proofs.lemmas.List.{take_at}
-use Rattle.decision_journal.specs.State.{used, AppendIsDone, AppendIsSafe, BeginsWithEither, IsAtRest, IsKept, IsOldOrMore, IsSound, IsWithinArea, MayFind, MayHold}
+use Rattle.decision_journal.specs.State.{LeavesFound, used, AppendIsDone, AppendIsSafe, BeginsWithEither, IsAtRest, IsKept, IsOldOrMore, IsSound, IsWithinArea, MayFind, MayHold}
 use Rattle.decision_journal.proofs.Append.{append_safe, body, front_more}
 use Rattle.decision_journal.proofs.Scans.{more_records}
 use Rattle.decision_journal.proofs.Since.{image_of, leaves_now, since_weaker}
@@ -157,3 +157,10 @@ pub body_kept : (item : JournalRecord) (b : List ℕ) (n : ℕ) → b ≡ behind
 body_kept item b n is n_is =
     let size : length (body item) ≡ n = omega (arith, n_is, ap length is, length-append (body item) (0 ∷ [])) in
     ap (λ (l : List ℕ). 1 ∷ take n l) is ∙ ap (λ (l : List ℕ). 1 ∷ l) (take_at (body item) (0 ∷ []) n size)
+
+-- what is known, before a closed gate
+pub leaves_found : (service : ℕ) (octets : List ℕ) (found : Found) → IsFilled service octets found → LeavesFound service (octets ++ 0 ∷ []) found
+leaves_found service octets found filled = (
+  filled.0,
+  (stands_from service octets (octets ++ 0 ∷ []) found filled.0 filled.1 (record { gate = 0; behind = []; octets_are = refl; closed = omega arith }), filled.1.found_is),
+)

@@ -9,7 +9,7 @@ use Rattle.decision_journal.specs.declared.record.JournalRecord.{JournalRecord}
 use Rattle.decision_journal.specs.declared.record.JournalRecord.TheVariants.{Done}
 use Rattle.decision_journal.specs.Limits.{area_limit, standing_limit}
 use Rattle.decision_journal.specs.Layout.{Fits, record_octets}
-use Rattle.decision_journal.specs.Journal.{Found, IsFilled, StandsAt, StandsFor, StandsForEither, can_follow, is_decision, is_decision_at, with_record}
+use Rattle.decision_journal.specs.Journal.{Found, IsFilled, StandsAt, StandsFor, StandsForEither, can_follow, found_in, is_decision, is_decision_at, with_record}
 use Rattle.decision_journal.specs.Laws.{IsSettled}
 
 -- a journal: its disk, how large its area is, its service, the octets before the gate at the end, what their records leave,
@@ -102,6 +102,10 @@ pub record MayHold (service : ℕ) (disk : DiskState) (rs : List JournalRecord) 
   pub image : List ℕ
   pub is_image : IsImage disk.present image
   pub stands : StandsFor service image rs
+
+-- octets stand for records that leave what was found
+abbrev pub LeavesFound : ℕ → List ℕ → Found → Type 0
+LeavesFound service octets found = (rs : List JournalRecord) × (StandsFor service octets rs × (found ≡ found_in rs))
 
 -- octets stand for records that the disk may hold
 abbrev pub IsOld : ℕ → DiskState → List ℕ → Type 0

@@ -1,4 +1,4 @@
-ghost use Rattle.std.specs.Prelude.{◌≡◌, ◌≤◌, ◌+◌, ◌++◌, length, false, None, IsTrue, IfOk, IfErr, IfSome, OnOk, OnErr};
+ghost use Rattle.std.specs.Prelude.{◌≡◌, ◌≤◌, ◌+◌, ◌++◌, ◌∷◌, ◌⊎◌, [], length, false, None, IsTrue, IfOk, IfErr, IfSome, OnOk, OnErr};
 ghost use Rattle.std.specs.List.{list_any};
 ghost use Rattle.std.specs.Option.{ForSome};
 ghost use Rattle.ots_outside.specs.Disk.{Tells};
@@ -12,10 +12,10 @@ use crate::found::Index;
 use crate::journal::{JournalFault, Standing, fault_of};
 use crate::loading::start_within;
 use crate::record::JournalRecord;
-use crate::room::{add_doubted, doubt, drop_doubt, found_again, keep, prepared, written_behind};
+use crate::room::{add_doubted, doubt, drop_doubt, found_again, keep, prepared, put_closed, written_behind};
 use crate::scan::{other, stands_at};
 use ots_outside::{Back, Disk};
-use std::alloc::Global;
+use std::alloc::{AllocError, Global};
 use std::marker::Model;
 
 /// A journal over a disk. Contracts see it as a `JournalState`.
@@ -52,7 +52,7 @@ impl<D: Disk> Model for Journal<D> {
 
 impl<D: Disk> Journal<D> {
     ghost use Rattle.decision_journal.specs.Loading.{IsLoadFault, LoadIsDone, LoadIsSafe};
-    ghost use Rattle.decision_journal.specs.State.{AppendIsDone, AppendIsSafe, HasAppended, HasMore, HasReread, DoneIsDone, IsAfterAppend, IsAtRest, IsAfterDone, IsAppendFault, IsReadFault, IsRoomFault, IsUnread, IsUnsure, MayFollow, ReadIsDone, ReadIsSafe, need, used};
+    ghost use Rattle.decision_journal.specs.State.{AppendIsDone, AppendIsSafe, HasAppended, HasMore, HasReread, DoneIsDone, IsAfterAppend, IsAtRest, IsAfterDone, IsAppendFault, IsReadFault, IsRoomFault, IsUnread, IsUnsure, LeavesFound, MayFollow, ReadIsDone, ReadIsSafe, need, used};
 
     /// Whether the next call reads the disk again.
     pub fn failed(&self) -> bool
@@ -234,6 +234,37 @@ impl<D: Disk> Journal<D> {
         let behind = written_behind(self.alloc, &item)?;
         self.write(item, &behind)?;
         Ok(())
+    }
+
+    /// Puts the journal's octets behind those of a list: all before the gate at the end, and a closed gate. Where a call has
+    /// failed, the disk is read again first.
+    pub fn bytes(&mut self, into: &mut Vec<u8>) -> Result<(), JournalFault>
+        ensures read { OnOk result (HasReread self.old self.new) }
+        ensures octets { OnOk result (into.new.items ≡ into.old.items ++ (self.new.octets ++ 0 ∷ [])) }
+        ensures stands { OnOk result
+            (LeavesFound self.new.service (self.new.octets ++ 0 ∷ []) self.new.found) }
+        ensures done { OnOk result
+            (Tells (D.told self.old.disk) (D.told self.new.disk) (ReadIsDone self.old.service)) }
+        ensures refused { OnErr result (IsUnread self.old self.new ⊎ HasReread self.old self.new) }
+        ensures same { OnErr result (into.new.items ≡ into.old.items) }
+        ensures fault { IfErr result
+            (IsReadFault (D.told self.new.disk) (D.faults self.old.disk) (D.faults self.new.disk)) }
+        ensures later { D.faults self.old.disk ≤ D.faults self.new.disk }
+        ensures safe { Tells (D.told self.old.disk) (D.told self.new.disk) (ReadIsSafe self.old.service) }
+    {
+        self.ready()?;
+        self.put_bytes(into)?;
+        Ok(())
+    }
+
+    /// Puts the octets before the gate at the end and a closed gate behind those of a list.
+    fn put_bytes(&self, into: &mut Vec<u8>) -> Result<(), AllocError>
+        requires kept { self.now.failed ≡ false }
+        ensures octets { OnOk result (into.new.items ≡ into.old.items ++ (self.now.octets ++ 0 ∷ [])) }
+        ensures same { OnErr result (into.new.items ≡ into.old.items) }
+        ensures stands { LeavesFound self.now.service (self.now.octets ++ 0 ∷ []) self.now.found }
+    {
+        put_closed(into, &self.octets)
     }
 
     /// Gives the disk back.

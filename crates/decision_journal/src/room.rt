@@ -199,3 +199,24 @@ fn put_open(octets: &mut Vec<u8>, body: &[u8]) -> Result<(), AllocError>
     octets.push(OPEN)?;
     octets.extend_from_slice(body)
 }
+
+/// Puts octets and a closed gate behind those of a list, or leaves it as it was where memory runs out.
+pub(crate) fn put_closed(into: &mut Vec<u8>, octets: &[u8]) -> Result<(), AllocError>
+    ensures ok { OnOk result (into.new.items ≡ into.old.items ++ (octets.now ++ 0 ∷ [])) }
+    ensures err { OnErr result (into.new.items ≡ into.old.items) }
+{
+    let length = into.len();
+    let added = add_closed(into, octets);
+    if added.is_err() {
+        into.truncate(length);
+    }
+    added
+}
+
+fn add_closed(into: &mut Vec<u8>, octets: &[u8]) -> Result<(), AllocError>
+    ensures ok { OnOk result (into.new.items ≡ into.old.items ++ (octets.now ++ 0 ∷ [])) }
+    ensures err { OnErr result (into.old.items ≡ take (length into.old.items) into.new.items) }
+{
+    into.extend_from_slice(octets)?;
+    Ok(into.push(0)?)
+}
