@@ -12,7 +12,9 @@ use crate::found::Index;
 use crate::journal::{JournalFault, Standing, fault_of};
 use crate::loading::start_within;
 use crate::record::JournalRecord;
-use crate::room::{add_doubted, doubt, drop_doubt, found_again, keep, prepared, put_closed, written_behind};
+use crate::room::{
+    add_doubted, doubt, drop_doubt, found_again, keep, prepared, put_closed, written_behind,
+};
 use crate::scan::{other, stands_at};
 use ots_outside::{Back, Disk};
 use std::alloc::{AllocError, Global};
