@@ -21,16 +21,16 @@ use Rattle.ots_calls.specs.declared.operation.Operation.{Operation}
 use Rattle.ots_calls.specs.declared.operation.Operation.TheVariants as operations
 use Rattle.ots_calls.specs.declared.call.Call.{Call}
 use Rattle.ots_calls.specs.declared.call.Call.TheVariants as calls
-use Rattle.ots_calls.proofs.Given.{ok_is, bind_ok, guard_ok, told_ok, there_ok, found}
+use Rattle.ots_calls.proofs.Steps.{ok_is, bind_ok, guard_ok, told_ok, there_ok, found}
 
 -- few octets are left
-ended_found : (x call : Call) (r : Reading) → ended x r ≡ Ok call → (x ≡ call) × (length r.rest ≤ 7)
+pub ended_found : {A : Type 0} (x call : A) (r : Reading) → ended x r ≡ Ok call → (x ≡ call) × (length r.rest ≤ 7)
 unfolding ended
 ended_found x call r e =
     let g = guard_ok (ltb 7 (length r.rest)) (Marshal r.place) (Ok x) call e in
     (ok_is {F = CallFault} x call g.1, ltb-false _ _ g.0)
 
-ended_only : (call : Call) (r : Reading) → length r.rest ≤ 7 → ended call r ≡ Ok call
+pub ended_only : {A : Type 0} (call : A) (r : Reading) → length r.rest ≤ 7 → ended call r ≡ Ok call
 unfolding ended
 ended_only call r few = rw (le-ltb 7 (length r.rest) few) refl
 
@@ -83,14 +83,14 @@ handing_found refs handing r call e =
 
 -- ---- statuses
 
-same_number : (n m : ℕ) → eqb n m ≡ true → n ≡ m
+pub same_number : (n m : ℕ) → eqb n m ≡ true → n ≡ m
 same_number n m e = grind arith
 
-status_found : (n : ℕ) (s : Status) → status_of n ≡ Some s → n ≡ status_number s
+pub status_found : (n : ℕ) (s : Status) → status_of n ≡ Some s → n ≡ status_number s
 unfolding status_of
 status_found n s e = same_number n (status_number s) (found (λ (one : Status). eqb n (status_number one)) statuses s e)
 
-status_only : (s : Status) → status_of (status_number s) ≡ Some s
+pub status_only : (s : Status) → status_of (status_number s) ≡ Some s
 unfolding status_of
 status_only status.Active = refl
 status_only status.MarkedRollback = refl
@@ -161,7 +161,7 @@ body_found refs laws operations.IsA r call e =
     is_found operations.IsA r (calls.IsA a.0.0) call d.0 (refl, record { behind = a.0.1; stand = (a.0.1, one, refl); few = d.1 })
 
 -- where a value stands alone, so few octets are left behind it
-few_left : (r behind : Reading) (value : Value) (h : ReadsAll r (value ∷ []) behind) → length behind.rest ≤ 7 → length h.0.rest ≤ 7
+pub few_left : (r behind : Reading) (value : Value) (h : ReadsAll r (value ∷ []) behind) → length behind.rest ≤ 7 → length h.0.rest ≤ 7
 few_left r behind value h few = omega (arith, few, ap (λ (s : Reading). length s.rest) h.2)
 
 pub body_only : ReferencesAreReadExactly → ReadingLaws → (call : Call) (r : Reading) → IsBody call r → call_at (operation_of call) r ≡ Ok call

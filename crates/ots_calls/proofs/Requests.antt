@@ -29,7 +29,7 @@ use Rattle.ots_calls.specs.declared.call.Called.{Called}
 use Rattle.ots_calls.specs.declared.fault.CallFault.{CallFault}
 use Rattle.ots_calls.specs.declared.fault.CallFault.TheVariants.{BadOperation, Marshal}
 use Rattle.ots_calls.specs.declared.operation.Operation.{Operation}
-use Rattle.ots_calls.proofs.Given.{ok_is, bind_ok, check_ok, told_ok, there_ok}
+use Rattle.ots_calls.proofs.Steps.{ok_is, bind_ok, check_ok, told_ok, there_ok}
 use Rattle.ots_calls.proofs.Bodies.{body_found, body_only}
 
 -- ---- encapsulations

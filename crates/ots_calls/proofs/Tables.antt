@@ -10,7 +10,7 @@ use Rattle.ots_calls.specs.declared.operation.Operation.{Operation}
 use Rattle.ots_calls.specs.declared.operation.Operation.TheVariants.{Bare, Handing, Create, Recreate, CommitTransaction, AfterCompletion, Put, Get, IsA}
 use Rattle.ots_calls.specs.Table.{aware_resource, cells, control, coordinator, any_object, factory, operation_named, operations, recovery_coordinator, resource, serves, synchronization, terminator, word_of}
 use Rattle.ots_calls.specs.Laws.{NamesTellOperations}
-use Rattle.ots_calls.proofs.Given.{found}
+use Rattle.ots_calls.proofs.Steps.{found}
 
 -- P holds of each of these kinds
 abbrev OfEach : (ℕ → Type 0) → List ℕ → Type 0

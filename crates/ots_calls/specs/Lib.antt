@@ -6,4 +6,8 @@ pub mod Reading
 pub mod Retry
 pub mod Request
 pub mod Writing
+pub mod Exception
+pub mod Answer
+pub mod Answering
+pub mod AnswerWriting
 pub mod Laws

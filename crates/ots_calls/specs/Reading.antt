@@ -16,9 +16,9 @@ use Rattle.ots_calls.specs.declared.operation.Operation.TheVariants as operation
 use Rattle.ots_calls.specs.declared.call.Call.{Call}
 use Rattle.ots_calls.specs.declared.call.Call.TheVariants as calls
 
--- the call, where few octets are left behind it
-unfoldable pub ended : Call → Reading → Result Call CallFault
-ended call r = if nat_lt left_limit (length r.rest) then Err (Marshal r.place) else Ok call
+-- what was read, where few octets are left behind it
+unfoldable pub ended : {A : Type 0} → A → Reading → Result A CallFault
+ended x r = if nat_lt left_limit (length r.rest) then Err (Marshal r.place) else Ok x
 
 -- the statuses
 abbrev pub statuses : List Status

@@ -8,10 +8,12 @@ use Rattle.ots_calls.specs.declared.operation.Bare.TheVariants.{GetTerminator, G
 use Rattle.ots_calls.specs.declared.operation.Handing.TheVariants.{IsSameTransaction, IsRelatedTransaction, IsAncestorTransaction, IsDescendantTransaction, RegisterResource, RegisterSynchronization, RegisterSubtranAware, ReplayCompletion, CommitSubtransaction}
 use Rattle.ots_calls.specs.declared.operation.Operation.{Operation}
 use Rattle.ots_calls.specs.declared.operation.Operation.TheVariants.{Bare, Handing, Create, Recreate, CommitTransaction, AfterCompletion, Put, Get, IsA}
+use Rattle.ots_calls.specs.declared.gives.Gives.{Gives}
+use Rattle.ots_calls.specs.declared.gives.Gives.TheVariants as given
 use Rattle.ots_calls.specs.declared.exception.UserException.{UserException}
 use Rattle.ots_calls.specs.declared.exception.UserException.TheVariants.{HeuristicRollback, HeuristicCommit, HeuristicMixed, HeuristicHazard, Inactive, NotPrepared, NotSubtransaction, SubtransactionsUnavailable, SynchronizationUnavailable, Unavailable}
 
--- the shapes of what an operation takes or gives
+-- the shapes of what an operation takes
 pub data Shape : Type 0 where
   -- nothing
   Void : Shape
@@ -19,17 +21,15 @@ pub data Shape : Type 0 where
   -- an unsigned long
   Number : Shape
   Reference : Shape
-  -- a Status, a Vote
+  -- a Status
   State : Shape
-  Ballot : Shape
   -- a string
   Word : Shape
   -- a PropagationContext
   Transaction : Shape
-  -- the number of a cell; that and a value; whether there is a value, and the value
+  -- the number of a cell; that and a value
   Cell : Shape
   CellAndValue : Shape
-  FoundValue : Shape
 
 -- the kinds of keys whose objects have an interface
 abbrev pub factory : List ℕ
@@ -68,10 +68,10 @@ pub record Row : Type 0 where
   pub kinds : List ℕ
   pub word : List ℕ
   pub takes : Shape
-  pub gives : Shape
+  pub gives : Gives
   pub raises : List UserException
 
-abbrev row : List ℕ → List ℕ → Shape → Shape → List UserException → Row
+abbrev row : List ℕ → List ℕ → Shape → Gives → List UserException → Row
 row kinds word takes gives raises = record {
   kinds = kinds;
   word = word;
@@ -82,43 +82,43 @@ row kinds word takes gives raises = record {
 
 -- the row of an operation
 abbrev pub row_of : Operation → Row
-row_of Create = row factory (codes "create") Number Reference []
-row_of Recreate = row factory (codes "recreate") Transaction Reference []
-row_of (Bare GetTerminator) = row control (codes "get_terminator") Void Reference (Unavailable ∷ [])
-row_of (Bare GetCoordinator) = row control (codes "get_coordinator") Void Reference (Unavailable ∷ [])
-row_of CommitTransaction = row terminator (codes "commit") Flag Void (HeuristicMixed ∷ HeuristicHazard ∷ [])
-row_of (Bare RollbackTransaction) = row terminator (codes "rollback") Void Void []
-row_of (Bare GetStatus) = row coordinator (codes "get_status") Void State []
-row_of (Bare GetParentStatus) = row coordinator (codes "get_parent_status") Void State []
-row_of (Bare GetTopLevelStatus) = row coordinator (codes "get_top_level_status") Void State []
-row_of (Handing IsSameTransaction) = row coordinator (codes "is_same_transaction") Reference Flag []
-row_of (Handing IsRelatedTransaction) = row coordinator (codes "is_related_transaction") Reference Flag []
-row_of (Handing IsAncestorTransaction) = row coordinator (codes "is_ancestor_transaction") Reference Flag []
-row_of (Handing IsDescendantTransaction) = row coordinator (codes "is_descendant_transaction") Reference Flag []
-row_of (Bare IsTopLevelTransaction) = row coordinator (codes "is_top_level_transaction") Void Flag []
-row_of (Bare HashTransaction) = row coordinator (codes "hash_transaction") Void Number []
-row_of (Bare HashTopLevelTran) = row coordinator (codes "hash_top_level_tran") Void Number []
-row_of (Handing RegisterResource) = row coordinator (codes "register_resource") Reference Reference (Inactive ∷ [])
-row_of (Handing RegisterSynchronization) = row coordinator (codes "register_synchronization") Reference Void (Inactive ∷ SynchronizationUnavailable ∷ [])
-row_of (Handing RegisterSubtranAware) = row coordinator (codes "register_subtran_aware") Reference Void (Inactive ∷ NotSubtransaction ∷ [])
-row_of (Bare RollbackOnly) = row coordinator (codes "rollback_only") Void Void (Inactive ∷ [])
-row_of (Bare GetTransactionName) = row coordinator (codes "get_transaction_name") Void Word []
-row_of (Bare CreateSubtransaction) = row coordinator (codes "create_subtransaction") Void Reference (SubtransactionsUnavailable ∷ Inactive ∷ [])
-row_of (Bare GetTxcontext) = row coordinator (codes "get_txcontext") Void Transaction (Unavailable ∷ [])
-row_of (Handing ReplayCompletion) = row recovery_coordinator (codes "replay_completion") Reference State (NotPrepared ∷ [])
-row_of (Bare Prepare) = row resource (codes "prepare") Void Ballot (HeuristicMixed ∷ HeuristicHazard ∷ [])
-row_of (Bare Rollback) = row resource (codes "rollback") Void Void (HeuristicCommit ∷ HeuristicMixed ∷ HeuristicHazard ∷ [])
-row_of (Bare Commit) = row resource (codes "commit") Void Void (NotPrepared ∷ HeuristicRollback ∷ HeuristicMixed ∷ HeuristicHazard ∷ [])
-row_of (Bare CommitOnePhase) = row resource (codes "commit_one_phase") Void Void (HeuristicHazard ∷ [])
-row_of (Bare Forget) = row resource (codes "forget") Void Void []
-row_of (Bare BeforeCompletion) = row synchronization (codes "before_completion") Void Void []
-row_of AfterCompletion = row synchronization (codes "after_completion") State Void []
-row_of (Handing CommitSubtransaction) = row aware_resource (codes "commit_subtransaction") Reference Void []
-row_of (Bare RollbackSubtransaction) = row aware_resource (codes "rollback_subtransaction") Void Void []
-row_of Put = row cells (codes "put") CellAndValue Void []
-row_of Get = row cells (codes "get") Cell FoundValue []
-row_of IsA = row any_object (codes "_is_a") Word Flag []
-row_of (Bare NonExistent) = row any_object (codes "_non_existent") Void Flag []
+row_of Create = row factory (codes "create") Number given.Reference []
+row_of Recreate = row factory (codes "recreate") Transaction given.Reference []
+row_of (Bare GetTerminator) = row control (codes "get_terminator") Void given.Reference (Unavailable ∷ [])
+row_of (Bare GetCoordinator) = row control (codes "get_coordinator") Void given.Reference (Unavailable ∷ [])
+row_of CommitTransaction = row terminator (codes "commit") Flag given.Nothing (HeuristicMixed ∷ HeuristicHazard ∷ [])
+row_of (Bare RollbackTransaction) = row terminator (codes "rollback") Void given.Nothing []
+row_of (Bare GetStatus) = row coordinator (codes "get_status") Void given.State []
+row_of (Bare GetParentStatus) = row coordinator (codes "get_parent_status") Void given.State []
+row_of (Bare GetTopLevelStatus) = row coordinator (codes "get_top_level_status") Void given.State []
+row_of (Handing IsSameTransaction) = row coordinator (codes "is_same_transaction") Reference given.Flag []
+row_of (Handing IsRelatedTransaction) = row coordinator (codes "is_related_transaction") Reference given.Flag []
+row_of (Handing IsAncestorTransaction) = row coordinator (codes "is_ancestor_transaction") Reference given.Flag []
+row_of (Handing IsDescendantTransaction) = row coordinator (codes "is_descendant_transaction") Reference given.Flag []
+row_of (Bare IsTopLevelTransaction) = row coordinator (codes "is_top_level_transaction") Void given.Flag []
+row_of (Bare HashTransaction) = row coordinator (codes "hash_transaction") Void given.Number []
+row_of (Bare HashTopLevelTran) = row coordinator (codes "hash_top_level_tran") Void given.Number []
+row_of (Handing RegisterResource) = row coordinator (codes "register_resource") Reference given.Reference (Inactive ∷ [])
+row_of (Handing RegisterSynchronization) = row coordinator (codes "register_synchronization") Reference given.Nothing (Inactive ∷ SynchronizationUnavailable ∷ [])
+row_of (Handing RegisterSubtranAware) = row coordinator (codes "register_subtran_aware") Reference given.Nothing (Inactive ∷ NotSubtransaction ∷ [])
+row_of (Bare RollbackOnly) = row coordinator (codes "rollback_only") Void given.Nothing (Inactive ∷ [])
+row_of (Bare GetTransactionName) = row coordinator (codes "get_transaction_name") Void given.Word []
+row_of (Bare CreateSubtransaction) = row coordinator (codes "create_subtransaction") Void given.Reference (SubtransactionsUnavailable ∷ Inactive ∷ [])
+row_of (Bare GetTxcontext) = row coordinator (codes "get_txcontext") Void given.Transaction (Unavailable ∷ [])
+row_of (Handing ReplayCompletion) = row recovery_coordinator (codes "replay_completion") Reference given.State (NotPrepared ∷ [])
+row_of (Bare Prepare) = row resource (codes "prepare") Void given.Ballot (HeuristicMixed ∷ HeuristicHazard ∷ [])
+row_of (Bare Rollback) = row resource (codes "rollback") Void given.Nothing (HeuristicCommit ∷ HeuristicMixed ∷ HeuristicHazard ∷ [])
+row_of (Bare Commit) = row resource (codes "commit") Void given.Nothing (NotPrepared ∷ HeuristicRollback ∷ HeuristicMixed ∷ HeuristicHazard ∷ [])
+row_of (Bare CommitOnePhase) = row resource (codes "commit_one_phase") Void given.Nothing (HeuristicHazard ∷ [])
+row_of (Bare Forget) = row resource (codes "forget") Void given.Nothing []
+row_of (Bare BeforeCompletion) = row synchronization (codes "before_completion") Void given.Nothing []
+row_of AfterCompletion = row synchronization (codes "after_completion") State given.Nothing []
+row_of (Handing CommitSubtransaction) = row aware_resource (codes "commit_subtransaction") Reference given.Nothing []
+row_of (Bare RollbackSubtransaction) = row aware_resource (codes "rollback_subtransaction") Void given.Nothing []
+row_of Put = row cells (codes "put") CellAndValue given.Nothing []
+row_of Get = row cells (codes "get") Cell given.Found []
+row_of IsA = row any_object (codes "_is_a") Word given.Flag []
+row_of (Bare NonExistent) = row any_object (codes "_non_existent") Void given.Flag []
 
 -- those of every object
 abbrev pub of_objects : List Operation

@@ -41,7 +41,7 @@ pub(crate) fn body_of(alloc: Global, call: &Call) -> Result<Octets, CallFault>
 }
 
 /// No octets.
-fn nothing(alloc: Global) -> Octets
+pub(crate) fn nothing(alloc: Global) -> Octets
     ensures none { result ≡ [] }
     ensures left { AreLeft [] (standing Big 0 result) }
 {
@@ -49,7 +49,7 @@ fn nothing(alloc: Global) -> Octets
 }
 
 /// The number of a status.
-fn status_number(status: Status) -> u32
+pub(crate) fn status_number(status: Status) -> u32
     ensures { result ≡ status_number status }
 {
     match status {
@@ -66,7 +66,7 @@ fn status_number(status: Status) -> u32
     }
 }
 
-fn number_body(alloc: Global, number: u32) -> Result<Octets, CallFault>
+pub(crate) fn number_body(alloc: Global, number: u32) -> Result<Octets, CallFault>
     ensures exact { Finds (λ octets. octets) result (Ok (with_values blank (ULong number ∷ [])).octets) }
     ensures left { IfOk result (λ octets. AreLeft (ULong number ∷ []) (standing Big 0 octets)) }
 {
@@ -76,7 +76,7 @@ fn number_body(alloc: Global, number: u32) -> Result<Octets, CallFault>
     Ok(writer.finish())
 }
 
-fn flag_body(alloc: Global, flag: bool) -> Result<Octets, CallFault>
+pub(crate) fn flag_body(alloc: Global, flag: bool) -> Result<Octets, CallFault>
     ensures exact { Finds (λ octets. octets) result (Ok (with_values blank (Boolean flag ∷ [])).octets) }
     ensures left { IfOk result (λ octets. AreLeft (Boolean flag ∷ []) (standing Big 0 octets)) }
 {
@@ -108,7 +108,7 @@ fn cell_and_value_body(alloc: Global, cell: u64, value: u64) -> Result<Octets, C
     Ok(writer.finish())
 }
 
-fn text_body(alloc: Global, text: &[u8]) -> Result<Octets, CallFault>
+pub(crate) fn text_body(alloc: Global, text: &[u8]) -> Result<Octets, CallFault>
     requires { length text.now < 2 ^ 31 }
     ensures exact { Finds (λ octets. octets) result
         (unless_refused (refusal blank (Text text.now)) (with_values blank (Text text.now ∷ [])).octets) }
@@ -127,16 +127,24 @@ fn reference_body(alloc: Global, reference: &ObjectRef) -> Result<Octets, CallFa
     ensures short { IfOk result (λ octets. IsTrue (is_short reference.now)) }
     ensures object { IfOk result (λ octets. ¬ (reference.now ≡ nil)) }
 {
-    values_are_read_again();
     if reference.is_nil() {
         return Err(CallFault::BadParam);
     }
+    reference_octets(alloc, reference)
+}
+
+pub(crate) fn reference_octets(alloc: Global, reference: &ObjectRef) -> Result<Octets, CallFault>
+    ensures exact { Finds (λ octets. octets) result (Ok (with_values blank (reference_values reference.now)).octets) }
+    ensures left { IfOk result (λ octets. AreLeft (reference_values reference.now) (standing Big 0 octets)) }
+    ensures short { IfOk result (λ octets. IsTrue (is_short reference.now)) }
+{
+    values_are_read_again();
     let mut writer = Writer::new(alloc, Order::Big, 0);
     write_reference(&mut writer, reference)?;
     Ok(writer.finish())
 }
 
-fn context_body(alloc: Global, context: &Context) -> Result<Octets, CallFault>
+pub(crate) fn context_body(alloc: Global, context: &Context) -> Result<Octets, CallFault>
     requires { kept_length context.now.tail < 2 ^ 31 }
     ensures exact { Finds (λ octets. octets) result (told_as fault_of_context (with_context blank context.now)) }
     ensures read { IfOk result (λ octets. context_at (standing Big 0 octets) ≡ Ok context.now) }

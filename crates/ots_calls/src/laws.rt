@@ -1,4 +1,4 @@
-ghost use Rattle.ots_calls.specs.Laws.{NamesTellOperations, RequestsAreReadExactly};
+ghost use Rattle.ots_calls.specs.Laws.{AnswersAreReadExactly, NamesTellOperations, RequestsAreReadExactly};
 
 /// A law: a kind of keys and a name tell one operation, and each operation is told by its name and each of its kinds.
 pub fn names_tell_operations()
@@ -11,6 +11,14 @@ pub fn requests_are_read_exactly()
 {
     names_tell_operations();
     ots_context::contexts_are_read_exactly();
+    ior_refs::references_are_read_exactly();
+    cdr_values::reading_is_exact();
+}
+
+/// A law: a reply is read as an answer to a call exactly where it is that answer.
+pub fn answers_are_read_exactly()
+    ensures { AnswersAreReadExactly }
+{
     ior_refs::references_are_read_exactly();
     cdr_values::reading_is_exact();
 }

@@ -1,21 +1,32 @@
 //! The calls of the transaction service and their answers, as requests and replies.
 #![tactic(auto)]
 
+pub use answer::{Answer, Completed, Given};
+pub use answering::read_answer;
 pub use call::{Call, Called};
 pub use exception::UserException;
 pub use fault::CallFault;
-pub use laws::{names_tell_operations, requests_are_read_exactly};
+pub use gives::Gives;
+pub use laws::{answers_are_read_exactly, names_tell_operations, requests_are_read_exactly};
 pub use operation::{Bare, Handing, Operation};
+pub use replying::write_answer;
 pub use request::read_call;
+pub use system::SystemException;
 pub use writing::write_call;
 
+mod answer;
+mod answering;
 mod body;
 mod call;
 mod exception;
 mod fault;
+mod gives;
 mod laws;
 mod operation;
 mod reading;
+mod replying;
 mod request;
+mod rows;
+mod system;
 mod table;
 mod writing;

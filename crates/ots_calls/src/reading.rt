@@ -80,7 +80,7 @@ fn read_after_completion(reader: &mut Reader) -> Result<Call, CallFault>
 
 /// The status of a number.
 #[tactic(auto, unfolding(crate::specs::Reading::status_of))]
-fn status_of(number: u32) -> Option<Status>
+pub(crate) fn status_of(number: u32) -> Option<Status>
     ensures { result ≡ status_of number }
 {
     match number {
@@ -98,13 +98,13 @@ fn status_of(number: u32) -> Option<Status>
     }
 }
 
-/// The call, where few octets are left behind it.
+/// What was read, where few octets are left behind it.
 #[tactic(auto, unfolding(crate::specs::Reading::ended))]
-fn ended(reader: &Reader, call: Call) -> Result<Call, CallFault>
-    ensures { Finds (λ call. call) result (ended call reader.now) }
+pub(crate) fn ended<T: Drop>(reader: &Reader, value: T) -> Result<T, CallFault>
+    ensures { Finds (λ x. x) result (ended value reader.now) }
 {
     if reader.rest().len() > LEFT_LIMIT {
         return Err(CallFault::Marshal(reader.place()));
     }
-    Ok(call)
+    Ok(value)
 }

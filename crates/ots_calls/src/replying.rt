@@ -1,0 +1,148 @@
+ghost use Rattle.std.specs.Prelude.{◌≡◌, ◌⊎◌, ◌^◌, ◌<◌, [], ◌∷◌, IfErr, IfOk, Err, Ok, length};
+ghost use Rattle.std.specs.Bool.{OnFalse, OnTrue};
+ghost use Rattle.cdr_values.specs.Again.{standing};
+ghost use Rattle.cdr_values.specs.Values.{with_values};
+ghost use Rattle.cdr_values.specs.Value.{Boolean, ULong, ULongLong, Text};
+ghost use Rattle.cdr_values.specs.declared.order.Order.TheVariants.{Big};
+ghost use Rattle.ots_calls.specs.Answer.{IsAnswer, IsGiven, IsOf, Says, completed_number, vote_number};
+ghost use Rattle.ots_calls.specs.Answering.{answer_with};
+ghost use Rattle.ots_calls.specs.AnswerWriting.{answer_body, given_body, given_length, octets_with, reply_of};
+ghost use Rattle.ots_calls.specs.Call.{AreLeft, operation_of};
+ghost use Rattle.ots_calls.specs.Fault.{Finds};
+ghost use Rattle.ots_calls.specs.Writing.{blank};
+ghost use Rattle.ots_calls.specs.declared.answer.Answer.TheVariants as answers;
+ghost use Rattle.ots_calls.specs.declared.fault.CallFault.TheVariants.{BadParam, Memory};
+
+use crate::answer::{Answer, Completed, Given};
+use crate::body::{
+    context_body, flag_body, nothing, number_body, reference_octets, status_number, text_body,
+};
+use crate::call::Call;
+use crate::fault::CallFault;
+use crate::laws::answers_are_read_exactly;
+use crate::operation::Operation;
+use cdr_values::{Order, Writer, values_are_read_again};
+use giop_frames::{Contexts, Reply};
+use ots_model::{Octets, Vote};
+use std::alloc::Global;
+
+/// The reply to a call with this answer and this request_id. It is big endian. An answer that isn't one of the call's is
+/// refused.
+#[tactic(auto, unfolding(crate::specs::AnswerWriting::reply_of))]
+pub fn write_answer(alloc: Global, id: u32, c: &Call, a: &Answer) -> Result<Reply, CallFault>
+    requires { given_length a.now < 2 ^ 31 }
+    ensures exact { IfOk result (λ reply. reply_of id a.now ≡ Ok reply) }
+    ensures answer { IfOk result (λ reply. IsAnswer c.now a.now reply) }
+    ensures again { IfOk result (λ reply. answer_with c.now reply ≡ Ok a.now) }
+    ensures big { IfOk result (λ reply. reply.order ≡ Big) }
+    ensures refused { IfErr result (λ fault. (fault ≡ Memory) ⊎ (((fault ≡ BadParam) × ¬ IsOf (operation_of c.now) a.now)
+        ⊎ (IsOf (operation_of c.now) a.now × (reply_of id a.now ≡ Err fault)))) }
+{
+    answers_are_read_exactly();
+    if !is_of(c.operation(), a) {
+        return Err(CallFault::BadParam);
+    }
+    let body = answer_body(alloc, a)?;
+    Ok(Reply {
+        id,
+        status: a.status(),
+        contexts: Contexts::from_vec(Vec::new(alloc)),
+        order: Order::Big,
+        body,
+    })
+}
+
+/// Whether an operation may be answered so.
+fn is_of(operation: Operation, answer: &Answer) -> bool
+    ensures yes { OnTrue result (IsOf operation answer.now) }
+    ensures no { OnFalse result (¬ IsOf operation answer.now) }
+{
+    match answer {
+        Answer::Plain(given) => given.gives() == operation.gives(),
+        Answer::User(exception) => operation.may_raise(*exception),
+        Answer::System(_, _) => true,
+    }
+}
+
+/// The body of an answer.
+fn answer_body(alloc: Global, answer: &Answer) -> Result<Octets, CallFault>
+    requires { given_length answer.now < 2 ^ 31 }
+    ensures exact { Finds (λ octets. octets) result (answer_body answer.now) }
+    ensures says { IfOk result (λ octets. Says answer.now (standing Big 0 octets)) }
+{
+    match answer {
+        Answer::Plain(given) => given_body(alloc, given),
+        Answer::User(exception) => text_body(alloc, exception.id()),
+        Answer::System(exception, completed) => system_body(alloc, exception.id(), *completed),
+    }
+}
+
+/// The body of what was given.
+fn given_body(alloc: Global, given: &Given) -> Result<Octets, CallFault>
+    requires { given_length (answers.Plain given.now) < 2 ^ 31 }
+    ensures exact { Finds (λ octets. octets) result (given_body given.now) }
+    ensures given { IfOk result (λ octets. IsGiven given.now (standing Big 0 octets)) }
+{
+    match given {
+        Given::Nothing => Ok(nothing(alloc)),
+        Given::Flag(flag) => flag_body(alloc, *flag),
+        Given::Number(number) => number_body(alloc, *number),
+        Given::Reference(reference) => reference_octets(alloc, reference),
+        Given::State(status) => number_body(alloc, status_number(*status)),
+        Given::Ballot(vote) => number_body(alloc, vote_number(*vote)),
+        Given::Word(text) => text_body(alloc, text.bytes()),
+        Given::Transaction(context) => context_body(alloc, context),
+        Given::Found(Some(value)) => flag_and_value_body(alloc, true, *value),
+        Given::Found(None) => flag_and_value_body(alloc, false, 0),
+    }
+}
+
+/// The number of a vote.
+fn vote_number(vote: Vote) -> u32
+    ensures { result ≡ vote_number vote }
+{
+    match vote {
+        Vote::VoteCommit => 0,
+        Vote::VoteRollback => 1,
+        Vote::VoteReadOnly => 2,
+    }
+}
+
+/// The number of a completion_status.
+fn completed_number(completed: Completed) -> u32
+    ensures { result ≡ completed_number completed }
+{
+    match completed {
+        Completed::Yes => 0,
+        Completed::No => 1,
+        Completed::Maybe => 2,
+    }
+}
+
+fn flag_and_value_body(alloc: Global, flag: bool, value: u64) -> Result<Octets, CallFault>
+    ensures exact { Finds (λ octets. octets) result
+        (Ok (with_values blank (Boolean flag ∷ ULongLong value ∷ [])).octets) }
+    ensures left { IfOk result (λ octets. AreLeft (Boolean flag ∷ ULongLong value ∷ []) (standing Big 0 octets)) }
+{
+    values_are_read_again();
+    let mut writer = Writer::new(alloc, Order::Big, 0);
+    writer.boolean(flag)?;
+    writer.ulonglong(value)?;
+    Ok(writer.finish())
+}
+
+/// The body of a system exception, with minor code 0.
+fn system_body(alloc: Global, id: &[u8], completed: Completed) -> Result<Octets, CallFault>
+    requires { length id.now < 2 ^ 31 }
+    ensures exact { Finds (λ octets. octets) result
+        (octets_with blank (Text id.now ∷ ULong 0 ∷ ULong (completed_number completed) ∷ [])) }
+    ensures left { IfOk result (λ octets.
+        AreLeft (Text id.now ∷ ULong 0 ∷ ULong (completed_number completed) ∷ []) (standing Big 0 octets)) }
+{
+    values_are_read_again();
+    let mut writer = Writer::new(alloc, Order::Big, 0);
+    writer.string(id)?;
+    writer.ulong(0)?;
+    writer.ulong(completed_number(completed))?;
+    Ok(writer.finish())
+}
