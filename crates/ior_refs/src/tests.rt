@@ -1,39 +1,21 @@
 ghost use Rattle.std.specs.Prelude.{◌≤◌, length, IfOk};
 
 use crate::{
-    IorFault, ObjectKey, ObjectRef, iiop, key_octets, key_of, make_ref, parse_ior, print_ior,
-    read_ref, write_ref,
+    IorFault, ObjectKey, ObjectRef, iiop, key_octets, key_of, make_ref, read_ref, write_ref,
 };
 use cdr_values::{CdrFault, Order, Reader, Writer};
 use ots_model::{Endpoint, Octets, RefBytes};
 use std::alloc::Global;
 use std::test::Fail;
 
-const NIL: &[u8] = b"IOR:00000000000000010000000000000000";
-
 /// The canonical octets of a reference to the first resource of the service 2, at e1 and port 1.
 fn resource() -> &'static str {
     "0000002949444c3a6f6d672e6f72672f436f735472616e73616374696f6e732f5265736f757263653a312e300000000000000001000000000000003800010200000000036531000000010000000000204f5453520000000000000002000000010000000000000000000000010000000000000000"
 }
 
-/// The first octets of a little endian PropagationContext: a time, a coordinator, and a nil terminator.
-fn context() -> &'static str {
-    "010000001e0000002c00000049444c3a6f6d672e6f72672f436f735472616e73616374696f6e732f436f6f7264696e61746f723a312e300001000000000000003c000000010102000900000031302e302e302e370000f90a200000004f54534b0000000000000001000000010000000000000000000000010000000000000000010000000000000000000000"
-}
-
 /// A little endian reference whose profile has a component.
 fn with_component() -> &'static str {
     "2900000049444c3a6f6d672e6f72672f436f735472616e73616374696f6e732f5265736f757263653a312e3000000000010000000000000030000000010102000900000031302e302e302e390000f92a040000007230303101000000000000000800000001000000004f4154"
-}
-
-/// What genior of omniORB printed.
-fn of_genior() -> &'static str {
-    "IOR:010000002900000049444c3a6f6d672e6f72672f436f735472616e73616374696f6e732f5265736f757263653a312e3000000000010000000000000054000000010102000900000031302e302e302e390000f90a04000000723030310200000000000000080000000100000000545441010000001c00000001000000010001000100000001000105090101000100000009010100"
-}
-
-/// What omniNames of omniORB printed of its root context.
-fn of_omninames() -> &'static str {
-    "IOR:010000002b00000049444c3a6f6d672e6f72672f436f734e616d696e672f4e616d696e67436f6e746578744578743a312e300000010000000000000088000000010102000a0000003132372e302e302e3100c3d80b0000004e616d6553657276696365000400000000000000080000000100000000545441010000001c000000010000000100010001000000010001050901010001000000090101000300000014000000010000000a0000003139322e302e322e320075ae0354544108000000dca9096b01005edc"
 }
 
 fn resource_id() -> &'static [u8] {
@@ -74,14 +56,6 @@ fn short(octets: &[u8]) -> &[u8]
 }
 
 #[test]
-fn nil_is_printed_and_parsed(rt: HostRuntime) -> Result<(), Fail> {
-    let nil = parse_ior(rt.alloc(), NIL)?;
-    assert!(rt; nil.is_nil());
-    assert_eq!(rt; print_ior(rt.alloc(), &nil)?.bytes(), NIL);
-    Ok(())
-}
-
-#[test]
 fn our_own_reference_has_its_octets(rt: HostRuntime) -> Result<(), Fail> {
     let made = our_own(rt.alloc())?;
     let octets = octets_of(rt.alloc(), resource())?;
@@ -108,20 +82,6 @@ fn key_at(alloc: Global, o: &ObjectRef) -> Result<Octets, Fail> {
 }
 
 #[test]
-fn little_endian_references(rt: HostRuntime) -> Result<(), Fail> {
-    let octets = octets_of(rt.alloc(), context())?;
-    let mut reader = Reader::new(octets.as_slice(), Order::Little, 0);
-    reader.ulonglong()?;
-    let coordinator = read_ref(rt.alloc(), &mut reader)?;
-    assert!(rt; read_ref(rt.alloc(), &mut reader)?.is_nil());
-    assert_eq!(rt;
-        iiop(rt.alloc(), &coordinator)?.host.bytes(),
-        b"10.0.0.7".as_slice()
-    );
-    Ok(())
-}
-
-#[test]
 fn a_component_is_kept(rt: HostRuntime) -> Result<(), Fail> {
     let octets = octets_of(rt.alloc(), with_component())?;
     let mut reader = Reader::new(octets.as_slice(), Order::Little, 304);
@@ -133,45 +93,6 @@ fn a_component_is_kept(rt: HostRuntime) -> Result<(), Fail> {
     let mut writer = Writer::new(rt.alloc(), Order::Little, 304);
     write_ref(&mut writer, &resource)?;
     assert_eq!(rt; writer.finish().bytes(), octets.as_slice());
-    Ok(())
-}
-
-#[test]
-fn references_of_omniorb(rt: HostRuntime) -> Result<(), Fail> {
-    assert_eq!(rt;
-        key_in(rt.alloc(), of_genior())?.bytes(),
-        b"r001".as_slice()
-    );
-    assert_eq!(rt;
-        key_in(rt.alloc(), of_omninames())?.bytes(),
-        b"NameService".as_slice()
-    );
-    Ok(())
-}
-
-/// The key in a reference, which is printed and parsed again on the way.
-fn key_in(alloc: Global, text: &str) -> Result<Octets, Fail> {
-    let read = parse_ior(alloc, short(text.as_bytes()))?;
-    let printed = print_ior(alloc, &read)?;
-    let again = parse_ior(alloc, short(printed.bytes()))?;
-    key_at(alloc, &again)
-}
-
-#[test]
-fn texts_that_are_refused(rt: HostRuntime) -> Result<(), Fail> {
-    for (text, fault) in [
-        ("", IorFault::BadText(0)),
-        ("IOR", IorFault::BadText(3)),
-        ("IoR:00", IorFault::BadText(1)),
-        ("IOR:0g", IorFault::BadText(5)),
-        ("IOR:000", IorFault::BadText(7)),
-        ("IOR:", IorFault::Cdr(CdrFault::Short(0))),
-        ("IOR:02", IorFault::Cdr(CdrFault::BadOrder(0))),
-        ("IOR:00000000000000010000000000000000FF", IorFault::Rest(16)),
-    ] {
-        let read = parse_ior(rt.alloc(), short(text.as_bytes()));
-        assert_eq!(rt; read.err(), Some(fault), "{text}");
-    }
     Ok(())
 }
 

@@ -1,49 +1,13 @@
-ghost use Rattle.std.specs.Prelude.{◌^◌, ◌<◌, All, IfOk, length};
+ghost use Rattle.std.specs.Prelude.{◌^◌, ◌<◌, IfOk, length};
 
-use crate::{
-    AnyTail, Context, ContextFault, Identities, decode_context, encode_context, find_context,
-};
+use crate::{AnyTail, ContextFault, Identities, decode_context, encode_context};
 use cdr_values::{CdrFault, Order, Writer};
-use giop_frames::{Contexts, Request, ServiceContext, Target};
-use ior_refs::IorFault;
 use ots_model::Octets;
 use std::alloc::Global;
 use std::test::Fail;
 
-/// A little endian context with a timeout of 30, a nil terminator, no parents and a null tail.
-const LITTLE: &[u8; 184] = b"\x01\0\0\0\x1e\0\0\0\x2c\0\0\0\
-    IDL:omg.org/CosTransactions/Coordinator:1.0\0\
-    \x01\0\0\0\0\0\0\0\x3c\0\0\0\x01\x01\x02\0\x09\0\0\x0010.0.0.7\0\0\xf9\x0a\x20\0\0\0\
-    OTSK\0\0\0\0\0\0\0\x01\0\0\0\x01\0\0\0\0\0\0\0\0\0\0\0\x01\0\0\0\0\
-    \0\0\0\0\x01\0\0\0\0\0\0\0\0\0\0\x001STO\x04\0\0\0\x18\0\0\0\
-    \0\0\0\0\0\0\0\x01\0\0\0\x01\0\0\0\0\0\0\0\x01\0\0\0\0\0\0\0\0\0\0\0\0";
-
-/// The same context in big endian order. The profile stays as it was.
-const BIG: &[u8; 184] = b"\0\0\0\0\0\0\0\x1e\0\0\0\x2c\
-    IDL:omg.org/CosTransactions/Coordinator:1.0\0\
-    \0\0\0\x01\0\0\0\0\0\0\0\x3c\x01\x01\x02\0\x09\0\0\x0010.0.0.7\0\0\xf9\x0a\x20\0\0\0\
-    OTSK\0\0\0\0\0\0\0\x01\0\0\0\x01\0\0\0\0\0\0\0\0\0\0\0\x01\0\0\0\0\
-    \0\0\0\0\0\0\0\x01\0\0\0\0\0\0\0\0OTS1\0\0\0\x04\0\0\0\x18\
-    \0\0\0\0\0\0\0\x01\0\0\0\x01\0\0\0\0\0\0\0\x01\0\0\0\0\0\0\0\0\0\0\0\0";
-
 /// Where the current identity ends in `octets`, in front of the count of the parents.
 const COUNT: u32 = 45;
-
-#[test]
-fn a_context_in_both_orders(rt: HostRuntime) -> Result<(), Fail> {
-    for octets in [LITTLE, BIG] {
-        let context = decode_context(rt.alloc(), octets)?;
-        assert_eq!(rt; context.timeout, 30);
-        assert_eq!(rt; context.current.coord.type_id().len(), 43);
-        assert!(rt; context.current.term.is_nil());
-        assert!(rt; context.current.otid.is_own());
-        assert!(rt; matches!(context.tail, AnyTail::Null));
-        let written = encode_context(rt.alloc(), &context)?;
-        assert_eq!(rt; written.bytes(), BIG.as_slice());
-        assert!(rt; context.parents.into_vec().is_empty());
-    }
-    Ok(())
-}
 
 /// Writes an identity of nil references and an otid with this tid.
 fn write_identity(writer: &mut Writer, bqual: u32, tid: u8) -> Result<(), CdrFault> {
@@ -89,7 +53,7 @@ fn sixteen_parents_and_no_more(rt: HostRuntime) -> Result<(), Fail> {
     let refused = decode_context(rt.alloc(), more.bytes()).err();
     assert_eq!(rt; refused, Some(ContextFault::TooMany(COUNT)));
     let mut parents = context.parents.into_vec();
-    parents.push(decode_context(rt.alloc(), LITTLE)?.current)?;
+    parents.push(decode_context(rt.alloc(), most.bytes())?.current)?;
     context.parents = Identities::from_vec(parents);
     let refused = encode_context(rt.alloc(), &context).err();
     assert_eq!(rt; refused, Some(ContextFault::TooMany(COUNT)));
@@ -135,60 +99,5 @@ fn a_kept_tail_stands_where_it_stood(rt: HostRuntime) -> Result<(), Fail> {
         refusal(alloc, Order::Big, 0, &tail)?,
         Some(ContextFault::Cdr(full))
     );
-    Ok(())
-}
-
-#[test]
-fn the_first_fault(rt: HostRuntime) -> Result<(), Fail> {
-    let short = CdrFault::Short(45);
-    let cases: [(&[u8], ContextFault); 6] = [
-        (b"", ContextFault::Cdr(CdrFault::Short(0))),
-        (b"\x02", ContextFault::Cdr(CdrFault::BadOrder(0))),
-        (b"\0\0\0\0\0\0\0", ContextFault::Cdr(CdrFault::Short(1))),
-        (
-            b"\0\0\0\0\0\0\0\x07\0\0\0\0",
-            ContextFault::Ior(IorFault::Cdr(CdrFault::BadString(8))),
-        ),
-        (
-            b"\0\0\0\0\0\0\0\x07\0\0\0\x01\0\0\0\0\0\0\0\0\0\0\0\x01\0\0\0\0\0\0\0\0\0\0\0\0\0\0\0\x02\0\0\0\x01t",
-            ContextFault::Otid,
-        ),
-        (
-            b"\0\0\0\0\0\0\0\x07\0\0\0\x01\0\0\0\0\0\0\0\0\0\0\0\x01\0\0\0\0\0\0\0\0\0\0\0\0\0\0\0\x01\0\0\0\x01t",
-            ContextFault::Cdr(short),
-        ),
-    ];
-    for (octets, fault) in cases {
-        if octets.len() < 100 {
-            assert_eq!(rt; decode_context(rt.alloc(), octets).err(), Some(fault));
-        }
-    }
-    Ok(())
-}
-
-/// What a request with these contexts says of its transaction.
-fn found(alloc: Global, contexts: Contexts) -> Result<Option<Context>, Fail>
-    requires { All (λ context. length context.bytes < 2 ^ 31) contexts }
-{
-    let request = Request {
-        id: 1,
-        flags: 3,
-        target: Target::Profile,
-        operation: Octets::new(alloc, b"commit")?,
-        contexts,
-        order: Order::Big,
-        body: Octets::new(alloc, b"")?,
-    };
-    Ok(find_context(alloc, &request)?)
-}
-
-#[test]
-fn the_context_of_a_request(rt: HostRuntime) -> Result<(), Fail> {
-    let none = Contexts::from_vec(Vec::new(rt.alloc()));
-    assert!(rt; found(rt.alloc(), none)?.is_none());
-    let bytes = Octets::new(rt.alloc(), LITTLE)?;
-    let one = Vec::from_array(rt.alloc(), [ServiceContext { id: 0, bytes }])?;
-    let context = found(rt.alloc(), Contexts::from_vec(one))?;
-    assert_eq!(rt; context.map(|context| context.timeout), Some(30));
     Ok(())
 }
