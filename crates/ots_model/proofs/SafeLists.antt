@@ -2,8 +2,8 @@
 use Rattle.ots_model.specs.SafeExamples.{TellsOneWay, CommitsByDecision, WaitsForSuperiors, DecidesForItself, TellsParticipants, WaitsForJoined, KeepsOutcomes, ComesInTime, SafetyExamples}
 use Rattle.ots_model.proofs.SafePassed.{told_safe, told_alone_safe, rolled_safe, read_only_safe, prepared_safe, nested_committed_safe, committed_twice_safe, joined_safe, nested_rolled_safe, applied_safe, applied_alone_safe, applied_learnt_safe, undone_safe, undone_alone_safe, undone_rolled_safe}
 use Rattle.ots_model.proofs.SafeFamilies.{all_consented_safe, decided_alone_safe, told_below_safe, told_beside_safe}
-use Rattle.ots_model.proofs.SafeRefused.{rollback_after_commit, rollback_after_one_phase, commit_after_rollback, with_a_vote_open, with_a_vote_for_rollback, with_a_vote_behind, without_a_record, on_another_ground, recorded_behind, of_unregistered, of_active, of_rolled_back, committed_behind, below_an_active, applied_untold, applied_before, applied_on_rollback, rollback_learnt, joined_vote_open, undone_when_told, told_when_undone, both_states}
-use Rattle.ots_model.proofs.SafeRefusedFamilies.{by_its_own_record, by_the_next_record, its_own_vote_open, vote_between_open, vote_above_open, by_its_superiors_record, by_its_own_record_untold, registered_late, committed_late, told_alone_late}
+use Rattle.ots_model.proofs.SafeRefused.{rollback_after_commit, rollback_after_one_phase, commit_after_rollback, one_phase_after_rollback, with_a_vote_open, with_a_vote_for_rollback, with_a_vote_behind, without_a_record, on_another_ground, recorded_behind, of_unregistered, of_active, of_rolled_back, committed_behind, below_an_active, applied_untold, applied_before, applied_on_rollback, rollback_learnt, joined_vote_open, undone_when_told, told_when_undone, both_states}
+use Rattle.ots_model.proofs.SafeRefusedFamilies.{by_its_own_record, by_the_next_record, its_own_vote_open, vote_between_open, vote_above_open, by_its_superiors_record, by_its_own_record_untold, registered_late, registered_late_above, committed_late, told_alone_late}
 
 one_way : TellsOneWay
 one_way = record {
@@ -13,6 +13,7 @@ one_way = record {
   not_rollback_after_commit = rollback_after_commit;
   not_rollback_after_one_phase = rollback_after_one_phase;
   not_commit_after_rollback = commit_after_rollback;
+  not_one_phase_after_rollback = one_phase_after_rollback;
 }
 
 by_decision : CommitsByDecision
@@ -82,6 +83,7 @@ in_time = record {
   beside_an_active = told_beside_safe;
   below_a_superior = told_below_safe;
   not_registered_late = registered_late;
+  not_registered_late_above = registered_late_above;
   not_committed_late = committed_late;
   not_told_alone_late = told_alone_late;
 }

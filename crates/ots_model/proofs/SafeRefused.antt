@@ -31,6 +31,11 @@ commit_after_rollback s =
     let all = decided ++ tell words.Rollback ∷ tell words.Commit ∷ [] in
     (agrees all s).one_way one (inl (1, stands 6 all (tell words.Commit) refl)) (1, stands 5 all (tell words.Rollback) refl)
 
+pub one_phase_after_rollback : ¬ (AreSafe (voted ++ tell words.Rollback ∷ tell words.CommitOnePhase ∷ []))
+one_phase_after_rollback s =
+    let all = voted ++ tell words.Rollback ∷ tell words.CommitOnePhase ∷ [] in
+    (agrees all s).one_way one (inr (1, stands 5 all (tell words.CommitOnePhase) refl)) (1, stands 4 all (tell words.Rollback) refl)
+
 -- By decision: the vote of the second resource
 other_open : (before behind : List Line) → line_at 0 (commits_one before behind) ≡ Some (lines.Top top node)
     → line_at 1 (commits_one before behind) ≡ Some (lines.Reg one top end) → line_at 2 (commits_one before behind) ≡ Some (lines.Reg other top end)

@@ -108,6 +108,18 @@ registered_late =
     let all = commits_one decided late in
     vote_open decided late top top top other (under_top 1 0 all one top refl refl) (safe.itself top) (safe.itself top) (part_of_top 6 0 all other top end refl refl) refl
 
+abbrev recorded_below : List Line
+recorded_below = subordinate ++ consents low ∷ records top ∷ []
+
+pub registered_late_above : ¬ (AreSafe (told_below ++ lines.Reg other top end ∷ []))
+registered_late_above =
+    let late = lines.Reg other top end ∷ [] in
+    let all = commits_one recorded_below late in
+    let is_top : IsTop top all = top_at 0 all top node refl in
+    let by : IsDecidedBy all top low = decided_above 1 all top low top refl refl (inl is_top) (safe.alone (inl is_top)) in
+    let up : IsUpFrom all low top = safe.above low top top top (imported_at 1 all low top node refl) (safe.IsOf.own (inl is_top)) (safe.itself top) in
+    vote_open recorded_below late low top top other (under_imported 3 1 all one low top top refl refl by) up (safe.itself top) (part_of_top 8 0 all other top end refl refl) refl
+
 abbrev beside : List Line
 beside = registered ++ lines.Sub below top ∷ lines.Reg other below end ∷ consents one ∷ records top ∷ []
 

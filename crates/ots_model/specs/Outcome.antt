@@ -74,6 +74,6 @@ pub data HasOutcome (p : Polled) : Outcome ℕ → Type 0 where
   -- rollback by the first answer that is no consent
   refused : (place : ℕ) (h : Heard) → p.alone ≡ false → place < p.participants → HaveConsented p place → slice_get p.answers place ≡ Some h
       → (¬ (Consents h)) → HasOutcome p (Rollback (reason_of (suc place) h))
-  -- rollback for want of room for the record
+  -- rollback for want of room for the record; that used and need exceed the room is the journal's promise
   full : (names : List ℕ) (used need : ℕ) → p.alone ≡ false → HaveConsented p p.participants → (¬ (AllReadOnly p))
       → p.recorded ≡ Some (record { names = names; stood = Full used need }) → HasOutcome p (Rollback (reasons.JournalFull used need))

@@ -85,6 +85,7 @@ pub record TellsOneWay : Type 0 where
   pub not_rollback_after_commit : ¬ (AreSafe (told ++ tell words.Rollback ∷ []))
   pub not_rollback_after_one_phase : ¬ (AreSafe (told_alone ++ tell words.Rollback ∷ []))
   pub not_commit_after_rollback : ¬ (AreSafe (decided ++ tell words.Rollback ∷ tell words.Commit ∷ []))
+  pub not_one_phase_after_rollback : ¬ (AreSafe (voted ++ tell words.Rollback ∷ tell words.CommitOnePhase ∷ []))
 
 -- one of two resources has voted commit
 abbrev pub half_voted : List Line
@@ -202,6 +203,7 @@ pub record ComesInTime : Type 0 where
   pub beside_an_active : AreSafe told_beside
   pub below_a_superior : AreSafe told_below
   pub not_registered_late : ¬ (AreSafe (told ++ lines.Reg other top end ∷ []))
+  pub not_registered_late_above : ¬ (AreSafe (told_below ++ lines.Reg other top end ∷ []))
   pub not_committed_late : ¬ (AreSafe (told_beside ++ lines.SubDone below true ∷ []))
   pub not_told_alone_late : ¬ (AreSafe (told_below ++ lines.Send 2 words.CommitOnePhase low ∷ []))
 

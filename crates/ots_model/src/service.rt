@@ -1,28 +1,28 @@
 use crate::octets::Octets;
 
-/// How a transaction stands (`Status` of module CosTransactions), with the standard's numbers.
+/// How a transaction stands (`Status` of module CosTransactions).
 #[derive(Clone, Copy, Debug, PartialEq, Eq)]
 pub enum Status {
     /// StatusActive: it is going on.
-    Active = 0,
+    Active,
     /// StatusMarkedRollback: it can only be rolled back.
-    MarkedRollback = 1,
+    MarkedRollback,
     /// StatusPrepared: it waits for the outcome of its superior.
-    Prepared = 2,
+    Prepared,
     /// StatusCommitted.
-    Committed = 3,
+    Committed,
     /// StatusRolledBack.
-    RolledBack = 4,
+    RolledBack,
     /// StatusUnknown: nobody can tell at present.
-    Unknown = 5,
+    Unknown,
     /// StatusNoTransaction: there is none.
-    NoTransaction = 6,
+    NoTransaction,
     /// StatusPreparing: its participants are asked for their votes.
-    Preparing = 7,
+    Preparing,
     /// StatusCommitting: its participants are told to commit.
-    Committing = 8,
+    Committing,
     /// StatusRollingBack: its participants are told to roll back.
-    RollingBack = 9,
+    RollingBack,
 }
 
 /// What the dispositions of several participants make together, beside what was decided.

@@ -189,6 +189,3 @@ fn write_number(lines: &mut Vec<u8>, value: u64) -> Result<(), AllocError>
     let mut buffer = Buffer::new();
     lines.extend_from_slice(buffer.format(value).as_bytes())
 }
-
-#[cfg(test)]
-mod tests;

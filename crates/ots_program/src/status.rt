@@ -5,9 +5,6 @@ use giop_frames::FrameFault;
 use std::alloc::AllocError;
 use std::fmt;
 
-#[cfg(test)]
-mod tests;
-
 /// How a run ends.
 #[derive(Clone, Copy, Debug, PartialEq, Eq)]
 pub enum Status {

@@ -2,7 +2,7 @@ ghost use Rattle.std.specs.Prelude.{◌≡◌, false};
 ghost use Rattle.ots_program.specs.Words.{IsShow};
 
 use crate::pieces::Pieces;
-use crate::{input, values};
+use crate::{input, lines, values};
 use ots_outside::{Failure, MemSink, MemSource};
 use ots_program::{Devices, Word, run, run_plain};
 use std::alloc::Global;
@@ -17,6 +17,7 @@ enum Subject {
     Reference,
     Context,
     Request,
+    Lines,
 }
 
 impl Subject {
@@ -25,6 +26,7 @@ impl Subject {
             "ior" => Subject::Reference,
             "context" => Subject::Context,
             "request" => Subject::Request,
+            "lines" => Subject::Lines,
             _ => Subject::Command,
         }
     }
@@ -116,6 +118,7 @@ impl Case {
             Subject::Reference => values::tell_text(alloc, &mut told, input)?,
             Subject::Context => values::tell_octets(alloc, &mut told, input)?,
             Subject::Request => values::tell_request(alloc, &mut told, input)?,
+            Subject::Lines => lines::tell_lines(alloc, &mut told, input)?,
         }
         Ok(told)
     }

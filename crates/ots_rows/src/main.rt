@@ -6,6 +6,7 @@
 //! - `ior`: the input is a stringified reference. What it says is told, and how it is printed.
 //! - `context`: the input is a transaction context. What it says is told, and how it is written.
 //! - `request`: the input is a Request. The same is told of its transaction context.
+//! - `lines`: the input is lines of a script. What each of them means is told, and of a long one how much.
 //!
 //! Each part is one of these:
 //!
@@ -35,7 +36,10 @@ mod case;
 #[cfg(test)]
 mod frames;
 mod input;
+mod lines;
 mod pieces;
+#[cfg(test)]
+mod statuses;
 mod values;
 
 fn main(rt: HostRuntime) -> io::Result<()> {

@@ -1,6 +1,6 @@
 -- The grammar of a script's lines, from octets to events (our profile). A line is parted into words by single spaces.
 -- Its first word says what it does, and its other words are names, numbers and the like.
-use Rattle.std.specs.Prelude.{ℕ, ◌+◌, ◌^◌, Bool, true, false, not, ◌&&◌, ◌==◌, nat_lt, nat_le, List, [], ◌∷◌, length, Option, Some, None, Result, Ok, Err, ◌≡◌, codes, if◌then◌else◌}
+use Rattle.std.specs.Prelude.{ℕ, IsTrue, ◌+◌, ◌^◌, Bool, true, false, not, ◌&&◌, ◌==◌, nat_lt, nat_le, List, [], ◌∷◌, length, Option, Some, None, Result, Ok, Err, ◌≡◌, codes, if◌then◌else◌}
 use Rattle.std.specs.List.{list_all, slice_split}
 use Rattle.std.specs.Option.{option_map, option_and_then}
 use Rattle.std.specs.Str.{bytes_eq}
@@ -146,6 +146,11 @@ event_of (word ∷ a ∷ []) = event_of_one word a
 event_of (word ∷ a ∷ b ∷ []) = event_of_two word a b
 event_of (word ∷ a ∷ b ∷ c ∷ []) = if bytes_eq word (codes "stop") then stop a b c else event_of_three word a b c
 event_of _ = None
+
+-- a line of four words that begins with `stop`: the octets of its image want memory
+abbrev pub IsStop : List (List ℕ) → Type 0
+IsStop (word ∷ a ∷ b ∷ c ∷ []) = IsTrue (bytes_eq word (codes "stop"))
+IsStop _ = ⊥
 
 -- what a line says
 pub data Reading : Type 0 where

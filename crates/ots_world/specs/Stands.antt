@@ -63,6 +63,8 @@ pub record HasStepped (old : Standing) (event : ScriptEvent) (new : Standing) (b
   pub moved : OnOk result (Moved old event new before after)
   -- a line is refused for its names where the definition refuses it
   pub names : IsErrOf result faults.Names → Refused old event new before after
+  -- a line that the definition refuses is refused for its names, and for nothing else
+  pub refuses : (w : World) → old ≡ Ok w → step event w ≡ Names → result ≡ Err faults.Names
   -- any other refusal is answered for good, whole lines having been told
   pub stopped : IfErr result (λ fault. IsRefusal old event fault new before after)
   -- a limit is answered only where it is passed

@@ -109,8 +109,7 @@ registered_lines message transaction end name = lines.Call message operations.Re
 abbrev pub registers_with : ℕ → Transaction → ℕ → List ℕ → List ℕ → List ℕ → World → Step
 registers_with place t end transaction_name end_name name w = record {
   world = named name (things.Resource (length w.board.resources)) (record w { board = registering place t (made name place end) w.board });
-  lines = lines.Call (next_message w.board) operations.RegisterResource transaction_name
-      ∷ lines.Reg name transaction_name end_name ∷ lines.Answered (next_message w.board) responses.Plain ∷ [];
+  lines = registered_lines (next_message w.board) transaction_name end_name name;
 }
 
 -- whether a transaction can take a further registration: before its commit line and up to the limit

@@ -1,4 +1,5 @@
-ghost use Rattle.ots_world.specs.Script.{reading, Reads, Gives, event_of, words};
+ghost use Rattle.std.specs.Prelude.{IsErrOf};
+ghost use Rattle.ots_world.specs.Script.{reading, Reads, Gives, IsStop, event_of, words};
 
 use events::{event_of_one, event_of_three, event_of_two, stop};
 use ots_model::{Decision, Name, Octets};
@@ -6,8 +7,6 @@ use std::alloc::Global;
 use words::first_word;
 
 mod events;
-#[cfg(test)]
-mod tests;
 mod words;
 
 /// How many octets a line has at most, its line feed not counted.
@@ -189,6 +188,7 @@ pub enum ScriptFault {
 #[tactic(auto, unfolding(crate::specs::Script::reading))]
 pub fn parse_line(alloc: Global, bytes: &[u8]) -> Result<Option<ScriptEvent>, ScriptFault>
     ensures exact { Reads result (reading bytes.now) }
+    ensures memory { IsErrOf result ScriptFault.Memory → IsStop (words bytes.now) }
 {
     if bytes.len() > LINE_LIMIT {
         return Err(ScriptFault::BadLine);
@@ -201,7 +201,8 @@ pub fn parse_line(alloc: Global, bytes: &[u8]) -> Result<Option<ScriptEvent>, Sc
 
 #[tactic(auto, using(crate::proofs::ScriptLemmas::five_words))]
 fn event_of(alloc: Global, line: &[u8]) -> Result<ScriptEvent, ScriptFault>
-    ensures { Gives result (event_of (words line.now)) }
+    ensures exact { Gives result (event_of (words line.now)) }
+    ensures memory { IsErrOf result ScriptFault.Memory → IsStop (words line.now) }
 {
     let (word, Some(rest)) = first_word(line) else {
         return Err(ScriptFault::BadLine);

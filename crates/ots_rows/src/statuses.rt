@@ -1,5 +1,7 @@
-use super::Status;
+//! Test of how the program ends.
+
 use giop_frames::FrameFault;
+use ots_program::Status;
 use std::io;
 use std::io::Write;
 
