@@ -11,3 +11,4 @@ pub mod LineLaws
 pub mod Safe
 pub mod SafeByLine
 pub mod SafeExamples
+pub mod Heard

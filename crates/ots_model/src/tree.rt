@@ -1,7 +1,11 @@
 //! What is said in completing a whole tree of transactions, with its subtransactions, its synchronizations and its
-//! superior: every word, every reason, every outcome. A script's world has a part of these under the same names.
+//! superior: every word, every answer, every reason, every outcome. A script's world has a part of these under the same
+//! names.
+ghost use Rattle.std.specs.Prelude.{◌≡◌};
+ghost use Rattle.ots_model.specs.Heard.{of_participant};
 
-use crate::completion::{CallNumber, Ground, Receipt};
+use crate::completion;
+use crate::completion::{CallNumber, Disposition, Ground, Receipt, Vote};
 use crate::octets::RefBytes;
 use crate::service::Status;
 
@@ -52,6 +56,53 @@ pub struct Outward {
     pub word: Word,
     /// The record behind a commit word.
     pub receipt: Option<Receipt>,
+}
+
+/// What was heard of an outward call.
+#[derive(Drop)]
+pub enum Heard {
+    /// It was answered plainly, and nothing was given.
+    Done,
+    /// A vote.
+    Voted(Vote),
+    /// A heuristic exception.
+    Heuristic(Disposition),
+    /// TRANSACTION_ROLLEDBACK.
+    RolledBack,
+    /// NotPrepared.
+    NotPrepared,
+    /// OBJECT_NOT_EXIST.
+    NoObject,
+    /// How the transaction stands, which a recovery coordinator told.
+    Told(Status),
+    /// The registration was taken. The canonical octets of the recovery coordinator's reference.
+    Enlisted(RefBytes),
+    /// Any other answer.
+    Other,
+    /// The call failed, and nothing is known of it.
+    Lost,
+    /// Memory was wanted in writing the request, in the call or in reading the reply.
+    Starved,
+}
+
+impl Heard {
+    /// What was heard of a participant of a completion. A participant is asked for no status and takes no registration,
+    /// so such an answer is any other.
+    pub fn of_participant(&self) -> completion::Heard
+        ensures { result ≡ of_participant self.now }
+    {
+        match self {
+            Heard::Done => completion::Heard::Done,
+            Heard::Voted(vote) => completion::Heard::Voted(*vote),
+            Heard::Heuristic(disposition) => completion::Heard::Heuristic(*disposition),
+            Heard::RolledBack => completion::Heard::RolledBack,
+            Heard::NotPrepared => completion::Heard::NotPrepared,
+            Heard::NoObject => completion::Heard::NoObject,
+            Heard::Told(_) | Heard::Enlisted(_) | Heard::Other => completion::Heard::Other,
+            Heard::Lost => completion::Heard::Lost,
+            Heard::Starved => completion::Heard::Starved,
+        }
+    }
 }
 
 /// Why a transaction is rolled back. Registrations and synchronizations are named by their numbers.
