@@ -2,6 +2,7 @@ ghost use Rattle.cdr_values.specs.Laws.{CanonicalSpells, NoSpellingBeginsAnother
 ghost use Rattle.cdr_values.specs.Again.{ValuesAreReadAgain, EncapsulationsAreReadAgain};
 ghost use Rattle.cdr_values.specs.Sequence.{LoopLaws, SequencesAreExact, NoSequenceBeginsAnother, ReadIsNotBegun};
 ghost use Rattle.cdr_values.specs.Tagged.{TaggedLaws};
+ghost use Rattle.cdr_values.specs.Values.{ValuesAreWrittenCanonically};
 
 /// A law: the canonical spelling is a spelling.
 pub fn canonical_octets_spell()
@@ -24,6 +25,11 @@ pub fn values_are_read_again()
 {
     canonical_octets_spell();
 }
+
+/// A law: values that are written one after another are their canonical spellings, behind what was there.
+pub fn values_are_written_canonically()
+    ensures { ValuesAreWrittenCanonically }
+{}
 
 /// A law: what was written into an encapsulation is read again, in the order of its writer.
 pub fn encapsulations_are_read_again()

@@ -7,7 +7,7 @@ pub use laws::{
     canonical_octets_spell, elements_are_read_in_a_loop, encapsulations_are_read_again,
     no_sequence_begins_another, no_spelling_begins_another, reading_is_exact,
     references_are_read_exactly, sequences_are_exact, values_are_read_again,
-    what_is_read_begins_no_other,
+    values_are_written_canonically, what_is_read_begins_no_other,
 };
 pub use order::Order;
 pub use reader::Reader;
