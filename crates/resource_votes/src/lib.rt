@@ -9,7 +9,5 @@ pub use walk::Walk;
 mod laws;
 mod links;
 mod registration;
-#[cfg(test)]
-mod tests;
 mod votes;
 mod walk;

@@ -55,6 +55,14 @@ impl Votes {
         })
     }
 
+    /// How many registrations there are, of both kinds together; they have the numbers from 1 up to it.
+    pub fn count(&self) -> u32
+        ensures count { result ≡ length self.now.ballots.registrations }
+        ensures few { result ≤ registration_limit }
+    {
+        self.registrations.len() as u32
+    }
+
     /// Takes memory for one more registration of any kind, where there is none yet.
     pub fn reserve(&mut self) -> Result<(), AllocError>
         ensures ok { OnOk result (0 < self.new.room) }

@@ -7,6 +7,4 @@ pub use tree::{DEPTH_LIMIT, TRANSACTION_LIMIT, Tree};
 
 mod laws;
 mod row;
-#[cfg(test)]
-mod tests;
 mod tree;

@@ -190,6 +190,15 @@ impl Tree {
         self.rows[branch as usize].state.status()
     }
 
+    /// The branch of which this one is a subtransaction. The top has none.
+    pub fn parent(&self, branch: u32) -> Option<u32>
+        requires there { branch < length self.now.rows }
+        ensures parent { result ≡ ancestry.parent self.now.rows branch }
+        ensures earlier { IfSome result (λ parent. parent < branch) }
+    {
+        parent_of(&self.rows, branch)
+    }
+
     /// The status of this branch's parent (`get_parent_status`); that of the top is its own.
     pub fn parent_status(&self, branch: u32) -> Status
         requires there { branch < length self.now.rows }
