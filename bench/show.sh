@@ -1,7 +1,8 @@
 #!/usr/bin/env bash
 # Shows streams of about 1 MB and 32 MB of requests and replies, and streams of about 8 MB whose messages, of 2,000 up to
-# 64,000 octets, come in Fragments of 8 octets, one after another or eight at once, and behind whose type_id and operation,
-# of 2,000 up to 64,000 octets, come Fragments without octets. Prints octets per second and how the time per octet grows. Run it anywhere; it builds the
+# 64,000 octets, come in Fragments of 8 octets, one after another or eight at once; behind whose type_id and operation, of
+# 2,000 up to 64,000 octets, come Fragments without octets; and of which eight are unfinished, and the oldest is ended by
+# a Fragment without octets. Prints octets per second and how the time per octet grows. Run it anywhere; it builds the
 # program first. Sizes of the first streams in octets may be given as arguments.
 set -euo pipefail
 . "$(dirname "$0")/timing.sh"
@@ -155,6 +156,20 @@ sys.stdout.buffer.write(b"".join(stream + last))
 ' "$1"
 }
 
+# A stream of about 8 MB of replies of about that many octets in one part but for their ends: eight are unfinished at
+# once, and the oldest is ended by a Fragment without octets each time, behind which the next one begins.
+oldest_ends() {
+  python3 -c "$parts"'
+size = int(sys.argv[1]) // 8 * 8
+first = [part("<", True, 1, struct.pack("<III", id, 0, 0) + bytes(size)) for id in range(8)]
+last = [part("<", False, 7, struct.pack("<I", id)) for id in range(8)]
+stream = first[:]
+for i in range(8000000 // len(first[0] + last[0])):
+    stream += last[i % 8], first[i % 8]
+sys.stdout.buffer.write(b"".join(stream + [last[(i + 1 + k) % 8] for k in range(8)]))
+' "$1"
+}
+
 report() {
   python3 -c '
 import sys
@@ -175,3 +190,5 @@ echo "Eight messages at once in Fragments of 8 octets, by the size of a message:
 rows show eight_at_once 2000 16000 64000 | report
 echo "Messages that stand still while Fragments without octets come, by the length of the field in front of these:"
 rows show standing_still 2000 16000 64000 | report
+echo "Messages in two parts, eight at once, of which the oldest ends by an empty Fragment, by the size of a message:"
+rows show oldest_ends 16 2000 16000 64000 | report

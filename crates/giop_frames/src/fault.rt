@@ -28,7 +28,7 @@ pub enum FrameFault {
     BadType,
     /// So many octets stand behind the header, or in the joined fragments: more than 65,536.
     TooLarge(u32),
-    /// A fragment where none can be: see the call that answers it.
+    /// A fragment where none can be: `decode` and `Stream::next_framed` tell where.
     BadFragment,
     /// A field is not spelled. The place is its offset from the header's first octet, fragments being joined. More than
     /// 16 contexts and a key above 256 octets are TooLong.

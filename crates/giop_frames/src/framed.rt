@@ -18,8 +18,8 @@ pub struct Framed {
     pub order: Order,
     /// How many octets stand behind the header in the first part.
     pub size: u32,
-    /// The offset modulo 8 at which what the message keeps behind its fields begins, by which values in it are aligned. In
-    /// version 1.2 a body begins at 0.
+    /// The offset modulo 8 at which what the message keeps behind its fields begins, by which values in it are aligned.
+    /// In version 1.2 a body begins at 0.
     pub start: u32,
     /// The message itself.
     pub message: Message,

@@ -2,7 +2,7 @@ use cdr_values::Order;
 use ots_model::Octets;
 use std::marker::Model;
 
-/// A message (CORBA, GIOP Message Formats, version 1.2). A field that isn't here, as the reserved octets of a Request, is passed over
+/// A message (CORBA, GIOP Message Formats). A field that isn't here, as the reserved octets of a Request, is passed over
 /// when a message is read.
 #[derive(Debug, Drop)]
 pub enum Message {

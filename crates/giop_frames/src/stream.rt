@@ -98,7 +98,10 @@ impl Stream {
     }
 
     /// The next message that is whole, in the order of last parts, with what the header of its first part says. A
-    /// refusal other than want of memory is answered for good.
+    /// refusal other than want of memory is answered for good. BadFragment is a part with the "more fragments" bit
+    /// whose type comes in one part, or whose length isn't a multiple of 8; a Fragment whose request_id is that of no
+    /// unfinished message; and a first part with the bit whose request_id is that of an unfinished message, or which
+    /// would be the ninth.
     pub fn next_framed(&mut self) -> Result<Option<Framed>, FrameFault>
         ensures { GivesNext HasGivenFramed result self.old self.new }
     {
@@ -129,8 +132,8 @@ impl Stream {
         }
     }
 
-    /// Whether octets are held that were not given as a message. Once `next` has given nothing, these are octets of messages
-    /// that aren't whole.
+    /// Whether octets are held that were not given as a message. Once `next` has given nothing, these are octets of
+    /// messages that aren't whole.
     pub fn unfinished(&self) -> bool
         ensures { IsTrue result ↔ IsUnfinished self.now }
     {
