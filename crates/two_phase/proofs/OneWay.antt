@@ -279,3 +279,30 @@ by_first_word c later first second r h _ is commits on later_word back = absurd 
 pub one_way : (c later : Course) (first second : Outward) → IsReached c → next_word c ≡ Some first → IsCommitWord first.word
     → TreeGoesOn (after_next c) later → next_word later ≡ Some second → second.word ≡ words.Rollback → ⊥
 one_way c later first second r h commits on later_word back = by_first_word c later first second r h first.word refl commits on later_word back
+
+-- no commit word rests on a rollback
+rests_back : (c : Course) (p : Party) (w : Word) → RestsOn w p c → IsCommitWord w → (reason : Reason) → outcome c ≡ Some (outcomes.Rollback reason) → ⊥
+rests_back c p words.Commit told commits reason is =
+    let contrary : Some (outcomes.Commit Record) ≡ Some (outcomes.Rollback reason) = sym told.fixed ∙ is in
+    cc (contrary)
+rests_back c p words.CommitOnePhase asked commits reason is =
+    let contrary : None ≡ Some (outcomes.Rollback reason) = sym asked.0.undecided ∙ is in
+    cc (contrary)
+rests_back c p _ rests commits reason is = commits
+
+by_outcome : (c later : Course) (second : Outward) → IsReached c → TreeGoesOn (after_next c) later → next_word later ≡ Some second → IsCommitWord second.word
+    → (o : Option Outcome) → outcome c ≡ o → IsRollback o → ⊥
+by_outcome c later second r on later_word commits None is back = back
+by_outcome c later second r on later_word commits (Some (outcomes.Commit basis)) is back = back
+by_outcome c later second r on later_word commits (Some outcomes.Unknown) is back = back
+by_outcome c later second r on later_word commits (Some (outcomes.Rollback reason)) is back =
+    let fixed = outcomes.Rollback reason in
+    let out = outcome_stays c (after_next c) fixed r (by_word c) is in
+    let end = stays_on (after_next c) later fixed (goes_on c (after_next c) r (by_word c)) on out in
+    let g = words_rest later second later_word in
+    rests_back later g.party second.word g.rests commits reason end.1
+
+pub other_way : (c later : Course) (first second : Outward) → IsReached c → next_word c ≡ Some first → first.word ≡ words.Rollback
+    → TreeGoesOn (after_next c) later → next_word later ≡ Some second → IsCommitWord second.word → ⊥
+other_way c later first second r h back on later_word commits =
+    by_outcome c later second r on later_word commits (outcome c) refl (rolls_back c first h back)

@@ -1,5 +1,5 @@
--- An outcome that is fixed stays, and each participant is told one way, in every completion of a tree that there is (Transaction Service, the operations of
--- interface Resource).
+-- An outcome that is fixed stays, and participants are told one way, in every completion of a tree that there is
+-- (Transaction Service, the operations of interface Resource).
 use Rattle.std.specs.Prelude.{◌≡◌, ℕ, Bool, List, Option, Some}
 use Rattle.ots_model.specs.declared.completion.CallNumber.{CallNumber}
 use Rattle.ots_model.specs.declared.completion.Heard.{Heard}
@@ -41,7 +41,12 @@ IsCommitWord words.Commit = Unit {0}
 IsCommitWord words.CommitOnePhase = Unit {0}
 IsCommitWord _ = ⊥
 
--- once a commit word has gone out, no rollback goes out: each participant is told one way
-abbrev pub TreeOneWay : Type 0
-TreeOneWay = (c later : Course) (first second : Outward) → IsReached c → next_word c ≡ Some first → IsCommitWord first.word
+-- once a commit word has gone out, no rollback goes out
+abbrev pub NoRollbackAfterCommit : Type 0
+NoRollbackAfterCommit = (c later : Course) (first second : Outward) → IsReached c → next_word c ≡ Some first → IsCommitWord first.word
     → TreeGoesOn (after_next c) later → next_word later ≡ Some second → second.word ≡ words.Rollback → ⊥
+
+-- once a rollback has gone out, no commit word goes out
+abbrev pub NoCommitAfterRollback : Type 0
+NoCommitAfterRollback = (c later : Course) (first second : Outward) → IsReached c → next_word c ≡ Some first → first.word ≡ words.Rollback
+    → TreeGoesOn (after_next c) later → next_word later ≡ Some second → IsCommitWord second.word → ⊥

@@ -10,6 +10,7 @@ pub mod CompletionInside
 pub mod Parties
 pub mod Course
 pub mod CourseInside
+pub mod Reports
 pub mod StockInside
 pub mod Stages
 pub mod StandingInside

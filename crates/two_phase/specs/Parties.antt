@@ -1,7 +1,11 @@
 -- One participant of a completion, and what it has answered to each word that it may be sent: the first one, prepare or
 -- commit_one_phase; the one that tells the outcome; and forget (Transaction Service, the operations of interface Resource).
-use Rattle.std.specs.Prelude.{ℕ, ◌+◌, Bool, true, false, not, ◌&&◌, ◌||◌, Option, Some, None, is_none}
-use Rattle.std.specs.Option.{option_map_or}
+use Rattle.std.specs.Prelude.{ℕ, ◌+◌, Bool, true, false, not, ◌&&◌, ◌||◌, List, ◌++◌, Option, Some, None, is_none}
+use Rattle.std.specs.Option.{option_map, option_map_or, option_to_list}
+use Rattle.ots_model.specs.declared.line.Decision.{Decision}
+use Rattle.ots_model.specs.declared.line.Decision.TheVariants.{Commit, Rollback}
+use Rattle.ots_model.specs.declared.completion.Disposition.{Disposition}
+use Rattle.ots_model.specs.declared.completion.Disposition.TheVariants as dispositions
 use Rattle.ots_model.specs.declared.completion.Heard.{Heard}
 use Rattle.ots_model.specs.declared.completion.Heard.TheVariants as hears
 use Rattle.ots_model.specs.declared.completion.Vote.TheVariants.{VoteRollback, VoteReadOnly}
@@ -13,6 +17,8 @@ use Rattle.ots_model.specs.declared.tree.Outcome.TheVariants as outcomes
 use Rattle.resource_votes.specs.declared.registration.Registration.{Registration}
 use Rattle.two_phase.specs.Poll.{consents, is_commit_vote}
 use Rattle.two_phase.specs.declared.party.Party.{Party}
+use Rattle.two_phase.specs.declared.party.Stage.{Stage}
+use Rattle.two_phase.specs.declared.party.Stage.TheVariants as stages
 
 -- a registration that takes part, and has answered nothing yet
 abbrev pub party_of : Registration → Party
@@ -95,3 +101,47 @@ one_where (Some h) = 1
 
 abbrev pub answers : Party → ℕ
 answers p = one_where p.ballot + one_where p.told + one_where p.forgot
+
+-- it has completed
+abbrev pub has_completed : Party → Bool
+has_completed p = option_map_or completes p.told false
+
+-- it was to be told this outcome, and has completed; or it needn't be told
+abbrev pub is_through : Bool → Outcome → Party → Bool
+is_through alone fixed p = not (is_told alone fixed p) || has_completed p
+
+-- an answer to forget by which a heuristic outcome is kept no longer: a plain one, or OBJECT_NOT_EXIST
+abbrev pub lets_go : Heard → Bool
+lets_go hears.Done = true
+lets_go hears.NoObject = true
+lets_go _ = false
+
+-- what it is still owed after a commit: the commit, as long as it has voted so and hasn't completed; forget, as long as it
+-- has raised a heuristic exception and may keep its outcome
+abbrev pub is_owed : Stage → Party → Bool
+is_owed stages.Asking p = false
+is_owed stages.Telling p = has_voted_commit p && not (has_completed p)
+is_owed stages.Forgetting p = has_raised p && not (option_map_or lets_go p.forgot false)
+
+-- what an answer to the first word tells of the updates: a heuristic exception does, a vote doesn't
+abbrev pub disposition_of_ballot : Option Heard → Option Disposition
+disposition_of_ballot (Some (hears.Heuristic d)) = Some d
+disposition_of_ballot _ = None
+
+-- what becomes of updates that follow a decision
+abbrev pub followed : Decision → Disposition
+followed Commit = dispositions.Committed
+followed Rollback = dispositions.RolledBack
+
+-- what an answer to the word that tells a decision says of the updates: a plain one and OBJECT_NOT_EXIST that they followed
+-- it, a heuristic exception what became of them, and any other answer that it isn't known
+abbrev pub disposition_by : Decision → Heard → Disposition
+disposition_by told hears.Done = followed told
+disposition_by told hears.NoObject = followed told
+disposition_by told (hears.Heuristic d) = d
+disposition_by told _ = dispositions.Unknown
+
+-- what was heard of its updates, where this is the decision
+abbrev pub dispositions_of : Decision → Party → List Disposition
+dispositions_of told p =
+    option_to_list (disposition_of_ballot p.ballot) ++ option_to_list (option_map (disposition_by told) p.told)

@@ -22,6 +22,11 @@ abbrev pub HasRoom : Progress → ℕ → Type 0
 HasRoom (Idle room) n = n ≤ room
 HasRoom (Polling p) n = ⊥
 
+-- it is under way
+abbrev pub IsPolling : Progress → Type 0
+IsPolling (Idle room) = ⊥
+IsPolling (Polling p) = Unit {0}
+
 -- room for so many participants was taken, where it hasn't started
 abbrev pub after_reserve : ℕ → Progress → Progress
 after_reserve participants (Idle room) = Idle (max room participants)

@@ -1,13 +1,17 @@
 -- A completion of a tree of transactions, from its making on.
-use Rattle.std.specs.Prelude.{ℕ, ◌≤◌, max, Bool, false, List, Option, None}
+use Rattle.std.specs.Prelude.{ℕ, ◌≤◌, max, Bool, false, List, [], Option, None}
 use Rattle.ots_model.specs.declared.completion.CallNumber.{CallNumber}
+use Rattle.ots_model.specs.declared.completion.Disposition.{Disposition}
 use Rattle.ots_model.specs.declared.completion.Heard.{Heard}
 use Rattle.ots_model.specs.declared.completion.Stood.{Stood}
+use Rattle.ots_model.specs.declared.service.Join.{Join}
+use Rattle.ots_model.specs.declared.service.Join.TheVariants as joins
 use Rattle.ots_model.specs.declared.tree.Reason.{Reason}
 use Rattle.ots_model.specs.declared.tree.Outcome.{Outcome}
 use Rattle.ots_model.specs.declared.tree.Outward.{Outward}
 use Rattle.resource_votes.specs.declared.registration.Registration.{Registration}
 use Rattle.two_phase.specs.Course as course
+use Rattle.two_phase.specs.Reports as reports
 use Rattle.two_phase.specs.Course.{Course}
 
 -- it hasn't started, and has room for so many participants; or it is under way
@@ -23,6 +27,11 @@ started participants asked first one_phase = Going (course.begun participants as
 abbrev pub HasRoom : Standing → ℕ → Type 0
 HasRoom (Waiting room) n = n ≤ room
 HasRoom (Going c) n = ⊥
+
+-- it is under way
+abbrev pub IsGoing : Standing → Type 0
+IsGoing (Waiting room) = ⊥
+IsGoing (Going c) = Unit {0}
 
 -- room for so many participants was taken, where it hasn't started
 abbrev pub after_reserve : ℕ → Standing → Standing
@@ -69,3 +78,37 @@ outcome (Going c) = course.outcome c
 abbrev pub is_named : Standing → ℕ → Bool
 is_named (Waiting room) g = false
 is_named (Going c) g = course.is_named c g
+
+-- whether the client asked for reports of heuristic outcomes
+abbrev pub asked : Standing → Bool
+asked (Waiting room) = false
+asked (Going c) = c.asked
+
+-- from here on: what `Reports` says of a completion under way
+abbrev pub dispositions : Standing → List Disposition
+dispositions (Waiting room) = []
+dispositions (Going c) = reports.dispositions c
+
+abbrev pub root_join : Standing → Join
+root_join (Waiting room) = joins.Nothing
+root_join (Going c) = reports.root_join c
+
+abbrev pub sub_join : Standing → Join
+sub_join (Waiting room) = joins.Nothing
+sub_join (Going c) = reports.sub_join c
+
+abbrev pub all_completed : Standing → Bool
+all_completed (Waiting room) = false
+all_completed (Going c) = reports.all_completed c
+
+abbrev pub is_settled : Standing → Bool
+is_settled (Waiting room) = false
+is_settled (Going c) = reports.is_settled c
+
+abbrev pub pending_commits : Standing → List ℕ
+pending_commits (Waiting room) = []
+pending_commits (Going c) = reports.pending_commits c
+
+abbrev pub pending_forgets : Standing → List ℕ
+pending_forgets (Waiting room) = []
+pending_forgets (Going c) = reports.pending_forgets c

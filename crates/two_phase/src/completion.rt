@@ -1,9 +1,8 @@
-ghost use Rattle.std.specs.Prelude.{◌≡◌, ℕ, ◌+◌, ◌^◌, ◌<◌, ◌≤◌, ◌↔◌, length, Contains, IsTrue, IfOk, IfSome, OnOk, OnErr};
+ghost use Rattle.std.specs.Prelude.{◌≡◌, ℕ, ◌+◌, ◌^◌, ◌<◌, ◌≤◌, ◌↔◌, length, Contains, IsTrue, IsOk, IfOk, IfSome, OnOk, OnErr};
 ghost use Rattle.ots_model.specs.declared.completion.Heard.TheVariants.{Lost};
-ghost use Rattle.two_phase.specs.Poll.{Poll};
 ghost use Rattle.ots_model.specs.declared.completion.Word.{Word};
 ghost use Rattle.two_phase.specs.Laws.{IsOut, answered, MayCommit, IsRollback};
-ghost use Rattle.two_phase.specs.Progress.{Idle, Polling, HasRoom, started, after_reserve, next_word, after_next, after_answer, wants_decision, after_decided, named, outcome, IsEnd};
+ghost use Rattle.two_phase.specs.Progress.{Idle, IsPolling, HasRoom, started, after_reserve, next_word, after_next, after_answer, wants_decision, after_decided, named, outcome, IsEnd};
 ghost use Rattle.ots_model.specs.Limits.{registration_limit};
 
 use crate::room::Room;
@@ -52,7 +51,7 @@ impl Completion {
             HasRoom self.new participants × HasRoom self.new room) }
         ensures reserved { OnOk result (self.new ≡ after_reserve participants self.old) }
         ensures err { OnErr result (self.new ≡ self.old) }
-        ensures started { (p : Poll) → self.old ≡ Polling p → self.new ≡ self.old }
+        ensures under_way { IsPolling self.old → IsOk result × (self.new ≡ self.old) }
     {
         match &mut self.state {
             State::Idle(room) => room.reserve(participants),
@@ -167,6 +166,3 @@ impl Completion {
         }
     }
 }
-
-#[cfg(test)]
-mod tests;

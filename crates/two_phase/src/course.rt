@@ -1,17 +1,21 @@
 // The completion of a tree of transactions, under way.
-ghost use Rattle.std.specs.Prelude.{◌≡◌, ℕ, ◌+◌, ◌^◌, ◌<◌, ◌≤◌, length, None, Some, IfSome};
-ghost use Rattle.std.specs.Option.{option_copied, option_map};
+ghost use Rattle.std.specs.Prelude.{◌≡◌, ℕ, ◌+◌, ◌^◌, ◌<◌, ◌≤◌, ◌++◌, length, None, Some, IfSome, OnOk, OnErr, vec_len, vec_capacity};
+ghost use Rattle.std.specs.Option.{option_copied, option_map, option_to_list};
 ghost use Rattle.std.specs.List.{slice_get};
 ghost use Rattle.ots_model.specs.Limits.{registration_limit};
 ghost use Rattle.two_phase.specs.Course as course;
+ghost use Rattle.two_phase.specs.Reports as reports;
 ghost use Rattle.two_phase.specs.CourseInside.{IsOpen};
 
-use crate::party::{Errand, Party, Stage, by_answer, cause_of};
+use crate::dispositions::Dispositions;
+use crate::party::{Errand, Party, Stage, by_answer, cause_of, disposition_of_ballot};
 use crate::room::Blank;
 use crate::stock::{Stock, enter};
+use heuristic_join::{join_root, join_sub};
 use ots_model::tree::{Outcome, Outward, Reason, Word};
-use ots_model::{CallNumber, Ground, Heard, Receipt, Stood};
+use ots_model::{CallNumber, Decision, Disposition, Ground, Heard, Join, Receipt, Stood};
 use resource_votes::Walk;
+use std::alloc::AllocError;
 use std::marker::Model;
 
 /// What was told and heard of a completion, with empty buffers for the references of the words to come.
@@ -233,6 +237,69 @@ impl Course {
             .any(|p| p.index == registration && p.has_voted_commit())
     }
 
+    /// What was heard of the updates so far.
+    pub fn dispositions(&self) -> Dispositions
+        ensures { result ≡ reports.dispositions self.now }
+    {
+        gathered(decision_by(self.outcome()), &self.parties)
+    }
+
+    /// What a root and its participants did together.
+    pub fn root_join(&self) -> Join
+        ensures { result ≡ reports.root_join self.now }
+    {
+        let heard = self.dispositions();
+        match self.outcome() {
+            None => Join::Nothing,
+            Some(Outcome::Unknown) => Join::Hazard,
+            Some(Outcome::Commit(_)) => join_root(Decision::Commit, heard.as_slice()),
+            Some(Outcome::Rollback(_)) => join_root(Decision::Rollback, heard.as_slice()),
+        }
+    }
+
+    /// What the participants of a subordinate did together, which was told the outcome.
+    pub fn sub_join(&self) -> Join
+        ensures { result ≡ reports.sub_join self.now }
+    {
+        let heard = self.dispositions();
+        match self.outcome() {
+            None => Join::Nothing,
+            Some(Outcome::Unknown) => Join::Hazard,
+            Some(Outcome::Commit(_)) => join_sub(Decision::Commit, heard.as_slice()),
+            Some(Outcome::Rollback(_)) => join_sub(Decision::Rollback, heard.as_slice()),
+        }
+    }
+
+    /// Whether all that were to be told the outcome have completed.
+    pub fn all_completed(&self) -> bool
+        ensures { result ≡ reports.all_completed self.now }
+    {
+        match self.outcome() {
+            Some(fixed) => all_through(self.decides_alone(), fixed, &self.parties),
+            None => false,
+        }
+    }
+
+    /// Whether all have completed, and nobody keeps a heuristic outcome.
+    pub fn is_settled(&self) -> bool
+        ensures { result ≡ reports.is_settled self.now }
+    {
+        self.all_completed() && !some_owed(Stage::Forgetting, &self.parties)
+    }
+
+    /// Appends the numbers of those that are owed a word of this stage, where the outcome is commit.
+    pub fn add_owed(&self, stage: Stage, into: &mut Vec<u32>) -> Result<(), AllocError>
+        ensures ok { OnOk result (into.new.items
+            ≡ into.old.items ++ reports.owed_by stage (course.outcome self.now) (self.now).parties) }
+        ensures err { OnErr result (into.new.items ≡ into.old.items) }
+    {
+        if is_commit(self.outcome()) {
+            into.reserve(self.parties.len())?;
+            add_owed_numbers(stage, &self.parties, into);
+        }
+        Ok(())
+    }
+
     /// Whether there is a single participant, which is to decide alone.
     fn decides_alone(&self) -> bool
         ensures { result ≡ course.decides_alone self.now }
@@ -406,6 +473,76 @@ fn next_forgetting(parties: &[Party]) -> Option<usize>
     ensures { result ≡ course.next_forgetting parties.now }
 {
     parties.iter().position(|p| p.is_unforgotten())
+}
+
+/// What is decided by an outcome.
+fn decision_by(outcome: Option<Outcome>) -> Decision
+    ensures { result ≡ reports.decision_by outcome }
+{
+    match outcome {
+        Some(Outcome::Commit(_)) => Decision::Commit,
+        _ => Decision::Rollback,
+    }
+}
+
+/// Whether an outcome is commit.
+fn is_commit(outcome: Option<Outcome>) -> bool
+    ensures { result ≡ reports.is_commit outcome }
+{
+    matches!(outcome, Some(Outcome::Commit(_)))
+}
+
+/// What was heard of the updates of these participants, where this is decided.
+#[tactic(auto, unfolding(crate::specs::Reports::gathered))]
+fn gathered(told: Decision, parties: &[Party]) -> Dispositions
+    requires few { length parties.now ≤ registration_limit }
+    ensures { result ≡ reports.gathered told parties.now }
+{
+    let mut list = Dispositions::new();
+    for party in parties {
+        add(disposition_of_ballot(party.ballot), &mut list);
+        add(party.disposition(told), &mut list);
+    }
+    list
+}
+
+/// Adds a disposition, where there is one.
+fn add(disposition: Option<Disposition>, list: &mut Dispositions)
+    requires { length list.old < 128 }
+    ensures { list.new ≡ list.old ++ option_to_list disposition }
+{
+    if let Some(disposition) = disposition {
+        list.push(disposition);
+    }
+}
+
+/// Whether each participant that was to be told this outcome has completed.
+#[tactic(auto, unfolding(crate::specs::Reports::all_through))]
+fn all_through(alone: bool, fixed: Outcome, parties: &[Party]) -> bool
+    ensures { result ≡ reports.all_through alone fixed parties.now }
+{
+    parties.iter().all(|p| p.is_through(alone, fixed))
+}
+
+/// Whether some participant is owed a word of this stage.
+#[tactic(auto, unfolding(crate::specs::Reports::some_owed))]
+fn some_owed(stage: Stage, parties: &[Party]) -> bool
+    ensures { result ≡ reports.some_owed stage parties.now }
+{
+    parties.iter().any(|p| p.is_owed(stage))
+}
+
+/// Appends the numbers of those that are owed a word of this stage. It needs no memory.
+#[tactic(auto, unfolding(crate::specs::Reports::owed_numbers))]
+fn add_owed_numbers(stage: Stage, parties: &[Party], into: &mut Vec<u32>)
+    requires room { vec_len into.old + length parties.now ≤ vec_capacity into.old }
+    ensures { into.new.items ≡ into.old.items ++ reports.owed_numbers stage parties.now }
+{
+    for party in parties {
+        if party.is_owed(stage) {
+            into.push_reserved(party.index);
+        }
+    }
 }
 
 /// The outcome where one was asked to decide alone.

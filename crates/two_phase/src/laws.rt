@@ -1,6 +1,6 @@
 // Laws of the definitions: these functions do nothing, and their contracts are the laws.
 ghost use Rattle.two_phase.specs.LawsOfCourses.{TreeWordsGoRightly};
-ghost use Rattle.two_phase.specs.LawsOfReached.{TreeOneWay, TreeOutcomeStays};
+ghost use Rattle.two_phase.specs.LawsOfReached.{NoCommitAfterRollback, NoRollbackAfterCommit, TreeOutcomeStays};
 ghost use Rattle.two_phase.specs.LawsOfPolls.{OutcomeAwaitsAll, OutcomeStays, WordsGoRightly};
 
 /// An outcome that is fixed stays, whatever goes out, is answered or is recorded.
@@ -32,7 +32,9 @@ pub fn a_tree_outcome_stays()
     ensures { TreeOutcomeStays }
 {}
 
-/// In a completion of a tree no rollback goes out once a commit word has gone out: each participant is told one way.
+/// In a completion of a tree no rollback goes out once a commit word has gone out, and no commit word once a rollback has:
+/// participants are told one way.
 pub fn a_tree_goes_one_way()
-    ensures { TreeOneWay }
+    ensures commits { NoRollbackAfterCommit }
+    ensures rolls_back { NoCommitAfterRollback }
 {}

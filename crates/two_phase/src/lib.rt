@@ -2,6 +2,7 @@
 #![tactic(auto)]
 
 pub use completion::Completion;
+pub use dispositions::Dispositions;
 pub use laws::{
     a_tree_goes_one_way, a_tree_outcome_stays, an_outcome_awaits_all, an_outcome_stays,
     tree_words_go_rightly, words_go_rightly,
@@ -10,6 +11,7 @@ pub use tree_completion::TreeCompletion;
 
 mod completion;
 mod course;
+mod dispositions;
 mod laws;
 mod party;
 mod plan;

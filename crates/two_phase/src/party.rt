@@ -1,11 +1,12 @@
 // One participant, and what it has answered.
 ghost use Rattle.std.specs.Prelude.{◌≡◌};
+ghost use Rattle.std.specs.Option.{option_map};
 ghost use Rattle.two_phase.specs.Course as course;
 ghost use Rattle.two_phase.specs.Parties as parties;
 
 use crate::verdict::consents;
 use ots_model::tree::{Outcome, Reason};
-use ots_model::{Ground, Heard, RefBytes, Vote};
+use ots_model::{Decision, Disposition, Ground, Heard, RefBytes, Vote};
 
 /// A participant of a completion: its registration, where its words go, and what it has answered to the first one, to
 /// the one that tells the outcome, and to forget.
@@ -87,6 +88,39 @@ impl Party {
         self.told.is_some_and(|h| !completes(h))
     }
 
+    /// Whether it has completed.
+    fn has_completed(&self) -> bool
+        ensures { result ≡ parties.has_completed self.now }
+    {
+        self.told.is_some_and(|h| completes(h))
+    }
+
+    /// Whether it has completed, if it was to be told this outcome.
+    pub fn is_through(&self, alone: bool, fixed: Outcome) -> bool
+        ensures { result ≡ parties.is_through alone fixed self.now }
+    {
+        !self.is_told(alone, fixed) || self.has_completed()
+    }
+
+    /// Whether it is owed a word of this stage after a commit.
+    pub fn is_owed(&self, stage: Stage) -> bool
+        ensures { result ≡ parties.is_owed stage self.now }
+    {
+        match stage {
+            Stage::Asking => false,
+            Stage::Telling => self.has_voted_commit() && !self.has_completed(),
+            Stage::Forgetting => self.has_raised() && !self.forgot.is_some_and(|h| lets_go(h)),
+        }
+    }
+
+    /// What its answer to the word that tells this decision says of its updates.
+    pub fn disposition(&self, told: Decision) -> Option<Disposition>
+        ensures { result ≡ option_map (parties.disposition_by told) (self.now).told }
+    {
+        let heard = self.told?;
+        Some(disposition_by(told, heard))
+    }
+
     /// Whether it is still to be told to forget a heuristic outcome.
     pub fn is_unforgotten(&self) -> bool
         ensures { result ≡ parties.is_unforgotten self.now }
@@ -136,6 +170,44 @@ fn is_heuristic(heard: Heard) -> bool
     ensures { result ≡ parties.is_heuristic heard }
 {
     matches!(heard, Heard::Heuristic(_))
+}
+
+/// Whether an answer to forget lets go of a heuristic outcome.
+fn lets_go(heard: Heard) -> bool
+    ensures { result ≡ parties.lets_go heard }
+{
+    matches!(heard, Heard::Done | Heard::NoObject)
+}
+
+/// What the answer to its first word tells of a participant's updates.
+pub(crate) fn disposition_of_ballot(ballot: Option<Heard>) -> Option<Disposition>
+    ensures { result ≡ parties.disposition_of_ballot ballot }
+{
+    match ballot {
+        Some(Heard::Heuristic(disposition)) => Some(disposition),
+        _ => None,
+    }
+}
+
+/// What the answer to the word that tells this decision says of a participant's updates.
+fn disposition_by(told: Decision, heard: Heard) -> Disposition
+    ensures { result ≡ parties.disposition_by told heard }
+{
+    match heard {
+        Heard::Done | Heard::NoObject => followed(told),
+        Heard::Heuristic(disposition) => disposition,
+        _ => Disposition::Unknown,
+    }
+}
+
+/// What becomes of updates that follow a decision.
+fn followed(told: Decision) -> Disposition
+    ensures { result ≡ parties.followed told }
+{
+    match told {
+        Decision::Commit => Disposition::Committed,
+        Decision::Rollback => Disposition::RolledBack,
+    }
 }
 
 /// Why an answer to prepare rolls the transaction back.

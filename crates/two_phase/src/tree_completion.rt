@@ -1,14 +1,18 @@
-ghost use Rattle.std.specs.Prelude.{◌≡◌, ℕ, ◌^◌, ◌<◌, ◌≤◌, length, IfOk, OnOk, OnErr};
+ghost use Rattle.std.specs.Prelude.{◌≡◌, ◌≢◌, ℕ, ◌^◌, ◌<◌, ◌≤◌, ◌++◌, length, IsTrue, IsOk, IfOk, OnOk, OnErr};
+ghost use Rattle.std.specs.Option.{SomeIff};
 ghost use Rattle.ots_model.specs.declared.completion.Heard.TheVariants.{Lost};
 ghost use Rattle.resource_votes.specs.Limits.{list_count};
 ghost use Rattle.resource_votes.specs.Ballots.{participants};
 ghost use Rattle.two_phase.specs.Stages as stages;
-ghost use Rattle.two_phase.specs.Stages.{Waiting, HasRoom};
+ghost use Rattle.two_phase.specs.Stages.{Waiting, HasRoom, IsGoing};
 
 use crate::course::Course;
+use crate::dispositions::Dispositions;
+use crate::party::Stage;
 use crate::stock::Stock;
+use heuristic_join::report;
 use ots_model::tree::{Outcome, Outward, Reason};
-use ots_model::{CallNumber, Heard, Stood};
+use ots_model::{CallNumber, Heard, Join, Stood};
 use resource_votes::Votes;
 use std::alloc::{AllocError, Global};
 use std::marker::Model;
@@ -52,6 +56,7 @@ impl TreeCompletion {
     pub fn reserve(&mut self, participants: u32) -> Result<(), AllocError>
         ensures ok { OnOk result (self.new ≡ stages.after_reserve participants self.old) }
         ensures err { OnErr result (self.new ≡ self.old) }
+        ensures under_way { IsGoing self.old → IsOk result }
     {
         match &mut self.state {
             Standing::Waiting(stock) => stock.reserve(participants),
@@ -199,7 +204,101 @@ impl TreeCompletion {
             Standing::Going(course) => course.outcome(),
         }
     }
-}
 
-#[cfg(test)]
-mod tests;
+    /// Whether the client asked for reports of heuristic outcomes (`report_heuristics` of `commit`).
+    pub fn asked(&self) -> bool
+        ensures asked { result ≡ stages.asked self.now }
+    {
+        match &self.state {
+            Standing::Waiting(_) => false,
+            Standing::Going(course) => course.asked,
+        }
+    }
+
+    /// What was heard of the participants' updates so far, in list order: a heuristic exception of prepare, and each answer to
+    /// the word that tells the outcome.
+    pub fn dispositions(&self) -> Dispositions
+        ensures dispositions { result ≡ stages.dispositions self.now }
+    {
+        match &self.state {
+            Standing::Waiting(_) => Dispositions::new(),
+            Standing::Going(course) => course.dispositions(),
+        }
+    }
+
+    /// What a root and its participants did together, by what was heard so far. Where the only participant was to decide
+    /// and didn't tell, that is a hazard.
+    pub fn root_join(&self) -> Join
+        ensures join { result ≡ stages.root_join self.now }
+    {
+        match &self.state {
+            Standing::Waiting(_) => Join::Nothing,
+            Standing::Going(course) => course.root_join(),
+        }
+    }
+
+    /// What the participants of a subordinate did together, by what was heard so far.
+    pub fn sub_join(&self) -> Join
+        ensures join { result ≡ stages.sub_join self.now }
+    {
+        match &self.state {
+            Standing::Waiting(_) => Join::Nothing,
+            Standing::Going(course) => course.sub_join(),
+        }
+    }
+
+    /// The heuristic exception by which a root answers its client, where it asked for reports and there is one to make.
+    pub fn report(&self) -> Option<Join>
+        ensures reported { SomeIff result
+            (IsTrue (stages.asked self.now) × (stages.root_join self.now ≢ Join.Nothing))
+            (stages.root_join self.now) }
+    {
+        report(self.root_join(), self.asked())
+    }
+
+    /// Whether the outcome is fixed, and each that was to be told it has completed: it answered plainly, by
+    /// OBJECT_NOT_EXIST, or by a heuristic exception.
+    pub fn all_completed(&self) -> bool
+        ensures completed { result ≡ stages.all_completed self.now }
+    {
+        match &self.state {
+            Standing::Waiting(_) => false,
+            Standing::Going(course) => course.all_completed(),
+        }
+    }
+
+    /// Whether all have completed, and each that raised a heuristic exception has answered forget plainly or by
+    /// OBJECT_NOT_EXIST: the decision record may be named done.
+    pub fn is_settled(&self) -> bool
+        ensures settled { result ≡ stages.is_settled self.now }
+    {
+        match &self.state {
+            Standing::Waiting(_) => false,
+            Standing::Going(course) => course.is_settled(),
+        }
+    }
+
+    /// Appends the registrations that are still to be told to commit, in list order: each that has voted commit and hasn't
+    /// completed. There are none where the outcome isn't commit.
+    pub fn pending_commits(&self, into: &mut Vec<u32>) -> Result<(), AllocError>
+        ensures ok { OnOk result (into.new.items ≡ into.old.items ++ stages.pending_commits self.now) }
+        ensures err { OnErr result (into.new.items ≡ into.old.items) }
+    {
+        match &self.state {
+            Standing::Waiting(_) => Ok(()),
+            Standing::Going(course) => course.add_owed(Stage::Telling, into),
+        }
+    }
+
+    /// Appends the registrations that are still to be told to forget, in list order: each that has raised a heuristic
+    /// exception and hasn't answered forget plainly or by OBJECT_NOT_EXIST. There are none where the outcome isn't commit.
+    pub fn pending_forgets(&self, into: &mut Vec<u32>) -> Result<(), AllocError>
+        ensures ok { OnOk result (into.new.items ≡ into.old.items ++ stages.pending_forgets self.now) }
+        ensures err { OnErr result (into.new.items ≡ into.old.items) }
+    {
+        match &self.state {
+            Standing::Waiting(_) => Ok(()),
+            Standing::Going(course) => course.add_owed(Stage::Forgetting, into),
+        }
+    }
+}
