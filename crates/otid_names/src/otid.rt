@@ -79,21 +79,14 @@ impl Otid {
     }
 
     /// Our own otid of these four numbers.
-    pub fn own(
-        alloc: Global,
-        service: u64,
-        life: u32,
-        generation: u64,
-        branch: u32,
-    ) -> Result<Otid, AllocError>
-        ensures made { IfOk result (λ o.
-            o ≡ own (record { service = service; life = life; generation = generation; branch = branch })) }
+    pub fn own(alloc: Global, numbers: &OwnNumbers) -> Result<Otid, AllocError>
+        ensures made { IfOk result (λ o. o ≡ own numbers.now) }
     {
         let mut tid = [0u8; OWN_LENGTH];
-        BigEndian::write_u64(&mut tid[..8], service);
-        BigEndian::write_u32(&mut tid[8..12], life);
-        BigEndian::write_u64(&mut tid[12..20], generation);
-        BigEndian::write_u32(&mut tid[20..], branch);
+        BigEndian::write_u64(&mut tid[..8], numbers.service);
+        BigEndian::write_u32(&mut tid[8..12], numbers.life);
+        BigEndian::write_u64(&mut tid[12..20], numbers.generation);
+        BigEndian::write_u32(&mut tid[20..], numbers.branch);
         Ok(Otid {
             format: OWN_FORMAT,
             bqual: OWN_BQUAL,

@@ -9,7 +9,7 @@ fn our_own_otid(rt: HostRuntime) -> Result<(), Fail> {
         generation: 1,
         branch: 0,
     };
-    let own = Otid::own(rt.alloc(), 1, 1, 1, 0)?;
+    let own = Otid::own(rt.alloc(), &numbers)?;
     assert_eq!(rt; own.format(), 1_330_926_385);
     assert_eq!(rt; own.bqual(), 4);
     assert_eq!(rt; own.own_numbers(), Some(numbers));
@@ -22,7 +22,13 @@ fn our_own_otid(rt: HostRuntime) -> Result<(), Fail> {
 
 #[test]
 fn largest_numbers(rt: HostRuntime) -> Result<(), Fail> {
-    let own = Otid::own(rt.alloc(), u64::MAX, u32::MAX, u64::MAX, u32::MAX)?;
+    let numbers = OwnNumbers {
+        service: u64::MAX,
+        life: u32::MAX,
+        generation: u64::MAX,
+        branch: u32::MAX,
+    };
+    let own = Otid::own(rt.alloc(), &numbers)?;
     assert_eq!(rt; own.tid(), [255u8; 24].as_slice());
     let name = b"18446744073709551615.4294967295.18446744073709551615.4294967295";
     assert_eq!(rt; name_of(rt.alloc(), &own)?.bytes(), name.as_slice());
@@ -72,7 +78,13 @@ fn limits(rt: HostRuntime) -> Result<(), Fail> {
 fn hashes_spread_as_evenly_as_chance(rt: HostRuntime) -> Result<(), Fail> {
     let mut counts = [0u32; 256];
     for generation in 1..=100_000 {
-        let own = Otid::own(rt.alloc(), 1, 1, generation, 0)?;
+        let numbers = OwnNumbers {
+            service: 1,
+            life: 1,
+            generation,
+            branch: 0,
+        };
+        let own = Otid::own(rt.alloc(), &numbers)?;
         let slot = (hash_of(&own) % 256) as usize;
         counts[slot] = counts[slot].wrapping_add(1);
     }
