@@ -1,10 +1,10 @@
 -- IIOP profiles are read exactly where their values stand.
-use Rattle.std.proofs.Common.{◌≡◌, ℕ, ◌+◌, ◌<◌, ◌≤◌, arith, None, Bool, true, false, ◌&&◌, leb, List, [], ◌∷◌, length, Result, Ok, refl, sym, ap, subst}
+use Rattle.std.proofs.Common.{◌≡◌, ℕ, ◌+◌, ◌<◌, ◌≤◌, arith, None, Bool, true, false, ◌&&◌, cond, eqb, leb, List, [], ◌∷◌, length, Result, Ok, Err, refl, sym, ap, subst}
 use Rattle.std.specs.List.{list_all}
 use Rattle.std.proofs.lemmas.List.{append-nil}
 use Rattle.cdr_values.specs.declared.order.Order.TheVariants.{Big}
 use Rattle.cdr_values.specs.Again.{AllFit, standing, ValuesAreReadAgain}
-use Rattle.cdr_values.specs.Encapsulation.{begun}
+use Rattle.cdr_values.specs.Encapsulation.{begun, opened}
 use Rattle.cdr_values.specs.Writing.{Writing}
 use Rattle.ots_model.specs.declared.service.Endpoint.{Endpoint}
 use Rattle.ior_refs.specs.Making.{iiop_to, profile_to, reference_to, refusal_to}
@@ -20,13 +20,15 @@ use Rattle.cdr_values.specs.Tagged.{TaggedLaws, tagged_at, tagged_values}
 use Rattle.ior_refs.specs.Limits.{count_limit}
 use Rattle.ior_refs.specs.Reference.{Tagged}
 use Rattle.ior_refs.specs.Fault.{fault_of, too_many}
-use Rattle.ior_refs.specs.Reading.{each_tagged_at}
-use Rattle.ior_refs.specs.Iiop.{components_at, components_values, has_components, iiop_at, iiop_in, iiop_in_octets, iiop_values}
+use Rattle.ior_refs.specs.Reading.{each_tagged_at, whole}
+use Rattle.ior_refs.specs.Iiop.{IsProfile, components_at, components_values, has_components, iiop_at, iiop_in, iiop_in_octets, iiop_values}
 use Rattle.ior_refs.specs.Laws.{IiopLaws}
 use Rattle.ior_refs.specs.declared.fault.IorFault.{IorFault}
+use Rattle.ior_refs.specs.declared.fault.IorFault.TheVariants.{Rest}
+use Rattle.std.proofs.lemmas.Bool.{and_parts}
 use Rattle.ior_refs.specs.declared.profile.Iiop.{Iiop}
 use Rattle.ior_refs.proofs.Exact.{bind_ok, ok_is}
-use Rattle.ior_refs.proofs.Texts.{value_is}
+use Rattle.ior_refs.proofs.Texts.{value_is, pass_ok, nothing_is, opened_found, opened_only}
 
 -- the laws that it rests on
 pub record Laws : Type 0 where
@@ -39,16 +41,18 @@ all_tagged : (xs : List Tagged) → list_all (λ tagged. true) xs ≡ true
 all_tagged [] = refl
 all_tagged (x ∷ xs) = all_tagged xs
 
-components_found : Laws → (b : Bool) (r behind : Reading) → components_at b r ≡ Ok (tt, behind) → (components : List Tagged) × ReadsAll r (components_values b components) behind
+components_found : Laws → (b : Bool) (r behind : Reading) → components_at b r ≡ Ok (tt, behind) → (components : List Tagged) × (leb (length components) 65536 ≡ true) × ReadsAll r (components_values b components) behind
 unfolding components_at each_tagged_at
 components_found laws true r behind e =
     let law = laws.sequences tagged_values (λ tagged. true) (tagged_at fault_of) count_limit fault_of too_many (laws.tagged.tagged fault_of) in
     let a = bind_ok (each_tagged_at r) (λ components. Ok (tt, components.1)) (tt, behind) e in
     let same : a.0.1 ≡ behind = ap (λ (p : Unit {0} × Reading). p.1) (ok_is {F = IorFault} (tt, a.0.1) (tt, behind) a.2) in
-    (a.0.0, subst (λ (s : Reading). ReadsAll r (sequence_values tagged_values a.0.0) s) same (law.found r a.0.0 a.0.1 a.1).0)
+    let stand = law.found r a.0.0 a.0.1 a.1 in
+    let few = and_parts (leb (length a.0.0) 65536) (list_all (λ (tagged : Tagged). true) a.0.0) stand.1 in
+    (a.0.0, few.0, subst (λ (s : Reading). ReadsAll r (sequence_values tagged_values a.0.0) s) same stand.0)
 components_found laws false r behind e =
     let same : r ≡ behind = ap (λ (p : Unit {0} × Reading). p.1) (ok_is {F = IorFault} (tt, r) (tt, behind) e) in
-    ([], sym same)
+    ([], refl, sym same)
 
 components_only : Laws → (b : Bool) (r : Reading) (components : List Tagged) (behind : Reading) → ReadsAll r (components_values b components) behind → leb (length components) 65536 ≡ true → components_at b r ≡ Ok (tt, behind)
 unfolding components_at each_tagged_at
@@ -78,7 +82,7 @@ behind_minor a minor = fault_as fault_of (string_at minor.1) >>= behind_host a m
 abbrev behind_major : ℕ × Reading → Result (Iiop × Reading) IorFault
 behind_major major = fault_as fault_of (octet_at major.1) >>= behind_minor major.0
 
-found : Laws → (r : Reading) (i : Iiop) (behind : Reading) → iiop_at r ≡ Ok (i, behind) → (components : List Tagged) × ReadsAll r (iiop_values i components) behind
+found : Laws → (r : Reading) (i : Iiop) (behind : Reading) → iiop_at r ≡ Ok (i, behind) → (components : List Tagged) × (leb (length components) 65536 ≡ true) × ReadsAll r (iiop_values i components) behind
 unfolding iiop_at
 found laws r i behind e =
     let a = bind_ok (fault_as fault_of (octet_at r)) behind_major (i, behind) e in
@@ -94,8 +98,8 @@ found laws r i behind e =
     let three = laws.reading.string.found b.0.1 h.0.0 h.0.1 (value_is (string_at b.0.1) h.0 h.1) in
     let four = laws.reading.ushort.found h.0.1 p.0.0 p.0.1 (value_is (ushort_at h.0.1) p.0 p.1) in
     let five = laws.reading.octets.found p.0.1 k.0.0 k.0.1 (value_is (octets_at p.0.1) k.0 k.1) in
-    let stand : (components : List Tagged) × ReadsAll r (iiop_values whole components) c.0.1 = (components.0, (a.0.1, one, (b.0.1, two, (h.0.1, three, (p.0.1, four, (k.0.1, five, components.1)))))) in
-    subst (λ (q : Iiop × Reading). (components : List Tagged) × ReadsAll r (iiop_values q.0 components) q.1) (ok_is {F = IorFault} (whole, c.0.1) (i, behind) c.2) stand
+    let stand : (components : List Tagged) × (leb (length components) 65536 ≡ true) × ReadsAll r (iiop_values whole components) c.0.1 = (components.0, components.1, (a.0.1, one, (b.0.1, two, (h.0.1, three, (p.0.1, four, (k.0.1, five, components.2)))))) in
+    subst (λ (q : Iiop × Reading). (components : List Tagged) × (leb (length components) 65536 ≡ true) × ReadsAll r (iiop_values q.0 components) q.1) (ok_is {F = IorFault} (whole, c.0.1) (i, behind) c.2) stand
 
 only : Laws → (r : Reading) (i : Iiop) (components : List Tagged) (behind : Reading) → ReadsAll r (iiop_values i components) behind → leb (length components) 65536 ≡ true → iiop_at r ≡ Ok (i, behind)
 unfolding iiop_at
@@ -108,15 +112,40 @@ only laws r i components behind h few =
     let six = components_only laws (has_components i.major i.minor) h.2.2.2.2.0 components behind h.2.2.2.2.2 few in
     rw (one, two, three, four, five, six) refl
 
+-- octets that are read as a profile are one
+profile_found : Laws → (octets : List ℕ) (i : Iiop) → iiop_in_octets octets ≡ Ok i → IsProfile i octets
+unfolding iiop_in_octets
+profile_found laws octets i e =
+    let a = bind_ok (fault_as fault_of (opened octets)) (whole iiop_at) i e in
+    let b = bind_ok (iiop_at a.0) (λ found. cond (eqb (length found.1.rest) 0) (Ok found.0) (Err (Rest found.1.place))) i a.2 in
+    let d = pass_ok (eqb (length b.0.1.rest) 0) (Rest b.0.1.place) (Ok b.0.0) i b.2 in
+    let stand = found laws a.0 b.0.0 b.0.1 b.1 in
+    let same : b.0.0 ≡ i = ok_is {F = IorFault} b.0.0 i d.1 in
+    let reads = subst (λ (x : Iiop). ReadsAll a.0 (iiop_values x stand.0) b.0.1) same stand.2 in
+    record {
+      components = stand.0;
+      few = stand.1;
+      reader = a.0;
+      opened = opened_found octets a.0 (value_is (opened octets) a.0 a.1);
+      whole = record { behind = b.0.1; reads = reads; nothing = nothing_is b.0.1.rest d.0 };
+    }
+
+-- and octets that are one are read
+profile_only : Laws → (octets : List ℕ) (i : Iiop) → IsProfile i octets → iiop_in_octets octets ≡ Ok i
+unfolding iiop_in_octets
+profile_only laws octets i h =
+    let size : length h.whole.behind.rest ≡ 0 = ap length h.whole.nothing in
+    rw (opened_only octets h.reader h.opened, only laws h.reader i h.components h.whole.behind h.whole.reads h.few, size) refl
+
 -- the profile of an object is an encapsulation
 profile_is : (at : Endpoint) (key : ObjectKey) → profile_to at key ≡ 0 ∷ canonical_all Big 1 (iiop_values (iiop_to at key) [])
 unfolding profile_to
 profile_is at key = ap (λ (w : Writing). w.octets) (with_values-is (begun Big) (iiop_values (iiop_to at key) []))
 
 -- and says where it is
-profile_found : Laws → (at : Endpoint) (key : ObjectKey) → at.port < 65536 → has_nul at.host ≡ false → length at.host ≤ 1024 → iiop_in_octets (profile_to at key) ≡ Ok (iiop_to at key)
+made_found : Laws → (at : Endpoint) (key : ObjectKey) → at.port < 65536 → has_nul at.host ≡ false → length at.host ≤ 1024 → iiop_in_octets (profile_to at key) ≡ Ok (iiop_to at key)
 unfolding iiop_in_octets
-profile_found laws at key port text few =
+made_found laws at key port text few =
     let values = iiop_values (iiop_to at key) [] in
     let octets = canonical_all Big 1 values in
     let fit : AllFit values = (omega arith, (omega arith, ((omega arith, text), (port, (omega arith, (omega arith, tt)))))) in
@@ -128,11 +157,12 @@ made : Laws → (type_id : List ℕ) (at : Endpoint) (key : ObjectKey) → at.po
 unfolding iiop_in
 made laws type_id at key port e =
     let good = not_refused type_id at key e in
-    profile_found laws at key port good.0 good.1
+    made_found laws at key port good.0 good.1
 
 pub iiop_laws : Laws → IiopLaws
 iiop_laws laws = record {
   found = λ r i behind e. found laws r i behind e;
   only = λ r i components behind h few. only laws r i components behind h few;
+  whole = λ octets i. (λ e. profile_found laws octets i e, λ h. profile_only laws octets i h);
   made = λ type_id at key port e. made laws type_id at key port e;
 }

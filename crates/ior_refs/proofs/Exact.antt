@@ -5,13 +5,14 @@ use Rattle.std.proofs.lemmas.Bool.{ltb-false, le-leb, leb-true}
 use Rattle.cdr_values.specs.declared.order.Order.TheVariants.{Big}
 use Rattle.cdr_values.specs.Reading.{Reading, ◌>>=◌}
 use Rattle.cdr_values.specs.Again.{standing, ValuesAreReadAgain}
-use Rattle.cdr_values.specs.Values.{ReadsAll, canonical_all}
+use Rattle.cdr_values.specs.Values.{ReadsAll, ValuesAreWrittenCanonically, canonical_all}
+use Rattle.cdr_values.specs.Writing.{Writing, place_of}
 use Rattle.cdr_values.specs.Tagged.{TaggedLaws, reference_at, reference_values, tagged_values}
 use Rattle.ior_refs.specs.Limits.{count_limit}
 use Rattle.ior_refs.specs.Reference.{Reference, Tagged, is_short, canonical_octets}
 use Rattle.ior_refs.specs.Fault.{fault_of, too_many}
 use Rattle.ior_refs.specs.Reading.{if_short, short_reference_at}
-use Rattle.ior_refs.specs.Laws.{ReferencesAreReadExactly, ReferencesAreReadAgain, SameOctetsSameReference}
+use Rattle.ior_refs.specs.Laws.{ReferencesAreReadExactly, ReferencesAreReadAgain, ReferencesAreReadWhereWritten, SameOctetsSameReference}
 use Rattle.ior_refs.specs.declared.fault.IorFault.{IorFault}
 use Rattle.ior_refs.specs.declared.fault.IorFault.TheVariants.{TooLong}
 use Rattle.ior_refs.proofs.Short.{short}
@@ -80,6 +81,11 @@ pub read_again : ReferencesAreReadExactly → ValuesAreReadAgain → ReferencesA
 read_again exact again order at reference more is =
     exact.only (standing order at (canonical_all order at (reference_values reference) ++ more)) reference (standing order (at + length (canonical_all order at (reference_values reference))) more)
     (again order at (reference_values reference) more is.fits) (le-leb _ _ is.short)
+
+pub read_where_written : ReferencesAreReadAgain → ValuesAreWrittenCanonically → ReferencesAreReadWhereWritten
+read_where_written again written w reference more is =
+    let values = reference_values reference in
+    (canonical_all w.order (place_of w) values, ap (λ (x : Writing). x.octets) (written w values), again w.order (place_of w) reference more is)
 
 pub same_reference : ReferencesAreReadAgain → SameOctetsSameReference
 unfolding canonical_octets

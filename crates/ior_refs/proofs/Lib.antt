@@ -1,4 +1,5 @@
 pub mod Values
+pub mod Counting
 pub mod Faults
 pub mod Sequences
 pub mod Short

@@ -1,6 +1,7 @@
 -- The reference that is made for an object, and why none is.
 use Rattle.std.proofs.Common.{◌≡◌, ℕ, ◌+◌, ◌<◌, ◌≤◌, ◌⊎◌, inl, inr, Bool, true, false, cond, ltb, Some, None, List, [], ◌∷◌, ◌++◌, length, refl, ap, arith, length-append, Result, Ok, Err, replicate}
 use Rattle.std.specs.Prelude.{IsOk, IfOk, IfErr}
+use Rattle.std.specs.Option.{option_or}
 use Rattle.std.proofs.lemmas.Bool.{lt-ltb, ltb-false}
 use Rattle.cdr_values.specs.declared.order.Order.{Order}
 use Rattle.cdr_values.specs.declared.order.Order.TheVariants.{Big}
@@ -105,7 +106,7 @@ not_refused type_id at key e =
     let long = ltb 1024 (length (canonical_octets (reference_to type_id at key))) in
     let tests = by_tests (has_nul type_id) (has_nul at.host) long e in
     (tests.0, omega (arith, ltb-false _ _ tests.1, texts_in_reference type_id at key)) where
-      by_tests : (a b c : Bool) → cond a (Some (Cdr (BadString 0))) (cond b (Some (Cdr (BadString 3))) (cond c (Some (TooLong 0)) None)) ≡ None → (b ≡ false) × (c ≡ false)
+      by_tests : (a b c : Bool) → option_or (cond a (Some (Cdr (BadString 0))) (cond b (Some (Cdr (BadString 3))) None)) (cond c (Some (TooLong 0)) None) ≡ None → (b ≡ false) × (c ≡ false)
       by_tests true b c e = absurd cc
       by_tests false true c e = absurd cc
       by_tests false false true e = absurd cc

@@ -3,17 +3,16 @@ use Rattle.std.proofs.Common.{◌≡◌, ℕ, ◌+◌, ◌<◌, ◌≤◌, arith
 use Rattle.std.specs.Prelude.{find, Option}
 use Rattle.std.specs.Option.{option_map}
 use Rattle.std.specs.List.{flat_map}
-use Rattle.std.proofs.lemmas.List.{append-nil, take-append-drop, take_more}
+use Rattle.std.proofs.lemmas.List.{append-nil, take-append-drop, take_all, take_more}
 use Rattle.std.proofs.lemmas.Grind.{flat_map-append}
 use Rattle.cdr_values.specs.declared.fault.CdrFault.{CdrFault}
 use Rattle.cdr_values.specs.Value.{Value}
 use Rattle.cdr_values.specs.Again.{AllFit}
-use Rattle.cdr_values.specs.Values.{with_values}
 use Rattle.cdr_values.specs.Writing.{Writing}
 use Rattle.cdr_values.specs.Tagged.{tagged_values}
 use Rattle.ior_refs.specs.Reference.{Tagged}
-use Rattle.ior_refs.specs.Writing.{StopsIn}
-use Rattle.ior_refs.proofs.Values.{with_values-append, fit-append, fit_front, fit_behind, stops_more, stops_behind}
+use Rattle.ior_refs.specs.Writing.{HasWritten, StopsIn}
+use Rattle.ior_refs.proofs.Values.{fit-append, fit_front, fit_behind, wrote_more, stops_more, stops_behind}
 
 -- the values of one more
 pub one_more : (all : List Tagged) (i : ℕ) (x : Tagged) → i < length all → x ≡ get_or all i x → flat_map tagged_values (take (i + 1) all) ≡ flat_map tagged_values (take i all) ++ tagged_values x
@@ -32,18 +31,21 @@ one_fits all i x lt is fit =
 
 -- one more is written
 pub goes_on : (w now new : Writing) (all : List Tagged) (i : ℕ) (x : Tagged) → i < length all → x ≡ get_or all i x
-    → now ≡ with_values w (flat_map tagged_values (take i all)) → new ≡ with_values now (tagged_values x) → new ≡ with_values w (flat_map tagged_values (take (i + 1) all))
+    → HasWritten (flat_map tagged_values (take i all)) w now → HasWritten (tagged_values x) now new → HasWritten (flat_map tagged_values (take (i + 1) all)) w new
 goes_on w now new all i x lt is so_far more =
-    more ∙ ap (λ (y : Writing). with_values y (tagged_values x)) so_far ∙ sym (with_values-append w (flat_map tagged_values (take i all)) (tagged_values x)) ∙ ap (with_values w) (sym (one_more all i x lt is))
+    subst (λ (vs : List Value). HasWritten vs w new) (sym (one_more all i x lt is)) (wrote_more (flat_map tagged_values (take i all)) (tagged_values x) w now new so_far more)
 
 -- a writer that stops in one of them stops in all of them
 pub stops : (fault : CdrFault) (w now new : Writing) (all : List Tagged) (i : ℕ) (x : Tagged) → i < length all → x ≡ get_or all i x
-    → now ≡ with_values w (flat_map tagged_values (take i all)) → StopsIn (tagged_values x) fault now new → StopsIn (flat_map tagged_values all) fault w new
+    → HasWritten (flat_map tagged_values (take i all)) w now → StopsIn (tagged_values x) fault now new → StopsIn (flat_map tagged_values all) fault w new
 stops fault w now new all i x lt is so_far h =
-    let before = flat_map tagged_values (take i all) in
-    let more = stops_behind before (tagged_values x) fault w new (subst (λ (y : Writing). StopsIn (tagged_values x) fault y new) so_far h) in
+    let more = stops_behind (flat_map tagged_values (take i all)) (tagged_values x) fault w now new so_far h in
     let here = subst (λ (vs : List Value). StopsIn vs fault w new) (sym (one_more all i x lt is)) more in
     subst (λ (vs : List Value). StopsIn vs fault w new) (sym (all_split all (i + 1))) (stops_more (flat_map tagged_values (take (i + 1) all)) (flat_map tagged_values (drop (i + 1) all)) fault w new here)
+
+-- behind the last one, all are written
+pub all_written : (w now : Writing) (all : List Tagged) (i : ℕ) → length all ≤ i → HasWritten (flat_map tagged_values (take i all)) w now → HasWritten (flat_map tagged_values all) w now
+all_written w now all i le h = subst (λ (xs : List Tagged). HasWritten (flat_map tagged_values xs) w now) (take_all i all le) h
 
 -- the values of one more fit
 pub all_fit_more : (all : List Tagged) (x : Tagged) → AllFit (flat_map tagged_values all) → AllFit (tagged_values x) → AllFit (flat_map tagged_values (all ++ x ∷ []))

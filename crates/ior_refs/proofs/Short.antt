@@ -1,5 +1,6 @@
 -- The canonical octets of a reference, as a writer makes them.
-use Rattle.std.proofs.Common.{◌≡◌, ℕ, ◌+◌, ◌<◌, ◌≤◌, ◌⊎◌, inl, inr, Bool, true, false, cond, ltb, Some, None, List, [], ◌∷◌, ◌++◌, length, refl, sym, ap, subst, ◌∙◌, append_assoc, arith, length-append, Result, Ok, Err}
+use Rattle.std.proofs.Common.{◌≡◌, ℕ, ◌+◌, ◌<◌, ◌≤◌, ◌⊎◌, inl, inr, Bool, true, false, cond, ltb, Some, None, Option, List, [], ◌∷◌, ◌++◌, length, refl, sym, ap, subst, ◌∙◌, append_assoc, arith, length-append, Result, Ok, Err}
+use Rattle.std.specs.Option.{option_or}
 use Rattle.std.proofs.lemmas.List.{append-nil}
 use Rattle.std.proofs.lemmas.Bool.{ltb-true, lt-ltb, le-ltb}
 use Rattle.cdr_values.specs.declared.order.Order.{Order}
@@ -9,7 +10,7 @@ use Rattle.cdr_values.specs.declared.fault.CdrFault.TheVariants as cdr
 use Rattle.cdr_values.specs.Limits.{output_limit}
 use Rattle.cdr_values.specs.Value.{Value, Octet, Boolean, UShort, ULong, ULongLong, OctetSequence, Text, Aligned, Fits, canonical}
 use Rattle.cdr_values.specs.Again.{AllFit}
-use Rattle.cdr_values.specs.Values.{canonical_all, with_values}
+use Rattle.cdr_values.specs.Values.{canonical_all, refusal_of_all, with_values}
 use Rattle.cdr_values.specs.Writing.{Writing, place_of, with_value, is_bad, refusal}
 use Rattle.cdr_values.specs.Tagged.{reference_values}
 use Rattle.ior_refs.specs.Reference.{Reference, canonical_octets}
@@ -18,7 +19,6 @@ use Rattle.ior_refs.specs.Writing.{StopsIn, WritesAll}
 use Rattle.ior_refs.specs.Fault.{Fails, stopped_as}
 use Rattle.ior_refs.specs.declared.fault.IorFault.{IorFault}
 use Rattle.ior_refs.specs.declared.fault.IorFault.TheVariants.{TooLong, Memory}
-use Rattle.ior_refs.proofs.Values.{with_values-append, fit_behind}
 
 -- a writing with these octets
 abbrev pub writing : Order → ℕ → List ℕ → Writing
@@ -72,18 +72,18 @@ full_if value fault w plain refused =
 full : (value : Value) (fault : CdrFault) (w : Writing) → Fits value → refusal w value ≡ Some fault → output_limit < length (with_value w value).octets
 full value fault w fit refused = full_if value fault w (good value fit) refused
 
--- where it stops, there are more octets than a writer writes
+-- where values are refused, there are more octets than a writer writes
+refused_full : (values : List Value) (fault : CdrFault) (w : Writing) → AllFit values → refusal_of_all w values ≡ Some fault → output_limit < length (with_values w values).octets
+refused_full [] fault w fit e = absurd cc
+refused_full (v ∷ vs) fault w fit e = by_first (refusal w v) v vs fault w fit.0 refl e (λ f. refused_full vs fault (with_value w v) fit.1 f) where
+  by_first : (first : Option CdrFault) (v : Value) (vs : List Value) (fault : CdrFault) (w : Writing) → Fits v → refusal w v ≡ first → option_or first (refusal_of_all (with_value w v) vs) ≡ Some fault
+      → (refusal_of_all (with_value w v) vs ≡ Some fault → output_limit < length (with_values (with_value w v) vs).octets) → output_limit < length (with_values (with_value w v) vs).octets
+  by_first (Some cause) v vs fault w fit is e others = omega (arith, full v cause w fit is, grows (with_value w v) vs)
+  by_first None v vs fault w fit is e others = others e
+
 stops_full : (values : List Value) (fault : CdrFault) (w new : Writing) → AllFit values → (fault ≡ cdr.Memory → ⊥) → StopsIn values fault w new → output_limit < length (with_values w values).octets
 stops_full values fault w new fit other h =
-    elim h.cause [
-      | inl memory ↦ absurd (other memory)
-      | inr refused ↦
-          let rest = fit_behind h.written (h.next ∷ h.others) (subst AllFit h.parts fit) in
-          let many = full h.next fault new rest.0 refused in
-          let whole : with_values w values ≡ with_values (with_value new h.next) h.others = ap (with_values w) h.parts ∙ with_values-append w h.written (h.next ∷ h.others) ∙ ap (λ (x : Writing). with_values (with_value x h.next) h.others) (sym h.stands) in
-          let size : length (with_values w values).octets ≡ length (with_values (with_value new h.next) h.others).octets = ap (λ (x : Writing). length x.octets) whole in
-          omega (arith, many, size, grows (with_value new h.next) h.others)
-    ]
+    elim h.cause [ inl memory ↦ absurd (other memory) | inr refused ↦ refused_full values fault w fit refused ]
 
 -- a reference that is too long, and one that isn't
 pub long : (place : ℕ) (reference : Reference) → 1024 < length (canonical_octets reference) → if_short place reference ≡ Err (TooLong place)
@@ -111,7 +111,7 @@ stopped place reference (cdr.BadOrder n) new fit h = stopped_long place referenc
 
 -- a call that wrote values, since it has no fault
 pub wrote : (values : List Value) (result : Result (Unit {0}) CdrFault) (w new : Writing) → ((fault : CdrFault) → result ≡ Err fault → ⊥) → WritesAll values result w new → new ≡ with_values w values
-wrote values (Ok nothing) w new never h = h
+wrote values (Ok nothing) w new never h = h.stands
 wrote values (Err fault) w new never h = absurd (never fault refl)
 
 -- a copy that isn't made

@@ -29,7 +29,7 @@ use Rattle.ior_refs.proofs.Exact.{bind_ok, ok_is}
 use Rattle.ior_refs.proofs.Short.{with_values-is}
 
 -- a test that passed
-pass_ok : {F A : Type 0} (b : Bool) (d : F) (r : Result A F) (y : A) → cond b r (Err d) ≡ Ok y → (b ≡ true) × (r ≡ Ok y)
+pub pass_ok : {F A : Type 0} (b : Bool) (d : F) (r : Result A F) (y : A) → cond b r (Err d) ≡ Ok y → (b ≡ true) × (r ≡ Ok y)
 pass_ok true d r y e = (refl, e)
 pass_ok false d r y e = absurd cc
 
@@ -39,7 +39,7 @@ value_is (Ok y) x e = ap Ok (ok_is {F = IorFault} y x e)
 value_is (Err fault) x e = absurd cc
 
 -- no octets are left
-nothing_is : (xs : List ℕ) → eqb (length xs) 0 ≡ true → xs ≡ []
+pub nothing_is : (xs : List ℕ) → eqb (length xs) 0 ≡ true → xs ≡ []
 nothing_is [] e = refl
 nothing_is (x ∷ xs) e = absurd (omega (arith, eqb-true (length (x ∷ xs)) 0 e))
 
@@ -58,7 +58,7 @@ whole_only read values allows exact r x h all =
     rw (exact.only r x h.behind h.reads all, size) refl
 
 -- an encapsulation is opened exactly where it is one
-opened_found : (octets : List ℕ) (reader : Reading) → opened octets ≡ Ok reader → IsEncapsulation octets reader
+pub opened_found : (octets : List ℕ) (reader : Reading) → opened octets ≡ Ok reader → IsEncapsulation octets reader
 opened_found [] reader e = absurd cc
 opened_found (x ∷ xs) reader e = by_first (eqb x 0) (eqb x 1) x xs reader refl refl e where
   by_first : (a b : Bool) (x : ℕ) (xs : List ℕ) (reader : Reading) → eqb x 0 ≡ a → eqb x 1 ≡ b → cond a (Ok (inside Big xs)) (cond b (Ok (inside Little xs)) (opened (2 ∷ xs))) ≡ Ok reader → IsEncapsulation (x ∷ xs) reader
@@ -73,7 +73,7 @@ opened_by : (order : Order) (place : ℕ) (rest : List ℕ) → place ≡ 1 → 
 opened_by Big place rest e = ap (λ (k : ℕ). Ok (standing Big k rest)) (sym e)
 opened_by Little place rest e = ap (λ (k : ℕ). Ok (standing Little k rest)) (sym e)
 
-opened_only : (octets : List ℕ) (reader : Reading) → IsEncapsulation octets reader → opened octets ≡ Ok reader
+pub opened_only : (octets : List ℕ) (reader : Reading) → IsEncapsulation octets reader → opened octets ≡ Ok reader
 opened_only octets reader h = ap opened h.parts ∙ opened_by reader.order reader.place reader.rest h.place
 
 -- octets that agree with all of a front begin with it

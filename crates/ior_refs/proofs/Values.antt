@@ -1,42 +1,34 @@
--- Values that are read or written one after another, and where a writer stops.
-use Rattle.std.proofs.Common.{◌≡◌, ◌⊎◌, Some, List, [], ◌∷◌, ◌++◌, refl, sym, ap, subst, ◌∙◌, append_assoc, Result, Ok, Err}
+-- Values that are written one after another, and where a writer stops.
+use Rattle.std.proofs.Common.{◌≡◌, ◌⊎◌, inl, inr, Some, None, Option, List, [], ◌∷◌, ◌++◌, refl, sym, ap, subst, ◌∙◌, Result, Ok, Err}
+use Rattle.std.specs.Option.{option_or}
 use Rattle.cdr_values.specs.declared.fault.CdrFault.{CdrFault}
 use Rattle.cdr_values.specs.declared.fault.CdrFault.TheVariants.{Memory}
 use Rattle.cdr_values.specs.Value.{Value}
 use Rattle.cdr_values.specs.Again.{AllFit}
-use Rattle.cdr_values.specs.Values.{ReadsAll, with_values}
-use Rattle.cdr_values.specs.Reading.{Reading, Reads}
+use Rattle.cdr_values.specs.Values.{refusal_of_all, with_values}
 use Rattle.cdr_values.specs.Writing.{Writing, WritesValue, with_value, refusal}
-use Rattle.ior_refs.specs.Reading.{HasReadSome}
-use Rattle.ior_refs.specs.Writing.{StopsIn, WritesAll}
-
--- a reader goes over values and then over more values
-pub reads_then : (us vs : List Value) (r middle behind : Reading) → ReadsAll r us middle → ReadsAll middle vs behind → ReadsAll r (us ++ vs) behind
-reads_then [] vs r middle behind h k = subst (λ (s : Reading). ReadsAll s vs behind) h k
-reads_then (u ∷ us) vs r middle behind h k = (h.0, h.1, reads_then us vs h.0 middle behind h.2 k)
-
--- a reader that stands where it began
-pub read_none : (r : Reading) → HasReadSome r r
-read_none r = record { values = []; reads = refl }
-
--- a reader that has gone over some values and one more
-pub read_more : (r middle behind : Reading) (value : Value) → HasReadSome r middle → Reads middle value behind → HasReadSome r behind
-read_more r middle behind value h k = record {
-  values = h.values ++ value ∷ [];
-  reads = reads_then h.values (value ∷ []) r middle behind h.reads (behind, k, refl);
-}
-
--- a reader that has gone over some values and then over some more
-pub read_some : (r middle behind : Reading) → HasReadSome r middle → HasReadSome middle behind → HasReadSome r behind
-read_some r middle behind h k = record {
-  values = h.values ++ k.values;
-  reads = reads_then h.values k.values r middle behind h.reads k.reads;
-}
+use Rattle.ior_refs.specs.Writing.{HasWritten, StopsIn, WritesAll}
 
 -- values behind others
 pub with_values-append : (w : Writing) (xs ys : List Value) → with_values w (xs ++ ys) ≡ with_values (with_values w xs) ys
 with_values-append w [] ys = refl
 with_values-append w (x ∷ xs) ys = with_values-append (with_value w x) xs ys
+
+-- the first of three faults
+first_of_three : (a b c : Option CdrFault) → option_or a (option_or b c) ≡ option_or (option_or a b) c
+first_of_three None b c = refl
+first_of_three (Some fault) b c = refl
+
+-- values behind others are refused where the others are, or behind them
+pub refused-append : (w : Writing) (xs ys : List Value) → refusal_of_all w (xs ++ ys) ≡ option_or (refusal_of_all w xs) (refusal_of_all (with_values w xs) ys)
+refused-append w [] ys = refl
+refused-append w (x ∷ xs) ys =
+    ap (option_or (refusal w x)) (refused-append (with_value w x) xs ys)
+    ∙ first_of_three (refusal w x) (refusal_of_all (with_value w x) xs) (refusal_of_all (with_values (with_value w x) xs) ys)
+
+-- where the others are not refused, only those behind them are
+pub refused_behind : (w : Writing) (xs ys : List Value) → refusal_of_all w xs ≡ None → refusal_of_all w (xs ++ ys) ≡ refusal_of_all (with_values w xs) ys
+refused_behind w xs ys fits = refused-append w xs ys ∙ ap (λ (first : Option CdrFault). option_or first (refusal_of_all (with_values w xs) ys)) fits
 
 -- values that fit, and others
 pub fit-append : (xs ys : List Value) → AllFit xs → AllFit ys → AllFit (xs ++ ys)
@@ -51,49 +43,63 @@ pub fit_behind : (xs ys : List Value) → AllFit (xs ++ ys) → AllFit ys
 fit_behind [] ys p = p
 fit_behind (x ∷ xs) ys p = fit_behind xs ys p.1
 
+-- a writer that has written one value
+pub wrote_one : (value : Value) (w new : Writing) → new ≡ with_value w value → refusal w value ≡ None → HasWritten (value ∷ []) w new
+wrote_one value w new stands fits = record {
+  stands = stands;
+  fits = ap (λ (first : Option CdrFault). option_or first None) fits;
+}
+
+-- a writer that has written some values and then more
+pub wrote_more : (xs ys : List Value) (w middle new : Writing) → HasWritten xs w middle → HasWritten ys middle new → HasWritten (xs ++ ys) w new
+wrote_more xs ys w middle new m h = record {
+  stands = h.stands ∙ ap (λ (x : Writing). with_values x ys) m.stands ∙ sym (with_values-append w xs ys);
+  fits = refused_behind w xs ys m.fits ∙ ap (λ (x : Writing). refusal_of_all x ys) (sym m.stands) ∙ h.fits;
+}
+
 -- a writer that refuses one value stops in front of it
 pub stops_one : (value : Value) (others : List Value) (fault : CdrFault) (w new : Writing) → (fault ≡ Memory) ⊎ (refusal w value ≡ Some fault) → new ≡ w → StopsIn (value ∷ others) fault w new
 stops_one value others fault w new cause same = record {
   written = [];
-  next = value;
-  others = others;
-  parts = refl;
   stands = same;
-  cause = subst (λ (x : Writing). (fault ≡ Memory) ⊎ (refusal x value ≡ Some fault)) (sym same) cause;
+  cause = elim cause [
+    | inl memory ↦ inl memory
+    | inr refused ↦ inr (ap (λ (first : Option CdrFault). option_or first (refusal_of_all (with_value w value) others)) refused)
+  ];
 }
 
 -- one that stops in some values stops in them and others
 pub stops_more : (xs ys : List Value) (fault : CdrFault) (w new : Writing) → StopsIn xs fault w new → StopsIn (xs ++ ys) fault w new
 stops_more xs ys fault w new h = record {
   written = h.written;
-  next = h.next;
-  others = h.others ++ ys;
-  parts = ap (λ (vs : List Value). vs ++ ys) h.parts ∙ append_assoc h.written (h.next ∷ h.others) ys;
   stands = h.stands;
-  cause = h.cause;
+  cause = elim h.cause [
+    | inl memory ↦ inl memory
+    | inr refused ↦ inr (refused-append w xs ys ∙ ap (λ (first : Option CdrFault). option_or first (refusal_of_all (with_values w xs) ys)) refused)
+  ];
 }
 
 -- one that stops in values behind others stops in all of them
-pub stops_behind : (xs ys : List Value) (fault : CdrFault) (w new : Writing) → StopsIn ys fault (with_values w xs) new → StopsIn (xs ++ ys) fault w new
-stops_behind xs ys fault w new h = record {
+pub stops_behind : (xs ys : List Value) (fault : CdrFault) (w middle new : Writing) → HasWritten xs w middle → StopsIn ys fault middle new → StopsIn (xs ++ ys) fault w new
+stops_behind xs ys fault w middle new m h = record {
   written = xs ++ h.written;
-  next = h.next;
-  others = h.others;
-  parts = ap (λ (vs : List Value). xs ++ vs) h.parts ∙ sym (append_assoc xs h.written (h.next ∷ h.others));
-  stands = h.stands ∙ sym (with_values-append w xs h.written);
-  cause = h.cause;
+  stands = h.stands ∙ ap (λ (x : Writing). with_values x h.written) m.stands ∙ sym (with_values-append w xs h.written);
+  cause = elim h.cause [
+    | inl memory ↦ inl memory
+    | inr refused ↦ inr (refused_behind w xs ys m.fits ∙ ap (λ (x : Writing). refusal_of_all x ys) (sym m.stands) ∙ refused)
+  ];
 }
 
--- a call that writes a value behind others writes all of them, or stops in them
-pub then_value : (xs : List Value) (value : Value) (result : Result (Unit {0}) CdrFault) (w middle new : Writing) → middle ≡ with_values w xs → WritesValue value result middle new → WritesAll (xs ++ value ∷ []) result w new
-then_value xs value (Ok nothing) w middle new m h =
-    h.ok ∙ ap (λ (x : Writing). with_value x value) m ∙ sym (with_values-append w xs (value ∷ []))
-then_value xs value (Err fault) w middle new m h =
-    stops_behind xs (value ∷ []) fault w new (subst (λ (x : Writing). StopsIn (value ∷ []) fault x new) m (stops_one value [] fault middle new h.refused h.err))
+-- a call that writes a value writes it and no other, or stops in front of it
+one_value : (value : Value) (result : Result (Unit {0}) CdrFault) (w new : Writing) → WritesValue value result w new → WritesAll (value ∷ []) result w new
+one_value value (Ok nothing) w new h = wrote_one value w new h.ok h.fits
+one_value value (Err fault) w new h = stops_one value [] fault w new h.refused h.err
 
 -- a call that writes values behind others writes all of them, or stops in them
-pub then_all : (xs ys : List Value) (result : Result (Unit {0}) CdrFault) (w middle new : Writing) → middle ≡ with_values w xs → WritesAll ys result middle new → WritesAll (xs ++ ys) result w new
-then_all xs ys (Ok nothing) w middle new m h =
-    h ∙ ap (λ (x : Writing). with_values x ys) m ∙ sym (with_values-append w xs ys)
-then_all xs ys (Err fault) w middle new m h =
-    stops_behind xs ys fault w new (subst (λ (x : Writing). StopsIn ys fault x new) m h)
+pub then_all : (xs ys : List Value) (result : Result (Unit {0}) CdrFault) (w middle new : Writing) → HasWritten xs w middle → WritesAll ys result middle new → WritesAll (xs ++ ys) result w new
+then_all xs ys (Ok nothing) w middle new m h = wrote_more xs ys w middle new m h
+then_all xs ys (Err fault) w middle new m h = stops_behind xs ys fault w middle new m h
+
+-- and so does one that writes a value behind others
+pub then_value : (xs : List Value) (value : Value) (result : Result (Unit {0}) CdrFault) (w middle new : Writing) → HasWritten xs w middle → WritesValue value result middle new → WritesAll (xs ++ value ∷ []) result w new
+then_value xs value result w middle new m h = then_all xs (value ∷ []) result w middle new m (one_value value result middle new h)

@@ -1,22 +1,23 @@
 -- IIOP profiles (CORBA, General Inter-ORB Protocol, IIOP IOR Profiles). What a profile's minor version above 2 has is
 -- read as that of 1.2 (our profile).
-use Rattle.std.specs.Prelude.{ℕ, ◌==◌, Bool, true, false, ◌&&◌, ◌||◌, nat_le, nat_lt, List, [], ◌∷◌, Option, Some, None, find, Result, Ok, Err}
+use Rattle.std.specs.Prelude.{ℕ, ◌==◌, Bool, true, false, ◌&&◌, ◌||◌, nat_le, nat_lt, IsTrue, List, [], ◌∷◌, length, Option, Some, None, find, Result, Ok, Err}
 use Rattle.std.specs.Option.{option_map}
 use Rattle.cdr_values.specs.Value.{Value, Octet, UShort, OctetSequence, Text}
 use Rattle.cdr_values.specs.Reading.{Reading, ◌>>=◌, octet_at, ushort_at, octets_at, string_at}
 use Rattle.cdr_values.specs.Sequence.{Read, fault_as, sequence_values}
-use Rattle.cdr_values.specs.Encapsulation.{opened}
+use Rattle.cdr_values.specs.Encapsulation.{IsEncapsulation, opened}
 use Rattle.cdr_values.specs.Tagged.{tagged_values}
 use Rattle.ior_refs.specs.Reference.{Reference, Tagged}
 use Rattle.ior_refs.specs.Fault.{fault_of}
-use Rattle.ior_refs.specs.Reading.{each_tagged_at, whole}
+use Rattle.ior_refs.specs.Limits.{count_limit, iiop_tag}
+use Rattle.ior_refs.specs.Reading.{IsWhole, each_tagged_at, whole}
 use Rattle.ior_refs.specs.declared.fault.IorFault.{IorFault}
 use Rattle.ior_refs.specs.declared.fault.IorFault.TheVariants.{NoIiop}
 use Rattle.ior_refs.specs.declared.profile.Iiop.{Iiop}
 
--- the tag of an IIOP profile (TAG_INTERNET_IOP)
+-- a profile is one of IIOP
 abbrev pub is_iiop : Tagged → Bool
-is_iiop tagged = tagged.0 == 0
+is_iiop tagged = tagged.0 == iiop_tag
 
 -- a profile of this version has components: from 1.1 on
 abbrev pub has_components : ℕ → ℕ → Bool
@@ -58,6 +59,14 @@ unfoldable pub iiop_in_octets : List ℕ → Result Iiop IorFault
 iiop_in_octets octets = do
   reader ← fault_as fault_of (opened octets)
   whole iiop_at reader
+
+-- the octets are a profile that says this, with some components and nothing behind them
+pub record IsProfile (i : Iiop) (octets : List ℕ) : Type 0 where
+  pub components : List Tagged
+  pub few : IsTrue (nat_le (length components) count_limit)
+  pub reader : Reading
+  pub opened : IsEncapsulation octets reader
+  pub whole : IsWhole (iiop_values i components) reader
 
 -- the octets of the first profile with that tag
 abbrev pub first_iiop : Reference → Option (List ℕ)

@@ -1,5 +1,6 @@
 -- References to this service's own objects (CORBA, IIOP IOR Profiles, version 1.2, with no components).
 use Rattle.std.specs.Prelude.{ℕ, nat_lt, List, [], ◌∷◌, length, Option, Some, None, if◌then◌else◌}
+use Rattle.std.specs.Option.{option_or}
 use Rattle.ots_model.specs.Limits.{reference_limit}
 use Rattle.ots_model.specs.declared.service.Endpoint.{Endpoint}
 use Rattle.cdr_values.specs.declared.order.Order.TheVariants.{Big}
@@ -7,6 +8,7 @@ use Rattle.cdr_values.specs.declared.fault.CdrFault.TheVariants.{BadString}
 use Rattle.cdr_values.specs.Value.{has_nul}
 use Rattle.cdr_values.specs.Values.{with_values}
 use Rattle.cdr_values.specs.Encapsulation.{begun}
+use Rattle.ior_refs.specs.Limits.{iiop_tag}
 use Rattle.ior_refs.specs.Reference.{Reference, canonical_octets}
 use Rattle.ior_refs.specs.Key.{octets_of_key}
 use Rattle.ior_refs.specs.Iiop.{iiop_values}
@@ -26,13 +28,19 @@ profile_to at key = (with_values (begun Big) (iiop_values (iiop_to at key) [])).
 
 -- the reference to it
 abbrev pub reference_to : List ℕ → Endpoint → ObjectKey → Reference
-reference_to type_id at key = (type_id, (0, profile_to at key) ∷ [])
+reference_to type_id at key = (type_id, (iiop_tag, profile_to at key) ∷ [])
 
--- why it has none: a text holds a NUL, which is told with the place of the text in the reference or in the profile, or
+-- a text holds a NUL: the type_id, or the host. It is told with the place of the text in the reference or in the
+-- profile.
+abbrev pub nul_in : List ℕ → List ℕ → Option IorFault
+nul_in type_id host =
+    if has_nul type_id then Some (Cdr (BadString 0)) else if has_nul host then Some (Cdr (BadString 3)) else None
+
 -- the reference would be too long
+abbrev pub too_long_to : List ℕ → Endpoint → ObjectKey → Option IorFault
+too_long_to type_id at key =
+    if nat_lt reference_limit (length (canonical_octets (reference_to type_id at key))) then Some (TooLong 0) else None
+
+-- why there is none
 abbrev pub refusal_to : List ℕ → Endpoint → ObjectKey → Option IorFault
-refusal_to type_id at key =
-    if has_nul type_id then Some (Cdr (BadString 0)) else
-    if has_nul at.host then Some (Cdr (BadString 3)) else
-    if nat_lt reference_limit (length (canonical_octets (reference_to type_id at key))) then Some (TooLong 0) else
-    None
+refusal_to type_id at key = option_or (nul_in type_id at.host) (too_long_to type_id at key)

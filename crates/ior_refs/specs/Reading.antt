@@ -4,14 +4,20 @@ use Rattle.std.specs.Prelude.{◌≡◌, ℕ, ◌==◌, nat_lt, List, [], length
 use Rattle.ots_model.specs.Limits.{reference_limit}
 use Rattle.cdr_values.specs.Value.{Value}
 use Rattle.cdr_values.specs.Values.{ReadsAll}
-use Rattle.cdr_values.specs.Reading.{Reading, ◌>>=◌}
-use Rattle.cdr_values.specs.Sequence.{Read, sequence_at}
+use Rattle.cdr_values.specs.Reading.{Reading, ◌>>=◌, ulong_at}
+use Rattle.cdr_values.specs.Sequence.{Read, fault_as, sequence_at}
 use Rattle.cdr_values.specs.Tagged.{tagged_at, reference_at}
 use Rattle.ior_refs.specs.Limits.{count_limit}
 use Rattle.ior_refs.specs.Reference.{Reference, Tagged, canonical_octets}
 use Rattle.ior_refs.specs.Fault.{fault_of, too_many}
 use Rattle.ior_refs.specs.declared.fault.IorFault.{IorFault}
 use Rattle.ior_refs.specs.declared.fault.IorFault.TheVariants.{TooLong, Rest}
+
+-- how many profiles or components there are. A count above the limit is refused with its place.
+unfoldable pub count_at : Read ℕ IorFault
+count_at r = do
+  count ← fault_as fault_of (ulong_at r)
+  if nat_lt count_limit count.0 then Err (too_many r.place count.0) else Ok count
 
 -- the profiles of a reference, or the components of a profile
 unfoldable pub each_tagged_at : Read (List Tagged) IorFault
@@ -40,8 +46,3 @@ pub record IsWhole (values : List Value) (reader : Reading) : Type 0 where
   pub behind : Reading
   pub reads : ReadsAll reader values behind
   pub nothing : behind.rest ≡ []
-
--- a reader has gone over some values, or none
-pub record HasReadSome (old new : Reading) : Type 0 where
-  pub values : List Value
-  pub reads : ReadsAll old values new

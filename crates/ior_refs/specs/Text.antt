@@ -1,7 +1,7 @@
 -- Stringified references (CORBA, ORB Interoperability Architecture, Stringified Object References): "IOR:", and the
 -- hexadecimal digits of an encapsulation. That the prefix is in capitals, that digits are written in lower case, and
 -- the faults are our profile.
-use Rattle.std.specs.Prelude.{◌≡◌, ℕ, ◌+◌, ◌==◌, List, ◌++◌, length, drop, codes, zip, take_while, IsTrue, Result, Ok, Err, if◌then◌else◌}
+use Rattle.std.specs.Prelude.{◌≡◌, ℕ, ◌+◌, ◌<◌, ◌==◌, List, ◌++◌, length, drop, codes, zip, take_while, IsTrue, Result, Ok, Err, if◌then◌else◌}
 use Rattle.hex.specs.declared.error.FromHexError.{FromHexError}
 use Rattle.hex.specs.declared.error.FromHexError.TheVariants.{OutOfMemory}
 use Rattle.std.specs.Char.{is_ascii_hexdigit}
@@ -25,6 +25,10 @@ prefix = codes "IOR:"
 -- how many octets two lists have in common in front
 abbrev pub agreeing : List ℕ → List ℕ → ℕ
 agreeing xs ys = length (take_while (λ pair. pair.0 == pair.1) (zip xs ys))
+
+-- a call tells where a text begins to differ from the prefix, or ends in it
+abbrev pub TellsPrefix : {X : Type 0} → List ℕ → Result X IorFault → Type 0
+TellsPrefix text result = agreeing prefix text < length prefix → result ≡ Err (BadText (agreeing prefix text))
 
 -- how many digits stand in front of the first octet that is none
 abbrev pub digits_in_front : List ℕ → ℕ

@@ -11,7 +11,8 @@ use std::alloc::{AllocError, AllocFailed};
 pub enum IorFault {
     /// The text's octet at this offset is not as a stringified reference has it, or is wanting.
     BadText(u32),
-    /// A value is not spelled. Its offset counts from the start of the reader, or of the encapsulation.
+    /// A value is not spelled, a count is above its limit, or a text of a reference that is made holds a NUL. Its offset is
+    /// as the reader counts, or from the first octet of the encapsulation.
     Cdr(CdrFault),
     /// The reference that begins at this offset has more than 1,024 canonical octets.
     TooLong(u32),

@@ -1,4 +1,4 @@
-ghost use Rattle.ior_refs.specs.Laws.{ReferencesAreReadExactly, ReferencesAreReadAgain, SameOctetsSameReference, TextLaws, IiopLaws, SameOctetsSameKey};
+ghost use Rattle.ior_refs.specs.Laws.{ReferencesAreReadExactly, ReferencesAreReadAgain, ReferencesAreReadWhereWritten, SameOctetsSameReference, TextLaws, IiopLaws, SameOctetsSameKey};
 
 use crate::fault::IorFault;
 use ots_model::Octets;
@@ -18,6 +18,14 @@ pub fn references_are_read_again()
     cdr_values::values_are_read_again();
 }
 
+/// A law: a reference that was written behind what a writer had is read again, from where that ends.
+pub fn references_are_read_where_written()
+    ensures { ReferencesAreReadWhereWritten }
+{
+    references_are_read_again();
+    cdr_values::values_are_written_canonically();
+}
+
 /// A law: references with the same canonical octets are the same.
 pub fn same_octets_same_reference()
     ensures { SameOctetsSameReference }
@@ -33,7 +41,8 @@ pub fn texts_are_read_exactly()
     cdr_values::values_are_read_again();
 }
 
-/// A law: an IIOP profile is read exactly where its values stand; a reference that was made says where its object is.
+/// A law: an IIOP profile is read exactly where its values stand, and octets are one exactly where nothing stands behind
+/// them; a reference that was made says where its object is.
 pub fn profiles_are_read_exactly()
     ensures { IiopLaws }
 {

@@ -5,7 +5,8 @@ pub use fault::IorFault;
 pub use key::{KEY_LENGTH, ObjectKey, key_octets, key_of};
 pub use laws::{
     profiles_are_read_exactly, references_are_read_again, references_are_read_exactly,
-    same_octets_same_key, same_octets_same_reference, texts_are_read_exactly,
+    references_are_read_where_written, same_octets_same_key, same_octets_same_reference,
+    texts_are_read_exactly,
 };
 pub use location::iiop;
 pub use making::make_ref;

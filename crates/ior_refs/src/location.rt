@@ -1,6 +1,6 @@
-ghost use Rattle.std.specs.Prelude.{◌≡◌, ◌^◌, ◌<◌, length};
+ghost use Rattle.std.specs.Prelude.{◌≡◌, ◌^◌, ◌<◌, length, None, Err};
 ghost use Rattle.ior_refs.specs.Fault.{Finds, Gives};
-ghost use Rattle.ior_refs.specs.Iiop.{components_at, has_components, iiop_at, iiop_in, iiop_in_octets};
+ghost use Rattle.ior_refs.specs.Iiop.{components_at, first_iiop, has_components, iiop_at, iiop_in, iiop_in_octets};
 
 use crate::fault::IorFault;
 use crate::profile::Iiop;
@@ -13,7 +13,8 @@ use std::alloc::Global;
 /// What the first IIOP profile of a reference says. Its components are judged and passed over, and it has nothing
 /// behind them. Offsets count from the first octet of the profile.
 pub fn iiop(alloc: Global, o: &ObjectRef) -> Result<Iiop, IorFault>
-    ensures { Finds (λ i. i) result (iiop_in o.now) }
+    ensures exact { Finds (λ i. i) result (iiop_in o.now) }
+    ensures none { first_iiop o.now ≡ None → result ≡ Err IorFault.NoIiop }
 {
     match o.first_iiop() {
         Some(octets) => iiop_of(alloc, octets),

@@ -1,8 +1,8 @@
-ghost use Rattle.std.specs.Prelude.{◌≡◌, ◌⊎◌, ◌≤◌, length, false, IsOk, IfOk, IfErr, Some, None};
+ghost use Rattle.std.specs.Prelude.{◌≡◌, ◌⊎◌, ◌+◌, ◌<◌, ◌≤◌, length, false, IsOk, IfOk, IfErr, IfSome, Some, None, Err};
 ghost use Rattle.ots_model.specs.Limits.{reference_limit};
 ghost use Rattle.cdr_values.specs.Value.{has_nul};
 ghost use Rattle.cdr_values.specs.declared.fault.CdrFault.TheVariants as cdr;
-ghost use Rattle.ior_refs.specs.Making.{profile_to, reference_to, refusal_to};
+ghost use Rattle.ior_refs.specs.Making.{nul_in, profile_to, reference_to, refusal_to};
 
 use crate::fault::IorFault;
 use crate::key::{ObjectKey, key_octets};
@@ -25,6 +25,9 @@ pub fn make_ref(
     ensures fits { IsOk result → refusal_to type_id.now at.now key.now ≡ None }
     ensures refused { IfErr result (λ fault.
         (fault ≡ IorFault.Memory) ⊎ (refusal_to type_id.now at.now key.now ≡ Some fault)) }
+    ensures nul { IfSome (nul_in type_id.now at.now.host) (λ fault. result ≡ Err fault) }
+    ensures long { nul_in type_id.now at.now.host ≡ None → reference_limit < length type_id.now + length at.now.host
+        → result ≡ Err (IorFault.TooLong 0) }
 {
     if has_nul(type_id) {
         return Err(IorFault::Cdr(CdrFault::BadString(0)));

@@ -1,4 +1,4 @@
-ghost use Rattle.std.specs.Prelude.{◌≡◌, ◌↔◌, ◌⊎◌, ◌<◌, ◌≤◌, ◌^◌, length, IsTrue, IsOk, IfOk, IfErr, OnErr};
+ghost use Rattle.std.specs.Prelude.{◌≡◌, ◌↔◌, ◌⊎◌, ◌<◌, ◌≤◌, ◌^◌, length, IsTrue, IsOk, IfOk, IfErr, OnErr, Err};
 ghost use Rattle.std.specs.Option.{option_copied};
 ghost use Rattle.ots_model.specs.Limits.{reference_limit};
 ghost use Rattle.cdr_values.specs.declared.order.Order.TheVariants.{Big};
@@ -6,7 +6,7 @@ ghost use Rattle.cdr_values.specs.Again.{AllFit, standing};
 ghost use Rattle.cdr_values.specs.Tagged.{reference_values};
 ghost use Rattle.ior_refs.specs.Reference.{Reference, AreOctets, IsReference, nil, canonical_octets};
 ghost use Rattle.ior_refs.specs.Fault.{Gives, Finds, stopped_as};
-ghost use Rattle.ior_refs.specs.Reading.{HasReadSome, if_short, short_reference_at, whole};
+ghost use Rattle.ior_refs.specs.Reading.{if_short, short_reference_at, whole};
 ghost use Rattle.ior_refs.specs.Writing.{WritesAll, WritesWhole};
 ghost use Rattle.ior_refs.specs.Iiop.{first_iiop};
 
@@ -119,6 +119,7 @@ fn kept(alloc: Global, octets: &[u8], place: u32) -> Result<RefBytes, IorFault>
     ensures short { IsOk result → length octets.now ≤ reference_limit }
     ensures long { IfErr result (λ fault.
         (fault ≡ IorFault.Memory) ⊎ ((fault ≡ IorFault.TooLong place) × (reference_limit < length octets.now))) }
+    ensures too_long { reference_limit < length octets.now → result ≡ Err (IorFault.TooLong place) }
     ensures octets { AreOctets octets.now }
 {
     match RefBytes::new(alloc, octets) {
@@ -131,7 +132,6 @@ fn kept(alloc: Global, octets: &[u8], place: u32) -> Result<RefBytes, IorFault>
 /// Reads a reference, at any offset and in the reader's byte order. After a refusal the reader is as it was.
 pub fn read_ref(alloc: Global, r: &mut Reader) -> Result<ObjectRef, IorFault>
     ensures exact { Gives (λ o. o) result r.new (short_reference_at r.old) }
-    ensures stands { HasReadSome r.old r.new }
     ensures err { OnErr result (r.new ≡ r.old) }
 {
     let mut ahead = r.copy();
@@ -143,8 +143,7 @@ pub fn read_ref(alloc: Global, r: &mut Reader) -> Result<ObjectRef, IorFault>
 /// Reads a reference. After a refusal the reader stands behind some of its values.
 #[tactic(auto, unfolding(crate::specs::Reading::short_reference_at, crate::specs::Reading::each_tagged_at, cdr_values::specs::Tagged::reference_at))]
 fn read_parts(alloc: Global, r: &mut Reader) -> Result<ObjectRef, IorFault>
-    ensures exact { Gives (λ o. o) result r.new (short_reference_at r.old) }
-    ensures stands { HasReadSome r.old r.new }
+    ensures { Gives (λ o. o) result r.new (short_reference_at r.old) }
 {
     let place = r.place();
     let type_id = Octets::new(alloc, r.string()?)?;

@@ -5,7 +5,7 @@ ghost use Rattle.cdr_values.specs.Sequence.{each_at, sequence_values};
 ghost use Rattle.cdr_values.specs.Tagged.{tagged_at, tagged_values};
 ghost use Rattle.ior_refs.specs.Fault.{fault_of, Gives};
 ghost use Rattle.ior_refs.specs.Iiop.{passed};
-ghost use Rattle.ior_refs.specs.Reading.{each_tagged_at, HasReadSome};
+ghost use Rattle.ior_refs.specs.Reading.{count_at, each_tagged_at};
 ghost use Rattle.ior_refs.specs.Writing.{WritesAll};
 
 use crate::fault::IorFault;
@@ -16,12 +16,10 @@ use std::alloc::Global;
 /// How many profiles or components are read at most (our profile).
 const COUNT_LIMIT: u32 = 65_536;
 
-/// Reads the profiles of a reference, or the components of a profile.
-#[tactic(auto, unfolding(crate::specs::Reading::each_tagged_at, cdr_values::specs::Sequence::sequence_at))]
-pub fn read_all_tagged(alloc: Global, reader: &mut Reader) -> Result<Vec<(u32, Octets)>, IorFault>
-    ensures exact { Gives (λ all. all.items) result reader.new (each_tagged_at reader.old) }
-    ensures fits { IfOk result (λ all. AllFit (sequence_values tagged_values all.items)) }
-    ensures stands { HasReadSome reader.old reader.new }
+/// Reads how many profiles or components there are.
+#[tactic(auto, unfolding(crate::specs::Reading::count_at))]
+fn read_count(reader: &mut Reader) -> Result<u32, IorFault>
+    ensures { Gives (λ count. count) result reader.new (count_at reader.old) }
 {
     let place = reader.place();
     let count = reader.ulong()?;
@@ -31,6 +29,15 @@ pub fn read_all_tagged(alloc: Global, reader: &mut Reader) -> Result<Vec<(u32, O
             length: count,
         }));
     }
+    Ok(count)
+}
+
+/// Reads the profiles of a reference, or the components of a profile.
+pub fn read_all_tagged(alloc: Global, reader: &mut Reader) -> Result<Vec<(u32, Octets)>, IorFault>
+    ensures exact { Gives (λ all. all.items) result reader.new (each_tagged_at reader.old) }
+    ensures fits { IfOk result (λ all. AllFit (sequence_values tagged_values all.items)) }
+{
+    let count = read_count(reader)?;
     read_each_tagged(alloc, reader, count)
 }
 
@@ -42,7 +49,6 @@ fn read_each_tagged(
     ensures exact { Gives (λ all. all.items) result reader.new (each_at (tagged_at fault_of) count reader.old) }
     ensures fits { IfOk result (λ all. AllFit (flat_map tagged_values all.items)) }
     ensures count { IfOk result (λ all. length all.items ≡ count) }
-    ensures stands { HasReadSome reader.old reader.new }
 {
     elements_are_read_in_a_loop::<(u32, Octets), IorFault>();
     let mut all = Vec::new(alloc);
@@ -56,7 +62,6 @@ fn read_each_tagged(
 fn read_tagged(alloc: Global, reader: &mut Reader) -> Result<(u32, Octets), IorFault>
     ensures exact { Gives (λ tagged. tagged) result reader.new (tagged_at fault_of reader.old) }
     ensures fits { IfOk result (λ tagged. AllFit (tagged_values tagged)) }
-    ensures stands { HasReadSome reader.old reader.new }
 {
     let tag = reader.ulong()?;
     let octets = Octets::new(alloc, reader.octets()?)?;
@@ -64,18 +69,10 @@ fn read_tagged(alloc: Global, reader: &mut Reader) -> Result<(u32, Octets), IorF
 }
 
 /// Passes over the components of a profile. It takes no memory.
-#[tactic(auto, unfolding(crate::specs::Reading::each_tagged_at, cdr_values::specs::Sequence::sequence_at))]
 pub fn skip_all_tagged(reader: &mut Reader) -> Result<(), IorFault>
     ensures { Gives (λ nothing. nothing) result reader.new (passed (each_tagged_at reader.old)) }
 {
-    let place = reader.place();
-    let count = reader.ulong()?;
-    if count > COUNT_LIMIT {
-        return Err(IorFault::Cdr(CdrFault::TooLong {
-            place,
-            length: count,
-        }));
-    }
+    let count = read_count(reader)?;
     skip_each_tagged(reader, count)
 }
 

@@ -116,6 +116,22 @@ fn refusal_of(alloc: Global, length: usize) -> Result<Option<IorFault>, Fail>
     Ok(read_ref(alloc, &mut reader).err())
 }
 
+/// Behind a type_id of 955 octets and its NUL there are 68 octets.
+#[test]
+fn the_limit_of_a_made_reference(rt: HostRuntime) -> Result<(), Fail> {
+    let at = endpoint(rt.alloc(), b"e")?;
+    for (length, fault) in [
+        (955, None),
+        (956, Some(IorFault::TooLong(0))),
+        (1024, Some(IorFault::TooLong(0))),
+    ] {
+        let type_id = vec![in rt.alloc(); b'x'; length]?;
+        let made = make_ref(rt.alloc(), &type_id, &at, &key());
+        assert_eq!(rt; made.err(), fault, "{length}");
+    }
+    Ok(())
+}
+
 #[test]
 fn keys_of_other_kinds(rt: HostRuntime) -> Result<(), Fail> {
     let octets = key_octets(&key());
@@ -139,5 +155,7 @@ fn references_that_say_no_place(rt: HostRuntime) -> Result<(), Fail> {
     let at = endpoint(rt.alloc(), b"e\0")?;
     let made = make_ref(rt.alloc(), b"", &at, &key());
     assert_eq!(rt; made.err(), Some(IorFault::Cdr(CdrFault::BadString(3))));
+    let made = make_ref(rt.alloc(), b"a\0", &at, &key());
+    assert_eq!(rt; made.err(), Some(IorFault::Cdr(CdrFault::BadString(0))));
     Ok(())
 }

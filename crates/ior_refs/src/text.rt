@@ -1,6 +1,6 @@
 ghost use Rattle.std.specs.Prelude.{◌≡◌, ◌^◌, ◌<◌, length, IfOk};
 ghost use Rattle.ior_refs.specs.Fault.{Finds};
-ghost use Rattle.ior_refs.specs.Text.{agreeing, digits_fault, digits_in_front, encapsulated, octets_in_text, prefix, reference_in_octets, reference_in_text, text_of};
+ghost use Rattle.ior_refs.specs.Text.{TellsPrefix, agreeing, digits_fault, digits_in_front, encapsulated, octets_in_text, prefix, reference_in_octets, reference_in_text, text_of};
 
 use crate::fault::IorFault;
 use crate::reference::{ObjectRef, read_whole, write_ref};
@@ -17,7 +17,8 @@ const PREFIX: &[u8; 4] = b"IOR:";
 #[tactic(auto, unfolding(crate::specs::Text::reference_in_text))]
 pub fn parse_ior(alloc: Global, text: &[u8]) -> Result<ObjectRef, IorFault>
     requires { length text.now < 2 ^ 31 }
-    ensures { Finds (λ o. o) result (reference_in_text text.now) }
+    ensures exact { Finds (λ o. o) result (reference_in_text text.now) }
+    ensures prefix { TellsPrefix text.now result }
 {
     let octets = text_octets(alloc, text)?;
     reference_of(alloc, octets.as_slice())
@@ -49,6 +50,7 @@ fn encapsulated(alloc: Global, o: &ObjectRef) -> Result<Octets, AllocError>
 fn text_octets(alloc: Global, text: &[u8]) -> Result<Vec<u8>, IorFault>
     requires { length text.now < 2 ^ 31 }
     ensures exact { Finds (λ octets. octets.items) result (octets_in_text text.now) }
+    ensures prefix { TellsPrefix text.now result }
     ensures short { IfOk result (λ octets. length octets.items < 2 ^ 31) }
 {
     let front = agreeing_front(text);

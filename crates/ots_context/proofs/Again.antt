@@ -16,8 +16,8 @@ use Rattle.cdr_values.specs.Reading.{Reading}
 use Rattle.cdr_values.specs.Sequence.{sequence_values}
 use Rattle.cdr_values.specs.Tagged.{reference_values}
 use Rattle.cdr_values.specs.Value.{Value, ULong}
-use Rattle.cdr_values.specs.Values.{ReadsAll, canonical_all, with_values}
-use Rattle.cdr_values.specs.Writing.{Writing, place_of}
+use Rattle.cdr_values.specs.Values.{ReadsAll, ValuesAreWrittenCanonically, canonical_all, with_values}
+use Rattle.cdr_values.specs.Writing.{Writing, place_of, with_value}
 use Rattle.ior_refs.specs.Laws.{ReferencesAreReadExactly}
 use Rattle.ots_context.specs.declared.context.Identity.{Identity}
 use Rattle.ots_context.specs.declared.context.Context.{Context}
@@ -30,7 +30,7 @@ use Rattle.ots_context.specs.Reading.{context_at, context_in}
 use Rattle.ots_context.specs.Tail.{IsTail, can_stand, octets_of_tail, tail_at}
 use Rattle.ots_context.specs.Writing.{behind_current, behind_parents, with_context, with_tail, written}
 use Rattle.ots_context.proofs.Exact.{context_at_only}
-use Rattle.ots_context.proofs.Given.{ok_is, guard_ok, check_ok, with_values-is, with_values-append, fit-append}
+use Rattle.ots_context.proofs.Given.{ok_is, guard_ok, check_ok, with_values-append, fit-append}
 use Rattle.ots_context.proofs.Tails.{stand_again, tail_found}
 
 -- what holds of all holds of the first and of the others
@@ -92,10 +92,10 @@ front_is w c = sym (with_values-append w (ULong c.timeout ∷ identity_values c.
 abbrev front_octets : Writing → Context → List ℕ
 front_octets w c = canonical_all w.order (place_of w) (values c)
 
-front_place : (w : Writing) (c : Context) → place_of (behind_parents w c) ≡ place_of w + length (front_octets w c)
-front_place w c =
+front_place : ValuesAreWrittenCanonically → (w : Writing) (c : Context) → place_of (behind_parents w c) ≡ place_of w + length (front_octets w c)
+front_place canonically w c =
     let whole : place_of (behind_parents w c) ≡ place_of (with_values w (values c)) = ap place_of (front_is w c) in
-    let parts : place_of (with_values w (values c)) ≡ w.start + length (w.octets ++ front_octets w c) = ap place_of (with_values-is w (values c)) in
+    let parts : place_of (with_values w (values c)) ≡ w.start + length (w.octets ++ front_octets w c) = ap place_of (canonically w (values c)) in
     omega (arith, whole, parts, length-append w.octets (front_octets w c))
 
 -- the writer of what stands in front of the tail
@@ -104,11 +104,20 @@ unfolding behind_parents
 front_of w c middle new parents current same is =
     is ∙ ap (λ (x : Writing). with_values x (sequence_values identity_values parents)) current ∙ ap (λ (xs : List Identity). with_values (behind_current w c) (sequence_values identity_values xs)) same
 
+-- values change neither the order nor the start of a writer
+order_behind : (w : Writing) (vs : List Value) → (with_values w vs).order ≡ w.order
+order_behind w [] = refl
+order_behind w (v ∷ vs) = order_behind (with_value w v) vs
+
+start_behind : (w : Writing) (vs : List Value) → (with_values w vs).start ≡ w.start
+start_behind w [] = refl
+start_behind w (v ∷ vs) = start_behind (with_value w v) vs
+
 pub front_order : (w : Writing) (c : Context) → (behind_parents w c).order ≡ w.order
-front_order w c = ap (λ (x : Writing). x.order) (front_is w c ∙ with_values-is w (values c))
+front_order w c = ap (λ (x : Writing). x.order) (front_is w c) ∙ order_behind w (values c)
 
 pub front_start : (w : Writing) (c : Context) → (behind_parents w c).start ≡ w.start
-front_start w c = ap (λ (x : Writing). x.start) (front_is w c ∙ with_values-is w (values c))
+front_start w c = ap (λ (x : Writing). x.start) (front_is w c) ∙ start_behind w (values c)
 
 -- what is written
 pub record IsWritten (w : Writing) (c : Context) (octets : List ℕ) : Type 0 where
@@ -131,9 +140,9 @@ written_is start c octets e =
     }
 
 -- what is written is read where it stands
-read_there : ReferencesAreReadExactly → ReadingLaws → ValuesAreReadAgain → (w : Writing) (c : Context) (octets : List ℕ) → w.order ≡ Big → IsSound c → IsWritten w c octets
+read_there : ReferencesAreReadExactly → ReadingLaws → ValuesAreReadAgain → ValuesAreWrittenCanonically → (w : Writing) (c : Context) (octets : List ℕ) → w.order ≡ Big → IsSound c → IsWritten w c octets
     → context_at (standing Big (place_of w) (front_octets w c ++ octets_of_tail (place_of (behind_parents w c)) c.tail)) ≡ Ok c
-read_there refs laws again w c octets big sound is =
+read_there refs laws again canonically w c octets big sound is =
     let at = place_of w in
     let tail = octets_of_tail (place_of (behind_parents w c)) c.tail in
     let front = canonical_all Big at (values c) in
@@ -141,7 +150,7 @@ read_there refs laws again w c octets big sound is =
     let few : length c.parents < 4294967296 = omega (arith, is.few) in
     let fit : AllFit (values c) = (sound.timeout, fit-append (identity_values c.current) (sequence_values identity_values c.parents) (identity_fits c.current sound.current) (few, identities_fit c.parents sound.parents)) in
     let read = again Big at (values c) tail fit in
-    let place : place_of (behind_parents w c) ≡ at + length front = front_place w c ∙ ap (λ (xs : List ℕ). at + length xs) in_order in
+    let place : place_of (behind_parents w c) ≡ at + length front = front_place canonically w c ∙ ap (λ (xs : List ℕ). at + length xs) in_order in
     let behind = standing Big (at + length front) tail in
     let here : tail_at (standing Big (place_of (behind_parents w c)) tail) ≡ c.tail = stand_again laws again (place_of (behind_parents w c)) c.tail is.stands in
     let there : tail_at behind ≡ c.tail = subst (λ (n : ℕ). tail_at (standing Big n tail) ≡ c.tail) place here in
@@ -150,15 +159,15 @@ read_there refs laws again w c octets big sound is =
     context_at_only refs laws c (fields_of c.current) (map fields_of c.parents) (standing Big at (front ++ tail)) behind (identity_again c.current sound.current) (identities_again c.parents sound.parents) (allowed c.current sound.current) (all_allowed c.parents sound.parents) (omega (arith, length_of c.parents, is.few)) stand (subst (λ (x : AnyTail). IsTail x behind) there (tail_found laws behind)) in
     ap (λ (xs : List ℕ). context_at (standing Big at (xs ++ tail))) in_order ∙ found
 
-pub read_where_written : ReferencesAreReadExactly → ReadingLaws → ValuesAreReadAgain → ContextsAreReadWhereWritten
-read_where_written refs laws again w c octets big sound e =
+pub read_where_written : ReferencesAreReadExactly → ReadingLaws → ValuesAreReadAgain → ValuesAreWrittenCanonically → ContextsAreReadWhereWritten
+read_where_written refs laws again canonically w c octets big sound e =
     let is = written_is w c octets e in
     let tail = octets_of_tail (place_of (behind_parents w c)) c.tail in
-    let parts : octets ≡ (w.octets ++ front_octets w c) ++ tail = sym is.octets_are ∙ ap (λ (x : Writing). x.octets ++ tail) (front_is w c ∙ with_values-is w (values c)) in
-    (front_octets w c ++ tail, parts ∙ append_assoc w.octets (front_octets w c) tail, read_there refs laws again w c octets big sound is)
+    let parts : octets ≡ (w.octets ++ front_octets w c) ++ tail = sym is.octets_are ∙ ap (λ (x : Writing). x.octets ++ tail) (front_is w c ∙ canonically w (values c)) in
+    (front_octets w c ++ tail, parts ∙ append_assoc w.octets (front_octets w c) tail, read_there refs laws again canonically w c octets big sound is)
 
-pub written_again : ReferencesAreReadExactly → ReadingLaws → ValuesAreReadAgain → WrittenContextsAreReadAgain
+pub written_again : ReferencesAreReadExactly → ReadingLaws → ValuesAreReadAgain → ValuesAreWrittenCanonically → WrittenContextsAreReadAgain
 unfolding context_in
-written_again refs laws again c octets sound e =
-    let h = read_where_written refs laws again (begun Big) c octets refl sound e in
+written_again refs laws again canonically c octets sound e =
+    let h = read_where_written refs laws again canonically (begun Big) c octets refl sound e in
     rw h.1 h.2

@@ -1,12 +1,10 @@
 -- Results of steps, and values one after another.
-use Rattle.std.proofs.Common.{◌≡◌, ℕ, ◌+◌, Bool, true, false, cond, List, [], ◌∷◌, ◌++◌, length, refl, sym, ap, subst, ◌∙◌, append_assoc, arith, length-append, Result, Ok, Err}
-use Rattle.std.proofs.lemmas.List.{append-nil}
-use Rattle.cdr_values.specs.declared.order.Order.{Order}
-use Rattle.cdr_values.specs.Value.{Value, canonical}
+use Rattle.std.proofs.Common.{◌≡◌, Bool, true, false, cond, List, [], ◌∷◌, ◌++◌, refl, subst, Result, Ok, Err}
+use Rattle.cdr_values.specs.Value.{Value}
 use Rattle.cdr_values.specs.Again.{AllFit}
 use Rattle.cdr_values.specs.Reading.{Reading, ◌>>=◌}
-use Rattle.cdr_values.specs.Values.{ReadsAll, canonical_all, with_values}
-use Rattle.cdr_values.specs.Writing.{Writing, place_of, with_value}
+use Rattle.cdr_values.specs.Values.{ReadsAll, with_values}
+use Rattle.cdr_values.specs.Writing.{Writing, with_value}
 
 -- a result that holds a value
 abbrev done : {F A : Type 0} → A → Result A F
@@ -43,18 +41,6 @@ reads_apart (u ∷ us) vs r behind h =
     let p = reads_apart us vs h.0 behind h.2 in
     (p.0, (h.0, h.1, p.1), p.2)
 
--- a writing with these octets
-abbrev pub writing : Order → ℕ → List ℕ → Writing
-writing order start octets = record { order = order; start = start; octets = octets }
-
--- the octets of the values stand behind those that were there
-pub with_values-is : (w : Writing) (values : List Value) → with_values w values ≡ writing w.order w.start (w.octets ++ canonical_all w.order (place_of w) values)
-with_values-is w [] = ap (writing w.order w.start) (sym (append-nil w.octets))
-with_values-is w (x ∷ xs) =
-    let one = canonical w.order (place_of w) x in
-    let place : place_of (with_value w x) ≡ place_of w + length one = omega (arith, length-append w.octets one) in
-    with_values-is (with_value w x) xs ∙ ap (writing w.order w.start) (ap (λ (k : ℕ). (w.octets ++ one) ++ canonical_all w.order k xs) place ∙ append_assoc w.octets one (canonical_all w.order (place_of w + length one) xs))
-
 -- values behind others
 pub with_values-append : (w : Writing) (xs ys : List Value) → with_values w (xs ++ ys) ≡ with_values (with_values w xs) ys
 with_values-append w [] ys = refl
@@ -64,7 +50,3 @@ with_values-append w (x ∷ xs) ys = with_values-append (with_value w x) xs ys
 pub fit-append : (xs ys : List Value) → AllFit xs → AllFit ys → AllFit (xs ++ ys)
 fit-append [] ys p q = q
 fit-append (x ∷ xs) ys p q = (p.0, fit-append xs ys p.1 q)
-
-pub fit_behind : (xs ys : List Value) → AllFit (xs ++ ys) → AllFit ys
-fit_behind [] ys p = p
-fit_behind (x ∷ xs) ys p = fit_behind xs ys p.1

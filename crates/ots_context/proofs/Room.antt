@@ -1,7 +1,8 @@
 -- How many octets identities take, and why there is room for them.
-use Rattle.std.proofs.Common.{◌≡◌, ℕ, suc, ◌+◌, ◌-◌, ◌*◌, ◌<◌, ◌≤◌, ◌%◌, ◌⊎◌, inl, inr, Bool, true, false, cond, ltb, leb, Some, None, List, [], ◌∷◌, ◌++◌, length, take, get_or, refl, sym, ap, subst, ◌∙◌, arith, length-append, replicate, Result, Ok, Err, IfErr, OnOk}
+use Rattle.std.proofs.Common.{◌≡◌, ℕ, suc, ◌+◌, ◌-◌, ◌*◌, ◌<◌, ◌≤◌, ◌%◌, ◌⊎◌, inl, inr, Bool, true, false, cond, ltb, leb, Some, None, Option, List, [], ◌∷◌, ◌++◌, length, take, get_or, refl, sym, ap, subst, ◌∙◌, arith, length-append, replicate, Result, Ok, Err, IfErr, OnOk}
 use Rattle.std.specs.Prelude.{All}
 use Rattle.std.specs.List.{flat_map}
+use Rattle.std.specs.Option.{option_or}
 use Rattle.cdr_values.specs.Sequence.{sequence_values}
 use Rattle.std.specs.Int.{w32, cast_unsigned}
 use Rattle.std.proofs.lemmas.List.{append-nil, length-replicate, take_more}
@@ -14,18 +15,18 @@ use Rattle.cdr_values.specs.declared.fault.CdrFault.TheVariants as cdr
 use Rattle.cdr_values.specs.Limits.{output_limit}
 use Rattle.cdr_values.specs.Value.{Value, Octet, Boolean, UShort, ULong, ULongLong, OctetSequence, Text, Aligned, Fits, alignment, bare_of, canonical, gap, octets_of}
 use Rattle.cdr_values.specs.Again.{AllFit}
-use Rattle.cdr_values.specs.Values.{canonical_all, with_values}
+use Rattle.cdr_values.specs.Values.{canonical_all, refusal_of_all, with_values}
 use Rattle.cdr_values.specs.Writing.{Writing, place_of, with_value, is_bad, refusal}
 use Rattle.cdr_values.specs.Tagged.{tagged_values, reference_values}
 use Rattle.ior_refs.specs.Reference.{Reference, Tagged, IsReference, canonical_octets}
-use Rattle.ior_refs.specs.Writing.{StopsIn, WritesWhole}
+use Rattle.ior_refs.specs.Writing.{WritesWhole}
 use Rattle.otid_names.specs.Otid.{OtidParts, IsOtid}
 use Rattle.ots_context.specs.declared.context.Identity.{Identity}
 use Rattle.ots_context.specs.declared.context.Context.{Context}
 use Rattle.ots_context.specs.Writing.{behind_current}
 use Rattle.ots_context.specs.Identity.{IsIdentity, identity_values, otid_values}
 use Rattle.ots_context.specs.RoomInside.{reference_size, otid_size, identity_size}
-use Rattle.ots_context.proofs.Given.{with_values-is, with_values-append, fit_behind}
+use Rattle.ots_context.proofs.Given.{with_values-append}
 
 -- how many octets a value of a field of contexts has, without padding
 abbrev pub size : Value → ℕ
@@ -83,27 +84,24 @@ one_between order at v h =
     let whole : length (canonical order at v) ≡ gap (alignment v) at + size v = omega (arith, length-append padding (bare_of order v), length-replicate {A = ℕ} (gap (alignment v) at) 0, bare_size order v h) in
     (omega (arith, whole), omega (arith, whole, small))
 
--- the octets of values, with their padding
-pub all_between : (order : Order) (at : ℕ) (vs : List Value) → AreFields vs → (sizes vs ≤ length (canonical_all order at vs)) × (4 * length (canonical_all order at vs) ≤ 7 * sizes vs)
-all_between order at [] h = (omega arith, omega arith)
-all_between order at (v ∷ vs) h =
+-- values take as many octets at least
+all_at_least : (order : Order) (at : ℕ) (vs : List Value) → AreFields vs → sizes vs ≤ length (canonical_all order at vs)
+all_at_least order at [] h = omega arith
+all_at_least order at (v ∷ vs) h =
     let one = canonical order at v in
-    let rest = all_between order (at + length one) vs h.1 in
-    let this = one_between order at v h.0 in
-    let large = (at_four v h.0).1 in
-    let whole : length (canonical_all order at (v ∷ vs)) ≡ length one + length (canonical_all order (at + length one) vs) = length-append one (canonical_all order (at + length one) vs) in
-    (omega (arith, whole, rest.0, this.0), omega (arith, whole, rest.1, this.1, large))
+    omega (arith, all_at_least order (at + length one) vs h.1, (one_between order at v h.0).0, length-append one (canonical_all order (at + length one) vs))
 
--- how many octets a writer has behind values
-pub length_behind : (w : Writing) (vs : List Value) → length (with_values w vs).octets ≡ length w.octets + length (canonical_all w.order (place_of w) vs)
-length_behind w vs = ap (λ (x : Writing). length x.octets) (with_values-is w vs) ∙ length-append w.octets (canonical_all w.order (place_of w) vs)
-
+-- how many octets a writer has behind values at most
 pub few_behind : (w : Writing) (vs : List Value) → AreFields vs → 4 * length (with_values w vs).octets ≤ 4 * length w.octets + 7 * sizes vs
-few_behind w vs h = omega (arith, length_behind w vs, (all_between w.order (place_of w) vs h).1)
+few_behind w [] h = omega arith
+few_behind w (v ∷ vs) h =
+    let one = canonical w.order (place_of w) v in
+    omega (arith, few_behind (with_value w v) vs h.1, (one_between w.order (place_of w) v h.0).1, (at_four v h.0).1, length-append w.octets one)
 
 -- octets only come
 grows : (w : Writing) (vs : List Value) → length w.octets ≤ length (with_values w vs).octets
-grows w vs = omega (arith, length_behind w vs)
+grows w [] = omega arith
+grows w (v ∷ vs) = omega (arith, grows (with_value w v) vs, length-append w.octets (canonical w.order (place_of w) v))
 
 -- ---- the values of an identity are such fields
 
@@ -124,7 +122,7 @@ reference_fields x = (tt, (tt, tagged_fields x.1))
 
 reference_sizes : (x : Reference) → length (canonical_octets x) ≤ 1024 → sizes (reference_values x) ≤ 1024
 unfolding canonical_octets
-reference_sizes x h = omega (arith, h, (all_between Big 0 (reference_values x) (reference_fields x)).0)
+reference_sizes x h = omega (arith, h, all_at_least Big 0 (reference_values x) (reference_fields x))
 
 pub reference_room : (w : Writing) (x : Reference) → IsReference x → length (with_values w (reference_values x)).octets ≤ length w.octets + reference_size
 reference_room w x is = omega (arith, few_behind w (reference_values x) (reference_fields x), reference_sizes x is.short)
@@ -165,23 +163,24 @@ full value fault w plain refused =
     let n = length (with_value w value).octets in
     ltb-true _ _ (passed (ltb output_limit n) (cdr.TooLong (place_of w) n) fault (rw plain at refused))
 
--- a writer that has room for a value and others refuses it for want of memory alone
-pub has_room : (value : Value) (others : List Value) (fault : CdrFault) (w : Writing) → is_bad value ≡ false → length (with_values w (value ∷ others)).octets ≤ output_limit → (fault ≡ cdr.Memory) ⊎ (refusal w value ≡ Some fault) → fault ≡ cdr.Memory
-has_room value others fault w plain small (inl memory) = memory
-has_room value others fault w plain small (inr refused) =
-    absurd (omega (arith, full value fault w plain refused, small, grows (with_value w value) others))
+-- and one that refuses values has no room for them
+refused_full : (values : List Value) (fault : CdrFault) (w : Writing) → AllFit values → refusal_of_all w values ≡ Some fault → output_limit < length (with_values w values).octets
+refused_full [] fault w fit e = absurd cc
+refused_full (v ∷ vs) fault w fit e = by_first (refusal w v) v vs fault w fit.0 refl e (λ f. refused_full vs fault (with_value w v) fit.1 f) where
+  by_first : (first : Option CdrFault) (v : Value) (vs : List Value) (fault : CdrFault) (w : Writing) → Fits v → refusal w v ≡ first → option_or first (refusal_of_all (with_value w v) vs) ≡ Some fault
+      → (refusal_of_all (with_value w v) vs ≡ Some fault → output_limit < length (with_values (with_value w v) vs).octets) → output_limit < length (with_values (with_value w v) vs).octets
+  by_first (Some cause) v vs fault w fit is e others = omega (arith, full v cause w (good v fit) is, grows (with_value w v) vs)
+  by_first None v vs fault w fit is e others = others e
 
--- and so one that stops in values for which it has room
-pub stops_for_memory : (values : List Value) (fault : CdrFault) (w new : Writing) → AllFit values → length (with_values w values).octets ≤ output_limit → StopsIn values fault w new → fault ≡ cdr.Memory
-stops_for_memory values fault w new fit small h =
-    let rest = fit_behind h.written (h.next ∷ h.others) (subst AllFit h.parts fit) in
-    let whole : with_values w values ≡ with_values new (h.next ∷ h.others) = ap (with_values w) h.parts ∙ with_values-append w h.written (h.next ∷ h.others) ∙ ap (λ (x : Writing). with_values x (h.next ∷ h.others)) (sym h.stands) in
-    has_room h.next h.others fault new (good h.next rest.0) (omega (arith, small, ap (λ (x : Writing). length x.octets) whole)) h.cause
+-- so one that has room for values refuses them for want of memory alone
+all_room : (values : List Value) (fault : CdrFault) (w : Writing) → AllFit values → length (with_values w values).octets ≤ output_limit → (fault ≡ cdr.Memory) ⊎ (refusal_of_all w values ≡ Some fault) → fault ≡ cdr.Memory
+all_room values fault w fit small (inl memory) = memory
+all_room values fault w fit small (inr refused) = absurd (omega (arith, refused_full values fault w fit refused, small))
 
 -- a call that writes a reference for which there is room fails for want of memory alone
 pub written_err : (x : Reference) (result : Result (Unit {0}) CdrFault) (w new : Writing) → IsReference x → length w.octets + reference_size ≤ output_limit → WritesWhole (reference_values x) result w new → IfErr result (λ fault. fault ≡ cdr.Memory)
 written_err x (Ok nothing) w new is small h = tt
-written_err x (Err fault) w new is small h = stops_for_memory (reference_values x) fault w h.refused.0 is.fits (omega (arith, small, reference_room w x is)) h.refused.1
+written_err x (Err fault) w new is small h = all_room (reference_values x) fault w is.fits (omega (arith, small, reference_room w x is)) h.refused
 
 -- ---- several identities
 
@@ -212,11 +211,6 @@ current_room w c front is =
 pub timeout_room : (w middle : Writing) (timeout : ℕ) → length w.octets ≤ 1 → middle ≡ with_value w (ULong timeout) → length middle.octets ≤ 8
 timeout_room w middle timeout front is =
     omega (arith, front, few_behind w (ULong timeout ∷ []) (tt, tt), ap (λ (x : Writing). length x.octets) is)
-
--- a writer that has so few octets has room for a timeout
-pub timeout_refused : (w : Writing) (timeout : ℕ) (fault : CdrFault) → length w.octets ≤ 1 → (fault ≡ cdr.Memory) ⊎ (refusal w (ULong timeout) ≡ Some fault) → fault ≡ cdr.Memory
-timeout_refused w timeout fault front h =
-    has_room (ULong timeout) [] fault w refl (omega (arith, front, few_behind w (ULong timeout ∷ []) (tt, tt))) h
 
 -- there is room for identities
 each_room : (w : Writing) (all : List Identity) → All IsIdentity all → length (with_values w (flat_map identity_values all)).octets ≤ length w.octets + identity_size * length all

@@ -1,5 +1,5 @@
--- How many octets parts of a context take at most, at whatever offset they stand. With 16 parents there is room for all
--- that stands in front of the tail.
+-- Bounds of how many octets parts of a context take, at whatever offset they stand; not the least ones. With 16 parents
+-- there is room for all that stands in front of the tail.
 use Rattle.std.specs.Prelude.{ℕ}
 
 -- a reference: 1,024 canonical octets, and other padding

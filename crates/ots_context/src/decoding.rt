@@ -1,4 +1,4 @@
-ghost use Rattle.std.specs.Prelude.{◌≡◌, ◌^◌, ◌<◌, All, IfOk, IfSome, MatchResult, length};
+ghost use Rattle.std.specs.Prelude.{◌≡◌, ◌↔◌, ◌^◌, ◌<◌, All, IfOk, IfSome, MatchResult, None, Ok, length};
 ghost use Rattle.std.specs.Option.{option_copied};
 ghost use Rattle.cdr_values.specs.Sequence.{each_at};
 ghost use Rattle.ots_context.specs.Context.{IsContext};
@@ -35,10 +35,11 @@ pub fn decode_context(alloc: Global, b: &[u8]) -> Result<Context, ContextFault>
     read_context(alloc, &mut reader)
 }
 
-/// The context of a request, or None where it has none.
+/// The context of a request, or None exactly where it has none, which takes no memory.
 pub fn find_context(alloc: Global, r: &Request) -> Result<Option<Context>, ContextFault>
     requires { All (λ context. length context.bytes < 2 ^ 31) r.now.contexts }
-    ensures { Finds (λ c. c) result (context_in_first (first_context r.now.contexts)) }
+    ensures exact { Finds (λ c. c) result (context_in_first (first_context r.now.contexts)) }
+    ensures none { (result ≡ Ok None) ↔ (first_context r.now.contexts ≡ None) }
 {
     match first_context(r.contexts.items()) {
         None => Ok(None),
@@ -58,7 +59,7 @@ fn first_context(contexts: &[ServiceContext]) -> Option<&[u8]>
     Some(context.bytes.bytes())
 }
 
-/// Reads a context as a parameter has it: it is all that the reader has left.
+/// Reads a context as a parameter has it: it is all that the reader has left. Where the reader stands then is not told.
 #[tactic(auto, unfolding(crate::specs::Reading::context_at))]
 pub fn read_context(alloc: Global, reader: &mut Reader) -> Result<Context, ContextFault>
     ensures { Finds (λ c. c) result (context_at reader.old) }

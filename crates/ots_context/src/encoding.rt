@@ -44,7 +44,7 @@ pub fn encode_context(alloc: Global, c: &Context) -> Result<Octets, ContextFault
 }
 
 /// Writes a context as a parameter has it, with nothing or one octet in front of it. After a refusal the writer may have
-/// written some of its values.
+/// written some of its values, and is not to be used again.
 #[tactic(auto, unfolding(crate::specs::Writing::with_context))]
 pub fn write_context(writer: &mut Writer, c: &Context) -> Result<(), ContextFault>
     requires tail { kept_length c.now.tail < 2 ^ 31 }

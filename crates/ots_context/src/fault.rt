@@ -6,7 +6,8 @@ use cdr_values::CdrFault;
 use ior_refs::IorFault;
 use std::alloc::{AllocError, AllocFailed};
 
-/// Why octets are no context, or a context isn't written. Offsets count from the first octet of the context.
+/// Why octets are no context, or a context isn't written. Offsets count from the first octet of
+/// the encapsulation, or as the reader or the writer counts.
 #[derive(Clone, Copy, Debug, PartialEq, Eq)]
 pub enum ContextFault {
     /// A value is not spelled, or there is no room for one.
@@ -17,8 +18,8 @@ pub enum ContextFault {
     Otid,
     /// There are more than 16 parents. The identity in front of their count ends at this offset.
     TooMany(u32),
-    /// The tail isn't big endian, stood at another offset modulo 8, or would be read as null. Only `encode_context`
-    /// answers this.
+    /// The tail isn't big endian, stood at another offset modulo 8, or would be read as null. Only writing answers
+    /// this.
     TailPlace,
     /// Memory ran out.
     Memory,

@@ -1,4 +1,4 @@
-ghost use Rattle.std.specs.Prelude.{◌≡◌, ◌+◌, ◌≤◌, IfErr, OnOk, length};
+ghost use Rattle.std.specs.Prelude.{◌≡◌, ◌+◌, ◌≤◌, Err, IfErr, OnOk, length};
 ghost use Rattle.std.specs.Int.{w32, cast_unsigned};
 ghost use Rattle.cdr_values.specs.Limits.{output_limit};
 ghost use Rattle.cdr_values.specs.Tagged.{reference_values};
@@ -32,7 +32,8 @@ pub fn read_identity(alloc: Global, reader: &mut Reader) -> Result<Identity, Con
 
 #[tactic(auto, unfolding(crate::specs::Reading::otid_at))]
 fn read_otid(alloc: Global, reader: &mut Reader) -> Result<Otid, ContextFault>
-    ensures { Gives (λ otid. otid) result reader.new (otid_at reader.old) }
+    ensures exact { Gives (λ otid. otid) result reader.new (otid_at reader.old) }
+    ensures lengths { otid_at reader.old ≡ Err ContextFault.Otid → result ≡ Err ContextFault.Otid }
 {
     let format = reader.ulong()?.cast_signed();
     let bqual = reader.ulong()?;
@@ -56,7 +57,7 @@ pub fn write_identity(writer: &mut Writer, identity: &Identity) -> Result<(), Cd
     write_otid(writer, &identity.otid)
 }
 
-/// Writes a reference, for which there is room. It is wanted memory alone that refuses it.
+/// Writes a reference, for which there is room. Want of memory alone refuses it.
 pub fn write_reference(writer: &mut Writer, reference: &ObjectRef) -> Result<(), CdrFault>
     requires room { length writer.old.octets + reference_size ≤ output_limit }
     ensures ok { OnOk result (writer.new ≡ with_values writer.old (reference_values reference.now)) }

@@ -23,6 +23,7 @@ pub fn written_contexts_are_read_again()
     ior_refs::references_are_read_exactly();
     cdr_values::reading_is_exact();
     cdr_values::values_are_read_again();
+    cdr_values::values_are_written_canonically();
 }
 
 /// A law: a context that was written behind what a writer had is read again, from where that ends.
@@ -32,4 +33,5 @@ pub fn contexts_are_read_where_written()
     ior_refs::references_are_read_exactly();
     cdr_values::reading_is_exact();
     cdr_values::values_are_read_again();
+    cdr_values::values_are_written_canonically();
 }

@@ -2,7 +2,7 @@ use Rattle.std.proofs.Common.{◌≡◌, ℕ, ap, ◌∙◌, arith, subst}
 use Rattle.cdr_values.specs.Writing.{written_before}
 use Rattle.cdr_values.specs.Tagged.{reference_values}
 use Rattle.ior_refs.specs.Reference.{Reference}
-use Rattle.ior_refs.specs.Writing.{StopsIn}
+use Rattle.ior_refs.specs.Writing.{HasWritten, StopsIn}
 use Rattle.ior_refs.proofs.TakenBack.{begun_before, taken_back}
 use Rattle.ior_refs.proofs.reference.write_ref.Goals as goal
 
@@ -18,6 +18,15 @@ returns-in-Err c =
     let back = taken_back _ c.in-Err.fault c.args.w.now c.write_parts.new.writer c.in-Err.ensures in
     record {
       ok = tt;
-      refused = (c.write_parts.new.writer, stopped);
+      fits = tt;
+      refused = stopped.cause;
       err = c.take_back.ensures ∙ ap (λ (place : ℕ). written_before place c.write_parts.new.writer) c.place-start.ensures ∙ back;
     }
+
+pub returns-in-Ok : goal.returns-in-Ok
+returns-in-Ok c =
+    let parts : Reference = (c.bytes.result.now, c.as_slice.result.now) in
+    let same : parts ≡ c.args.o.now = cc in
+    let wrote : HasWritten (reference_values parts) c.args.w.now c.write_parts.new.writer = c.in-Ok.ensures in
+    let written = subst (λ (o : Reference). HasWritten (reference_values o) c.args.w.now c.write_parts.new.writer) same wrote in
+    record { ok = written.stands; fits = written.fits; refused = tt; err = tt }

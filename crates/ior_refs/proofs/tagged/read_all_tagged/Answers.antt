@@ -1,14 +1,16 @@
-use Rattle.cdr_values.specs.Value.{ULong}
-use Rattle.ior_refs.proofs.Values.{read_none, read_more, read_some}
+use Rattle.std.proofs.lemmas.Result.{err_from_is_err_and}
+use Rattle.ior_refs.specs.Reading.{count_at, each_tagged_at}
+use Rattle.ior_refs.proofs.Counting.{counted, not_counted}
+use Rattle.ior_refs.proofs.Faults.{fails_on}
 use Rattle.ior_refs.proofs.tagged.read_all_tagged.Goals as goal
 
-pub returns-then-count-gt-COUNT_LIMIT-clause-stands : goal.returns-then-count-gt-COUNT_LIMIT-clause-stands
-returns-then-count-gt-COUNT_LIMIT-clause-stands c =
+pub returns-in_err-count-clause-exact : goal.returns-in_err-count-clause-exact
+returns-in_err-count-clause-exact c =
+    let p = err_from_is_err_and c.from_residual.result c.from_residual.ensures.1 in
     let r = c.args.reader.now in
-    read_more r r c.ulong.new.self (ULong c.in_ok-count.count) (read_none r) c.in_ok-count.ensures.found
+    let fault = c.in_err-count.field-0.0 in
+    rw (p.1, p.2) (fails_on fault (count_at r) (each_tagged_at r) (not_counted r fault) c.in_err-count.ensures)
 
-pub returns-clause-stands : goal.returns-clause-stands
-returns-clause-stands c =
-    let r = c.args.reader.now in
-    let one = read_more r r c.ulong.new.self (ULong c.in_ok-count.count) (read_none r) c.in_ok-count.ensures.found in
-    read_some r c.ulong.new.self c.read_each_tagged.new.reader one c.read_each_tagged.ensures.stands
+pub returns-clause-exact : goal.returns-clause-exact
+returns-clause-exact c =
+    rw (counted c.args.reader.now c.read_count.new.reader c.in_ok-count.count c.in_ok-count.ensures) c.read_each_tagged.ensures.exact

@@ -2,17 +2,8 @@ use Rattle.std.proofs.Common.{[], ◌∷◌, length-append, arith}
 use Rattle.cdr_values.specs.Sequence.{each_at}
 use Rattle.cdr_values.specs.Tagged.{tagged_at}
 use Rattle.ior_refs.specs.Fault.{fault_of}
-use Rattle.ior_refs.proofs.Values.{read_some}
 use Rattle.ior_refs.proofs.Sequences.{all_fit_more}
 use Rattle.ior_refs.proofs.tagged.read_each_tagged.Goals as goal
-
-pub returns-in_err-read_tagged-clause-stands : goal.returns-in_err-read_tagged-clause-stands
-returns-in_err-read_tagged-clause-stands c =
-    read_some c.args.reader.now c.loop.reader c.read_tagged.new.reader c.loop.invariant.stands c.read_tagged.ensures.stands
-
-pub returns-in_err-push-clause-stands : goal.returns-in_err-push-clause-stands
-returns-in_err-push-clause-stands c =
-    read_some c.args.reader.now c.loop.reader c.read_tagged.new.reader c.loop.invariant.stands c.read_tagged.ensures.stands
 
 pub loop-preserved : goal.loop-preserved
 loop-preserved c =
@@ -23,5 +14,4 @@ loop-preserved c =
       exact = rw items (law.goes_on (tagged_at fault_of) c.args.count c.loop.counter c.loop.all.items x c.loop.reader c.read_tagged.new.reader (each_at (tagged_at fault_of) c.args.count c.args.reader.now) c.loop-test.true c.in_ok-read_tagged.ensures.exact c.loop.invariant.exact);
       fits = rw items (all_fit_more c.loop.all.items x c.loop.invariant.fits c.in_ok-read_tagged.ensures.fits);
       count = rw items (omega (arith, length-append c.loop.all.items (x ∷ []), c.loop.invariant.count));
-      stands = read_some c.args.reader.now c.loop.reader c.read_tagged.new.reader c.loop.invariant.stands c.read_tagged.ensures.stands;
     }

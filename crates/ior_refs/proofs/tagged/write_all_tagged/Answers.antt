@@ -3,7 +3,7 @@ use Rattle.std.specs.List.{flat_map}
 use Rattle.std.proofs.lemmas.Result.{err_from_is_err_and}
 use Rattle.cdr_values.specs.Value.{ULong}
 use Rattle.cdr_values.specs.Tagged.{tagged_values}
-use Rattle.ior_refs.proofs.Values.{stops_one, then_all}
+use Rattle.ior_refs.proofs.Values.{stops_one, then_all, wrote_one}
 use Rattle.ior_refs.proofs.tagged.write_all_tagged.Goals as goal
 
 pub returns-in_err-ulong : goal.returns-in_err-ulong
@@ -15,4 +15,5 @@ returns-in_err-ulong c =
 pub returns : goal.returns
 returns c =
     let all = c.args.all.now in
-    then_all (ULong (length all) ∷ []) (flat_map tagged_values all) c.write_each_tagged.result c.args.writer.now c.ulong.new.self c.write_each_tagged.new.writer c.in_ok-ulong.ensures.ok c.write_each_tagged.ensures
+    let count = wrote_one (ULong (length all)) c.args.writer.now c.ulong.new.self c.in_ok-ulong.ensures.ok c.in_ok-ulong.ensures.fits in
+    then_all (ULong (length all) ∷ []) (flat_map tagged_values all) c.write_each_tagged.result c.args.writer.now c.ulong.new.self c.write_each_tagged.new.writer count c.write_each_tagged.ensures

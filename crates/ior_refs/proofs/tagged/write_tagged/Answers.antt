@@ -1,7 +1,7 @@
 use Rattle.std.proofs.Common.{[], ◌∷◌}
 use Rattle.std.proofs.lemmas.Result.{err_from_is_err_and}
 use Rattle.cdr_values.specs.Value.{ULong, OctetSequence}
-use Rattle.ior_refs.proofs.Values.{stops_one, then_value}
+use Rattle.ior_refs.proofs.Values.{stops_one, then_value, wrote_one}
 use Rattle.ior_refs.proofs.tagged.write_tagged.Goals as goal
 
 pub returns-in_err-ulong : goal.returns-in_err-ulong
@@ -14,4 +14,5 @@ pub returns : goal.returns
 returns c =
     let x = c.args.tagged.now in
     let octets = rw c.bytes.ensures.same at c.octets.ensures in
-    then_value (ULong x.0 ∷ []) (OctetSequence x.1) c.octets.result c.args.writer.now c.ulong.new.self c.octets.new.self c.in_ok-ulong.ensures.ok octets
+    let tag = wrote_one (ULong x.0) c.args.writer.now c.ulong.new.self c.in_ok-ulong.ensures.ok c.in_ok-ulong.ensures.fits in
+    then_value (ULong x.0 ∷ []) (OctetSequence x.1) c.octets.result c.args.writer.now c.ulong.new.self c.octets.new.self tag octets
