@@ -35,6 +35,7 @@ pub fn encode_context(alloc: Global, c: &Context) -> Result<Octets, ContextFault
     ensures exact { Finds (λ octets. octets) result (written c.now) }
     ensures context { IfOk result (λ octets. IsContext c.now octets) }
     ensures again { IfOk result (λ octets. context_in octets ≡ Ok c.now) }
+    ensures short { IfOk result (λ octets. length octets ≤ output_limit) }
 {
     contexts_are_read_exactly();
     written_contexts_are_read_again();
