@@ -2,7 +2,7 @@ ghost use Rattle.std.specs.Prelude.{◌≡◌, false};
 ghost use Rattle.ots_program.specs.Words.{IsShow};
 
 use crate::pieces::Pieces;
-use crate::{input, lines, values};
+use crate::{input, lines, trees, values};
 use ots_outside::{Failure, MemSink, MemSource};
 use ots_program::{Devices, Word, run, run_plain};
 use std::alloc::Global;
@@ -18,6 +18,7 @@ enum Subject {
     Context,
     Request,
     Lines,
+    Tree,
 }
 
 impl Subject {
@@ -27,6 +28,7 @@ impl Subject {
             "context" => Subject::Context,
             "request" => Subject::Request,
             "lines" => Subject::Lines,
+            "tree" => Subject::Tree,
             _ => Subject::Command,
         }
     }
@@ -119,6 +121,7 @@ impl Case {
             Subject::Context => values::tell_octets(alloc, &mut told, input)?,
             Subject::Request => values::tell_request(alloc, &mut told, input)?,
             Subject::Lines => lines::tell_lines(alloc, &mut told, input)?,
+            Subject::Tree => trees::tell(alloc, &mut told, input)?,
         }
         Ok(told)
     }

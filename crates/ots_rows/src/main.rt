@@ -7,6 +7,7 @@
 //! - `context`: the input is a transaction context. What it says is told, and how it is written.
 //! - `request`: the input is a Request. The same is told of its transaction context.
 //! - `lines`: the input is lines of a script. What each of them means is told, and of a long one how much.
+//! - `tree`: the input is calls on a tree of transactions, by `trees`. What each answers is told.
 //!
 //! Each part is one of these:
 //!
@@ -40,6 +41,7 @@ mod lines;
 mod pieces;
 #[cfg(test)]
 mod statuses;
+mod trees;
 mod values;
 
 fn main(rt: HostRuntime) -> io::Result<()> {

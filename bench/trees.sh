@@ -1,0 +1,37 @@
+#!/usr/bin/env bash
+# Makes calls on trees of transactions of growing size, on their registrations and on their completions, by the cases of
+# crates/ots_rows, and prints the time per call and how it grows with the size. Run it anywhere; it builds the program
+# first. How many calls a row makes may be given as an argument.
+set -euo pipefail
+. "$(dirname "$0")/timing.sh"
+calls=${1:-200000}
+ots=$here/crates/ots_rows/out/ots_rows
+(cd "$here/crates/ots_rows" && rt run </dev/null >/dev/null 2>&1) || true
+
+# row KIND SIZE..: about so many calls of a kind on trees of each size.
+row() {
+  local kind=$1
+  shift
+  make() { python3 "$here/bench/tree_calls.py" bench "$kind" "$1" "$calls"; }
+  rows cases make "$@" | python3 -c '
+import sys
+rows = [tuple(map(int, line.split())) for line in sys.stdin]
+for size, _, took, told in rows:
+    print(f"{size:>6}: {told:>8} calls, {took / 1e6:8.1f} ms, {took / told:8.0f} ns per call")
+(small, _, first, once), (large, _, last, again) = rows[0], rows[-1]
+print(f"ratio of the time per call, {large:,} to {small:,}: {(last / again) / (first / once):.2f}")
+'
+}
+
+echo "create_sub, by the transactions of a tree:"
+row create 16 128 1024
+echo "register, by the registrations of a tree:"
+row register 2 16 64
+echo "is_ancestor, is_related and is_same, by the depth of a branch:"
+row ancestry 2 4 16
+echo "end_sub and adopt, by the subtransactions that hand one registration each to the top:"
+row adopt 2 16 63
+echo "participants of the top, by its registrations:"
+row participants 2 16 64
+echo "next and answer, by the participants of a completion:"
+row completion 2 16 64
