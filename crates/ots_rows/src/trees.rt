@@ -19,7 +19,7 @@ use resource_votes::{Registration, VoteFault, Votes};
 use std::alloc::Global;
 use std::io;
 use std::io::{ErrorKind, Write};
-use two_phase::TreeCompletion;
+use two_phase::Completion;
 use txn_tree::{Tree, TreeFault};
 
 /// The number of the first word of a completion.
@@ -35,7 +35,7 @@ const FIRST: CallNumber = CallNumber {
 struct Trial {
     tree: Tree,
     votes: Votes,
-    completion: TreeCompletion,
+    completion: Completion,
     number: CallNumber,
 }
 
@@ -45,7 +45,7 @@ pub fn tell(alloc: Global, told: &mut Vec<u8>, octets: &[u8]) -> io::Result<()> 
     let mut trial = Trial {
         tree: Tree::new(alloc)?,
         votes: Votes::new(alloc)?,
-        completion: TreeCompletion::idle(alloc),
+        completion: Completion::idle(alloc),
         number: FIRST,
     };
     for line in text.lines() {
@@ -256,7 +256,7 @@ impl Trial {
     }
 
     fn begin(&mut self, alloc: Global, asked: bool, one_phase: bool) -> io::Result<()> {
-        self.completion = TreeCompletion::begin(alloc, &self.votes, 0, asked, FIRST, one_phase)?;
+        self.completion = Completion::begin(alloc, &self.votes, 0, asked, FIRST, one_phase)?;
         Ok(())
     }
 

@@ -14,7 +14,7 @@ use ots_model::{
 };
 use std::alloc::{AllocError, Global};
 use std::marker::Model;
-use two_phase::Completion;
+use two_phase::FlatCompletion;
 
 mod clients;
 
@@ -77,7 +77,7 @@ pub struct Transaction {
     pub commit: Option<u32>,
     /// The place of the decision record, once it stands.
     pub decision: Option<u32>,
-    pub completion: Completion,
+    pub completion: FlatCompletion,
 }
 
 /// What a message says. Transactions and resources are places in the world's lists, messages are numbers.

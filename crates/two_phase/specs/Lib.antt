@@ -6,7 +6,7 @@ pub mod Judged
 pub mod Plan
 pub mod RoomInside
 pub mod RoundInside
-pub mod CompletionInside
+pub mod FlatCompletionInside
 pub mod Parties
 pub mod Course
 pub mod CourseInside

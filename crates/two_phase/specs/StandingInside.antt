@@ -1,6 +1,6 @@
-use Rattle.two_phase.specs.declared.tree_completion.Standing.{Standing as State}
-use Rattle.two_phase.specs.declared.tree_completion.Standing.TheVariants as states
-use Rattle.two_phase.specs.declared.tree_completion.TreeCompletion.TheInside.{Inside}
+use Rattle.two_phase.specs.declared.completion.Standing.{Standing as State}
+use Rattle.two_phase.specs.declared.completion.Standing.TheVariants as states
+use Rattle.two_phase.specs.declared.completion.Completion.TheInside.{Inside}
 use Rattle.two_phase.specs.Stages.{Standing, Waiting, Going}
 
 -- a state, as contracts see it

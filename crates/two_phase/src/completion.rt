@@ -1,35 +1,42 @@
-ghost use Rattle.std.specs.Prelude.{◌≡◌, ℕ, ◌+◌, ◌^◌, ◌<◌, ◌≤◌, ◌↔◌, length, Contains, IsTrue, IsOk, IfOk, IfSome, OnOk, OnErr};
+ghost use Rattle.std.specs.Prelude.{◌≡◌, ◌≢◌, ℕ, ◌^◌, ◌<◌, ◌≤◌, ◌++◌, length, IsTrue, IsOk, IfOk, OnOk, OnErr};
+ghost use Rattle.std.specs.Option.{SomeIff};
 ghost use Rattle.ots_model.specs.declared.completion.Heard.TheVariants.{Lost};
-ghost use Rattle.ots_model.specs.declared.completion.Word.{Word};
-ghost use Rattle.two_phase.specs.Laws.{IsOut, answered, MayCommit, IsRollback};
-ghost use Rattle.two_phase.specs.Progress.{Idle, IsPolling, HasRoom, started, after_reserve, next_word, after_next, after_answer, wants_decision, after_decided, named, outcome, IsEnd};
-ghost use Rattle.ots_model.specs.Limits.{registration_limit};
+ghost use Rattle.resource_votes.specs.Limits.{list_count};
+ghost use Rattle.resource_votes.specs.Ballots.{participants};
+ghost use Rattle.two_phase.specs.Stages as stages;
+ghost use Rattle.two_phase.specs.Stages.{Waiting, HasRoom, IsGoing};
 
-use crate::room::Room;
-use crate::round::Round;
-use ots_model::{CallNumber, Heard, Outcome, Outward, RefBytes, Stood};
+use crate::course::Course;
+use crate::dispositions::Dispositions;
+use crate::party::Stage;
+use crate::stock::Stock;
+use heuristic_join::report;
+use ots_model::tree::{Outcome, Outward, Reason};
+use ots_model::{CallNumber, Heard, Join, Stood};
+use resource_votes::Votes;
 use std::alloc::{AllocError, Global};
 use std::marker::Model;
 
-/// The completion of one transaction. Contracts see it as what it was told and has heard.
+/// The completion of a tree of transactions: whom the top-level transaction asks and tells, and how it ends. Contracts see
+/// it as what it was told and has heard.
 #[derive(Drop)]
 pub struct Completion {
-    state: State,
+    state: Standing,
 }
 
 /// Whether it has started.
 #[derive(Drop)]
-enum State {
-    Idle(Room),
-    Underway(Round),
+enum Standing {
+    Waiting(Stock),
+    Going(Course),
 }
 
 impl Model for Completion {
-    ghost use Rattle.two_phase.specs.Progress.{Progress};
+    ghost use Rattle.two_phase.specs.Stages.{Standing as Stands};
 
-    ghost Value = { Progress };
+    ghost Value = { Stands };
 
-    ghost use Rattle.two_phase.specs.CompletionInside.{shown};
+    ghost use Rattle.two_phase.specs.StandingInside.{shown};
 
     ghost view = { shown };
 }
@@ -37,132 +44,261 @@ impl Model for Completion {
 impl Completion {
     /// A completion that hasn't started, and has no room.
     pub fn idle(alloc: Global) -> Completion
-        ensures idle { result ≡ Idle 0 }
+        ensures idle { result ≡ Waiting 0 }
     {
         Completion {
-            state: State::Idle(Room::new(alloc)),
+            state: Standing::Waiting(Stock::new(alloc)),
         }
     }
 
     /// Takes room for so many participants and for all words to them, where it hasn't started. Want of memory leaves it
     /// as it was.
     pub fn reserve(&mut self, participants: u32) -> Result<(), AllocError>
-        ensures ok { IfOk result (λ _. (room : ℕ) → self.old ≡ Idle room →
-            HasRoom self.new participants × HasRoom self.new room) }
-        ensures reserved { OnOk result (self.new ≡ after_reserve participants self.old) }
+        ensures ok { OnOk result (self.new ≡ stages.after_reserve participants self.old) }
         ensures err { OnErr result (self.new ≡ self.old) }
-        ensures under_way { IsPolling self.old → IsOk result × (self.new ≡ self.old) }
+        ensures under_way { IsGoing self.old → IsOk result }
     {
         match &mut self.state {
-            State::Idle(room) => room.reserve(participants),
-            State::Underway(_) => Ok(()),
+            Standing::Waiting(stock) => stock.reserve(participants),
+            Standing::Going(_) => Ok(()),
         }
     }
 
     /// Begins. It needs no memory. `first` is the number of the first word. Where `one_phase` is false a single
     /// participant is sent prepare as well.
-    pub fn start(&mut self, list: &[RefBytes], asked: bool, first: CallNumber, one_phase: bool)
-        requires room { HasRoom self.old (length list.now) }
-        requires few { length list.now ≤ registration_limit }
+    pub fn start(
+        &mut self,
+        votes: &Votes,
+        top: u32,
+        asked: bool,
+        first: CallNumber,
+        one_phase: bool,
+    )
+        requires there { top < list_count }
+        requires room { HasRoom self.old (length (participants top votes.now.ballots)) }
         requires serial { first.serial < 2 ^ 31 }
-        ensures started { self.new ≡ started list.now asked first one_phase }
+        ensures started { self.new
+            ≡ stages.started (participants top votes.now.ballots) asked first one_phase }
     {
-        if let State::Idle(room) = &mut self.state {
-            let room = room.take();
-            self.state = State::Underway(Round::start(room, list, asked, first, one_phase));
+        if let Standing::Waiting(stock) = &mut self.state {
+            let stock = stock.take();
+            let walk = votes.participants(top);
+            self.state = Standing::Going(Course::begin(stock, walk, asked, first, one_phase));
         }
     }
 
-    /// A completion that begins with these participants: `idle`, `reserve` and `start` in one, with their errors.
+    /// A completion that begins with the participants of this transaction: `idle`, `reserve` and `start` in one.
     pub fn begin(
         alloc: Global,
-        list: &[RefBytes],
+        votes: &Votes,
+        top: u32,
         asked: bool,
         first: CallNumber,
         one_phase: bool,
     ) -> Result<Completion, AllocError>
-        requires few { length list.now ≤ registration_limit }
+        requires there { top < list_count }
         requires serial { first.serial < 2 ^ 31 }
-        ensures started { IfOk result (λ c. c ≡ started list.now asked first one_phase) }
+        ensures started { IfOk result (λ c. c
+            ≡ stages.started (participants top votes.now.ballots) asked first one_phase) }
     {
         let mut completion = Completion::idle(alloc);
-        completion.reserve(list.len() as u32)?;
-        completion.start(list, asked, first, one_phase);
+        completion.reserve(votes.participants(top).count() as u32)?;
+        completion.start(votes, top, asked, first, one_phase);
         Ok(completion)
     }
 
-    /// The word that goes out next. There is none while one is out, while a decision is wanted, and at the end.
+    /// The word that goes out next. There is none while one is out, while a decision is wanted or nobody knows whether it
+    /// stands, and at the end.
     pub fn next(&mut self) -> Option<Outward>
-        ensures word { result ≡ next_word self.old }
-        ensures after { self.new ≡ after_next self.old }
-
-        // Words go out one at a time and in list order; commit only where all have agreed, rollback only by the outcome.
-        ensures one_at_a_time { IsOut self.old → result ≡ None }
-        ensures order { IfSome result (λ o. o.word ≡ Word.Prepare → o.registration ≡ answered self.old + 1) }
-        ensures commit_by_record { IfSome result (λ o. o.word ≡ Word.Commit → MayCommit self.old) }
-        ensures rollback_by_outcome { IfSome result (λ o. o.word ≡ Word.Rollback → IsRollback (outcome self.old)) }
+        ensures word { result ≡ stages.next_word self.old }
+        ensures after { self.new ≡ stages.after_next self.old }
     {
         match &mut self.state {
-            State::Idle(_) => None,
-            State::Underway(round) => round.next(),
+            Standing::Waiting(_) => None,
+            Standing::Going(course) => course.next(),
         }
     }
 
     /// What was heard of the word with this number. A number that isn't out changes nothing.
     pub fn answer(&mut self, number: &CallNumber, heard: &Heard)
-        ensures after { self.new ≡ after_answer number.now heard.now self.old }
+        ensures after { self.new ≡ stages.after_answer number.now heard.now self.old }
     {
-        if let State::Underway(round) = &mut self.state {
-            round.answer(*number, *heard);
+        if let Standing::Going(course) = &mut self.state {
+            course.answer(*number, *heard);
         }
     }
 
     /// The word with this number is lost. A number that isn't out changes nothing.
     pub fn lost(&mut self, number: &CallNumber)
-        ensures after { self.new ≡ after_answer number.now Lost self.old }
+        ensures after { self.new ≡ stages.after_answer number.now Lost self.old }
     {
         self.answer(number, &Heard::Lost);
     }
 
     /// Whether each participant has consented, one waits for the outcome, and the journal was not asked yet.
     pub fn wants_decision(&self) -> bool
-        ensures wanted { result ≡ wants_decision self.now }
+        ensures wanted { result ≡ stages.wants_decision self.now }
     {
         match &self.state {
-            State::Idle(_) => false,
-            State::Underway(round) => round.wants_decision(),
+            Standing::Waiting(_) => false,
+            Standing::Going(course) => course.wants_decision(),
         }
     }
 
     /// What the journal answered to the decision record. Where no decision is wanted, this changes nothing.
     pub fn decided(&mut self, stood: Stood)
-        ensures after { self.new ≡ after_decided stood self.old }
+        ensures after { self.new ≡ stages.after_decided stood self.old }
     {
-        if let State::Underway(round) = &mut self.state {
-            round.decided(stood);
+        if let Standing::Going(course) = &mut self.state {
+            course.decided(stood);
         }
     }
 
-    /// Whether the decision record names this registration: it has voted commit.
-    pub fn is_named(&self, registration: u32) -> bool
-        ensures named { IsTrue result ↔ Contains (named self.now) registration }
+    /// Whether nobody knows whether the decision record stands: the journal was unsure, and was not read again.
+    pub fn is_doubtful(&self) -> bool
+        ensures doubtful { result ≡ stages.is_doubtful self.now }
     {
         match &self.state {
-            State::Idle(_) => false,
-            State::Underway(round) => round.is_named(registration),
+            Standing::Waiting(_) => false,
+            Standing::Going(course) => course.is_doubtful(),
+        }
+    }
+
+    /// Where a reread of the journal found the decision record, if it did. Where the record isn't in doubt, this changes
+    /// nothing.
+    pub fn reread(&mut self, found: Option<u32>)
+        ensures after { self.new ≡ stages.after_reread found self.old }
+    {
+        if let Standing::Going(course) = &mut self.state {
+            course.reread(found);
+        }
+    }
+
+    /// Rolls back for a reason from outside, as the client's rollback, a mark, or the superior's word. The word that is out
+    /// is heard no more. Where the outcome is fixed, the journal was asked, or the only participant was told to decide, this
+    /// changes nothing.
+    pub fn roll_back(&mut self, reason: Reason)
+        ensures after { self.new ≡ stages.after_rollback reason self.old }
+    {
+        if let Standing::Going(course) = &mut self.state {
+            course.roll_back(reason);
+        }
+    }
+
+    /// Whether the decision record names this registration: it takes part, and has voted commit.
+    pub fn is_named(&self, registration: u32) -> bool
+        ensures named { result ≡ stages.is_named self.now registration }
+    {
+        match &self.state {
+            Standing::Waiting(_) => false,
+            Standing::Going(course) => course.is_named(registration),
         }
     }
 
     /// How the transaction ends, as soon as that is fixed.
     pub fn outcome(&self) -> Option<Outcome>
-        ensures outcome { result ≡ outcome self.now }
-
-        // The same by what was answered and recorded: commit where all agreed, else rollback by its first cause.
-        ensures end { IsEnd self.now result }
+        ensures outcome { result ≡ stages.outcome self.now }
     {
         match &self.state {
-            State::Idle(_) => None,
-            State::Underway(round) => round.outcome(),
+            Standing::Waiting(_) => None,
+            Standing::Going(course) => course.outcome(),
+        }
+    }
+
+    /// Whether the client asked for reports of heuristic outcomes (`report_heuristics` of `commit`).
+    pub fn asked(&self) -> bool
+        ensures asked { result ≡ stages.asked self.now }
+    {
+        match &self.state {
+            Standing::Waiting(_) => false,
+            Standing::Going(course) => course.asked,
+        }
+    }
+
+    /// What was heard of the participants' updates so far, in list order: a heuristic exception of prepare, and each answer to
+    /// the word that tells the outcome.
+    pub fn dispositions(&self) -> Dispositions
+        ensures dispositions { result ≡ stages.dispositions self.now }
+    {
+        match &self.state {
+            Standing::Waiting(_) => Dispositions::new(),
+            Standing::Going(course) => course.dispositions(),
+        }
+    }
+
+    /// What a root and its participants did together, by what was heard so far. Where the only participant was to decide
+    /// and didn't tell, that is a hazard.
+    pub fn root_join(&self) -> Join
+        ensures join { result ≡ stages.root_join self.now }
+    {
+        match &self.state {
+            Standing::Waiting(_) => Join::Nothing,
+            Standing::Going(course) => course.root_join(),
+        }
+    }
+
+    /// What the participants of a subordinate did together, by what was heard so far.
+    pub fn sub_join(&self) -> Join
+        ensures join { result ≡ stages.sub_join self.now }
+    {
+        match &self.state {
+            Standing::Waiting(_) => Join::Nothing,
+            Standing::Going(course) => course.sub_join(),
+        }
+    }
+
+    /// The heuristic exception by which a root answers its client, where it asked for reports and there is one to make.
+    pub fn report(&self) -> Option<Join>
+        ensures reported { SomeIff result
+            (IsTrue (stages.asked self.now) × (stages.root_join self.now ≢ Join.Nothing))
+            (stages.root_join self.now) }
+    {
+        report(self.root_join(), self.asked())
+    }
+
+    /// Whether the outcome is fixed, and each that was to be told it has completed: it answered plainly, by
+    /// OBJECT_NOT_EXIST, or by a heuristic exception.
+    pub fn all_completed(&self) -> bool
+        ensures completed { result ≡ stages.all_completed self.now }
+    {
+        match &self.state {
+            Standing::Waiting(_) => false,
+            Standing::Going(course) => course.all_completed(),
+        }
+    }
+
+    /// Whether all have completed, and each that raised a heuristic exception has answered forget plainly or by
+    /// OBJECT_NOT_EXIST: the decision record may be named done.
+    pub fn is_settled(&self) -> bool
+        ensures settled { result ≡ stages.is_settled self.now }
+    {
+        match &self.state {
+            Standing::Waiting(_) => false,
+            Standing::Going(course) => course.is_settled(),
+        }
+    }
+
+    /// Appends the registrations that are still to be told to commit, in list order: each that has voted commit and hasn't
+    /// completed. There are none where the outcome isn't commit.
+    pub fn pending_commits(&self, into: &mut Vec<u32>) -> Result<(), AllocError>
+        ensures ok { OnOk result (into.new.items ≡ into.old.items ++ stages.pending_commits self.now) }
+        ensures err { OnErr result (into.new.items ≡ into.old.items) }
+    {
+        match &self.state {
+            Standing::Waiting(_) => Ok(()),
+            Standing::Going(course) => course.add_owed(Stage::Telling, into),
+        }
+    }
+
+    /// Appends the registrations that are still to be told to forget, in list order: each that has raised a heuristic
+    /// exception and hasn't answered forget plainly or by OBJECT_NOT_EXIST. There are none where the outcome isn't commit.
+    pub fn pending_forgets(&self, into: &mut Vec<u32>) -> Result<(), AllocError>
+        ensures ok { OnOk result (into.new.items ≡ into.old.items ++ stages.pending_forgets self.now) }
+        ensures err { OnErr result (into.new.items ≡ into.old.items) }
+    {
+        match &self.state {
+            Standing::Waiting(_) => Ok(()),
+            Standing::Going(course) => course.add_owed(Stage::Forgetting, into),
         }
     }
 }

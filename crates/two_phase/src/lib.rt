@@ -3,20 +3,20 @@
 
 pub use completion::Completion;
 pub use dispositions::Dispositions;
+pub use flat_completion::FlatCompletion;
 pub use laws::{
     a_tree_goes_one_way, a_tree_outcome_stays, an_outcome_awaits_all, an_outcome_stays,
     tree_words_go_rightly, words_go_rightly,
 };
-pub use tree_completion::TreeCompletion;
 
 mod completion;
 mod course;
 mod dispositions;
+mod flat_completion;
 mod laws;
 mod party;
 mod plan;
 mod room;
 mod round;
 mod stock;
-mod tree_completion;
 mod verdict;

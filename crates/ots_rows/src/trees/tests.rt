@@ -3,7 +3,7 @@ use ots_model::{CallNumber, Ground, Heard, RefBytes, Stood, Vote};
 use resource_votes::Votes;
 use std::alloc::Global;
 use std::test::Fail;
-use two_phase::TreeCompletion;
+use two_phase::Completion;
 use txn_tree::Tree;
 
 const FIRST: CallNumber = CallNumber {
@@ -30,7 +30,7 @@ fn what_comes_behind_reserve_needs_no_memory(rt: HostRuntime) -> Result<(), Fail
     let Some(votes) = two_registered(rt.alloc()) else {
         return Ok(());
     };
-    let mut completion = TreeCompletion::idle(rt.alloc());
+    let mut completion = Completion::idle(rt.alloc());
     let count = votes.participants(0).count() as u32;
     if completion.reserve(count).is_err() {
         return Ok(());

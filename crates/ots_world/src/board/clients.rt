@@ -9,7 +9,7 @@ use crate::board::{Board, Content, Message, Registrations, Resource, Stage, Tran
 use crate::fault::{MESSAGE_LIMIT, WorldFault, tell};
 use ots_model::{CallNumber, Line, Name, Operation, RefBytes};
 use std::alloc::{AllocError, Global};
-use two_phase::Completion;
+use two_phase::FlatCompletion;
 
 impl Board {
     /// The transactions, in the order of their making.
@@ -55,7 +55,7 @@ impl Board {
             registrations: Registrations::new(alloc),
             commit: None,
             decision: None,
-            completion: Completion::idle(alloc),
+            completion: FlatCompletion::idle(alloc),
         })?;
         Ok(place)
     }
@@ -153,7 +153,7 @@ impl Board {
         let name = transaction.name;
         let list = self.participants(alloc, transaction)?;
         let first = first_number(place);
-        let completion = Completion::begin(alloc, list.as_slice(), false, first, false)?;
+        let completion = FlatCompletion::begin(alloc, list.as_slice(), false, first, false)?;
         let message = self.send(call(Operation::Commit, place))?;
         let transaction = &mut self.transactions[place as usize];
         transaction.commit = Some(message);

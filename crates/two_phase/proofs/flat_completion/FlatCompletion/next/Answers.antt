@@ -1,7 +1,7 @@
 use Rattle.std.proofs.Common.{rules, ◌≡◌}
 use Rattle.two_phase.specs.Progress.{next_word}
 use Rattle.two_phase.proofs.Lawful.{one_at_a_time, order, commit_by_record, rollback_by_outcome}
-use Rattle.two_phase.proofs.completion.Completion.next.Goals as goal
+use Rattle.two_phase.proofs.flat_completion.FlatCompletion.next.Goals as goal
 
 pub returns-clause-one_at_a_time : goal.returns-clause-one_at_a_time
 returns-clause-one_at_a_time c =

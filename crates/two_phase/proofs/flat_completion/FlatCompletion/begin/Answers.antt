@@ -1,4 +1,4 @@
-use Rattle.two_phase.proofs.completion.Completion.begin.Goals as goal
+use Rattle.two_phase.proofs.flat_completion.FlatCompletion.begin.Goals as goal
 
 pub start-requires-clause-room : goal.start-requires-clause-room
 start-requires-clause-room c = (c.in_ok-reserve.ensures.ok 0 c.idle-completion.ensures.idle).0

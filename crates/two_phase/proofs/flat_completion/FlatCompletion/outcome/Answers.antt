@@ -1,8 +1,8 @@
 use Rattle.std.proofs.Common.{◌≡◌, sym, ap, ◌∙◌, subst}
-use Rattle.two_phase.specs.CompletionInside.{seen}
+use Rattle.two_phase.specs.FlatCompletionInside.{seen}
 use Rattle.two_phase.specs.Progress.{Progress, Polling, IsEnd}
 use Rattle.two_phase.proofs.Ends.{is_end}
-use Rattle.two_phase.proofs.completion.Completion.outcome.Goals as goal
+use Rattle.two_phase.proofs.flat_completion.FlatCompletion.outcome.Goals as goal
 
 pub returns-in-Underway-clause-end : goal.returns-in-Underway-clause-end
 returns-in-Underway-clause-end c =

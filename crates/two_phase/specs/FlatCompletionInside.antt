@@ -1,6 +1,6 @@
-use Rattle.two_phase.specs.declared.completion.State.{State}
-use Rattle.two_phase.specs.declared.completion.State.TheVariants as states
-use Rattle.two_phase.specs.declared.completion.Completion.TheInside.{Inside}
+use Rattle.two_phase.specs.declared.flat_completion.State.{State}
+use Rattle.two_phase.specs.declared.flat_completion.State.TheVariants as states
+use Rattle.two_phase.specs.declared.flat_completion.FlatCompletion.TheInside.{Inside}
 use Rattle.two_phase.specs.Progress.{Progress, Idle, Polling}
 
 -- a state, as contracts see it
