@@ -21,3 +21,5 @@ pub mod Starts
 pub mod Meaning
 pub mod Meant
 pub mod Loads
+pub mod Places
+pub mod Below

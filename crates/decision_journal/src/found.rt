@@ -1,6 +1,8 @@
-ghost use Rattle.std.specs.Prelude.{◌≡◌, ◌+◌, ◌==◌, position, OnOk, OnErr, IfErr};
+ghost use Rattle.std.specs.Prelude.{◌≡◌, ◌+◌, ◌++◌, ◌∷◌, [], ◌==◌, is_some, position, OnOk, OnErr, IfErr};
 ghost use Rattle.std.specs.List.{list_any};
 ghost use Rattle.decision_journal.specs.Journal.{are_cells_at, can_follow, is_cells_prepared, is_decision, is_decision_at, nothing_found, taken_away, with_record};
+ghost use Rattle.decision_journal.specs.Index.{AreBefore, AreInOrder, IsIndexed};
+ghost use Rattle.decision_journal.specs.State.{decisions};
 
 use crate::journal::Standing;
 use crate::record::JournalRecord;
@@ -12,14 +14,18 @@ use std::marker::Model;
 pub(crate) struct Index {
     life: u32,
     standing: Vec<Standing>,
+    decisions: usize,
 }
 
 impl Model for Index {
     ghost use Rattle.decision_journal.specs.Journal.{Found};
+    ghost use Rattle.decision_journal.specs.Index.{IsIndexed};
 
     ghost Value = { Found };
 
     ghost view = { λ index. record { life = index.life; standing = index.standing.items } };
+
+    ghost invariant = { λ index. IsIndexed index.standing.items index.decisions };
 }
 
 impl Index {
@@ -29,6 +35,7 @@ impl Index {
         Index {
             life: 0,
             standing: Vec::new(alloc),
+            decisions: 0,
         }
     }
 
@@ -44,56 +51,82 @@ impl Index {
         self.standing.as_slice()
     }
 
+    /// How many decisions and prepared records stand.
+    pub(crate) fn decisions(&self) -> usize
+        ensures { result ≡ decisions self.now }
+    {
+        self.decisions
+    }
+
     /// Whether a record can follow those that were found.
     pub(crate) fn takes(&self, item: &JournalRecord) -> bool
         ensures { result ≡ can_follow self.now item.now }
     {
         match item {
             JournalRecord::Life(life) => is_next(*life, self.life),
-            JournalRecord::Done(place) => has_decision(&self.standing, *place),
-            JournalRecord::CellsOutcome(place, _) => has_cells(&self.standing, *place),
+            JournalRecord::Done(place) => self.stands(*place),
+            JournalRecord::CellsOutcome(place, _) => cells_stand(&self.standing, *place),
             _ => true,
         }
     }
 
-    /// Adds a record whose gate is at this place, or gives it back where memory runs out.
+    /// Adds a record whose gate is at this place, behind all that stands, or gives it back where memory runs out.
     pub(crate) fn add(&mut self, place: u32, item: JournalRecord) -> Result<(), JournalRecord>
+        requires behind { AreBefore place self.old.standing }
         ensures ok { OnOk result (self.new ≡ with_record self.old place item) }
         ensures err { OnErr result (self.new ≡ self.old) }
         ensures back { IfErr result (λ back. back ≡ item) }
     {
         match item {
-            JournalRecord::Life(life) => self.life = life,
-            JournalRecord::Done(named) => take_away(&mut self.standing, named),
-            item => {
-                if let Err(refused) = self.standing.push(Standing { place, item }) {
-                    return Err(refused.value.item);
-                }
+            JournalRecord::Life(life) => {
+                self.life = life;
+                Ok(())
             }
+            JournalRecord::Done(named) => {
+                self.take_away(named);
+                Ok(())
+            }
+            item => self.put(place, item),
+        }
+    }
+
+    /// Lets a record stand.
+    fn put(&mut self, place: u32, item: JournalRecord) -> Result<(), JournalRecord>
+        requires behind { AreBefore place self.old.standing }
+        ensures ok { OnOk result (self.new ≡ record self.old {
+          standing = self.old.standing ++ record { place = place; item = item } ∷ [];
+        }) }
+        ensures err { OnErr result (self.new ≡ self.old) }
+        ensures back { IfErr result (λ back. back ≡ item) }
+    {
+        let decided = is_decided(&item);
+        if let Err(refused) = self.standing.push(Standing { place, item }) {
+            return Err(refused.value.item);
+        }
+        if decided {
+            self.decisions += 1;
         }
         Ok(())
+    }
+
+    /// Takes the decision or prepared record at this place away, where one stands.
+    fn take_away(&mut self, place: u32)
+        ensures { self.new ≡ record self.old {
+          standing = taken_away (position (is_decision_at place) self.old.standing) self.old.standing;
+        } }
+    {
+        if let Some(index) = decision_at(&self.standing, place) {
+            self.standing.remove(index);
+            self.decisions -= 1;
+        }
     }
 
     /// Whether a decision or prepared record stands at this place.
     pub(crate) fn stands(&self, place: u32) -> bool
         ensures { result ≡ list_any (is_decision_at place) self.now.standing }
     {
-        has_decision(&self.standing, place)
+        decision_at(&self.standing, place).is_some()
     }
-}
-
-/// Whether it is a decision or prepared record at this place.
-fn is_decision_of(s: &Standing, place: u32) -> bool
-    ensures { result ≡ is_decision_at place s.now }
-{
-    s.place == place && is_decided(&s.item)
-}
-
-/// Whether it is a record of prepared cells at this place.
-fn are_cells_of(s: &Standing, place: u32) -> bool
-    ensures { result ≡ are_cells_at place s.now }
-{
-    s.place == place && matches!(s.item, JournalRecord::CellsPrepared(..))
 }
 
 /// Whether a life is the one behind the last.
@@ -103,31 +136,45 @@ fn is_next(life: u32, last: u32) -> bool
     u64::from(life) == u64::from(last) + 1
 }
 
-fn has_decision(standing: &[Standing], place: u32) -> bool
-    ensures { result ≡ list_any (is_decision_at place) standing.now }
+/// The index of what stands at this place.
+fn index_of(standing: &[Standing], place: u32) -> Option<usize>
+    requires { AreInOrder standing.now }
+    ensures { result ≡ position (λ s. s.place == place) standing.now }
 {
-    standing.iter().any(|s| is_decision_of(s, place))
-}
-
-fn has_cells(standing: &[Standing], place: u32) -> bool
-    ensures { result ≡ list_any (are_cells_at place) standing.now }
-{
-    standing.iter().any(|s| are_cells_of(s, place))
+    let index = standing.partition_point(|s| s.place < place);
+    if index >= standing.len() {
+        return None;
+    }
+    if standing[index].place != place {
+        return None;
+    }
+    Some(index)
 }
 
 /// The index of the decision or prepared record at this place.
-fn index_of(standing: &[Standing], place: u32) -> Option<usize>
-    ensures { result ≡ position (is_decision_at place) standing.now }
+fn decision_at(standing: &[Standing], place: u32) -> Option<usize>
+    requires { AreInOrder standing.now }
+    ensures index { result ≡ position (is_decision_at place) standing.now }
+    ensures stands { is_some result ≡ list_any (is_decision_at place) standing.now }
 {
-    standing.iter().position(|s| is_decision_of(s, place))
+    let index = match index_of(standing, place) {
+        Some(index) => index,
+        None => return None,
+    };
+    if is_decided(&standing[index].item) {
+        return Some(index);
+    }
+    None
 }
 
-fn take_away(standing: &mut Vec<Standing>, place: u32)
-    ensures { standing.new.items
-        ≡ taken_away (position (is_decision_at place) standing.old.items) standing.old.items }
+/// Whether a record of prepared cells stands at this place.
+fn cells_stand(standing: &[Standing], place: u32) -> bool
+    requires { AreInOrder standing.now }
+    ensures { result ≡ list_any (are_cells_at place) standing.now }
 {
-    if let Some(index) = index_of(standing, place) {
-        standing.remove(index);
+    match index_of(standing, place) {
+        Some(index) => are_cells(&standing[index].item),
+        None => false,
     }
 }
 
@@ -139,4 +186,11 @@ pub(crate) fn is_decided(item: &JournalRecord) -> bool
         item,
         JournalRecord::Decision(..) | JournalRecord::Prepared(..)
     )
+}
+
+/// Whether it is a record of prepared cells.
+fn are_cells(item: &JournalRecord) -> bool
+    ensures { result ≡ is_cells_prepared item.now }
+{
+    matches!(item, JournalRecord::CellsPrepared(..))
 }

@@ -1,13 +1,13 @@
 ghost use Rattle.std.specs.Prelude.{◌≡◌, ◌<◌, ◌≤◌, ◌+◌, ◌*◌, ◌^◌, ◌++◌, ◌∷◌, [], length, take, IfOk, IfErr, IfSome, MatchOption, OnOk, OnErr, None, Some};
-ghost use Rattle.std.specs.List.{count_by};
 ghost use Rattle.decision_journal.specs.Limits.{area_limit};
 ghost use Rattle.decision_journal.specs.Layout.{Fits, four, payload, record_octets};
-ghost use Rattle.decision_journal.specs.Journal.{is_decision, with_record};
+ghost use Rattle.decision_journal.specs.Journal.{with_record};
+ghost use Rattle.decision_journal.specs.Index.{AreBefore};
 ghost use Rattle.decision_journal.specs.Laws.{behind_gate};
 ghost use Rattle.decision_journal.specs.State.{IsRoomFault, IsDoubted, IsNotDoubted, decisions, need, used};
 
 use crate::found::{Index, is_decided};
-use crate::journal::{JournalFault, Standing};
+use crate::journal::JournalFault;
 use crate::record::JournalRecord;
 use crate::scan::{OPEN, stands_at};
 use crate::writing::payload_of;
@@ -19,12 +19,6 @@ const DONE_LENGTH: u64 = 10;
 /// How many decisions and prepared records stand at most.
 const STANDING_LIMIT: usize = 8_192;
 
-fn decisions_of(standing: &[Standing]) -> usize
-    ensures { result ≡ count_by (λ s. is_decision s.item) standing.now }
-{
-    standing.iter().filter(|s| is_decided(&s.item)).count()
-}
-
 /// How many octets a record needs, of so many octets itself.
 fn need_of(area: u64, index: &Index, item: &JournalRecord, size: usize) -> u64
     requires small { size < 2 ^ 63 + 5 }
@@ -35,7 +29,7 @@ fn need_of(area: u64, index: &Index, item: &JournalRecord, size: usize) -> u64
     if !is_decided(item) {
         return size as u64;
     }
-    if decisions_of(index.standing()) < STANDING_LIMIT {
+    if index.decisions() < STANDING_LIMIT {
         size as u64 + DONE_LENGTH
     } else {
         area + 1
@@ -95,7 +89,7 @@ pub(crate) fn used_of(octets: &[u8], index: &Index) -> u64
     requires few { decisions index.now ≤ length octets.now }
     ensures { result ≡ used octets.now index.now }
 {
-    octets.len() as u64 + 1 + DONE_LENGTH * decisions_of(index.standing()) as u64
+    octets.len() as u64 + 1 + DONE_LENGTH * index.decisions() as u64
 }
 
 /// Keeps a record that stands behind these octets, or gives it back where memory runs out. The body is its octets behind
@@ -106,7 +100,8 @@ pub(crate) fn keep(
     body: &[u8],
     item: JournalRecord,
 ) -> Result<(), JournalRecord>
-    requires { length octets.old.items < 2 ^ 32 }
+    requires small { length octets.old.items < 2 ^ 32 }
+    requires behind { AreBefore (length octets.old.items) index.old.standing }
     ensures octets { OnOk result (octets.new.items ≡ octets.old.items ++ 1 ∷ body.now) }
     ensures found { OnOk result (index.new ≡ with_record index.old (length octets.old.items) item) }
     ensures same_octets { OnErr result (octets.new.items ≡ octets.old.items) }
@@ -178,6 +173,7 @@ pub(crate) fn add_doubted(
     gate: u32,
     doubted: &mut Option<JournalRecord>,
 ) -> Result<(), AllocError>
+    requires { AreBefore gate index.old.standing }
     ensures added { OnOk result (IfSome doubted.old (λ r. index.new ≡ with_record index.old gate r)) }
     ensures none { OnOk result (doubted.new ≡ None) }
     ensures same_found { OnErr result (index.new ≡ index.old) }

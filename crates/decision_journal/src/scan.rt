@@ -2,6 +2,7 @@ ghost use Rattle.std.specs.Prelude.{◌≡◌, ◌<◌, ◌≤◌, ◌^◌, ◌+
 ghost use Rattle.decision_journal.specs.declared.reading.ReadFault.TheVariants.{NoRecord};
 ghost use Rattle.decision_journal.specs.Limits.{area_limit};
 ghost use Rattle.decision_journal.specs.Laws.{behind_letter, is_letter_due};
+ghost use Rattle.decision_journal.specs.Index.{AreBefore};
 ghost use Rattle.decision_journal.specs.Journal.{HasNoStep, IsFilled, IsFresh, IsOther, IsOtherHeader, IsScanFault, IsScanned, IsStep, IsWithin, StandsAt, header, nothing_found};
 
 use crate::found::Index;
@@ -20,7 +21,8 @@ fn step<'a>(
     behind: &'a [u8],
     index: &mut Index,
 ) -> Result<&'a [u8], ReadFault>
-    requires { gate < area_limit }
+    requires within { gate < area_limit }
+    requires behind { AreBefore gate index.old.standing }
     ensures next { IfOk result (λ rest. IsStep gate behind.now index.old index.new rest.now) }
     ensures none { IsErrOf result NoRecord → HasNoStep gate behind.now index.old }
 {

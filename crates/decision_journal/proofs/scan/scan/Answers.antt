@@ -2,6 +2,7 @@ use Rattle.std.proofs.Common.{◌≡◌, ◌-◌, ◌++◌, ℕ, List, length, t
 use Rattle.std.proofs.lemmas.List.{take_all}
 use Rattle.decision_journal.specs.Journal.{header}
 use Rattle.decision_journal.proofs.Scans.{starts, goes_on, behind_first}
+use Rattle.decision_journal.proofs.Below.{before_gate}
 use Rattle.decision_journal.proofs.scan.scan.Goals as goal
 
 pub loop-rest-init : goal.loop-rest-init
@@ -13,3 +14,6 @@ pub loop-rest-preserved : goal.loop-rest-preserved
 loop-rest-preserved c =
     goes_on c.args.service c.args.octets.now c.loop-rest.index c.loop-rest.rest.now c.loop-rest.invariant _ c.in-Ok.after.now c.step.new.index
     (behind_first c.loop-rest.rest.now (length c.loop-rest.rest.now - 1) c.loop-rest.invariant.more c.loop-rest-test.true refl) c.in-Ok.ensures.next
+
+pub step-requires-clause-behind : goal.step-requires-clause-behind
+step-requires-clause-behind c = before_gate c.args.service c.args.octets.now c.loop-rest.index c.loop-rest.rest.now c.loop-rest.invariant

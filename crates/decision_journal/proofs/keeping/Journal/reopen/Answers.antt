@@ -1,4 +1,7 @@
-use Rattle.std.proofs.Common.{◌≡◌, ap, arith, length}
+use Rattle.std.proofs.Common.{◌≡◌, ℕ, ap, sym, subst, arith, length}
+use Rattle.decision_journal.specs.Index.{AreBefore}
+use Rattle.decision_journal.proofs.Below.{before_end}
+use Rattle.decision_journal.proofs.Kept.{within_now}
 use Rattle.decision_journal.proofs.Rereads.{read_safe, read_done, read_unread, read_known, read_doubted, doubted_small, known_small, sound_same, added_at, doubted_same}
 use Rattle.decision_journal.proofs.Begins.{stands_same}
 use Rattle.decision_journal.proofs.keeping.Journal.reopen.Goals as goal
@@ -54,3 +57,9 @@ invariant_of-self-2 g c =
     let gate : c.len.result ≡ length c.self.inside.octets.items = omega (arith, c.len.ensures) in
     read_doubted (g.D.Disk.told c.self.inside.disk) c.self.inside.area c.self.inside.service c.self.inside.octets.items c.self.inside.index c.self.inside.failed c.self.inside.doubted c.self.invariant (g.D.Disk.told c.read_whole.new.disk) c.read_whole.ensures.image c.in-Ok.read.items c.in-Ok.ensures.octets c.in-Ok.ensures.settled _ _ _ doubted
     (added_at c.self.inside.doubted c.add_doubted.new.index c.self.inside.index _ _ gate c.in_ok-add_doubted.ensures.added) c.in_ok-add_doubted.ensures.none
+
+pub add_doubted-requires : goal.add_doubted-requires
+add_doubted-requires g c =
+    let now = within_now (g.D.Disk.told c.self.inside.disk) c.self.inside.area c.self.inside.service c.self.inside.octets.items c.self.inside.index c.self.inside.failed c.self.inside.doubted c.self.invariant in
+    let gate : c.len.result ≡ length c.self.inside.octets.items = omega (arith, c.len.ensures) in
+    subst (λ (n : ℕ). AreBefore n c.self.inside.index.standing) (sym gate) (before_end c.self.inside.service c.self.inside.octets.items c.self.inside.index now.filled)

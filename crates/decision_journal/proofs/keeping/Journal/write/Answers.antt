@@ -3,7 +3,8 @@ use Rattle.std.specs.Prelude.{IsTrue}
 use Rattle.decision_journal.specs.Layout.{record_octets}
 use Rattle.decision_journal.specs.State.{JournalState, used}
 use Rattle.decision_journal.specs.Journal.{can_follow, with_record}
-use Rattle.decision_journal.proofs.Kept.{body_kept, known, no_doubt}
+use Rattle.decision_journal.proofs.Kept.{body_kept, known, no_doubt, within_now}
+use Rattle.decision_journal.proofs.Below.{before_end}
 use Rattle.decision_journal.proofs.Writes.{write_safe, write_done, write_unsure, write_sound}
 use Rattle.decision_journal.proofs.keeping.Journal.write.Goals as goal
 
@@ -81,3 +82,8 @@ returns-clause-more g c =
       failed = refl;
       doubted = no_doubt c.self.inside.failed c.self.inside.octets.items c.self.inside.doubted (g.D.Disk.told c.self.inside.disk) kept c.self.invariant.kept;
     })
+
+pub keep-requires-clause-behind : goal.keep-requires-clause-behind
+keep-requires-clause-behind g c =
+    let now = within_now (g.D.Disk.told c.self.inside.disk) c.self.inside.area c.self.inside.service c.self.inside.octets.items c.self.inside.index c.self.inside.failed c.self.inside.doubted c.self.invariant in
+    before_end c.self.inside.service c.self.inside.octets.items c.self.inside.index now.filled
