@@ -6,3 +6,4 @@ pub mod Requests
 pub mod Contexts
 pub mod Exceptions
 pub mod Answers
+pub mod Sizes

@@ -1,5 +1,5 @@
 -- Each operation is found by its name, and only by its name.
-use Rattle.std.proofs.Common.{◌≡◌, ℕ, ◌&&◌, ◌||◌, Bool, true, false, eqb, List, [], ◌∷◌, Some, refl, sym, subst, arith}
+use Rattle.std.proofs.Common.{◌≡◌, ℕ, ◌&&◌, ◌||◌, Bool, true, false, eqb, List, [], ◌∷◌, length, Option, Some, None, find, refl, sym, subst, ◌∙◌, arith}
 use Rattle.std.specs.List.{list_any}
 use Rattle.std.specs.Str.{bytes_eq}
 use Rattle.std.proofs.lemmas.Bool.{and_parts}
@@ -9,6 +9,7 @@ use Rattle.ots_calls.specs.declared.operation.Handing.TheVariants.{IsSameTransac
 use Rattle.ots_calls.specs.declared.operation.Operation.{Operation}
 use Rattle.ots_calls.specs.declared.operation.Operation.TheVariants.{Bare, Handing, Create, Recreate, CommitTransaction, AfterCompletion, Put, Get, IsA}
 use Rattle.ots_calls.specs.Table.{aware_resource, cells, control, coordinator, any_object, factory, operation_named, operations, recovery_coordinator, resource, serves, synchronization, terminator, word_of}
+use Rattle.ots_calls.specs.TableInside.{of_length}
 use Rattle.ots_calls.specs.Laws.{NamesTellOperations}
 use Rattle.ots_calls.proofs.Steps.{found}
 
@@ -29,49 +30,54 @@ at_each : (kinds : List ℕ) (P : ℕ → Type 0) → OfEach P kinds → (kind :
 at_each [] P all kind h = absurd cc
 at_each (first ∷ kinds) P all kind h = at_first P kind first kinds (eqb kind first) refl all.0 (at_each kinds P all.1 kind) h
 
+-- the operation of that name which objects of this kind have, among those whose names are as long
+abbrev named_by_length : ℕ → List ℕ → Option Operation
+named_by_length kind word = find (λ operation. serves kind operation && bytes_eq word (word_of operation)) (of_length (length word))
+
 -- objects of this kind have the operation by its name
 abbrev Finds : Operation → ℕ → Type 0
-Finds operation kind = operation_named kind (word_of operation) ≡ Some operation
+Finds operation kind = (operation_named kind (word_of operation) ≡ Some operation)
+    × (named_by_length kind (word_of operation) ≡ Some operation)
 
 named : (operation : Operation) (kind : ℕ) → serves kind operation ≡ true → Finds operation kind
 unfolding operation_named
-named Create kind h = at_each factory (Finds Create) (refl, tt) kind h
-named Recreate kind h = at_each factory (Finds Recreate) (refl, tt) kind h
-named (Bare GetTerminator) kind h = at_each control (Finds (Bare GetTerminator)) (refl, tt) kind h
-named (Bare GetCoordinator) kind h = at_each control (Finds (Bare GetCoordinator)) (refl, tt) kind h
-named CommitTransaction kind h = at_each terminator (Finds CommitTransaction) (refl, tt) kind h
-named (Bare RollbackTransaction) kind h = at_each terminator (Finds (Bare RollbackTransaction)) (refl, tt) kind h
-named (Bare GetStatus) kind h = at_each coordinator (Finds (Bare GetStatus)) (refl, tt) kind h
-named (Bare GetParentStatus) kind h = at_each coordinator (Finds (Bare GetParentStatus)) (refl, tt) kind h
-named (Bare GetTopLevelStatus) kind h = at_each coordinator (Finds (Bare GetTopLevelStatus)) (refl, tt) kind h
-named (Handing IsSameTransaction) kind h = at_each coordinator (Finds (Handing IsSameTransaction)) (refl, tt) kind h
-named (Handing IsRelatedTransaction) kind h = at_each coordinator (Finds (Handing IsRelatedTransaction)) (refl, tt) kind h
-named (Handing IsAncestorTransaction) kind h = at_each coordinator (Finds (Handing IsAncestorTransaction)) (refl, tt) kind h
-named (Handing IsDescendantTransaction) kind h = at_each coordinator (Finds (Handing IsDescendantTransaction)) (refl, tt) kind h
-named (Bare IsTopLevelTransaction) kind h = at_each coordinator (Finds (Bare IsTopLevelTransaction)) (refl, tt) kind h
-named (Bare HashTransaction) kind h = at_each coordinator (Finds (Bare HashTransaction)) (refl, tt) kind h
-named (Bare HashTopLevelTran) kind h = at_each coordinator (Finds (Bare HashTopLevelTran)) (refl, tt) kind h
-named (Handing RegisterResource) kind h = at_each coordinator (Finds (Handing RegisterResource)) (refl, tt) kind h
-named (Handing RegisterSynchronization) kind h = at_each coordinator (Finds (Handing RegisterSynchronization)) (refl, tt) kind h
-named (Handing RegisterSubtranAware) kind h = at_each coordinator (Finds (Handing RegisterSubtranAware)) (refl, tt) kind h
-named (Bare RollbackOnly) kind h = at_each coordinator (Finds (Bare RollbackOnly)) (refl, tt) kind h
-named (Bare GetTransactionName) kind h = at_each coordinator (Finds (Bare GetTransactionName)) (refl, tt) kind h
-named (Bare CreateSubtransaction) kind h = at_each coordinator (Finds (Bare CreateSubtransaction)) (refl, tt) kind h
-named (Bare GetTxcontext) kind h = at_each coordinator (Finds (Bare GetTxcontext)) (refl, tt) kind h
-named (Handing ReplayCompletion) kind h = at_each recovery_coordinator (Finds (Handing ReplayCompletion)) (refl, tt) kind h
-named (Bare Prepare) kind h = at_each resource (Finds (Bare Prepare)) (refl, (refl, (refl, tt))) kind h
-named (Bare Rollback) kind h = at_each resource (Finds (Bare Rollback)) (refl, (refl, (refl, tt))) kind h
-named (Bare Commit) kind h = at_each resource (Finds (Bare Commit)) (refl, (refl, (refl, tt))) kind h
-named (Bare CommitOnePhase) kind h = at_each resource (Finds (Bare CommitOnePhase)) (refl, (refl, (refl, tt))) kind h
-named (Bare Forget) kind h = at_each resource (Finds (Bare Forget)) (refl, (refl, (refl, tt))) kind h
-named (Bare BeforeCompletion) kind h = at_each synchronization (Finds (Bare BeforeCompletion)) (refl, tt) kind h
-named AfterCompletion kind h = at_each synchronization (Finds AfterCompletion) (refl, tt) kind h
-named (Handing CommitSubtransaction) kind h = at_each aware_resource (Finds (Handing CommitSubtransaction)) (refl, tt) kind h
-named (Bare RollbackSubtransaction) kind h = at_each aware_resource (Finds (Bare RollbackSubtransaction)) (refl, tt) kind h
-named Put kind h = at_each cells (Finds Put) (refl, tt) kind h
-named Get kind h = at_each cells (Finds Get) (refl, tt) kind h
-named IsA kind h = at_each any_object (Finds IsA) (refl, (refl, (refl, (refl, (refl, (refl, (refl, (refl, (refl, (refl, tt)))))))))) kind h
-named (Bare NonExistent) kind h = at_each any_object (Finds (Bare NonExistent)) (refl, (refl, (refl, (refl, (refl, (refl, (refl, (refl, (refl, (refl, tt)))))))))) kind h
+named Create kind h = at_each factory (Finds Create) ((refl, refl), tt) kind h
+named Recreate kind h = at_each factory (Finds Recreate) ((refl, refl), tt) kind h
+named (Bare GetTerminator) kind h = at_each control (Finds (Bare GetTerminator)) ((refl, refl), tt) kind h
+named (Bare GetCoordinator) kind h = at_each control (Finds (Bare GetCoordinator)) ((refl, refl), tt) kind h
+named CommitTransaction kind h = at_each terminator (Finds CommitTransaction) ((refl, refl), tt) kind h
+named (Bare RollbackTransaction) kind h = at_each terminator (Finds (Bare RollbackTransaction)) ((refl, refl), tt) kind h
+named (Bare GetStatus) kind h = at_each coordinator (Finds (Bare GetStatus)) ((refl, refl), tt) kind h
+named (Bare GetParentStatus) kind h = at_each coordinator (Finds (Bare GetParentStatus)) ((refl, refl), tt) kind h
+named (Bare GetTopLevelStatus) kind h = at_each coordinator (Finds (Bare GetTopLevelStatus)) ((refl, refl), tt) kind h
+named (Handing IsSameTransaction) kind h = at_each coordinator (Finds (Handing IsSameTransaction)) ((refl, refl), tt) kind h
+named (Handing IsRelatedTransaction) kind h = at_each coordinator (Finds (Handing IsRelatedTransaction)) ((refl, refl), tt) kind h
+named (Handing IsAncestorTransaction) kind h = at_each coordinator (Finds (Handing IsAncestorTransaction)) ((refl, refl), tt) kind h
+named (Handing IsDescendantTransaction) kind h = at_each coordinator (Finds (Handing IsDescendantTransaction)) ((refl, refl), tt) kind h
+named (Bare IsTopLevelTransaction) kind h = at_each coordinator (Finds (Bare IsTopLevelTransaction)) ((refl, refl), tt) kind h
+named (Bare HashTransaction) kind h = at_each coordinator (Finds (Bare HashTransaction)) ((refl, refl), tt) kind h
+named (Bare HashTopLevelTran) kind h = at_each coordinator (Finds (Bare HashTopLevelTran)) ((refl, refl), tt) kind h
+named (Handing RegisterResource) kind h = at_each coordinator (Finds (Handing RegisterResource)) ((refl, refl), tt) kind h
+named (Handing RegisterSynchronization) kind h = at_each coordinator (Finds (Handing RegisterSynchronization)) ((refl, refl), tt) kind h
+named (Handing RegisterSubtranAware) kind h = at_each coordinator (Finds (Handing RegisterSubtranAware)) ((refl, refl), tt) kind h
+named (Bare RollbackOnly) kind h = at_each coordinator (Finds (Bare RollbackOnly)) ((refl, refl), tt) kind h
+named (Bare GetTransactionName) kind h = at_each coordinator (Finds (Bare GetTransactionName)) ((refl, refl), tt) kind h
+named (Bare CreateSubtransaction) kind h = at_each coordinator (Finds (Bare CreateSubtransaction)) ((refl, refl), tt) kind h
+named (Bare GetTxcontext) kind h = at_each coordinator (Finds (Bare GetTxcontext)) ((refl, refl), tt) kind h
+named (Handing ReplayCompletion) kind h = at_each recovery_coordinator (Finds (Handing ReplayCompletion)) ((refl, refl), tt) kind h
+named (Bare Prepare) kind h = at_each resource (Finds (Bare Prepare)) ((refl, refl), ((refl, refl), ((refl, refl), tt))) kind h
+named (Bare Rollback) kind h = at_each resource (Finds (Bare Rollback)) ((refl, refl), ((refl, refl), ((refl, refl), tt))) kind h
+named (Bare Commit) kind h = at_each resource (Finds (Bare Commit)) ((refl, refl), ((refl, refl), ((refl, refl), tt))) kind h
+named (Bare CommitOnePhase) kind h = at_each resource (Finds (Bare CommitOnePhase)) ((refl, refl), ((refl, refl), ((refl, refl), tt))) kind h
+named (Bare Forget) kind h = at_each resource (Finds (Bare Forget)) ((refl, refl), ((refl, refl), ((refl, refl), tt))) kind h
+named (Bare BeforeCompletion) kind h = at_each synchronization (Finds (Bare BeforeCompletion)) ((refl, refl), tt) kind h
+named AfterCompletion kind h = at_each synchronization (Finds AfterCompletion) ((refl, refl), tt) kind h
+named (Handing CommitSubtransaction) kind h = at_each aware_resource (Finds (Handing CommitSubtransaction)) ((refl, refl), tt) kind h
+named (Bare RollbackSubtransaction) kind h = at_each aware_resource (Finds (Bare RollbackSubtransaction)) ((refl, refl), tt) kind h
+named Put kind h = at_each cells (Finds Put) ((refl, refl), tt) kind h
+named Get kind h = at_each cells (Finds Get) ((refl, refl), tt) kind h
+named IsA kind h = at_each any_object (Finds IsA) ((refl, refl), ((refl, refl), ((refl, refl), ((refl, refl), ((refl, refl), ((refl, refl), ((refl, refl), ((refl, refl), ((refl, refl), ((refl, refl), tt)))))))))) kind h
+named (Bare NonExistent) kind h = at_each any_object (Finds (Bare NonExistent)) ((refl, refl), ((refl, refl), ((refl, refl), ((refl, refl), ((refl, refl), ((refl, refl), ((refl, refl), ((refl, refl), ((refl, refl), ((refl, refl), tt)))))))))) kind h
 
 pub names_tell : NamesTellOperations
 unfolding operation_named
@@ -79,5 +85,22 @@ names_tell kind word operation = (
   (λ (e : operation_named kind word ≡ Some operation).
       let both = and_parts (serves kind operation) (bytes_eq word (word_of operation)) (found (λ (o : Operation). serves kind o && bytes_eq word (word_of o)) operations operation e) in
       (both.0, (bytes_eq-Decides word (word_of operation)).0 both.1)),
-  (λ h. subst (λ (w : List ℕ). operation_named kind w ≡ Some operation) (sym h.1) (named operation kind h.0)),
+  (λ h. subst (λ (w : List ℕ). operation_named kind w ≡ Some operation) (sym h.1) (named operation kind h.0).0),
 )
+
+-- what is found among those of the same length is found among all
+found_of_few : (kind : ℕ) (word : List ℕ) (operation : Operation) → named_by_length kind word ≡ Some operation → operation_named kind word ≡ Some operation
+found_of_few kind word operation e =
+    let both = and_parts (serves kind operation) (bytes_eq word (word_of operation)) (found (λ (o : Operation). serves kind o && bytes_eq word (word_of o)) (of_length (length word)) operation e) in
+    (names_tell kind word operation).1 (both.0, (bytes_eq-Decides word (word_of operation)).0 both.1)
+
+few_is : (kind : ℕ) (word : List ℕ) (all few : Option Operation) → operation_named kind word ≡ all → named_by_length kind word ≡ few → few ≡ all
+few_is kind word (Some operation) few e f =
+    let told = (names_tell kind word operation).0 e in
+    sym f ∙ subst (λ (w : List ℕ). named_by_length kind w ≡ Some operation) (sym told.1) (named operation kind told.0).1
+few_is kind word None (Some operation) e f = let one = found_of_few kind word operation f in absurd (let no : None ≡ Some operation = sym e ∙ one in cc)
+few_is kind word None None e f = refl
+
+-- an operation is found among those whose names are as long
+pub named_among_few : (kind : ℕ) (word : List ℕ) → find (λ operation. serves kind operation && bytes_eq word (word_of operation)) (of_length (length word)) ≡ operation_named kind word
+named_among_few kind word = few_is kind word (operation_named kind word) (named_by_length kind word) refl refl

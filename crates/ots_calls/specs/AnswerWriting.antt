@@ -1,5 +1,5 @@
 -- The reply with an answer (our profile). It is big endian, with padding 0 and minor code 0, and has no service contexts.
-use Rattle.std.specs.Prelude.{ℕ, List, [], ◌∷◌, length, Option, Some, None, Result, Ok, Err}
+use Rattle.std.specs.Prelude.{◌≡◌, ◌⊎◌, ℕ, List, [], ◌∷◌, length, Option, Some, None, Result, Ok, Err}
 use Rattle.cdr_values.specs.declared.fault.CdrFault.{CdrFault}
 use Rattle.cdr_values.specs.declared.order.Order.TheVariants.{Big}
 use Rattle.cdr_values.specs.Reading.{◌>>=◌}
@@ -8,7 +8,8 @@ use Rattle.cdr_values.specs.Values.{with_values}
 use Rattle.cdr_values.specs.Writing.{Writing, refusal, with_value}
 use Rattle.giop_frames.specs.declared.message.Reply.{Reply}
 use Rattle.ots_context.specs.Writing.{kept_length, with_context}
-use Rattle.ots_calls.specs.Answer.{completed_number, given_values, status_number}
+use Rattle.ots_calls.specs.Answer.{IsOf, completed_number, given_values, status_number}
+use Rattle.ots_calls.specs.Call.{operation_of}
 use Rattle.ots_calls.specs.Exception.{system_id, user_id}
 use Rattle.ots_calls.specs.Fault.{fault_of, fault_of_context, told_as}
 use Rattle.ots_calls.specs.Writing.{blank, unless_refused}
@@ -16,7 +17,9 @@ use Rattle.ots_calls.specs.declared.answer.Answer.{Answer}
 use Rattle.ots_calls.specs.declared.answer.Answer.TheVariants as answers
 use Rattle.ots_calls.specs.declared.answer.Given.{Given}
 use Rattle.ots_calls.specs.declared.answer.Given.TheVariants as given
+use Rattle.ots_calls.specs.declared.call.Call.{Call}
 use Rattle.ots_calls.specs.declared.fault.CallFault.{CallFault}
+use Rattle.ots_calls.specs.declared.fault.CallFault.TheVariants.{BadParam}
 
 -- what comes next, unless a value is refused
 abbrev pub then_unless : {A : Type 0} → Option CdrFault → Result A CallFault → Result A CallFault
@@ -55,6 +58,12 @@ reply_with id answer body = record {
 -- the reply with an answer
 unfoldable pub reply_of : ℕ → Answer → Result Reply CallFault
 reply_of id answer = answer_body answer >>= λ body. Ok (reply_with id answer body)
+
+-- why no reply is written: the answer is none of the call's, or a value of it is refused
+abbrev pub IsUnwritten : CallFault → ℕ → Call → Answer → Type 0
+IsUnwritten fault id call answer =
+    ((fault ≡ BadParam) × ¬ IsOf (operation_of call) answer)
+    ⊎ (IsOf (operation_of call) answer × (reply_of id answer ≡ Err fault))
 
 -- how many octets of no fixed limit were given
 abbrev pub given_length : Answer → ℕ

@@ -1,5 +1,6 @@
 pub mod Limits
 pub mod Table
+pub mod TableInside
 pub mod Fault
 pub mod Call
 pub mod Reading
@@ -10,4 +11,5 @@ pub mod Exception
 pub mod Answer
 pub mod Answering
 pub mod AnswerWriting
+pub mod Heard
 pub mod Laws

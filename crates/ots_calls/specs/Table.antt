@@ -120,21 +120,6 @@ row_of Get = row cells (codes "get") Cell given.Found []
 row_of IsA = row any_object (codes "_is_a") Word given.Flag []
 row_of (Bare NonExistent) = row any_object (codes "_non_existent") Void given.Flag []
 
--- those of every object
-abbrev pub of_objects : List Operation
-of_objects = IsA ∷ Bare NonExistent ∷ []
-
--- those of a coordinator that take a reference
-abbrev pub of_coordinators : List Operation
-of_coordinators =
-    Handing IsSameTransaction ∷ Handing IsRelatedTransaction ∷ Handing IsAncestorTransaction
-    ∷ Handing IsDescendantTransaction ∷ Handing RegisterResource ∷ Handing RegisterSynchronization
-    ∷ Handing RegisterSubtranAware ∷ of_objects
-
--- those of a resource
-abbrev pub of_resources : List Operation
-of_resources = Bare Prepare ∷ Bare Rollback ∷ Bare Commit ∷ Bare CommitOnePhase ∷ Bare Forget ∷ of_objects
-
 -- the operations of the table
 abbrev pub operations : List Operation
 operations =
@@ -143,7 +128,10 @@ operations =
     ∷ Bare RollbackSubtransaction ∷ Bare Prepare ∷ Bare Rollback ∷ Bare Commit ∷ Bare CommitOnePhase ∷ Bare Forget
     ∷ Bare GetStatus ∷ Bare GetParentStatus ∷ Bare GetTopLevelStatus ∷ Bare IsTopLevelTransaction
     ∷ Bare HashTransaction ∷ Bare HashTopLevelTran ∷ Bare RollbackOnly ∷ Bare GetTransactionName
-    ∷ Bare CreateSubtransaction ∷ Bare GetTxcontext ∷ of_coordinators
+    ∷ Bare CreateSubtransaction ∷ Bare GetTxcontext ∷ Handing IsSameTransaction
+    ∷ Handing IsRelatedTransaction ∷ Handing IsAncestorTransaction ∷ Handing IsDescendantTransaction
+    ∷ Handing RegisterResource ∷ Handing RegisterSynchronization ∷ Handing RegisterSubtranAware ∷ IsA
+    ∷ Bare NonExistent ∷ []
 
 -- the name of an operation
 abbrev pub word_of : Operation → List ℕ
@@ -152,10 +140,6 @@ word_of operation = (row_of operation).word
 -- objects with keys of this kind have the operation
 abbrev pub serves : ℕ → Operation → Bool
 serves kind operation = list_any (λ one. kind == one) (row_of operation).kinds
-
--- the operation of that name among these
-abbrev pub named_among : List Operation → List ℕ → Option Operation
-named_among some word = find (λ operation. bytes_eq word (word_of operation)) some
 
 -- the operation of that name which objects of this kind have
 unfoldable pub operation_named : ℕ → List ℕ → Option Operation

@@ -1,5 +1,5 @@
 -- The request of a call, and why there is none (our profile). It is big endian, with padding 0, and a reply is wanted.
-use Rattle.std.specs.Prelude.{ℕ, Bool, not, List, [], ◌∷◌, ◌++◌, length, Option, Some, None, Result, Ok, Err, if◌then◌else◌}
+use Rattle.std.specs.Prelude.{◌≡◌, ℕ, ◌+◌, Bool, not, List, [], ◌∷◌, ◌++◌, length, Option, Some, None, Result, Ok, Err, if◌then◌else◌}
 use Rattle.cdr_values.specs.declared.fault.CdrFault.{CdrFault}
 use Rattle.cdr_values.specs.declared.order.Order.TheVariants.{Big}
 use Rattle.cdr_values.specs.Encapsulation.{begun}
@@ -8,6 +8,9 @@ use Rattle.cdr_values.specs.Tagged.{reference_values}
 use Rattle.cdr_values.specs.Value.{ULongLong, Text}
 use Rattle.cdr_values.specs.Values.{with_values}
 use Rattle.cdr_values.specs.Writing.{Writing, refusal}
+use Rattle.giop_frames.specs.Encode.{octets_in_contexts, refusal_of, size_refusal}
+use Rattle.giop_frames.specs.declared.layout.Version.TheVariants.{V1_2}
+use Rattle.giop_frames.specs.declared.message.Message.{Message}
 use Rattle.giop_frames.specs.declared.message.Request.{Request}
 use Rattle.giop_frames.specs.declared.message.ServiceContext.{ServiceContext}
 use Rattle.giop_frames.specs.declared.message.Target.TheVariants.{Key}
@@ -59,6 +62,10 @@ with_transaction (Some context) contexts =
     told_as fault_of_context (written context)
     >>= λ octets. Ok (contexts ++ service_context transaction_service octets ∷ [])
 
+-- how many octets and members service contexts have together
+abbrev pub size_of_contexts : List ServiceContext → ℕ
+size_of_contexts contexts = length contexts + octets_in_contexts contexts
+
 -- the octets of a retry key
 unfoldable pub retry_octets : RetryKey → List ℕ
 retry_octets key = (with_values (begun Big) (ULongLong key.client ∷ ULongLong key.number ∷ [])).octets
@@ -90,6 +97,10 @@ request_of id c =
     if not (is_kind c.key.kind) then Err BadKey else
     if not (serves c.key.kind (operation_of c.call)) then Err BadOperation else
     (contexts_of c >>= λ contexts. body_of c.call >>= λ body. Ok (request_with id c contexts body))
+
+-- a message of GIOP 1.2, unless it has too many octets: nothing but its size refuses it
+abbrev pub OnlySizeRefuses : Message → Type 0
+OnlySizeRefuses m = refusal_of V1_2 m ≡ size_refusal V1_2 m
 
 -- how many octets of no fixed limit a call hands over
 abbrev pub handed_length : Call → ℕ

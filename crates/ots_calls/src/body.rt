@@ -1,4 +1,5 @@
-ghost use Rattle.std.specs.Prelude.{◌≡◌, ◌^◌, ◌<◌, [], ◌∷◌, IfOk, Ok, IsTrue, length};
+ghost use Rattle.std.specs.Prelude.{◌≡◌, ◌^◌, ◌<◌, ◌≤◌, [], ◌∷◌, IfOk, Ok, IsTrue, length};
+ghost use Rattle.cdr_values.specs.Limits.{output_limit};
 ghost use Rattle.cdr_values.specs.Again.{standing};
 ghost use Rattle.cdr_values.specs.Tagged.{reference_values};
 ghost use Rattle.cdr_values.specs.Value.{Boolean, ULong, ULongLong, Text};
@@ -26,6 +27,7 @@ pub(crate) fn body_of(alloc: Global, call: &Call) -> Result<Octets, CallFault>
     requires { handed_length call.now < 2 ^ 31 }
     ensures exact { Finds (λ octets. octets) result (body_of call.now) }
     ensures body { IfOk result (λ octets. IsBody call.now (standing Big 0 octets)) }
+    ensures short { IfOk result (λ octets. length octets ≤ output_limit) }
 {
     match call {
         Call::Bare(_) => Ok(nothing(alloc)),
@@ -69,6 +71,7 @@ pub(crate) fn status_number(status: Status) -> u32
 pub(crate) fn number_body(alloc: Global, number: u32) -> Result<Octets, CallFault>
     ensures exact { Finds (λ octets. octets) result (Ok (with_values blank (ULong number ∷ [])).octets) }
     ensures left { IfOk result (λ octets. AreLeft (ULong number ∷ []) (standing Big 0 octets)) }
+    ensures short { IfOk result (λ octets. length octets ≤ output_limit) }
 {
     values_are_read_again();
     let mut writer = Writer::new(alloc, Order::Big, 0);
@@ -79,6 +82,7 @@ pub(crate) fn number_body(alloc: Global, number: u32) -> Result<Octets, CallFaul
 pub(crate) fn flag_body(alloc: Global, flag: bool) -> Result<Octets, CallFault>
     ensures exact { Finds (λ octets. octets) result (Ok (with_values blank (Boolean flag ∷ [])).octets) }
     ensures left { IfOk result (λ octets. AreLeft (Boolean flag ∷ []) (standing Big 0 octets)) }
+    ensures short { IfOk result (λ octets. length octets ≤ output_limit) }
 {
     values_are_read_again();
     let mut writer = Writer::new(alloc, Order::Big, 0);
@@ -89,6 +93,7 @@ pub(crate) fn flag_body(alloc: Global, flag: bool) -> Result<Octets, CallFault>
 fn cell_body(alloc: Global, cell: u64) -> Result<Octets, CallFault>
     ensures exact { Finds (λ octets. octets) result (Ok (with_values blank (ULongLong cell ∷ [])).octets) }
     ensures left { IfOk result (λ octets. AreLeft (ULongLong cell ∷ []) (standing Big 0 octets)) }
+    ensures short { IfOk result (λ octets. length octets ≤ output_limit) }
 {
     values_are_read_again();
     let mut writer = Writer::new(alloc, Order::Big, 0);
@@ -100,6 +105,7 @@ fn cell_and_value_body(alloc: Global, cell: u64, value: u64) -> Result<Octets, C
     ensures exact { Finds (λ octets. octets) result
         (Ok (with_values blank (ULongLong cell ∷ ULongLong value ∷ [])).octets) }
     ensures left { IfOk result (λ octets. AreLeft (ULongLong cell ∷ ULongLong value ∷ []) (standing Big 0 octets)) }
+    ensures short { IfOk result (λ octets. length octets ≤ output_limit) }
 {
     values_are_read_again();
     let mut writer = Writer::new(alloc, Order::Big, 0);
@@ -113,6 +119,7 @@ pub(crate) fn text_body(alloc: Global, text: &[u8]) -> Result<Octets, CallFault>
     ensures exact { Finds (λ octets. octets) result
         (unless_refused (refusal blank (Text text.now)) (with_values blank (Text text.now ∷ [])).octets) }
     ensures left { IfOk result (λ octets. AreLeft (Text text.now ∷ []) (standing Big 0 octets)) }
+    ensures short { IfOk result (λ octets. length octets ≤ output_limit) }
 {
     values_are_read_again();
     let mut writer = Writer::new(alloc, Order::Big, 0);
@@ -124,8 +131,9 @@ fn reference_body(alloc: Global, reference: &ObjectRef) -> Result<Octets, CallFa
     ensures exact { Finds (λ octets. octets) result
         (if_object (is_nil reference.now) (with_values blank (reference_values reference.now)).octets) }
     ensures left { IfOk result (λ octets. AreLeft (reference_values reference.now) (standing Big 0 octets)) }
-    ensures short { IfOk result (λ octets. IsTrue (is_short reference.now)) }
+    ensures reference { IfOk result (λ octets. IsTrue (is_short reference.now)) }
     ensures object { IfOk result (λ octets. ¬ (reference.now ≡ nil)) }
+    ensures short { IfOk result (λ octets. length octets ≤ output_limit) }
 {
     if reference.is_nil() {
         return Err(CallFault::BadParam);
@@ -136,7 +144,8 @@ fn reference_body(alloc: Global, reference: &ObjectRef) -> Result<Octets, CallFa
 pub(crate) fn reference_octets(alloc: Global, reference: &ObjectRef) -> Result<Octets, CallFault>
     ensures exact { Finds (λ octets. octets) result (Ok (with_values blank (reference_values reference.now)).octets) }
     ensures left { IfOk result (λ octets. AreLeft (reference_values reference.now) (standing Big 0 octets)) }
-    ensures short { IfOk result (λ octets. IsTrue (is_short reference.now)) }
+    ensures reference { IfOk result (λ octets. IsTrue (is_short reference.now)) }
+    ensures short { IfOk result (λ octets. length octets ≤ output_limit) }
 {
     values_are_read_again();
     let mut writer = Writer::new(alloc, Order::Big, 0);
@@ -148,6 +157,7 @@ pub(crate) fn context_body(alloc: Global, context: &Context) -> Result<Octets, C
     requires { kept_length context.now.tail < 2 ^ 31 }
     ensures exact { Finds (λ octets. octets) result (told_as fault_of_context (with_context blank context.now)) }
     ensures read { IfOk result (λ octets. context_at (standing Big 0 octets) ≡ Ok context.now) }
+    ensures short { IfOk result (λ octets. length octets ≤ output_limit) }
 {
     contexts_are_read_where_written();
     let mut writer = Writer::new(alloc, Order::Big, 0);

@@ -1,17 +1,20 @@
-ghost use Rattle.std.specs.Prelude.{◌≡◌, ◌⊎◌, ◌^◌, ◌<◌, [], ◌∷◌, IfErr, IfOk, Err, Ok, length};
+ghost use Rattle.std.specs.Prelude.{◌≡◌, ◌⊎◌, ◌^◌, ◌<◌, ◌≤◌, [], ◌∷◌, IfErr, IfOk, Ok, length};
 ghost use Rattle.std.specs.Bool.{OnFalse, OnTrue};
 ghost use Rattle.cdr_values.specs.Again.{standing};
+ghost use Rattle.cdr_values.specs.Limits.{output_limit};
 ghost use Rattle.cdr_values.specs.Values.{with_values};
 ghost use Rattle.cdr_values.specs.Value.{Boolean, ULong, ULongLong, Text};
 ghost use Rattle.cdr_values.specs.declared.order.Order.TheVariants.{Big};
+ghost use Rattle.giop_frames.specs.Encode.{octets_in};
+ghost use Rattle.giop_frames.specs.declared.message.Message.TheVariants as messages;
 ghost use Rattle.ots_calls.specs.Answer.{IsAnswer, IsGiven, IsOf, Says, completed_number, vote_number};
 ghost use Rattle.ots_calls.specs.Answering.{answer_with};
-ghost use Rattle.ots_calls.specs.AnswerWriting.{answer_body, given_body, given_length, octets_with, reply_of};
+ghost use Rattle.ots_calls.specs.AnswerWriting.{IsUnwritten, answer_body, given_body, given_length, octets_with, reply_of};
 ghost use Rattle.ots_calls.specs.Call.{AreLeft, operation_of};
 ghost use Rattle.ots_calls.specs.Fault.{Finds};
-ghost use Rattle.ots_calls.specs.Writing.{blank};
+ghost use Rattle.ots_calls.specs.Writing.{OnlySizeRefuses, blank};
 ghost use Rattle.ots_calls.specs.declared.answer.Answer.TheVariants as answers;
-ghost use Rattle.ots_calls.specs.declared.fault.CallFault.TheVariants.{BadParam, Memory};
+ghost use Rattle.ots_calls.specs.declared.fault.CallFault.TheVariants.{Memory};
 
 use crate::answer::{Answer, Completed, Given};
 use crate::body::{
@@ -28,15 +31,16 @@ use std::alloc::Global;
 
 /// The reply to a call with this answer and this request_id. It is big endian. An answer that isn't one of the call's is
 /// refused.
-#[tactic(auto, unfolding(crate::specs::AnswerWriting::reply_of))]
+#[tactic(auto, unfolding(crate::specs::AnswerWriting::reply_of, giop_frames::specs::Encode::refusal_of))]
 pub fn write_answer(alloc: Global, id: u32, c: &Call, a: &Answer) -> Result<Reply, CallFault>
     requires { given_length a.now < 2 ^ 31 }
     ensures exact { IfOk result (λ reply. reply_of id a.now ≡ Ok reply) }
     ensures answer { IfOk result (λ reply. IsAnswer c.now a.now reply) }
     ensures again { IfOk result (λ reply. answer_with c.now reply ≡ Ok a.now) }
     ensures big { IfOk result (λ reply. reply.order ≡ Big) }
-    ensures refused { IfErr result (λ fault. (fault ≡ Memory) ⊎ (((fault ≡ BadParam) × ¬ IsOf (operation_of c.now) a.now)
-        ⊎ (IsOf (operation_of c.now) a.now × (reply_of id a.now ≡ Err fault)))) }
+    ensures short { IfOk result (λ reply. octets_in (messages.Reply reply) < 2 ^ 31) }
+    ensures framed { IfOk result (λ reply. OnlySizeRefuses (messages.Reply reply)) }
+    ensures refused { IfErr result (λ fault. (fault ≡ Memory) ⊎ IsUnwritten fault id c.now a.now) }
 {
     answers_are_read_exactly();
     if !is_of(c.operation(), a) {
@@ -69,6 +73,7 @@ fn answer_body(alloc: Global, answer: &Answer) -> Result<Octets, CallFault>
     requires { given_length answer.now < 2 ^ 31 }
     ensures exact { Finds (λ octets. octets) result (answer_body answer.now) }
     ensures says { IfOk result (λ octets. Says answer.now (standing Big 0 octets)) }
+    ensures short { IfOk result (λ octets. length octets ≤ output_limit) }
 {
     match answer {
         Answer::Plain(given) => given_body(alloc, given),
@@ -82,6 +87,7 @@ fn given_body(alloc: Global, given: &Given) -> Result<Octets, CallFault>
     requires { given_length (answers.Plain given.now) < 2 ^ 31 }
     ensures exact { Finds (λ octets. octets) result (given_body given.now) }
     ensures given { IfOk result (λ octets. IsGiven given.now (standing Big 0 octets)) }
+    ensures short { IfOk result (λ octets. length octets ≤ output_limit) }
 {
     match given {
         Given::Nothing => Ok(nothing(alloc)),
@@ -123,6 +129,7 @@ fn flag_and_value_body(alloc: Global, flag: bool, value: u64) -> Result<Octets, 
     ensures exact { Finds (λ octets. octets) result
         (Ok (with_values blank (Boolean flag ∷ ULongLong value ∷ [])).octets) }
     ensures left { IfOk result (λ octets. AreLeft (Boolean flag ∷ ULongLong value ∷ []) (standing Big 0 octets)) }
+    ensures short { IfOk result (λ octets. length octets ≤ output_limit) }
 {
     values_are_read_again();
     let mut writer = Writer::new(alloc, Order::Big, 0);
@@ -138,6 +145,7 @@ fn system_body(alloc: Global, id: &[u8], completed: Completed) -> Result<Octets,
         (octets_with blank (Text id.now ∷ ULong 0 ∷ ULong (completed_number completed) ∷ [])) }
     ensures left { IfOk result (λ octets.
         AreLeft (Text id.now ∷ ULong 0 ∷ ULong (completed_number completed) ∷ []) (standing Big 0 octets)) }
+    ensures short { IfOk result (λ octets. length octets ≤ output_limit) }
 {
     values_are_read_again();
     let mut writer = Writer::new(alloc, Order::Big, 0);

@@ -129,6 +129,49 @@ const SYSTEM_EXCEPTIONS: [SystemException; 39] = [
     SystemException::ActivityRequired,
 ];
 
+/// Their repository ids, in the order of the variants.
+const SYSTEM_IDS: [&[u8]; 39] = [
+    b"IDL:omg.org/CORBA/UNKNOWN:1.0",
+    b"IDL:omg.org/CORBA/BAD_PARAM:1.0",
+    b"IDL:omg.org/CORBA/NO_MEMORY:1.0",
+    b"IDL:omg.org/CORBA/IMP_LIMIT:1.0",
+    b"IDL:omg.org/CORBA/COMM_FAILURE:1.0",
+    b"IDL:omg.org/CORBA/INV_OBJREF:1.0",
+    b"IDL:omg.org/CORBA/NO_PERMISSION:1.0",
+    b"IDL:omg.org/CORBA/INTERNAL:1.0",
+    b"IDL:omg.org/CORBA/MARSHAL:1.0",
+    b"IDL:omg.org/CORBA/INITIALIZE:1.0",
+    b"IDL:omg.org/CORBA/NO_IMPLEMENT:1.0",
+    b"IDL:omg.org/CORBA/BAD_TYPECODE:1.0",
+    b"IDL:omg.org/CORBA/BAD_OPERATION:1.0",
+    b"IDL:omg.org/CORBA/NO_RESOURCES:1.0",
+    b"IDL:omg.org/CORBA/NO_RESPONSE:1.0",
+    b"IDL:omg.org/CORBA/PERSIST_STORE:1.0",
+    b"IDL:omg.org/CORBA/BAD_INV_ORDER:1.0",
+    b"IDL:omg.org/CORBA/TRANSIENT:1.0",
+    b"IDL:omg.org/CORBA/FREE_MEM:1.0",
+    b"IDL:omg.org/CORBA/INV_IDENT:1.0",
+    b"IDL:omg.org/CORBA/INV_FLAG:1.0",
+    b"IDL:omg.org/CORBA/INTF_REPOS:1.0",
+    b"IDL:omg.org/CORBA/BAD_CONTEXT:1.0",
+    b"IDL:omg.org/CORBA/OBJ_ADAPTER:1.0",
+    b"IDL:omg.org/CORBA/DATA_CONVERSION:1.0",
+    b"IDL:omg.org/CORBA/OBJECT_NOT_EXIST:1.0",
+    b"IDL:omg.org/CORBA/TRANSACTION_REQUIRED:1.0",
+    b"IDL:omg.org/CORBA/TRANSACTION_ROLLEDBACK:1.0",
+    b"IDL:omg.org/CORBA/INVALID_TRANSACTION:1.0",
+    b"IDL:omg.org/CORBA/INV_POLICY:1.0",
+    b"IDL:omg.org/CORBA/CODESET_INCOMPATIBLE:1.0",
+    b"IDL:omg.org/CORBA/REBIND:1.0",
+    b"IDL:omg.org/CORBA/TIMEOUT:1.0",
+    b"IDL:omg.org/CORBA/TRANSACTION_UNAVAILABLE:1.0",
+    b"IDL:omg.org/CORBA/TRANSACTION_MODE:1.0",
+    b"IDL:omg.org/CORBA/BAD_QOS:1.0",
+    b"IDL:omg.org/CORBA/INVALID_ACTIVITY:1.0",
+    b"IDL:omg.org/CORBA/ACTIVITY_COMPLETED:1.0",
+    b"IDL:omg.org/CORBA/ACTIVITY_REQUIRED:1.0",
+];
+
 impl SystemException {
     /// The system exception of this repository id.
     #[tactic(auto, unfolding(crate::specs::Exception::system_named))]
@@ -142,49 +185,7 @@ impl SystemException {
     pub fn id(self) -> &'static [u8]
         ensures { result.now ≡ system_id self }
     {
-        match self {
-            SystemException::Unknown => b"IDL:omg.org/CORBA/UNKNOWN:1.0",
-            SystemException::BadParam => b"IDL:omg.org/CORBA/BAD_PARAM:1.0",
-            SystemException::NoMemory => b"IDL:omg.org/CORBA/NO_MEMORY:1.0",
-            SystemException::ImpLimit => b"IDL:omg.org/CORBA/IMP_LIMIT:1.0",
-            SystemException::CommFailure => b"IDL:omg.org/CORBA/COMM_FAILURE:1.0",
-            SystemException::InvObjref => b"IDL:omg.org/CORBA/INV_OBJREF:1.0",
-            SystemException::NoPermission => b"IDL:omg.org/CORBA/NO_PERMISSION:1.0",
-            SystemException::Internal => b"IDL:omg.org/CORBA/INTERNAL:1.0",
-            SystemException::Marshal => b"IDL:omg.org/CORBA/MARSHAL:1.0",
-            SystemException::Initialize => b"IDL:omg.org/CORBA/INITIALIZE:1.0",
-            SystemException::NoImplement => b"IDL:omg.org/CORBA/NO_IMPLEMENT:1.0",
-            SystemException::BadTypecode => b"IDL:omg.org/CORBA/BAD_TYPECODE:1.0",
-            SystemException::BadOperation => b"IDL:omg.org/CORBA/BAD_OPERATION:1.0",
-            SystemException::NoResources => b"IDL:omg.org/CORBA/NO_RESOURCES:1.0",
-            SystemException::NoResponse => b"IDL:omg.org/CORBA/NO_RESPONSE:1.0",
-            SystemException::PersistStore => b"IDL:omg.org/CORBA/PERSIST_STORE:1.0",
-            SystemException::BadInvOrder => b"IDL:omg.org/CORBA/BAD_INV_ORDER:1.0",
-            SystemException::Transient => b"IDL:omg.org/CORBA/TRANSIENT:1.0",
-            SystemException::FreeMem => b"IDL:omg.org/CORBA/FREE_MEM:1.0",
-            SystemException::InvIdent => b"IDL:omg.org/CORBA/INV_IDENT:1.0",
-            SystemException::InvFlag => b"IDL:omg.org/CORBA/INV_FLAG:1.0",
-            SystemException::IntfRepos => b"IDL:omg.org/CORBA/INTF_REPOS:1.0",
-            SystemException::BadContext => b"IDL:omg.org/CORBA/BAD_CONTEXT:1.0",
-            SystemException::ObjAdapter => b"IDL:omg.org/CORBA/OBJ_ADAPTER:1.0",
-            SystemException::DataConversion => b"IDL:omg.org/CORBA/DATA_CONVERSION:1.0",
-            SystemException::ObjectNotExist => b"IDL:omg.org/CORBA/OBJECT_NOT_EXIST:1.0",
-            SystemException::TransactionRequired => b"IDL:omg.org/CORBA/TRANSACTION_REQUIRED:1.0",
-            SystemException::TransactionRolledBack =>
-                b"IDL:omg.org/CORBA/TRANSACTION_ROLLEDBACK:1.0",
-            SystemException::InvalidTransaction => b"IDL:omg.org/CORBA/INVALID_TRANSACTION:1.0",
-            SystemException::InvPolicy => b"IDL:omg.org/CORBA/INV_POLICY:1.0",
-            SystemException::CodesetIncompatible => b"IDL:omg.org/CORBA/CODESET_INCOMPATIBLE:1.0",
-            SystemException::Rebind => b"IDL:omg.org/CORBA/REBIND:1.0",
-            SystemException::Timeout => b"IDL:omg.org/CORBA/TIMEOUT:1.0",
-            SystemException::TransactionUnavailable =>
-                b"IDL:omg.org/CORBA/TRANSACTION_UNAVAILABLE:1.0",
-            SystemException::TransactionMode => b"IDL:omg.org/CORBA/TRANSACTION_MODE:1.0",
-            SystemException::BadQos => b"IDL:omg.org/CORBA/BAD_QOS:1.0",
-            SystemException::InvalidActivity => b"IDL:omg.org/CORBA/INVALID_ACTIVITY:1.0",
-            SystemException::ActivityCompleted => b"IDL:omg.org/CORBA/ACTIVITY_COMPLETED:1.0",
-            SystemException::ActivityRequired => b"IDL:omg.org/CORBA/ACTIVITY_REQUIRED:1.0",
-        }
+        SYSTEM_IDS[self as usize]
     }
 }
 

@@ -1,33 +1,27 @@
-ghost use Rattle.std.specs.Prelude.{◌≡◌};
+ghost use Rattle.std.specs.Prelude.{◌≡◌, ◌≤◌, ◌&&◌, false, find, length};
+ghost use Rattle.std.specs.Option.{option_copied};
+ghost use Rattle.std.specs.Str.{bytes_eq};
+ghost use Rattle.cdr_values.specs.Value.{has_nul};
 ghost use Rattle.ots_calls.specs.declared.operation.Operation.TheVariants as operations;
-ghost use Rattle.ots_calls.specs.Table.{named_among, of_coordinators, of_objects, of_resources, operation_named, row_of, serves, word_of};
+ghost use Rattle.ots_calls.specs.Table.{operation_named, row_of, serves, word_of};
+ghost use Rattle.ots_calls.specs.TableInside.{of_length, of_long_name, of_middle_name, of_short_name};
 
 use crate::operation::{Bare, Handing, Operation};
 
 impl Operation {
-    /// The operation of this name that objects have whose keys are of this kind. Only the names of one interface are
+    /// The operation of this name that objects have whose keys are of this kind. Only names of the same length are
     /// looked at.
-    #[tactic(auto, unfolding(crate::specs::Table::operation_named))]
     pub fn named(kind: u8, word: &[u8]) -> Option<Operation>
         ensures { result ≡ operation_named kind word.now }
     {
-        match kind {
-            b'F' => of_factory(word),
-            b'C' => of_control(word),
-            b'T' => of_terminator(word),
-            b'K' => of_coordinator(word),
-            b'V' => of_recovery_coordinator(word),
-            b'R' | b'U' => of_resource(word),
-            b'Y' => of_synchronization(word),
-            b'A' => of_aware_resource(word),
-            b'D' => of_cells(word),
-            _ => None,
-        }
+        named_among(of_length(word.len()), kind, word).copied()
     }
 
     /// Its name.
     pub fn word(self) -> &'static [u8]
-        ensures { result.now ≡ word_of self }
+        ensures name { result.now ≡ word_of self }
+        ensures short { length result.now ≤ 25 }
+        ensures plain { has_nul result.now ≡ false }
     {
         match self {
             Operation::Bare(bare) => bare_word(bare),
@@ -62,6 +56,13 @@ impl Operation {
         ensures { result ≡ serves kind self }
     {
         self.kinds().contains(&kind)
+    }
+
+    /// Whether objects have it by this name whose keys are of this kind.
+    fn is_named(self, kind: u8, word: &[u8]) -> bool
+        ensures { result ≡ (serves kind self && bytes_eq word.now (word_of self)) }
+    {
+        self.serves(kind) && word == self.word()
     }
 }
 
@@ -106,7 +107,9 @@ fn handing_kinds(handing: Handing) -> &'static [u8]
 }
 
 fn bare_word(bare: Bare) -> &'static [u8]
-    ensures { result.now ≡ word_of (operations.Bare bare) }
+    ensures name { result.now ≡ word_of (operations.Bare bare) }
+    ensures short { length result.now ≤ 25 }
+    ensures plain { has_nul result.now ≡ false }
 {
     match bare {
         Bare::GetTerminator => b"get_terminator",
@@ -134,7 +137,9 @@ fn bare_word(bare: Bare) -> &'static [u8]
 }
 
 fn handing_word(handing: Handing) -> &'static [u8]
-    ensures { result.now ≡ word_of (operations.Handing handing) }
+    ensures name { result.now ≡ word_of (operations.Handing handing) }
+    ensures short { length result.now ≤ 25 }
+    ensures plain { has_nul result.now ≡ false }
 {
     match handing {
         Handing::IsSameTransaction => b"is_same_transaction",
@@ -149,188 +154,107 @@ fn handing_word(handing: Handing) -> &'static [u8]
     }
 }
 
-// An operation of a factory.
-#[tactic(auto, unfolding(crate::specs::Table::operation_named))]
-fn of_factory(word: &[u8]) -> Option<Operation>
-    ensures { result ≡ operation_named 70 word.now }
+/// The operation of this name that objects with keys of this kind have, among these.
+fn named_among<'a>(some: &'a [Operation], kind: u8, word: &[u8]) -> Option<&'a Operation>
+    ensures { option_copied result ≡ find (λ one. serves kind one && bytes_eq word.now (word_of one)) some.now }
 {
-    if word == b"create".as_slice() {
-        Some(Operation::Create)
-    } else if word == b"recreate".as_slice() {
-        Some(Operation::Recreate)
+    some.iter().find(|one| one.is_named(kind, word))
+}
+
+/// The operations whose names have so many octets, at most four.
+fn of_length(length: usize) -> &'static [Operation]
+    ensures { result.now ≡ of_length length }
+{
+    if length <= 13 {
+        of_short_name(length)
+    } else if length <= 19 {
+        of_middle_name(length)
     } else {
-        of_object(word)
+        of_long_name(length)
     }
 }
 
-// An operation of a control.
-#[tactic(auto, unfolding(crate::specs::Table::operation_named))]
-fn of_control(word: &[u8]) -> Option<Operation>
-    ensures { result ≡ operation_named 67 word.now }
+/// Those of at most 13 octets.
+fn of_short_name(length: usize) -> &'static [Operation]
+    ensures { result.now ≡ of_short_name length }
 {
-    if word == b"get_terminator".as_slice() {
-        Some(Operation::Bare(Bare::GetTerminator))
-    } else if word == b"get_coordinator".as_slice() {
-        Some(Operation::Bare(Bare::GetCoordinator))
-    } else {
-        of_object(word)
+    match length {
+        3 => &[Operation::Put, Operation::Get],
+        5 => &[Operation::IsA],
+        6 => &[
+            Operation::Create,
+            Operation::CommitTransaction,
+            Operation::Bare(Bare::Commit),
+            Operation::Bare(Bare::Forget),
+        ],
+        7 => &[Operation::Bare(Bare::Prepare)],
+        8 => &[
+            Operation::Recreate,
+            Operation::Bare(Bare::RollbackTransaction),
+            Operation::Bare(Bare::Rollback),
+        ],
+        10 => &[Operation::Bare(Bare::GetStatus)],
+        13 => &[
+            Operation::Bare(Bare::RollbackOnly),
+            Operation::Bare(Bare::GetTxcontext),
+            Operation::Bare(Bare::NonExistent),
+        ],
+        _ => &[],
     }
 }
 
-// An operation of a terminator.
-#[tactic(auto, unfolding(crate::specs::Table::operation_named))]
-fn of_terminator(word: &[u8]) -> Option<Operation>
-    ensures { result ≡ operation_named 84 word.now }
+/// Those of 14 to 19 octets.
+fn of_middle_name(length: usize) -> &'static [Operation]
+    ensures { result.now ≡ of_middle_name length }
 {
-    if word == b"commit".as_slice() {
-        Some(Operation::CommitTransaction)
-    } else if word == b"rollback".as_slice() {
-        Some(Operation::Bare(Bare::RollbackTransaction))
-    } else {
-        of_object(word)
+    match length {
+        14 => &[Operation::Bare(Bare::GetTerminator)],
+        15 => &[Operation::Bare(Bare::GetCoordinator)],
+        16 => &[
+            Operation::Bare(Bare::HashTransaction),
+            Operation::Bare(Bare::CommitOnePhase),
+            Operation::AfterCompletion,
+        ],
+        17 => &[
+            Operation::Bare(Bare::GetParentStatus),
+            Operation::Handing(Handing::RegisterResource),
+            Operation::Handing(Handing::ReplayCompletion),
+            Operation::Bare(Bare::BeforeCompletion),
+        ],
+        19 => &[
+            Operation::Handing(Handing::IsSameTransaction),
+            Operation::Bare(Bare::HashTopLevelTran),
+        ],
+        _ => &[],
     }
 }
 
-// An operation of a recovery coordinator.
-#[tactic(auto, unfolding(crate::specs::Table::operation_named))]
-fn of_recovery_coordinator(word: &[u8]) -> Option<Operation>
-    ensures { result ≡ operation_named 86 word.now }
+/// Those of 20 octets and more.
+fn of_long_name(length: usize) -> &'static [Operation]
+    ensures { result.now ≡ of_long_name length }
 {
-    if word == b"replay_completion".as_slice() {
-        Some(Operation::Handing(Handing::ReplayCompletion))
-    } else {
-        of_object(word)
-    }
-}
-
-// An operation of a synchronization.
-#[tactic(auto, unfolding(crate::specs::Table::operation_named))]
-fn of_synchronization(word: &[u8]) -> Option<Operation>
-    ensures { result ≡ operation_named 89 word.now }
-{
-    if word == b"before_completion".as_slice() {
-        Some(Operation::Bare(Bare::BeforeCompletion))
-    } else if word == b"after_completion".as_slice() {
-        Some(Operation::AfterCompletion)
-    } else {
-        of_object(word)
-    }
-}
-
-// An operation of the cells.
-#[tactic(auto, unfolding(crate::specs::Table::operation_named))]
-fn of_cells(word: &[u8]) -> Option<Operation>
-    ensures { result ≡ operation_named 68 word.now }
-{
-    if word == b"put".as_slice() {
-        Some(Operation::Put)
-    } else if word == b"get".as_slice() {
-        Some(Operation::Get)
-    } else {
-        of_object(word)
-    }
-}
-
-// An operation of a resource that is aware of subtransactions.
-#[tactic(auto, unfolding(crate::specs::Table::operation_named))]
-fn of_aware_resource(word: &[u8]) -> Option<Operation>
-    ensures { result ≡ operation_named 65 word.now }
-{
-    if word == b"commit_subtransaction".as_slice() {
-        Some(Operation::Handing(Handing::CommitSubtransaction))
-    } else if word == b"rollback_subtransaction".as_slice() {
-        Some(Operation::Bare(Bare::RollbackSubtransaction))
-    } else {
-        of_resource(word)
-    }
-}
-
-// An operation of a resource, or of that of a subordinate.
-#[tactic(auto, unfolding(crate::specs::Table::operation_named))]
-fn of_resource(word: &[u8]) -> Option<Operation>
-    ensures resource { result ≡ operation_named 82 word.now }
-    ensures subordinate { result ≡ operation_named 85 word.now }
-    ensures among { result ≡ named_among of_resources word.now }
-{
-    if word == b"prepare".as_slice() {
-        Some(Operation::Bare(Bare::Prepare))
-    } else if word == b"rollback".as_slice() {
-        Some(Operation::Bare(Bare::Rollback))
-    } else if word == b"commit".as_slice() {
-        Some(Operation::Bare(Bare::Commit))
-    } else if word == b"commit_one_phase".as_slice() {
-        Some(Operation::Bare(Bare::CommitOnePhase))
-    } else if word == b"forget".as_slice() {
-        Some(Operation::Bare(Bare::Forget))
-    } else {
-        of_object(word)
-    }
-}
-
-// An operation of a coordinator.
-#[tactic(auto, unfolding(crate::specs::Table::operation_named))]
-fn of_coordinator(word: &[u8]) -> Option<Operation>
-    ensures { result ≡ operation_named 75 word.now }
-{
-    if word == b"get_status".as_slice() {
-        Some(Operation::Bare(Bare::GetStatus))
-    } else if word == b"get_parent_status".as_slice() {
-        Some(Operation::Bare(Bare::GetParentStatus))
-    } else if word == b"get_top_level_status".as_slice() {
-        Some(Operation::Bare(Bare::GetTopLevelStatus))
-    } else if word == b"is_top_level_transaction".as_slice() {
-        Some(Operation::Bare(Bare::IsTopLevelTransaction))
-    } else if word == b"hash_transaction".as_slice() {
-        Some(Operation::Bare(Bare::HashTransaction))
-    } else if word == b"hash_top_level_tran".as_slice() {
-        Some(Operation::Bare(Bare::HashTopLevelTran))
-    } else if word == b"rollback_only".as_slice() {
-        Some(Operation::Bare(Bare::RollbackOnly))
-    } else if word == b"get_transaction_name".as_slice() {
-        Some(Operation::Bare(Bare::GetTransactionName))
-    } else if word == b"create_subtransaction".as_slice() {
-        Some(Operation::Bare(Bare::CreateSubtransaction))
-    } else if word == b"get_txcontext".as_slice() {
-        Some(Operation::Bare(Bare::GetTxcontext))
-    } else {
-        taking_reference(word)
-    }
-}
-
-// An operation of a coordinator that takes a reference, or one of every object.
-#[tactic(auto, unfolding(crate::specs::Table::operation_named))]
-fn taking_reference(word: &[u8]) -> Option<Operation>
-    ensures { result ≡ named_among of_coordinators word.now }
-{
-    if word == b"is_same_transaction".as_slice() {
-        Some(Operation::Handing(Handing::IsSameTransaction))
-    } else if word == b"is_related_transaction".as_slice() {
-        Some(Operation::Handing(Handing::IsRelatedTransaction))
-    } else if word == b"is_ancestor_transaction".as_slice() {
-        Some(Operation::Handing(Handing::IsAncestorTransaction))
-    } else if word == b"is_descendant_transaction".as_slice() {
-        Some(Operation::Handing(Handing::IsDescendantTransaction))
-    } else if word == b"register_resource".as_slice() {
-        Some(Operation::Handing(Handing::RegisterResource))
-    } else if word == b"register_synchronization".as_slice() {
-        Some(Operation::Handing(Handing::RegisterSynchronization))
-    } else if word == b"register_subtran_aware".as_slice() {
-        Some(Operation::Handing(Handing::RegisterSubtranAware))
-    } else {
-        of_object(word)
-    }
-}
-
-// An operation of every object.
-#[tactic(auto, unfolding(crate::specs::Table::operation_named))]
-fn of_object(word: &[u8]) -> Option<Operation>
-    ensures { result ≡ named_among of_objects word.now }
-{
-    if word == b"_is_a".as_slice() {
-        Some(Operation::IsA)
-    } else if word == b"_non_existent".as_slice() {
-        Some(Operation::Bare(Bare::NonExistent))
-    } else {
-        None
+    match length {
+        20 => &[
+            Operation::Bare(Bare::GetTopLevelStatus),
+            Operation::Bare(Bare::GetTransactionName),
+        ],
+        21 => &[
+            Operation::Bare(Bare::CreateSubtransaction),
+            Operation::Handing(Handing::CommitSubtransaction),
+        ],
+        22 => &[
+            Operation::Handing(Handing::IsRelatedTransaction),
+            Operation::Handing(Handing::RegisterSubtranAware),
+        ],
+        23 => &[
+            Operation::Handing(Handing::IsAncestorTransaction),
+            Operation::Bare(Bare::RollbackSubtransaction),
+        ],
+        24 => &[
+            Operation::Bare(Bare::IsTopLevelTransaction),
+            Operation::Handing(Handing::RegisterSynchronization),
+        ],
+        25 => &[Operation::Handing(Handing::IsDescendantTransaction)],
+        _ => &[],
     }
 }

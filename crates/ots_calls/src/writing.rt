@@ -1,12 +1,15 @@
-ghost use Rattle.std.specs.Prelude.{◌≡◌, ◌^◌, ◌<◌, ◌++◌, [], ◌∷◌, IfOk, OnOk, None, Ok};
+ghost use Rattle.std.specs.Prelude.{◌≡◌, ◌+◌, ◌*◌, ◌^◌, ◌<◌, ◌≤◌, ◌++◌, [], ◌∷◌, IfOk, OnOk, None, Ok, length};
+ghost use Rattle.cdr_values.specs.Limits.{output_limit};
 ghost use Rattle.cdr_values.specs.declared.order.Order.TheVariants.{Big};
+ghost use Rattle.giop_frames.specs.Encode.{octets_in};
+ghost use Rattle.giop_frames.specs.declared.message.Message.TheVariants as messages;
 ghost use Rattle.ots_context.specs.Context.{IsContext};
 ghost use Rattle.ots_context.specs.Finding.{first_context};
 ghost use Rattle.ots_context.specs.Writing.{kept_length};
 ghost use Rattle.ots_calls.specs.Fault.{Finds};
 ghost use Rattle.ots_calls.specs.Request.{AreBoth, IsCall, called_with};
 ghost use Rattle.ots_calls.specs.Retry.{IsRetry, first_retry};
-ghost use Rattle.ots_calls.specs.Writing.{carried_length, contexts_of, handed_length, request_of, retry_octets, with_retry, with_transaction};
+ghost use Rattle.ots_calls.specs.Writing.{carried_length, contexts_of, handed_length, request_of, retry_octets, size_of_contexts, with_retry, with_transaction};
 
 use crate::body::body_of;
 use crate::call::Called;
@@ -27,7 +30,7 @@ const KINDS: &[u8; 10] = b"FCTKVRUYAD";
 const TRANSACTION_SERVICE: u32 = 0;
 
 /// The request of a call, with this request_id. It is big endian, and a reply is wanted.
-#[tactic(auto, unfolding(crate::specs::Writing::request_of))]
+#[tactic(auto, using(crate::proofs::Sizes::key_length), unfolding(crate::specs::Writing::request_of))]
 pub fn write_call(alloc: Global, id: u32, c: &Called) -> Result<Request, CallFault>
     requires call { handed_length c.now.call < 2 ^ 31 }
     requires context { carried_length c.now.context < 2 ^ 31 }
@@ -35,6 +38,7 @@ pub fn write_call(alloc: Global, id: u32, c: &Called) -> Result<Request, CallFau
     ensures call { IfOk result (λ request. IsCall c.now request) }
     ensures again { IfOk result (λ request. called_with c.now.key request ≡ Ok c.now) }
     ensures big { IfOk result (λ request. request.order ≡ Big) }
+    ensures short { IfOk result (λ request. octets_in (messages.Request request) < 2 ^ 31) }
 {
     requests_are_read_exactly();
     let operation = c.call.operation();
@@ -64,6 +68,7 @@ fn contexts_of(alloc: Global, c: &Called) -> Result<Contexts, CallFault>
     ensures exact { Finds (λ contexts. contexts) result (contexts_of c.now) }
     ensures transaction { IfOk result (λ contexts. AreBoth IsContext c.now.context (first_context contexts)) }
     ensures retry { IfOk result (λ contexts. AreBoth IsRetry c.now.retry (first_retry contexts)) }
+    ensures short { IfOk result (λ contexts. size_of_contexts contexts ≤ 2 + 2 * output_limit) }
 {
     let mut contexts = Vec::new(alloc);
     push_transaction(alloc, &c.context, &mut contexts)?;
@@ -72,6 +77,7 @@ fn contexts_of(alloc: Global, c: &Called) -> Result<Contexts, CallFault>
 }
 
 /// Adds the service context of a transaction, where there is one.
+#[tactic(auto, using(crate::proofs::Sizes::size_more))]
 fn push_transaction(
     alloc: Global,
     context: &Option<Context>,
@@ -82,6 +88,7 @@ fn push_transaction(
     ensures exact { Finds (λ nothing. contexts.new.items) result (with_transaction context.now contexts.old.items) }
     ensures transaction { OnOk result (AreBoth IsContext context.now (first_context contexts.new.items)) }
     ensures retry { OnOk result (first_retry contexts.new.items ≡ None) }
+    ensures short { OnOk result (size_of_contexts contexts.new.items ≤ 1 + output_limit) }
 {
     if let Some(context) = context {
         let bytes = encode_context(alloc, context)?;
@@ -94,6 +101,7 @@ fn push_transaction(
 }
 
 /// Adds the service context of a retry key, where there is one.
+#[tactic(auto, using(crate::proofs::Sizes::size_more))]
 fn push_retry(
     alloc: Global,
     key: Option<RetryKey>,
@@ -103,6 +111,8 @@ fn push_retry(
     ensures exact { Finds (λ nothing. contexts.new.items) result (Ok (with_retry key contexts.old.items)) }
     ensures transaction { OnOk result (first_context contexts.new.items ≡ first_context contexts.old.items) }
     ensures retry { OnOk result (AreBoth IsRetry key (first_retry contexts.new.items)) }
+    ensures short { OnOk result
+        (size_of_contexts contexts.new.items ≤ size_of_contexts contexts.old.items + (1 + output_limit)) }
 {
     if let Some(key) = key {
         let bytes = retry_octets(alloc, key.client, key.number)?;
@@ -119,6 +129,7 @@ fn push_retry(
 fn retry_octets(alloc: Global, client: u64, number: u64) -> Result<Octets, CallFault>
     ensures exact { Finds (λ octets. octets) result (Ok (retry_octets (record { client = client; number = number }))) }
     ensures retry { IfOk result (λ octets. IsRetry (record { client = client; number = number }) octets) }
+    ensures short { IfOk result (λ octets. length octets ≤ output_limit) }
 {
     encapsulations_are_read_again();
     let mut writer = Writer::encapsulation(alloc, Order::Big)?;
