@@ -91,9 +91,9 @@ order_again Big = refl
 order_again Little = refl
 
 -- the flags tell that nothing follows
-no_more : (order : Order) → more_of_flags (flags_of order) ≡ false
-no_more Big = refl
-no_more Little = refl
+no_more : (version : Version) (order : Order) → more_of_flags version (flags_of order) ≡ false
+no_more V1_2 Big = refl
+no_more V1_2 Little = refl
 
 -- the header of a message that isn't fragmented
 abbrev header_for : Version → Message → Header
@@ -107,7 +107,7 @@ part law version m short = record {
   size = octets_of (order_of m) 4 (length (content_of version m));
   parts = refl;
   order_bit = order_again (order_of m);
-  more_bit = no_more (order_of m);
+  more_bit = no_more version (order_of m);
   sized = number_spells law (order_of m) (length (content_of version m)) (omega (arith, short));
   counted = refl;
   few = short;
@@ -204,11 +204,12 @@ content_is law version m none plain = record {
 }
 
 -- what is written for a message that is not refused is that message
-pub spelled : CanonicalSpells → (version : Version) (m : Message) → refusal_of version m ≡ None → ArePlain (values_of version m) → IsMessage m (spelling version m)
+pub spelled : CanonicalSpells → (version : Version) (m : Message) → refusal_of version m ≡ None → ArePlain (values_of version m) → IsMessage (version ∷ []) m (spelling version m)
 spelled law version m none plain = record {
   header = header_for version m;
   content = content_of version m;
   part = part law version m (size_is_small version m none);
+  admitted = (0, omega arith, refl);
   whole = refl;
   kind = refl;
   is_content = content_is law version m none plain;

@@ -1,8 +1,8 @@
 -- What stands in front of octets stands there too where more octets follow, and a fault that is found there stays found.
-use Rattle.std.proofs.Common.{◌≡◌, ℕ, zero, suc, ◌+◌, ◌<◌, ◌≤◌, ◌⊎◌, inl, inr, ⊎_elim, Bool, true, false, cond, not, nat_eq, ltb, List, [], ◌∷◌, ◌++◌, length, get_or, take, drop, Result, Ok, Err, refl, sym, ap, ◌∙◌, append_assoc, arith}
-use Rattle.std.specs.Prelude.{◌≢◌, ◌&&◌, ◌||◌, slice_index, IfErr}
+use Rattle.std.proofs.Common.{◌≡◌, ℕ, zero, suc, ◌+◌, ◌<◌, ◌≤◌, ◌⊎◌, inl, inr, ⊎_elim, Bool, true, false, cond, not, nat_eq, ltb, List, [], ◌∷◌, ◌++◌, length, get_or, take, drop, Option, Some, None, Result, Ok, Err, refl, sym, ap, ◌∙◌, append_assoc, arith}
+use Rattle.std.specs.Prelude.{◌≢◌, ◌||◌, slice_index, IfErr}
 use Rattle.std.specs.List.{starts_with}
-use Rattle.std.proofs.lemmas.Bool.{ltb-true, ltb-false, le-ltb, cases_lt}
+use Rattle.std.proofs.lemmas.Bool.{ltb-true, ltb-false, le-ltb, lt-ltb, cases_lt}
 use Rattle.std.proofs.lemmas.Bool.Decides.{Decides-eqb}
 use Rattle.std.proofs.lemmas.List.{take_at, drop_at, drop-append-le, take-append-le, get_or_append_left, get_or_past, length-append, length-take, length-drop}
 use Rattle.std.proofs.lemmas.Slice.Eq.{starts_is}
@@ -12,14 +12,13 @@ use Rattle.giop_frames.specs.declared.fault.FrameFault.TheVariants.{BadMagic, Ba
 use Rattle.giop_frames.specs.declared.fault.FrameFault.TheVariants as faults
 use Rattle.giop_frames.specs.declared.header.Header.{Header}
 use Rattle.giop_frames.specs.declared.layout.Version.{Version}
-use Rattle.giop_frames.specs.declared.layout.Version.TheVariants.{V1_2}
 use Rattle.giop_frames.specs.declared.message.Message.{Message}
 use Rattle.giop_frames.specs.Fault.{Fails, Finds}
-use Rattle.giop_frames.specs.Header.{magic, version_octets, type_octet, is_fragment, header_at}
+use Rattle.giop_frames.specs.Header.{magic, version_at, version_octets, type_octet, is_fragment, header_at, header_of}
 use Rattle.giop_frames.specs.Decode.{IsRefusedForGood, decoded}
-use Rattle.giop_frames.specs.Stream.{Part, IsStreamPart, may_go_on, part_at, part_header_at}
+use Rattle.giop_frames.specs.Stream.{Part, IsStreamPart, may_be_part, part_at, part_header_at}
 use Rattle.giop_frames.proofs.Given.{guard_ok}
-use Rattle.giop_frames.proofs.Headers.{known_only}
+use Rattle.giop_frames.proofs.Headers.{header_long, header_only}
 use Rattle.giop_frames.proofs.Holding.{part_found}
 
 -- ---- faults of steps
@@ -44,15 +43,10 @@ bind_err {A} {B} (Err d) f fault e = inl (ap (failed {A = A}) (err_is {A = B} d 
 
 -- ---- a part that stands in front
 
--- nothing is wrong with a part that goes on where it may
-no_fault : (more may : Bool) → (more ≡ true → may ≡ true) → (more && not may) ≡ false
-no_fault true may h = rw (h refl) refl
-no_fault false may h = refl
-
 -- a part is found, whatever follows it
-pub part_only : (p : Part) (octets rest : List ℕ) → IsStreamPart p octets → part_at (octets ++ rest) ≡ Ok (p, rest)
+pub part_only : (versions : List Version) → (p : Part) (octets rest : List ℕ) → IsStreamPart versions p octets → part_at versions (octets ++ rest) ≡ Ok (p, rest)
 unfolding part_at part_header_at
-part_only p octets rest is =
+part_only versions p octets rest is =
     let h = p.header in
     let w = is.part in
     let front : List ℕ = magic ++ (version_octets h.version ++ (w.flags ∷ type_octet h.kind ∷ w.size)) in
@@ -61,13 +55,13 @@ part_only p octets rest is =
     let behind : octets ++ rest ≡ front ++ (p.content ++ rest) = ap (λ (x : List ℕ). x ++ rest) w.parts ∙ append_assoc front p.content rest in
     let content : take h.size (drop 12 (octets ++ rest)) ≡ p.content = ap (λ (x : List ℕ). take h.size (drop 12 x)) behind ∙ ap (take h.size) (drop_at front (p.content ++ rest) 12 size) ∙ take_at p.content rest h.size w.counted in
     let long : ltb (length (octets ++ rest)) (12 + h.size) ≡ false = le-ltb _ _ (omega (arith, all, length-append octets rest)) in
-    rw (known_only h p.content octets rest w, no_fault h.more (may_go_on h) is.goes_on, long, content, drop_at octets rest (12 + h.size) all) refl
+    rw (header_only versions h p.content octets rest is.admitted w, is.may_be, long, content, drop_at octets rest (12 + h.size) all) refl
 
 -- a part that is found is found with more octets too
-pub part_stays : (octets more : List ℕ) (p : Part) (rest : List ℕ) → part_at octets ≡ Ok (p, rest) → part_at (octets ++ more) ≡ Ok (p, rest ++ more)
-part_stays octets more p rest e =
-    let f = part_found octets p rest e in
-    ap part_at (ap (λ (x : List ℕ). x ++ more) f.parts ∙ append_assoc f.front rest more) ∙ part_only p f.front (rest ++ more) f.is_part
+pub part_stays : (versions : List Version) → (octets more : List ℕ) (p : Part) (rest : List ℕ) → part_at versions octets ≡ Ok (p, rest) → part_at versions (octets ++ more) ≡ Ok (p, rest ++ more)
+part_stays versions octets more p rest e =
+    let f = part_found versions octets p rest e in
+    ap (part_at versions) (ap (λ (x : List ℕ). x ++ more) f.parts ∙ append_assoc f.front rest more) ∙ part_only versions p f.front (rest ++ more) f.is_part
 
 -- ---- tests of the octets in front
 
@@ -89,11 +83,6 @@ lacks_more mark octets more =
     later (starts_with nat_eq mark octets) (starts_with nat_eq mark all) (λ e.
     let split : mark ≡ all ++ past = (starts_is Decides-eqb mark all (starts_with nat_eq mark all) refl).0 e in
     (starts_is Decides-eqb mark octets (starts_with nat_eq mark octets) refl).1 (more ++ past) (split ∙ append_assoc octets more past))
-
--- no mark is lacking where there are no octets
-lacks_some : (mark octets : List ℕ) → lacks mark octets ≡ true → 0 < length octets
-lacks_some mark [] e = absurd cc
-lacks_some mark (x ∷ xs) e = omega arith
 
 -- of the first n octets none goes
 take_more : (n : ℕ) (octets more : List ℕ) → (further : List ℕ) × (take n (octets ++ more) ≡ take n octets ++ further)
@@ -118,82 +107,103 @@ slice_same : (i n : ℕ) (octets more : List ℕ) → i + n ≤ length octets �
 slice_same i n octets more long = ap (take n) (drop-append-le i octets more (omega arith)) ∙ take-append-le n (drop i octets) more (omega (arith, length-drop i octets))
 
 -- twelve octets tell the header
-header_same : (version : Version) (octets more : List ℕ) → 12 ≤ length octets → header_at version (octets ++ more) ≡ header_at version octets
-unfolding header_at
-header_same version octets more long =
-    let first : take 4 (octets ++ more) ≡ take 4 octets = take-append-le 4 octets more (omega arith) in
-    let second : take 2 (drop 4 (octets ++ more)) ≡ take 2 (drop 4 octets) = slice_same 4 2 octets more (omega arith) in
+header_of_same : (found : Option Version) (octets more : List ℕ) → 12 ≤ length octets → header_of found (octets ++ more) ≡ header_of found octets
+header_of_same None octets more long = rw (lt-ltb 4 (length (octets ++ more)) (omega (arith, long, length-append octets more)), lt-ltb 4 (length octets) (omega (arith, long))) refl
+header_of_same (Some version) octets more long =
     let flags : slice_index (octets ++ more) 6 ≡ slice_index octets 6 = get_or_append_left octets more 0 6 (omega arith) in
     let kind : slice_index (octets ++ more) 7 ≡ slice_index octets 7 = get_or_append_left octets more 0 7 (omega arith) in
     let size : take 4 (drop 8 (octets ++ more)) ≡ take 4 (drop 8 octets) = slice_same 8 4 octets more (omega arith) in
     let all : ltb (length (octets ++ more)) 12 ≡ false = le-ltb _ _ (omega (arith, long, length-append octets more)) in
-    rw (first, second, flags, kind, size, all, le-ltb (length octets) 12 long) refl
+    rw (flags, kind, size, all, le-ltb (length octets) 12 long) refl
 
--- a header that is found has twelve octets
-header_long : (version : Version) (octets : List ℕ) (h : Header) → header_at version octets ≡ Ok h → 12 ≤ length octets
+header_same : (versions : List Version) (octets more : List ℕ) → 12 ≤ length octets → header_at versions (octets ++ more) ≡ header_at versions octets
 unfolding header_at
-header_long version octets h e =
-    let a = guard_ok (lacks magic (take 4 octets)) BadMagic _ h e in
-    let b = guard_ok (lacks (version_octets version) (take 2 (drop 4 octets))) BadVersion _ h a.1 in
-    let c = guard_ok (ltb 7 (slice_index octets 7)) BadType _ h b.1 in
-    let d = guard_ok (ltb (length octets) 12) Short _ h c.1 in
-    ltb-false _ _ d.0
+header_same versions octets more long =
+    let first : take 4 (octets ++ more) ≡ take 4 octets = take-append-le 4 octets more (omega arith) in
+    let second : take 2 (drop 4 (octets ++ more)) ≡ take 2 (drop 4 octets) = slice_same 4 2 octets more (omega arith) in
+    let behind = header_of_same (version_at versions (take 2 (drop 4 octets))) octets more long in
+    rw (first, second, behind) refl
 
 -- a bad magic is found before the rest
-bad_magic : (version : Version) (octets more : List ℕ) → lacks magic (take 4 octets) ≡ true → header_at version (octets ++ more) ≡ Err BadMagic
+bad_magic : (versions : List Version) (octets more : List ℕ) → lacks magic (take 4 octets) ≡ true → header_at versions (octets ++ more) ≡ Err BadMagic
 unfolding header_at
-bad_magic version octets more m = rw (lacks_first magic 4 octets more m) refl
+bad_magic versions octets more m = rw (lacks_first magic 4 octets more m) refl
+
+none_both : (b : Bool) (w : Version) (r : Option Version) → cond b (Some w) r ≡ None → (b ≡ false) × (r ≡ None)
+none_both true w r e = absurd cc
+none_both false w r e = (refl, e)
+
+not_true : (b : Bool) → not b ≡ true → b ≡ false
+not_true true e = absurd cc
+not_true false e = refl
+
+-- a version that isn't found is not found with more octets
+none_more : (versions : List Version) (octets more : List ℕ) → version_at versions octets ≡ None → version_at versions (octets ++ more) ≡ None
+none_more [] octets more e = refl
+none_more (w ∷ ws) octets more e =
+    let a = none_both (starts_with nat_eq (version_octets w) octets) w (version_at ws octets) e in
+    let lacking : lacks (version_octets w) octets ≡ true = rw a.0 refl in
+    let no : starts_with nat_eq (version_octets w) (octets ++ more) ≡ false = not_true _ (lacks_more (version_octets w) octets more lacking) in
+    rw no (none_more ws octets more a.1)
 
 -- a bad version stands behind a whole magic
-bad_version : (version : Version) (octets more : List ℕ) → lacks magic (take 4 octets) ≡ false → lacks (version_octets version) (take 2 (drop 4 octets)) ≡ true → header_at version (octets ++ more) ≡ Err BadVersion
+bad_version : (versions : List Version) (octets more : List ℕ) → lacks magic (take 4 octets) ≡ false → 4 < length octets → version_at versions (take 2 (drop 4 octets)) ≡ None → header_at versions (octets ++ more) ≡ Err BadVersion
 unfolding header_at
-bad_version version octets more m v =
-    let some : 0 < length (take 2 (drop 4 octets)) = lacks_some (version_octets version) (take 2 (drop 4 octets)) v in
-    let long : 4 ≤ length octets = omega (arith, some, length-take 2 (drop 4 octets), length-drop 4 octets) in
-    let lacking : lacks (version_octets version) (take 2 (drop 4 (octets ++ more))) ≡ true = rw (drop-append-le 4 octets more long) (lacks_first (version_octets version) 2 (drop 4 octets) more v) in
-    rw (take-append-le 4 octets more long, m, lacking) refl
+bad_version versions octets more m long v =
+    let t = take_more 2 (drop 4 octets) more in
+    let behind : take 2 (drop 4 (octets ++ more)) ≡ take 2 (drop 4 octets) ++ t.0 = ap (take 2) (drop-append-le 4 octets more (omega (arith, long))) ∙ t.1 in
+    let none : version_at versions (take 2 (drop 4 octets) ++ t.0) ≡ None = none_more versions (take 2 (drop 4 octets)) t.0 v in
+    rw (take-append-le 4 octets more (omega (arith, long)), m, behind, none, lt-ltb 4 (length (octets ++ more)) (omega (arith, long, length-append octets more))) refl
 
 -- a bad type stands behind a whole version
-bad_type : (version : Version) (octets more : List ℕ) → lacks magic (take 4 octets) ≡ false → lacks (version_octets version) (take 2 (drop 4 octets)) ≡ false → ltb 7 (slice_index octets 7) ≡ true → header_at version (octets ++ more) ≡ Err BadType
+bad_type : (versions : List Version) (version : Version) (octets more : List ℕ) → lacks magic (take 4 octets) ≡ false → version_at versions (take 2 (drop 4 octets)) ≡ Some version → ltb 7 (slice_index octets 7) ≡ true → header_at versions (octets ++ more) ≡ Err BadType
 unfolding header_at
-bad_type version octets more m v t =
+bad_type versions version octets more m v t =
     let long : 7 < length octets = octet_there octets 7 7 (ltb-true _ _ t) in
     let kind : slice_index (octets ++ more) 7 ≡ slice_index octets 7 = get_or_append_left octets more 0 7 long in
     rw (take-append-le 4 octets more (omega arith), m, slice_same 4 2 octets more (omega arith), v, kind, t) refl
 
--- a header's fault that is found stays found
-header_stays : (version : Version) (octets more : List ℕ) (fault : FrameFault) → header_at version octets ≡ Err fault → fault ≢ Short → header_at version (octets ++ more) ≡ Err fault
-unfolding header_at
-header_stays version octets more fault e other =
-    elim (guard_err (lacks magic (take 4 octets)) BadMagic _ fault e) [
-      | inl a ↦ bad_magic version octets more a.0 ∙ ap (failed {A = Header}) a.1
-      | inr a ↦ elim (guard_err (lacks (version_octets version) (take 2 (drop 4 octets))) BadVersion _ fault a.1) [
-        | inl b ↦ bad_version version octets more a.0 b.0 ∙ ap (failed {A = Header}) b.1
-        | inr b ↦ elim (guard_err (ltb 7 (slice_index octets 7)) BadType _ fault b.1) [
-          | inl c ↦ bad_type version octets more a.0 b.0 c.0 ∙ ap (failed {A = Header}) c.1
-          | inr c ↦ elim (guard_err (ltb (length octets) 12) Short _ fault c.1) [
-            | inl d ↦ absurd (other (sym d.1))
-            | inr d ↦ header_same version octets more (ltb-false _ _ d.0) ∙ e
-          ]
-        ]
+-- a fault behind the magic stays found
+behind_stays : (versions : List Version) (octets more : List ℕ) (fault : FrameFault) (found : Option Version) → version_at versions (take 2 (drop 4 octets)) ≡ found → header_of found octets ≡ Err fault
+    → header_at versions octets ≡ Err fault → fault ≢ Short → lacks magic (take 4 octets) ≡ false → header_at versions (octets ++ more) ≡ Err fault
+behind_stays versions octets more fault None is e whole other m =
+    elim (guard_err (ltb 4 (length octets)) BadVersion (Err Short) fault e) [
+      | inl b ↦ bad_version versions octets more m (ltb-true _ _ b.0) is ∙ ap (failed {A = Header}) b.1
+      | inr b ↦ absurd (other (err_is {A = Header} fault Short (sym b.1)))
+    ]
+behind_stays versions octets more fault (Some version) is e whole other m =
+    elim (guard_err (ltb 7 (slice_index octets 7)) BadType _ fault e) [
+      | inl c ↦ bad_type versions version octets more m is c.0 ∙ ap (failed {A = Header}) c.1
+      | inr c ↦ elim (guard_err (ltb (length octets) 12) Short _ fault c.1) [
+        | inl d ↦ absurd (other (sym d.1))
+        | inr d ↦ header_same versions octets more (ltb-false _ _ d.0) ∙ whole
       ]
     ]
 
+-- a header's fault that is found stays found
+header_stays : (versions : List Version) (octets more : List ℕ) (fault : FrameFault) → header_at versions octets ≡ Err fault → fault ≢ Short → header_at versions (octets ++ more) ≡ Err fault
+unfolding header_at
+header_stays versions octets more fault e other =
+    elim (guard_err (lacks magic (take 4 octets)) BadMagic _ fault e) [
+      | inl a ↦ bad_magic versions octets more a.0 ∙ ap (failed {A = Header}) a.1
+      | inr a ↦ behind_stays versions octets more fault (version_at versions (take 2 (drop 4 octets))) refl a.1 e other a.0
+    ]
+
 -- a fault of a part's header stays
-part_header_stays : (octets more : List ℕ) (fault : FrameFault) → part_header_at octets ≡ Err fault → fault ≢ Short → part_header_at (octets ++ more) ≡ Err fault
+part_header_stays : (versions : List Version) → (octets more : List ℕ) (fault : FrameFault) → part_header_at versions octets ≡ Err fault → fault ≢ Short → part_header_at versions (octets ++ more) ≡ Err fault
 unfolding part_header_at
-part_header_stays octets more fault e other =
-    elim (bind_err (header_at V1_2 octets) (λ h. cond (h.more && not (may_go_on h)) (Err BadFragment) (Ok h)) fault e) [
-      | inl a ↦ rw (header_stays V1_2 octets more fault a other) refl
-      | inr a ↦ rw (header_same V1_2 octets more (header_long V1_2 octets a.0 a.1), a.1) a.2
+part_header_stays versions octets more fault e other =
+    elim (bind_err (header_at versions octets) (λ h. cond (not (may_be_part h)) (Err BadFragment) (Ok h)) fault e) [
+      | inl a ↦ rw (header_stays versions octets more fault a other) refl
+      | inr a ↦ rw (header_same versions octets more (header_long versions octets a.0 a.1), a.1) a.2
     ]
 
 -- a fault of a part stays
-pub fault_stays : (octets more : List ℕ) (fault : FrameFault) → part_at octets ≡ Err fault → fault ≢ Short → part_at (octets ++ more) ≡ Err fault
+pub fault_stays : (versions : List Version) → (octets more : List ℕ) (fault : FrameFault) → part_at versions octets ≡ Err fault → fault ≢ Short → part_at versions (octets ++ more) ≡ Err fault
 unfolding part_at
-fault_stays octets more fault e other =
-    elim (bind_err (part_header_at octets) _ fault e) [
-      | inl a ↦ rw (part_header_stays octets more fault a other) refl
+fault_stays versions octets more fault e other =
+    elim (bind_err (part_header_at versions octets) _ fault e) [
+      | inl a ↦ rw (part_header_stays versions octets more fault a other) refl
       | inr a ↦ elim (guard_err (ltb (length octets) (12 + a.0.size)) Short _ fault a.2) [
         | inl b ↦ absurd (other (sym b.1))
         | inr b ↦ absurd (let no = b.1 in cc)
@@ -203,14 +213,14 @@ fault_stays octets more fault e other =
 -- ---- a message in one part
 
 -- a fault of a whole stays
-decoded_stays : (octets more : List ℕ) (fault : FrameFault) → decoded octets ≡ Err fault → fault ≢ Short → decoded (octets ++ more) ≡ Err fault
+decoded_stays : (versions : List Version) → (octets more : List ℕ) (fault : FrameFault) → decoded versions octets ≡ Err fault → fault ≢ Short → decoded versions (octets ++ more) ≡ Err fault
 unfolding decoded
-decoded_stays octets more fault e other =
-    elim (bind_err (header_at V1_2 octets) _ fault e) [
-      | inl a ↦ rw (header_stays V1_2 octets more fault a other) refl
+decoded_stays versions octets more fault e other =
+    elim (bind_err (header_at versions octets) _ fault e) [
+      | inl a ↦ rw (header_stays versions octets more fault a other) refl
       | inr a ↦
           let h = a.0 in
-          let same : header_at V1_2 (octets ++ more) ≡ Ok h = header_same V1_2 octets more (header_long V1_2 octets h a.1) ∙ a.1 in
+          let same : header_at versions (octets ++ more) ≡ Ok h = header_same versions octets more (header_long versions octets h a.1) ∙ a.1 in
           elim (guard_err (h.more || is_fragment h.kind) BadFragment _ fault a.2) [
             | inl b ↦ rw (same, b.0) (ap (failed {A = Message × ℕ}) b.1)
             | inr b ↦ elim (guard_err (ltb (length octets) (12 + h.size)) Short _ fault b.1) [
@@ -237,6 +247,6 @@ fails_is faults.NotWritten read h other = h
 fails_is faults.Memory read h other = absurd (other refl)
 
 -- what a call refuses is refused for good
-pub stays_from : {X : Type 0} (view : X → Message × ℕ) (octets : List ℕ) (result : Result X FrameFault) → Finds view result (decoded octets) → IfErr result (IsRefusedForGood octets)
-stays_from view octets (Ok x) given = tt
-stays_from view octets (Err fault) given = λ short memory more. decoded_stays octets more fault (fails_is fault (decoded octets) given memory) short
+pub stays_from : (versions : List Version) → {X : Type 0} (view : X → Message × ℕ) (octets : List ℕ) (result : Result X FrameFault) → Finds view result (decoded versions octets) → IfErr result (IsRefusedForGood versions octets)
+stays_from versions view octets (Ok x) given = tt
+stays_from versions view octets (Err fault) given = λ short memory more. decoded_stays versions octets more fault (fails_is fault (decoded versions octets) given memory) short

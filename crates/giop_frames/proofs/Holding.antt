@@ -1,16 +1,16 @@
 -- What a stream holds back, as its parts come.
 use Rattle.std.proofs.Common.{Some, ◌≡◌, ℕ, ◌+◌, ◌-◌, ◌^◌, ◌<◌, ◌≤◌, min, Bool, true, false, cond, ltb, List, ◌∷◌, ◌++◌, length, take, drop, Option, None, Result, Ok, Err, refl, sym, ap, subst, ◌∙◌, ◌⊎◌, inl, inr, append_assoc, arith}
-use Rattle.std.specs.Prelude.{◌&&◌, not}
-use Rattle.std.proofs.lemmas.Bool.{ltb-false}
+use Rattle.std.specs.Prelude.{not}
+use Rattle.std.proofs.lemmas.Bool.{ltb-false, not-false}
 use Rattle.std.proofs.lemmas.List.{append-nil, length-append, take-append-drop}
 use Rattle.cdr_values.specs.Reading.{◌>>=◌}
 use Rattle.giop_frames.specs.declared.fault.FrameFault.{FrameFault}
 use Rattle.giop_frames.specs.declared.fault.FrameFault.TheVariants as faults
 use Rattle.giop_frames.specs.declared.framed.Framed.{Framed}
 use Rattle.giop_frames.specs.declared.header.Header.{Header}
-use Rattle.giop_frames.specs.declared.layout.Version.TheVariants.{V1_2}
+use Rattle.giop_frames.specs.declared.layout.Version.{Version}
 use Rattle.giop_frames.specs.Header.{header_at, magic, type_octet, version_octets}
-use Rattle.giop_frames.specs.Stream.{Part, Unfinished, IsStreamPart, IsRefused, IsStream, Refuses, after, given, judged, may_go_on, part_at, part_header_at, says}
+use Rattle.giop_frames.specs.Stream.{Part, Unfinished, IsStreamPart, IsRefused, IsStream, Refuses, after, given, judged, may_be_part, part_at, part_header_at, says}
 use Rattle.giop_frames.specs.StreamInside.{IsInFront}
 use Rattle.giop_frames.specs.Held.{Held, Holds}
 use Rattle.giop_frames.specs.HeldInside.{RefusesHeld, Takes, Took, remembering}
@@ -32,48 +32,49 @@ done x = Ok x
 ok_is : {A : Type 0} (x y : A) → done x ≡ done y → x ≡ y
 ok_is x y e = cc
 
-goes_on_from : (more may : Bool) → (more && not may) ≡ false → more ≡ true → may ≡ true
-goes_on_from true true e h = refl
-goes_on_from true false e h = absurd cc
-goes_on_from false may e h = absurd cc
-
 -- the part that stands in front, and its octets
-pub record Front (p : Part) (octets rest : List ℕ) : Type 0 where
+pub record Front (versions : List Version) (p : Part) (octets rest : List ℕ) : Type 0 where
   pub front : List ℕ
   pub parts : octets ≡ front ++ rest
-  pub is_part : IsStreamPart p front
+  pub is_part : IsStreamPart versions p front
 
 -- what reading finds is a part
-pub part_found : (octets : List ℕ) (p : Part) (rest : List ℕ) → part_at octets ≡ Ok (p, rest) → Front p octets rest
+pub part_found : (versions : List Version) → (octets : List ℕ) (p : Part) (rest : List ℕ) → part_at versions octets ≡ Ok (p, rest) → Front versions p octets rest
 unfolding part_at part_header_at
-part_found octets p rest e =
-    let a = bind_ok (part_header_at octets) (λ h. cond (ltb (length octets) (12 + h.size)) (Err faults.Short) (Ok (record { header = h; content = take h.size (drop 12 octets) }, drop (12 + h.size) octets))) (p, rest) e in
+part_found versions octets p rest e =
+    let a = bind_ok (part_header_at versions octets) (λ h. cond (ltb (length octets) (12 + h.size)) (Err faults.Short) (Ok (record { header = h; content = take h.size (drop 12 octets) }, drop (12 + h.size) octets))) (p, rest) e in
     let h : Header = a.0 in
-    let b = bind_ok (header_at V1_2 octets) (λ h. cond (h.more && not (may_go_on h)) (Err faults.BadFragment) (Ok h)) h a.1 in
-    let c = guard_ok (b.0.more && not (may_go_on b.0)) faults.BadFragment (Ok b.0) h b.2 in
+    let b = bind_ok (header_at versions octets) (λ h. cond (not (may_be_part h)) (Err faults.BadFragment) (Ok h)) h a.1 in
+    let c = guard_ok (not (may_be_part b.0)) faults.BadFragment (Ok b.0) h b.2 in
     let same : b.0 ≡ h = ok_is b.0 h c.1 in
     let d = guard_ok (ltb (length octets) (12 + h.size)) faults.Short (Ok (record { header = h; content = take h.size (drop 12 octets) }, drop (12 + h.size) octets)) (p, rest) a.2 in
     let is : (record { header = h; content = take h.size (drop 12 octets) }, drop (12 + h.size) octets) ≡ (p, rest) = ok_is _ (p, rest) d.1 in
     let long : 12 + h.size ≤ length octets = ltb-false _ _ d.0 in
-    let header : header_at V1_2 octets ≡ Ok h = b.1 ∙ ap (λ (x : Header). Ok x) same in
-    let goes : h.more ≡ true → may_go_on h ≡ true = goes_on_from h.more (may_go_on h) (ap (λ (x : Header). x.more && not (may_go_on x)) (sym same) ∙ c.0) in
-    let made : Front (record { header = h; content = take h.size (drop 12 octets) }) octets (drop (12 + h.size) octets) = record {
+    let header : header_at versions octets ≡ Ok h = b.1 ∙ ap (λ (x : Header). Ok x) same in
+    let may : may_be_part h ≡ true = not-false _ (ap (λ (x : Header). not (may_be_part x)) (sym same) ∙ c.0) in
+    let found = header_found versions octets h header long in
+    let made : Front versions (record { header = h; content = take h.size (drop 12 octets) }) octets (drop (12 + h.size) octets) = record {
       front = take (12 + h.size) octets;
       parts = sym (take-append-drop (12 + h.size) octets);
-      is_part = record { part = header_found V1_2 octets h header long; goes_on = goes };
+      is_part = record { part = found.1; admitted = found.0; may_be = may };
     } in
-    subst (λ (x : Part × List ℕ). Front x.0 octets x.1) is made
+    subst (λ (x : Part × List ℕ). Front versions x.0 octets x.1) is made
 
-says_is : (octets : List ℕ) (messages : List Framed) (old : Held) (p : Part) (h : Holds octets messages old) → says h.parts p ≡ judged old.unfinished old.place p
-says_is octets messages old p h = rw (h.unfinished_are, h.place_is) refl
+-- the octets that are held stand behind versions that the stream admits
+held_at : (versions : List Version) (octets : List ℕ) (messages : List Framed) (old : Held) → Holds versions octets messages old → part_at versions old.rest ≡ part_at old.versions old.rest
+held_at versions octets messages old h = ap (λ (vs : List Version). part_at vs old.rest) (sym h.versions_are)
+
+says_is : (versions : List Version) → (octets : List ℕ) (messages : List Framed) (old : Held) (p : Part) (h : Holds versions octets messages old) → says h.parts p ≡ judged old.unfinished old.place p
+says_is versions octets messages old p h = rw (h.unfinished_are, h.place_is) refl
 
 -- one more part
-pub holds_part : (octets : List ℕ) (messages : List Framed) (old new : Held) (answer : Option Framed) → Took old answer new → old.refused ≡ None → Holds octets messages old → Holds octets (messages ++ given (Ok answer)) new
-holds_part octets messages old new answer t none h =
-    let f = part_found old.rest t.part new.rest t.stands in
-    let said : says h.parts t.part ≡ Ok answer = says_is octets messages old t.part h ∙ t.says in
+pub holds_part : (versions : List Version) → (octets : List ℕ) (messages : List Framed) (old new : Held) (answer : Option Framed) → Took old answer new → old.refused ≡ None → Holds versions octets messages old → Holds versions octets (messages ++ given (Ok answer)) new
+holds_part versions octets messages old new answer t none h =
+    let f = part_found versions old.rest t.part new.rest (held_at versions octets messages old h ∙ t.stands) in
+    let said : says h.parts t.part ≡ Ok answer = says_is versions octets messages old t.part h ∙ t.says in
     record {
       parts = t.part ∷ h.parts;
+      versions_are = t.versions_are ∙ h.versions_are;
       splits = record {
         front = h.splits.front ++ f.front;
         whole = h.splits.whole ∙ ap (λ (x : List ℕ). h.splits.front ++ x) f.parts ∙ sym (append_assoc h.splits.front f.front new.rest);
@@ -87,71 +88,71 @@ holds_part octets messages old new answer t none h =
     }
 
 -- a part that ends no message
-pub holds_piece : (octets : List ℕ) (messages : List Framed) (old new : Held) → Took old None new → old.refused ≡ None → Holds octets messages old → Holds octets messages new
-holds_piece octets messages old new t none h = subst (λ (ms : List Framed). Holds octets ms new) (append-nil messages) (holds_part octets messages old new None t none h)
+pub holds_piece : (versions : List Version) → (octets : List ℕ) (messages : List Framed) (old new : Held) → Took old None new → old.refused ≡ None → Holds versions octets messages old → Holds versions octets messages new
+holds_piece versions octets messages old new t none h = subst (λ (ms : List Framed). Holds versions octets ms new) (append-nil messages) (holds_part versions octets messages old new None t none h)
 
 -- no whole part is left
-pub holds_stream : (octets : List ℕ) (messages : List Framed) (old : Held) → part_at old.rest ≡ Err faults.Short → Holds octets messages old → IsStream messages old.rest octets
-holds_stream octets messages old e h = record { parts = h.parts; splits = h.splits; partial = e }
+pub holds_stream : (versions : List Version) → (octets : List ℕ) (messages : List Framed) (old : Held) → part_at old.versions old.rest ≡ Err faults.Short → Holds versions octets messages old → IsStream versions messages old.rest octets
+holds_stream versions octets messages old e h = record { parts = h.parts; splits = h.splits; partial = held_at versions octets messages old h ∙ e }
 
 -- a part that is refused, by what is held and by the parts so far
-pub refuses_parts : (octets : List ℕ) (messages : List Framed) (old : Held) (fault : FrameFault) (h : Holds octets messages old) → RefusesHeld old fault → Refuses h.parts old.rest fault
-refuses_parts octets messages old fault h (inl by_octets) = inl by_octets
-refuses_parts octets messages old fault h (inr by_parts) = inr (by_parts.0, by_parts.1, by_parts.2, says_is octets messages old by_parts.0 h ∙ by_parts.3)
+pub refuses_parts : (versions : List Version) → (octets : List ℕ) (messages : List Framed) (old : Held) (fault : FrameFault) (h : Holds versions octets messages old) → RefusesHeld old fault → Refuses versions h.parts old.rest fault
+refuses_parts versions octets messages old fault h (inl by_octets) = inl (held_at versions octets messages old h ∙ by_octets.0, by_octets.1)
+refuses_parts versions octets messages old fault h (inr by_parts) = inr (by_parts.0, by_parts.1, held_at versions octets messages old h ∙ by_parts.2, says_is versions octets messages old by_parts.0 h ∙ by_parts.3)
 
-pub holds_refused : (octets : List ℕ) (messages : List Framed) (old : Held) (fault : FrameFault) → RefusesHeld old fault → Holds octets messages old → IsRefused messages old.place fault octets
-holds_refused octets messages old fault r h = record { parts = h.parts; rest = old.rest; splits = h.splits; place_is = h.place_is; refused = refuses_parts octets messages old fault h r }
+pub holds_refused : (versions : List Version) → (octets : List ℕ) (messages : List Framed) (old : Held) (fault : FrameFault) → RefusesHeld old fault → Holds versions octets messages old → IsRefused versions messages old.place fault octets
+holds_refused versions octets messages old fault r h = record { parts = h.parts; rest = old.rest; splits = h.splits; place_is = h.place_is; refused = refuses_parts versions octets messages old fault h r }
 
 -- a stream takes the part in front of what it holds
-pub took : (messages : List Unfinished) (place : ℕ) (rest : List ℕ) (refused : Option FrameFault) (kept : ℕ) (header : Header) (content : List ℕ) (answer : Option Framed) (new : Held) (old : Held)
-    → record { unfinished = messages; place = place; rest = rest; refused = refused; kept = kept } ≡ old → IsInFront header rest → content ≡ take header.size (drop 12 rest)
+pub took : (versions : List Version) (messages : List Unfinished) (place : ℕ) (rest : List ℕ) (refused : Option FrameFault) (kept : ℕ) (header : Header) (content : List ℕ) (answer : Option Framed) (new : Held) (old : Held)
+    → record { versions = versions; unfinished = messages; place = place; rest = rest; refused = refused; kept = kept } ≡ old → IsInFront versions header rest → content ≡ take header.size (drop 12 rest)
     → judged messages place (record { header = header; content = content }) ≡ Ok answer → new.unfinished ≡ after place (record { header = header; content = content }) messages
-    → new.place ≡ min (place + (12 + header.size)) (2 ^ 64 - 1) → new.rest ≡ drop (12 + header.size) rest → new.refused ≡ refused → Took old answer new
-took messages place rest refused kept header content answer new old view front is said messages_are place_is rest_is refused_is =
+    → new.place ≡ min (place + (12 + header.size)) (2 ^ 64 - 1) → new.rest ≡ drop (12 + header.size) rest → new.refused ≡ refused → new.versions ≡ versions → Took old answer new
+took versions messages place rest refused kept header content answer new old view front is said messages_are place_is rest_is refused_is versions_is =
     let part : Part = record { header = header; content = content } in
-    let stands : part_at rest ≡ Ok (part, new.rest) = front.part ∙ ap (λ (x : List ℕ). Ok (record { header = header; content = x }, drop (12 + header.size) rest)) (sym is) ∙ ap (λ (x : List ℕ). Ok (part, x)) (sym rest_is) in
-    let held : Held = record { unfinished = messages; place = place; rest = rest; refused = refused; kept = kept } in
-    let made : Took held answer new = record { part = part; stands = stands; says = said; unfinished_are = messages_are; place_is = place_is; refused = refused_is } in
+    let stands : part_at versions rest ≡ Ok (part, new.rest) = front.part ∙ ap (λ (x : List ℕ). Ok (record { header = header; content = x }, drop (12 + header.size) rest)) (sym is) ∙ ap (λ (x : List ℕ). Ok (part, x)) (sym rest_is) in
+    let held : Held = record { versions = versions; unfinished = messages; place = place; rest = rest; refused = refused; kept = kept } in
+    let made : Took held answer new = record { part = part; stands = stands; says = said; unfinished_are = messages_are; place_is = place_is; refused = refused_is; versions_are = versions_is } in
     subst (λ (h : Held). Took h answer new) view made
 
-placed : (octets : List ℕ) (messages : List Framed) (old new now : Held) (fault : FrameFault) → new ≡ old → now.place ≡ new.place → IsRefused messages old.place fault octets → IsRefused messages now.place fault octets
-placed octets messages old new now fault e is r = rw (is, e) r
+placed : (versions : List Version) → (octets : List ℕ) (messages : List Framed) (old new now : Held) (fault : FrameFault) → new ≡ old → now.place ≡ new.place → IsRefused versions messages old.place fault octets → IsRefused versions messages now.place fault octets
+placed versions octets messages old new now fault e is r = rw (is, e) r
 
 -- what a part that is refused shows: want of memory, or a fault that is remembered
-pub refused_by : (old new now : Held) (fault : FrameFault) → Takes old (Err fault) new → now ≡ remembering new fault → ((fault ≡ faults.Memory) ⊎ ((octets : List ℕ) (messages : List Framed) → Holds octets messages old → IsRefused messages now.place fault octets))
-refused_by old new now faults.BadMagic t is = inr (λ octets messages h. placed octets messages old new now faults.BadMagic t.0 (ap (λ (x : Held). x.place) is) (holds_refused octets messages old faults.BadMagic t.1 h))
-refused_by old new now faults.BadVersion t is = inr (λ octets messages h. placed octets messages old new now faults.BadVersion t.0 (ap (λ (x : Held). x.place) is) (holds_refused octets messages old faults.BadVersion t.1 h))
-refused_by old new now faults.BadType t is = inr (λ octets messages h. placed octets messages old new now faults.BadType t.0 (ap (λ (x : Held). x.place) is) (holds_refused octets messages old faults.BadType t.1 h))
-refused_by old new now (faults.TooLarge n) t is = inr (λ octets messages h. placed octets messages old new now (faults.TooLarge n) t.0 (ap (λ (x : Held). x.place) is) (holds_refused octets messages old (faults.TooLarge n) t.1 h))
-refused_by old new now faults.BadFragment t is = inr (λ octets messages h. placed octets messages old new now faults.BadFragment t.0 (ap (λ (x : Held). x.place) is) (holds_refused octets messages old faults.BadFragment t.1 h))
-refused_by old new now (faults.Body place cdr) t is = inr (λ octets messages h. placed octets messages old new now (faults.Body place cdr) t.0 (ap (λ (x : Held). x.place) is) (holds_refused octets messages old (faults.Body place cdr) t.1 h))
-refused_by old new now faults.Short t is = inr (λ octets messages h. placed octets messages old new now faults.Short t.0 (ap (λ (x : Held). x.place) is) (holds_refused octets messages old faults.Short t.1 h))
-refused_by old new now faults.NotWritten t is = inr (λ octets messages h. placed octets messages old new now faults.NotWritten t.0 (ap (λ (x : Held). x.place) is) (holds_refused octets messages old faults.NotWritten t.1 h))
+pub refused_by : (old new now : Held) (fault : FrameFault) → Takes old (Err fault) new → now ≡ remembering new fault → ((fault ≡ faults.Memory) ⊎ ((versions : List Version) (octets : List ℕ) (messages : List Framed) → Holds versions octets messages old → IsRefused versions messages now.place fault octets))
+refused_by old new now faults.BadMagic t is = inr (λ versions octets messages h. placed versions octets messages old new now faults.BadMagic t.0 (ap (λ (x : Held). x.place) is) (holds_refused versions octets messages old faults.BadMagic t.1 h))
+refused_by old new now faults.BadVersion t is = inr (λ versions octets messages h. placed versions octets messages old new now faults.BadVersion t.0 (ap (λ (x : Held). x.place) is) (holds_refused versions octets messages old faults.BadVersion t.1 h))
+refused_by old new now faults.BadType t is = inr (λ versions octets messages h. placed versions octets messages old new now faults.BadType t.0 (ap (λ (x : Held). x.place) is) (holds_refused versions octets messages old faults.BadType t.1 h))
+refused_by old new now (faults.TooLarge n) t is = inr (λ versions octets messages h. placed versions octets messages old new now (faults.TooLarge n) t.0 (ap (λ (x : Held). x.place) is) (holds_refused versions octets messages old (faults.TooLarge n) t.1 h))
+refused_by old new now faults.BadFragment t is = inr (λ versions octets messages h. placed versions octets messages old new now faults.BadFragment t.0 (ap (λ (x : Held). x.place) is) (holds_refused versions octets messages old faults.BadFragment t.1 h))
+refused_by old new now (faults.Body place cdr) t is = inr (λ versions octets messages h. placed versions octets messages old new now (faults.Body place cdr) t.0 (ap (λ (x : Held). x.place) is) (holds_refused versions octets messages old (faults.Body place cdr) t.1 h))
+refused_by old new now faults.Short t is = inr (λ versions octets messages h. placed versions octets messages old new now faults.Short t.0 (ap (λ (x : Held). x.place) is) (holds_refused versions octets messages old faults.Short t.1 h))
+refused_by old new now faults.NotWritten t is = inr (λ versions octets messages h. placed versions octets messages old new now faults.NotWritten t.0 (ap (λ (x : Held). x.place) is) (holds_refused versions octets messages old faults.NotWritten t.1 h))
 refused_by old new now faults.Memory t is = inl refl
 
 -- what is held when a refusal is remembered
-remembers : (octets : List ℕ) (messages : List Framed) (old : Held) (fault : FrameFault) → RefusesHeld old fault → Holds octets messages old → Holds octets messages (record old { refused = Some fault })
-remembers octets messages old fault r h = record { parts = h.parts; splits = h.splits; unfinished_are = h.unfinished_are; place_is = h.place_is; refused = refuses_parts octets messages old fault h r }
+remembers : (versions : List Version) → (octets : List ℕ) (messages : List Framed) (old : Held) (fault : FrameFault) → RefusesHeld old fault → Holds versions octets messages old → Holds versions octets messages (record old { refused = Some fault })
+remembers versions octets messages old fault r h = record { parts = h.parts; versions_are = h.versions_are; splits = h.splits; unfinished_are = h.unfinished_are; place_is = h.place_is; refused = refuses_parts versions octets messages old fault h r }
 
 -- the same, where it is remembered of what a call left
-remembers_of : (octets : List ℕ) (messages : List Framed) (old new now : Held) (fault : FrameFault) → new ≡ old → now ≡ record new { refused = Some fault } → RefusesHeld old fault → Holds octets messages old → Holds octets messages now
-remembers_of octets messages old new now fault e is r h = rw (is, e) (remembers octets messages old fault r h)
+remembers_of : (versions : List Version) → (octets : List ℕ) (messages : List Framed) (old new now : Held) (fault : FrameFault) → new ≡ old → now ≡ record new { refused = Some fault } → RefusesHeld old fault → Holds versions octets messages old → Holds versions octets messages now
+remembers_of versions octets messages old new now fault e is r h = rw (is, e) (remembers versions octets messages old fault r h)
 
 -- a refusal, also want of memory, loses nothing
-pub kept_by : (octets : List ℕ) (messages : List Framed) (old new now : Held) (fault : FrameFault) → Takes old (Err fault) new → now ≡ remembering new fault → Holds octets messages old → Holds octets messages now
-kept_by octets messages old new now faults.BadMagic t is h = remembers_of octets messages old new now faults.BadMagic t.0 is t.1 h
-kept_by octets messages old new now faults.BadVersion t is h = remembers_of octets messages old new now faults.BadVersion t.0 is t.1 h
-kept_by octets messages old new now faults.BadType t is h = remembers_of octets messages old new now faults.BadType t.0 is t.1 h
-kept_by octets messages old new now (faults.TooLarge n) t is h = remembers_of octets messages old new now (faults.TooLarge n) t.0 is t.1 h
-kept_by octets messages old new now faults.BadFragment t is h = remembers_of octets messages old new now faults.BadFragment t.0 is t.1 h
-kept_by octets messages old new now (faults.Body place cdr) t is h = remembers_of octets messages old new now (faults.Body place cdr) t.0 is t.1 h
-kept_by octets messages old new now faults.Short t is h = remembers_of octets messages old new now faults.Short t.0 is t.1 h
-kept_by octets messages old new now faults.NotWritten t is h = remembers_of octets messages old new now faults.NotWritten t.0 is t.1 h
-kept_by octets messages old new now faults.Memory t is h = rw (is, t) h
+pub kept_by : (versions : List Version) → (octets : List ℕ) (messages : List Framed) (old new now : Held) (fault : FrameFault) → Takes old (Err fault) new → now ≡ remembering new fault → Holds versions octets messages old → Holds versions octets messages now
+kept_by versions octets messages old new now faults.BadMagic t is h = remembers_of versions octets messages old new now faults.BadMagic t.0 is t.1 h
+kept_by versions octets messages old new now faults.BadVersion t is h = remembers_of versions octets messages old new now faults.BadVersion t.0 is t.1 h
+kept_by versions octets messages old new now faults.BadType t is h = remembers_of versions octets messages old new now faults.BadType t.0 is t.1 h
+kept_by versions octets messages old new now (faults.TooLarge n) t is h = remembers_of versions octets messages old new now (faults.TooLarge n) t.0 is t.1 h
+kept_by versions octets messages old new now faults.BadFragment t is h = remembers_of versions octets messages old new now faults.BadFragment t.0 is t.1 h
+kept_by versions octets messages old new now (faults.Body place cdr) t is h = remembers_of versions octets messages old new now (faults.Body place cdr) t.0 is t.1 h
+kept_by versions octets messages old new now faults.Short t is h = remembers_of versions octets messages old new now faults.Short t.0 is t.1 h
+kept_by versions octets messages old new now faults.NotWritten t is h = remembers_of versions octets messages old new now faults.NotWritten t.0 is t.1 h
+kept_by versions octets messages old new now faults.Memory t is h = rw (is, t) h
 
 -- less is left behind a part
 pub shorter : (old new : Held) (answer : Option Framed) → Took old answer new → length new.rest < length old.rest
 shorter old new answer t =
-    let f = part_found old.rest t.part new.rest t.stands in
+    let f = part_found old.versions old.rest t.part new.rest t.stands in
     let p = f.is_part.part in
     omega (arith, ap length f.parts, length-append f.front new.rest, ap length p.parts, length-append magic (version_octets t.part.header.version ++ (p.flags ∷ type_octet t.part.header.kind ∷ (p.size ++ t.part.content))))

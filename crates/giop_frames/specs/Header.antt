@@ -1,5 +1,5 @@
 -- The header in front of each part of a message (CORBA, GIOP Message Formats, MessageHeader_1_1).
-use Rattle.std.specs.Prelude.{◌≡◌, ℕ, ◌/◌, ◌%◌, ◌≤◌, ◌==◌, nat_eq, nat_lt, Bool, true, false, not, List, [], ◌∷◌, ◌++◌, length, take, drop, slice_index, Result, Ok, Err, if◌then◌else◌, codes}
+use Rattle.std.specs.Prelude.{◌≡◌, ℕ, ◌/◌, ◌%◌, ◌≤◌, ◌==◌, nat_eq, nat_lt, Bool, true, false, not, List, [], ◌∷◌, ◌++◌, length, take, drop, find, slice_index, Option, Some, None, Result, Ok, Err, if◌then◌else◌, codes}
 use Rattle.std.specs.List.{starts_with}
 use Rattle.cdr_values.specs.declared.order.Order.{Order}
 use Rattle.cdr_values.specs.declared.order.Order.TheVariants.{Big, Little}
@@ -23,6 +23,14 @@ minor_octet V1_2 = 2
 -- the octets of the version, of which the major one is 1
 abbrev pub version_octets : Version → List ℕ
 version_octets version = 1 ∷ minor_octet version ∷ []
+
+-- the version whose octets these are, of those that are admitted; where octets are wanting, the first that they begin
+abbrev pub version_at : List Version → List ℕ → Option Version
+version_at versions octets = find (λ version. starts_with nat_eq (version_octets version) octets) versions
+
+-- the versions that are admitted where a call is given none (our profile)
+abbrev pub profile_versions : List Version
+profile_versions = V1_2 ∷ []
 
 -- the octet that stands for a type
 abbrev pub type_octet : Kind → ℕ
@@ -55,9 +63,9 @@ is_fragment _ = false
 abbrev pub order_of_flags : ℕ → Order
 order_of_flags flags = if flags % 2 == 1 then Little else Big
 
--- bit 1 of the flags tells that more fragments follow. The other bits are ignored (our profile).
-abbrev pub more_of_flags : ℕ → Bool
-more_of_flags flags = flags / 2 % 2 == 1
+-- in version 1.2 bit 1 of the flags tells that more fragments follow. The other bits are ignored (our profile).
+abbrev pub more_of_flags : Version → ℕ → Bool
+more_of_flags V1_2 flags = flags / 2 % 2 == 1
 
 -- the octets are a part: a header, and the content whose length it tells, which has a limit (our profile)
 pub record IsPart (header : Header) (content octets : List ℕ) : Type 0 where
@@ -65,7 +73,7 @@ pub record IsPart (header : Header) (content octets : List ℕ) : Type 0 where
   pub size : List ℕ
   pub parts : octets ≡ magic ++ (version_octets header.version ++ (flags ∷ type_octet header.kind ∷ (size ++ content)))
   pub order_bit : order_of_flags flags ≡ header.order
-  pub more_bit : more_of_flags flags ≡ header.more
+  pub more_bit : more_of_flags header.version flags ≡ header.more
   pub sized : IsNumber header.order 4 header.size size
   pub counted : length content ≡ header.size
   pub few : header.size ≤ size_limit
@@ -74,21 +82,30 @@ pub record IsPart (header : Header) (content octets : List ℕ) : Type 0 where
 abbrev pub size_at : List ℕ → ℕ
 size_at octets = number_in (order_of_flags (slice_index octets 6)) 4 (take 4 (drop 8 octets))
 
--- the header in front of a part of this version, or the first fault as its octets come
-unfoldable pub header_at : Version → List ℕ → Result Header FrameFault
-header_at version octets =
-    if not (starts_with nat_eq magic (take 4 octets)) then Err BadMagic else (
-    if not (starts_with nat_eq (version_octets version) (take 2 (drop 4 octets))) then Err BadVersion else (
+-- what a header of this version says
+abbrev pub header_told : Version → List ℕ → Header
+header_told version octets = record {
+  version = version;
+  order = order_of_flags (slice_index octets 6);
+  more = more_of_flags version (slice_index octets 6);
+  kind = kind_at (slice_index octets 7);
+  size = size_at octets;
+}
+
+-- the header whose version was found, or its first fault behind the magic; a version is bad once one of its octets is
+abbrev pub header_of : Option Version → List ℕ → Result Header FrameFault
+header_of None octets = if nat_lt 4 (length octets) then Err BadVersion else Err Short
+header_of (Some version) octets =
     if nat_lt 7 (slice_index octets 7) then Err BadType else (
     if nat_lt (length octets) 12 then Err Short else (
     if nat_lt size_limit (size_at octets) then Err (TooLarge (size_at octets)) else
-    Ok (record {
-      version = version;
-      order = order_of_flags (slice_index octets 6);
-      more = more_of_flags (slice_index octets 6);
-      kind = kind_at (slice_index octets 7);
-      size = size_at octets;
-    })))))
+    Ok (header_told version octets)))
+
+-- the header in front of a part of one of these versions, or the first fault as its octets come
+unfoldable pub header_at : List Version → List ℕ → Result Header FrameFault
+header_at versions octets =
+    if not (starts_with nat_eq magic (take 4 octets)) then Err BadMagic else
+    header_of (version_at versions (take 2 (drop 4 octets))) octets
 
 -- the content behind a header that stands in front
 abbrev pub content_behind : Header → List ℕ → List ℕ

@@ -4,19 +4,32 @@ use Rattle.std.specs.List.{AllByRecursion}
 use Rattle.giop_frames.specs.declared.fault.FrameFault.{FrameFault}
 use Rattle.giop_frames.specs.declared.fault.FrameFault.TheVariants.{Short}
 use Rattle.giop_frames.specs.declared.framed.Framed.{Framed}
+use Rattle.giop_frames.specs.declared.layout.Version.{Version}
 use Rattle.giop_frames.specs.declared.message.Message.{Message}
 use Rattle.giop_frames.specs.Limits.{size_limit, unfinished_limit}
 use Rattle.giop_frames.specs.Fault.{IfRefused}
 use Rattle.giop_frames.specs.Stream.{Part, Unfinished, IsRefused, IsStream, Splits, Refuses, earliest, offset, part_at, unfinished}
 
--- the unfinished messages, the octets of no whole part yet and their offset in the stream, the refusal that is answered
--- for good, and how many octets its buffer has
+-- the versions that it admits, the unfinished messages, the octets of no whole part yet and their offset in the stream,
+-- the refusal that is answered for good, and how many octets its buffer has
 pub record Held : Type 0 where
+  pub versions : List Version
   pub unfinished : List Unfinished
   pub place : ℕ
   pub rest : List ℕ
   pub refused : Option FrameFault
   pub kept : ℕ
+
+-- what a stream of these versions holds of which nothing has come
+abbrev pub nothing_of : List Version → Held
+nothing_of versions = record {
+  versions = versions;
+  unfinished = [];
+  place = 0;
+  rest = [];
+  refused = None;
+  kept = 0;
+}
 
 -- no unfinished message is longer than a message may be, and there are at most 8
 pub record AreShort (messages : List Unfinished) : Type 0 where
@@ -30,13 +43,14 @@ pub record IsBounded (h : Held) : Type 0 where
   pub held : length h.rest ≤ h.kept
   pub taken : h.kept ≤ length h.rest + length h.rest
 
--- Of a stream of these octets these messages were given, and this is held back.
-pub record Holds (octets : List ℕ) (messages : List Framed) (h : Held) : Type 0 where
+-- Of a stream of these versions and octets these messages were given, and this is held back.
+pub record Holds (versions : List Version) (octets : List ℕ) (messages : List Framed) (h : Held) : Type 0 where
   pub parts : List Part
-  pub splits : Splits octets parts messages h.rest
+  pub versions_are : h.versions ≡ versions
+  pub splits : Splits versions octets parts messages h.rest
   pub unfinished_are : h.unfinished ≡ unfinished parts
   pub place_is : h.place ≡ offset parts
-  pub refused : IfSome h.refused (Refuses parts h.rest)
+  pub refused : IfSome h.refused (Refuses versions parts h.rest)
 
 -- the offset of the earliest message that isn't given; after a refusal, of the part that is refused
 abbrev pub place_by : ℕ → Option FrameFault → List Unfinished → ℕ
@@ -53,12 +67,14 @@ IsUnfinished h = (h.unfinished ≢ []) ⊎ (h.rest ≢ [])
 -- these octets came to a stream
 abbrev pub HasCome : List ℕ → Held → Held → Type 0
 HasCome piece old new =
-    (octets : List ℕ) (messages : List Framed) → Holds octets messages old → Holds (octets ++ piece) messages new
+    (versions : List Version) (octets : List ℕ) (messages : List Framed) → Holds versions octets messages old
+    → Holds versions (octets ++ piece) messages new
 
 -- a stream gave this message, with what the header of its first part says
 abbrev pub HasGivenFramed : Framed → Held → Held → Type 0
 HasGivenFramed framed old new =
-    (octets : List ℕ) (messages : List Framed) → Holds octets messages old → Holds octets (messages ++ framed ∷ []) new
+    (versions : List Version) (octets : List ℕ) (messages : List Framed) → Holds versions octets messages old
+    → Holds versions octets (messages ++ framed ∷ []) new
 
 -- a stream gave this message
 abbrev pub HasGiven : Message → Held → Held → Type 0
@@ -66,18 +82,20 @@ HasGiven m old new = (framed : Framed) × (framed.message ≡ m) × HasGivenFram
 
 -- a stream gave no message, and lost nothing
 abbrev pub HasKept : Held → Held → Type 0
-HasKept old new = (octets : List ℕ) (messages : List Framed) → Holds octets messages old → Holds octets messages new
+HasKept old new = (versions : List Version) (octets : List ℕ) (messages : List Framed) → Holds versions octets messages old
+    → Holds versions octets messages new
 
 -- a stream gave no message, since there is none but what it gave
 abbrev pub HasGivenAll : Held → Held → Type 0
 HasGivenAll old new =
-    (octets : List ℕ) (messages : List Framed) → Holds octets messages old
-    → Holds octets messages new × IsStream messages new.rest octets
+    (versions : List Version) (octets : List ℕ) (messages : List Framed) → Holds versions octets messages old
+    → Holds versions octets messages new × IsStream versions messages new.rest octets
 
 -- the part at a stream's place is refused
 abbrev pub IsRefusedAtPlace : Held → Held → FrameFault → Type 0
 IsRefusedAtPlace old new fault =
-    (octets : List ℕ) (messages : List Framed) → Holds octets messages old → IsRefused messages new.place fault octets
+    (versions : List Version) (octets : List ℕ) (messages : List Framed) → Holds versions octets messages old
+    → IsRefused versions messages new.place fault octets
 
 -- A call asked for the next message: it was given so, or there is none, or a part is refused. A refusal is answered for
 -- good, and loses nothing.
@@ -90,5 +108,5 @@ pub record GivesNext {X : Type 0} (Gave : X → Held → Held → Type 0) (resul
   pub remembered : IfRefused result (λ fault. new.refused ≡ Some fault)
   pub again : IfSome old.refused (λ fault. (result ≡ Err fault) × (new ≡ old))
   pub accepts : OnOk result (new.refused ≡ None)
-  pub partial : result ≡ Ok None → part_at new.rest ≡ Err Short
+  pub partial : result ≡ Ok None → part_at new.versions new.rest ≡ Err Short
   pub shorter : IfOk result (λ found. IsSome found → length new.rest < length old.rest)

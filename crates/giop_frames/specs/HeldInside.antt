@@ -30,18 +30,19 @@ pub record Judges (place : ℕ) (p : Part) (result : Result (Option Framed) Fram
 -- the part at the place was taken, and says this
 pub record Took (old : Held) (answer : Option Framed) (new : Held) : Type 0 where
   pub part : Part
-  pub stands : part_at old.rest ≡ Ok (part, new.rest)
+  pub stands : part_at old.versions old.rest ≡ Ok (part, new.rest)
   pub says : judged old.unfinished old.place part ≡ Ok answer
   pub unfinished_are : new.unfinished ≡ after old.place part old.unfinished
   pub place_is : new.place ≡ min (old.place + (12 + part.header.size)) (2 ^ 64 - 1)
   pub refused : new.refused ≡ old.refused
+  pub versions_are : new.versions ≡ old.versions
 
 -- the part at the place is refused
 abbrev pub RefusesHeld : Held → FrameFault → Type 0
-RefusesHeld h fault = RefusesFront (judged h.unfinished h.place) h.rest fault
+RefusesHeld h fault = RefusesFront h.versions (judged h.unfinished h.place) h.rest fault
 
 abbrev pub Takes : Held → Result Taken FrameFault → Held → Type 0
-Takes old (Ok Nothing) new = (new ≡ old) × (part_at old.rest ≡ Err Short)
+Takes old (Ok Nothing) new = (new ≡ old) × (part_at old.versions old.rest ≡ Err Short)
 Takes old (Ok Piece) new = Took old None new
 Takes old (Ok (Whole framed)) new = Took old (Some framed) new
 Takes old (Err Memory) new = new ≡ old

@@ -17,44 +17,45 @@ use Rattle.giop_frames.specs.Stream.{Part, Splits, IsCut, IsRefused, IsStream, I
 -- no octets that are a message in one part begin others that are one, and no octets are two such messages
 abbrev pub NoMessageBeginsAnother : Type 0
 NoMessageBeginsAnother =
-    (m n : Message) (a b x y : List ℕ) → IsMessage m a → IsMessage n b → a ++ x ≡ b ++ y → (a ≡ b) × (m ≡ n)
+    (versions : List Version) (m n : Message) (a b x y : List ℕ) → IsMessage versions m a → IsMessage versions n b
+    → a ++ x ≡ b ++ y → (a ≡ b) × (m ≡ n)
 
 -- octets are a stream of messages in one way
 abbrev pub IsCutInOneWay : Type 0
 IsCutInOneWay =
-    (messages others : List Framed) (rest more octets : List ℕ) → IsStream messages rest octets
-    → IsStream others more octets → (messages ≡ others) × (rest ≡ more)
+    (versions : List Version) (messages others : List Framed) (rest more octets : List ℕ) → IsStream versions messages rest octets
+    → IsStream versions others more octets → (messages ≡ others) × (rest ≡ more)
 
 -- octets, and these octets with more behind them, are refused at one place only
 abbrev pub IsRefusedInOneWay : Type 0
 IsRefusedInOneWay =
-    (messages others : List Framed) (place elsewhere : ℕ) (fault another : FrameFault) (octets more : List ℕ)
-    → IsRefused messages place fault octets → IsRefused others elsewhere another (octets ++ more)
+    (versions : List Version) (messages others : List Framed) (place elsewhere : ℕ) (fault another : FrameFault) (octets more : List ℕ)
+    → IsRefused versions messages place fault octets → IsRefused versions others elsewhere another (octets ++ more)
     → (messages ≡ others) × (place ≡ elsewhere) × (fault ≡ another)
 
 -- octets that are refused are refused with more of them too
 abbrev pub RefusalGoesOn : Type 0
 RefusalGoesOn =
-    (messages : List Framed) (place : ℕ) (fault : FrameFault) (octets more : List ℕ)
-    → IsRefused messages place fault octets → IsRefused messages place fault (octets ++ more)
+    (versions : List Version) (messages : List Framed) (place : ℕ) (fault : FrameFault) (octets more : List ℕ)
+    → IsRefused versions messages place fault octets → IsRefused versions messages place fault (octets ++ more)
 
 -- octets that are refused are no stream, whatever follows them
 abbrev pub RefusedIsNoStream : Type 0
 RefusedIsNoStream =
-    (messages others : List Framed) (place : ℕ) (fault : FrameFault) (rest octets more : List ℕ)
-    → IsRefused messages place fault octets → IsStream others rest (octets ++ more) → ⊥
+    (versions : List Version) (messages others : List Framed) (place : ℕ) (fault : FrameFault) (rest octets more : List ℕ)
+    → IsRefused versions messages place fault octets → IsStream versions others rest (octets ++ more) → ⊥
 
 -- octets don't end both between messages and inside one
 abbrev pub WholeIsNotCut : Type 0
 WholeIsNotCut =
-    (messages others : List Framed) (place : ℕ) (octets : List ℕ) → IsWhole messages octets
-    → IsCut others place octets → ⊥
+    (versions : List Version) (messages others : List Framed) (place : ℕ) (octets : List ℕ) → IsWhole versions messages octets
+    → IsCut versions others place octets → ⊥
 
 -- octets that end inside a message end at one place
 abbrev pub IsCutOffInOneWay : Type 0
 IsCutOffInOneWay =
-    (messages others : List Framed) (place elsewhere : ℕ) (octets : List ℕ) → IsCut messages place octets
-    → IsCut others elsewhere octets → (messages ≡ others) × (place ≡ elsewhere)
+    (versions : List Version) (messages others : List Framed) (place elsewhere : ℕ) (octets : List ℕ) → IsCut versions messages place octets
+    → IsCut versions others elsewhere octets → (messages ≡ others) × (place ≡ elsewhere)
 
 -- the message that reading a content gives has this content
 abbrev pub ReadIsContent : Type 0
@@ -71,13 +72,15 @@ ContentIsRead =
 -- the unfinished message of a request_id is told by the parts of that request_id alone
 abbrev pub JoinsByRequestId : Type 0
 JoinsByRequestId =
-    (octets : List ℕ) (parts : List Part) (messages : List Framed) (rest : List ℕ) → Splits octets parts messages rest
+    (versions : List Version) (octets : List ℕ) (parts : List Part) (messages : List Framed) (rest : List ℕ)
+    → Splits versions octets parts messages rest
     → (id : ℕ) → numbered id (unfinished parts) ≡ going_on id parts
 
 -- a Fragment goes on with that message
 abbrev pub FragmentGoesOn : Type 0
 FragmentGoesOn =
-    (octets : List ℕ) (parts : List Part) (messages : List Framed) (rest : List ℕ) → Splits octets parts messages rest
+    (versions : List Version) (octets : List ℕ) (parts : List Part) (messages : List Framed) (rest : List ℕ)
+    → Splits versions octets parts messages rest
     → (p : Part) → is_fragment p.header.kind ≡ true → 4 ≤ length p.content
     → says parts p ≡ continuing p (going_on (id_of p) parts)
 
@@ -92,11 +95,16 @@ pub record IsFramed (place : ℕ) (header : Header) (content : List ℕ) (framed
   pub is_content : IsContent header.version header.order framed.message content
   pub start_is : framed.start ≡ tail_start header.version header.kind (12 + length is_content.fields)
 
--- a message that is whole is so
+-- a message that is whole is so, and what is so is the whole message
 abbrev pub WholeIsFramed : Type 0
 WholeIsFramed =
     (place : ℕ) (header : Header) (content : List ℕ) (framed : Framed)
     → whole_by place header content ≡ Ok (Some framed) → IsFramed place header content framed
+
+abbrev pub FramedIsWhole : Type 0
+FramedIsWhole =
+    (place : ℕ) (header : Header) (content : List ℕ) (framed : Framed) → IsFramed place header content framed
+    → whole_by place header content ≡ Ok (Some framed)
 
 -- in version 1.2 the body of a message of this kind begins at a multiple of 8
 abbrev pub BeginsAtEight : Kind → Type 0

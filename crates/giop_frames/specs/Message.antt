@@ -1,6 +1,7 @@
 -- Which octets are a message (CORBA, General Inter-ORB Protocol, GIOP Message Formats). The fields of a message are
 -- values of CDR, from offset 12 on; what a message doesn't keep, as the reserved octets, may be anything.
 use Rattle.std.specs.Prelude.{◌≡◌, ℕ, ◌+◌, false, List, ◌++◌, length, Ok}
+use Rattle.std.specs.List.{Contains}
 use Rattle.cdr_values.specs.declared.order.Order.{Order}
 use Rattle.cdr_values.specs.Value.{Value}
 use Rattle.cdr_values.specs.Values.{SpellsAll}
@@ -33,11 +34,12 @@ pub record IsContent (version : Version) (order : Order) (m : Message) (content 
   pub are_fields : AreFields (layout version (kind_of m)) blank told values
   pub made : message_with order (kind_of m) told (kept_tail version (kind_of m) (12 + length fields) tail) ≡ Ok m
 
--- the octets are a message in one part, without fragments
-pub record IsMessage (m : Message) (octets : List ℕ) : Type 0 where
+-- the octets are a message of one of these versions in one part, without fragments
+pub record IsMessage (versions : List Version) (m : Message) (octets : List ℕ) : Type 0 where
   pub header : Header
   pub content : List ℕ
   pub part : IsPart header content octets
+  pub admitted : Contains versions header.version
   pub whole : header.more ≡ false
   pub kind : header.kind ≡ kind_of m
   pub is_content : IsContent header.version header.order m content

@@ -3,6 +3,7 @@
 use Rattle.std.specs.Prelude.{◌≡◌, ◌⊎◌, ℕ, ◌≤◌, ◌==◌, Bool, true, false, ◌&&◌, not, List, [], ◌∷◌, ◌++◌, length, drop, Some, Ok, if◌then◌else◌}
 use Rattle.std.specs.List.{list_any}
 use Rattle.giop_frames.specs.declared.framed.Framed.{Framed}
+use Rattle.giop_frames.specs.declared.layout.Version.{Version}
 use Rattle.giop_frames.specs.Limits.{unfinished_limit}
 use Rattle.giop_frames.specs.Header.{is_fragment}
 use Rattle.giop_frames.specs.Stream.{Part, Unfinished, Splits, earliest, id_of, judged, offset, says, unfinished, whole_by}
@@ -125,44 +126,49 @@ IsEarliestPlace parts place =
 -- each Fragment is a part of exactly one message
 abbrev pub BelongsToOne : Type 0
 BelongsToOne =
-    (octets rest : List ℕ) (messages : List Framed) (newer older : List Part) (p : Part)
-    → Splits octets (newer ++ p ∷ older) messages rest → is_fragment p.header.kind ≡ true
+    (versions : List Version) (octets rest : List ℕ) (messages : List Framed) (newer older : List Part) (p : Part)
+    → Splits versions octets (newer ++ p ∷ older) messages rest → is_fragment p.header.kind ≡ true
     → (first : Part) × (before : List Part) × (between : List Part) × IsPartOf p older first before between
     × ((f : Part) (b c : List Part) → IsPartOf p older f b c → (f ≡ first) × (b ≡ before) × (c ≡ between))
 
 -- the message that a first part began is open, or ended by exactly one Fragment
 abbrev pub EndsOnce : Type 0
 EndsOnce =
-    (octets rest : List ℕ) (messages : List Framed) (since older : List Part) (first : Part)
-    → Splits octets (since ++ first ∷ older) messages rest → is_first first ≡ true
+    (versions : List Version) (octets rest : List ℕ) (messages : List Framed) (since older : List Part) (first : Part)
+    → Splits versions octets (since ++ first ∷ older) messages rest → is_first first ≡ true
     → (is_open first since ≡ true) ⊎ IsEndedOnce first older since
 
 -- what one more part says follows from the messages that were begun and not ended
 abbrev pub SaysByOpen : Type 0
 SaysByOpen =
-    (octets rest : List ℕ) (parts : List Part) (messages : List Framed) → Splits octets parts messages rest
+    (versions : List Version) (octets rest : List ℕ) (parts : List Part) (messages : List Framed)
+    → Splits versions octets parts messages rest
     → (p : Part) → says parts p ≡ judged (open_messages [] parts) (offset parts) p
 
 -- the messages given are those whose last part is there, in the order of their last parts
 abbrev pub GivesEnded : Type 0
 GivesEnded =
-    (octets rest : List ℕ) (parts : List Part) (messages : List Framed) → Splits octets parts messages rest
+    (versions : List Version) (octets rest : List ℕ) (parts : List Part) (messages : List Framed)
+    → Splits versions octets parts messages rest
     → AreEnded parts messages
 
 -- the unfinished messages are those that were begun and not ended, in the order of their first parts
 abbrev pub KeepsOpen : Type 0
 KeepsOpen =
-    (octets rest : List ℕ) (parts : List Part) (messages : List Framed) → Splits octets parts messages rest
+    (versions : List Version) (octets rest : List ℕ) (parts : List Part) (messages : List Framed)
+    → Splits versions octets parts messages rest
     → unfinished parts ≡ open_messages [] parts
 
 -- there are few of them (our profile)
 abbrev pub AreFew : Type 0
 AreFew =
-    (octets rest : List ℕ) (parts : List Part) (messages : List Framed) → Splits octets parts messages rest
+    (versions : List Version) (octets rest : List ℕ) (parts : List Part) (messages : List Framed)
+    → Splits versions octets parts messages rest
     → length (open_messages [] parts) ≤ unfinished_limit
 
 -- the place that a stream tells is that of the earliest of them
 abbrev pub TellsEarliest : Type 0
 TellsEarliest =
-    (octets rest : List ℕ) (parts : List Part) (messages : List Framed) → Splits octets parts messages rest
+    (versions : List Version) (octets rest : List ℕ) (parts : List Part) (messages : List Framed)
+    → Splits versions octets parts messages rest
     → IsEarliestPlace parts (earliest (offset parts) (unfinished parts))

@@ -1,6 +1,8 @@
 -- Streams of messages (CORBA, GIOP Message Formats, Fragment Message): parts one after another, each judged by the
--- parts before it. Where parts are in a list, the newest stands first. The version is 1.2 (our profile).
+-- parts before it. Where parts are in a list, the newest stands first. Each part has a version of its own, which is one of
+-- those that the stream admits.
 use Rattle.std.specs.Prelude.{◌≡◌, ◌≢◌, ◌⊎◌, ℕ, ◌+◌, ◌-◌, ◌^◌, ◌%◌, ◌==◌, nat_le, nat_lt, min, Bool, true, false, ◌||◌, ◌&&◌, not, List, [], ◌∷◌, ◌++◌, length, take, drop, find, Option, Some, None, is_some, Result, Ok, Err, if◌then◌else◌}
+use Rattle.std.specs.List.{Contains}
 use Rattle.cdr_values.specs.declared.fault.CdrFault.TheVariants as cdr
 use Rattle.cdr_values.specs.Value.{number_in}
 use Rattle.cdr_values.specs.Reading.{◌>>=◌}
@@ -33,6 +35,10 @@ pub record Unfinished : Type 0 where
   pub header : Header
   pub content : List ℕ
 
+-- messages and parts of these types are in a version
+abbrev pub may_stand : Version → Kind → Bool
+may_stand V1_2 kind = true
+
 -- messages of these types come in several parts
 abbrev pub may_be_fragmented : Version → Kind → Bool
 may_be_fragmented V1_2 kinds.CancelRequest = false
@@ -45,27 +51,33 @@ may_be_fragmented V1_2 _ = true
 abbrev pub may_go_on : Header → Bool
 may_go_on header = may_be_fragmented header.version header.kind && ((12 + header.size) % 8 == 0)
 
--- the octets are this part
-pub record IsStreamPart (p : Part) (octets : List ℕ) : Type 0 where
+-- a part with this header may stand in a stream
+abbrev pub may_be_part : Header → Bool
+may_be_part header = may_stand header.version header.kind && (not header.more || may_go_on header)
+
+-- the octets are this part, of one of these versions
+pub record IsStreamPart (versions : List Version) (p : Part) (octets : List ℕ) : Type 0 where
   pub part : IsPart p.header p.content octets
-  pub goes_on : p.header.more ≡ true → may_go_on p.header ≡ true
+  pub admitted : Contains versions p.header.version
+  pub may_be : may_be_part p.header ≡ true
 
 -- the octets are these parts
-abbrev pub AreParts : List Part → List ℕ → Type 0
-AreParts [] octets = octets ≡ []
-AreParts (p ∷ older) octets =
-    (before : List ℕ) × (part : List ℕ) × (octets ≡ before ++ part) × IsStreamPart p part × AreParts older before
+abbrev pub AreParts : List Version → List Part → List ℕ → Type 0
+AreParts versions [] octets = octets ≡ []
+AreParts versions (p ∷ older) octets =
+    (before : List ℕ) × (part : List ℕ) × (octets ≡ before ++ part) × IsStreamPart versions p part
+    × AreParts versions older before
 
 -- the header of a part in front, or its first fault as its octets come
-unfoldable pub part_header_at : List ℕ → Result Header FrameFault
-part_header_at octets = do
-  header ← header_at V1_2 octets
-  if header.more && not (may_go_on header) then Err BadFragment else Ok header
+unfoldable pub part_header_at : List Version → List ℕ → Result Header FrameFault
+part_header_at versions octets = do
+  header ← header_at versions octets
+  if not (may_be_part header) then Err BadFragment else Ok header
 
 -- the part in front and what follows it, or the first fault; Short, where there is less than a whole part
-unfoldable pub part_at : List ℕ → Result (Part × List ℕ) FrameFault
-part_at octets = do
-  header ← part_header_at octets
+unfoldable pub part_at : List Version → List ℕ → Result (Part × List ℕ) FrameFault
+part_at versions octets = do
+  header ← part_header_at versions octets
   if nat_lt (length octets) (12 + header.size) then Err Short else
       Ok (part_of header (content_behind header octets), drop (12 + header.size) octets)
 
@@ -235,42 +247,43 @@ abbrev pub AreTaken : List Part → Type 0
 AreTaken [] = Unit {0}
 AreTaken (p ∷ older) = (answer : Option Framed) × (says older p ≡ Ok answer) × AreTaken older
 
--- The octets are whole parts, of which none is refused, and then a rest. These are the messages of the parts.
-pub record Splits (octets : List ℕ) (parts : List Part) (messages : List Framed) (rest : List ℕ) : Type 0 where
+-- The octets are whole parts of these versions, of which none is refused, and then a rest. These are the messages of the
+-- parts.
+pub record Splits (versions : List Version) (octets : List ℕ) (parts : List Part) (messages : List Framed) (rest : List ℕ) : Type 0 where
   pub front : List ℕ
   pub whole : octets ≡ front ++ rest
-  pub are_parts : AreParts parts front
+  pub are_parts : AreParts versions parts front
   pub taken : AreTaken parts
   pub messages_are : messages ≡ messages_of parts
 
 -- the octets are a stream of these messages, in the order of their last parts, and a rest that is no whole part
-pub record IsStream (messages : List Framed) (rest octets : List ℕ) : Type 0 where
+pub record IsStream (versions : List Version) (messages : List Framed) (rest octets : List ℕ) : Type 0 where
   pub parts : List Part
-  pub splits : Splits octets parts messages rest
-  pub partial : part_at rest ≡ Err Short
+  pub splits : Splits versions octets parts messages rest
+  pub partial : part_at versions rest ≡ Err Short
 
 -- the part in front of the rest is refused: by its octets, or by what is said of it
-abbrev pub RefusesFront : (Part → Judgement) → List ℕ → FrameFault → Type 0
-RefusesFront say rest fault =
-    ((part_at rest ≡ Err fault) × (fault ≢ Short))
-    ⊎ ((p : Part) × (behind : List ℕ) × (part_at rest ≡ Ok (p, behind)) × (say p ≡ Err fault))
+abbrev pub RefusesFront : List Version → (Part → Judgement) → List ℕ → FrameFault → Type 0
+RefusesFront versions say rest fault =
+    ((part_at versions rest ≡ Err fault) × (fault ≢ Short))
+    ⊎ ((p : Part) × (behind : List ℕ) × (part_at versions rest ≡ Ok (p, behind)) × (say p ≡ Err fault))
 
 -- the part in front of the rest is refused: by its octets, or by the parts before it
-abbrev pub Refuses : List Part → List ℕ → FrameFault → Type 0
-Refuses older rest fault = RefusesFront (says older) rest fault
+abbrev pub Refuses : List Version → List Part → List ℕ → FrameFault → Type 0
+Refuses versions older rest fault = RefusesFront versions (says older) rest fault
 
 -- behind these messages the octets have a part that is refused: it stands at this place
-pub record IsRefused (messages : List Framed) (place : ℕ) (fault : FrameFault) (octets : List ℕ) : Type 0 where
+pub record IsRefused (versions : List Version) (messages : List Framed) (place : ℕ) (fault : FrameFault) (octets : List ℕ) : Type 0 where
   pub parts : List Part
   pub rest : List ℕ
-  pub splits : Splits octets parts messages rest
+  pub splits : Splits versions octets parts messages rest
   pub place_is : place ≡ offset parts
-  pub refused : Refuses parts rest fault
+  pub refused : Refuses versions parts rest fault
 
 -- the octets are whole parts, of which these are the messages, and no message is unfinished
-pub record IsWhole (messages : List Framed) (octets : List ℕ) : Type 0 where
+pub record IsWhole (versions : List Version) (messages : List Framed) (octets : List ℕ) : Type 0 where
   pub parts : List Part
-  pub splits : Splits octets parts messages []
+  pub splits : Splits versions octets parts messages []
   pub finished : unfinished parts ≡ []
 
 -- the offset of the earliest message that isn't whole: an unfinished one, or that of the part which is cut off
@@ -279,16 +292,16 @@ earliest place [] = place
 earliest place (u ∷ others) = u.place
 
 -- behind these messages the octets end inside a message, which begins at this place
-pub record IsCut (messages : List Framed) (place : ℕ) (octets : List ℕ) : Type 0 where
+pub record IsCut (versions : List Version) (messages : List Framed) (place : ℕ) (octets : List ℕ) : Type 0 where
   pub parts : List Part
   pub rest : List ℕ
-  pub splits : Splits octets parts messages rest
-  pub partial : part_at rest ≡ Err Short
+  pub splits : Splits versions octets parts messages rest
+  pub partial : part_at versions rest ≡ Err Short
   pub inside : (unfinished parts ≢ []) ⊎ (rest ≢ [])
   pub place_is : place ≡ earliest (offset parts) (unfinished parts)
 
 -- these messages come first in the octets
-pub record IsBegun (messages : List Framed) (octets : List ℕ) : Type 0 where
+pub record IsBegun (versions : List Version) (messages : List Framed) (octets : List ℕ) : Type 0 where
   pub parts : List Part
   pub rest : List ℕ
-  pub splits : Splits octets parts messages rest
+  pub splits : Splits versions octets parts messages rest

@@ -6,20 +6,21 @@ use Rattle.cdr_values.specs.Value.{number_in}
 use Rattle.giop_frames.specs.declared.fault.FrameFault.{FrameFault}
 use Rattle.giop_frames.specs.declared.fault.FrameFault.TheVariants.{Short, TooLarge}
 use Rattle.giop_frames.specs.declared.header.Header.{Header}
+use Rattle.giop_frames.specs.declared.layout.Version.{Version}
 use Rattle.giop_frames.specs.Limits.{size_limit}
 use Rattle.giop_frames.specs.Header.{content_behind}
 use Rattle.giop_frames.specs.Stream.{Unfinished, part_at, part_of, without_id}
 
 -- a whole part with this header stands in front
-pub record IsInFront (header : Header) (octets : List ℕ) : Type 0 where
-  pub part : part_at octets ≡ Ok (part_of header (content_behind header octets), drop (12 + header.size) octets)
+pub record IsInFront (versions : List Version) (header : Header) (octets : List ℕ) : Type 0 where
+  pub part : part_at versions octets ≡ Ok (part_of header (content_behind header octets), drop (12 + header.size) octets)
   pub whole : 12 + header.size ≤ length octets
   pub few : header.size ≤ size_limit
 
 -- a call found the header of the whole part in front, or less than a part
-abbrev pub FindsPart : List ℕ → Option Header → Type 0
-FindsPart octets None = part_at octets ≡ Err Short
-FindsPart octets (Some header) = IsInFront header octets
+abbrev pub FindsPart : List Version → List ℕ → Option Header → Type 0
+FindsPart versions octets None = part_at versions octets ≡ Err Short
+FindsPart versions octets (Some header) = IsInFront versions header octets
 
 -- a call read the request_id in front of a content, or there is none
 abbrev pub ReadsId : Order → List ℕ → Result ℕ FrameFault → Type 0

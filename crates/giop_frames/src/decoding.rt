@@ -1,4 +1,5 @@
 ghost use Rattle.std.specs.Prelude.{◌≤◌, ◌^◌, ◌<◌, length, take, IfErr, IfOk};
+ghost use Rattle.giop_frames.specs.Header.{profile_versions};
 ghost use Rattle.giop_frames.specs.Message.{IsMessage};
 ghost use Rattle.giop_frames.specs.Decode.{Decodes, FindsWhatStands, IsRefusedForGood};
 
@@ -6,7 +7,7 @@ use crate::content::read_message;
 use crate::fault::FrameFault;
 use crate::header::{HEADER_LENGTH, read_header};
 use crate::laws::fields_are_read_exactly;
-use crate::layout::Version;
+use crate::layout::{Version, profile_versions};
 use crate::message::Message;
 use std::alloc::Global;
 
@@ -19,26 +20,38 @@ pub struct Decoded {
     pub used: u32,
 }
 
-/// The message in front of the octets, of one part, whatever follows it. A part with the "more fragments" bit and a
-/// Fragment are BadFragment.
+/// The message of version 1.2 in front of the octets, of one part, whatever follows it. A part with the "more fragments"
+/// bit and a Fragment are BadFragment.
 pub fn decode(alloc: Global, bytes: &[u8]) -> Result<Decoded, FrameFault>
     requires { length bytes.now < 2 ^ 31 }
     ensures within { IfOk result (λ d. d.used ≤ length bytes.now) }
-    ensures found { IfOk result (λ d. IsMessage d.message (take d.used bytes.now)) }
-    ensures only { FindsWhatStands bytes.now result }
-    ensures exact { Decodes bytes.now result }
-    ensures stays { IfErr result (IsRefusedForGood bytes.now) }
+    ensures found { IfOk result (λ d. IsMessage profile_versions d.message (take d.used bytes.now)) }
+    ensures only { FindsWhatStands profile_versions bytes.now result }
+    ensures exact { Decodes profile_versions bytes.now result }
+    ensures stays { IfErr result (IsRefusedForGood profile_versions bytes.now) }
+{
+    decode_as(alloc, profile_versions(), bytes)
+}
+
+/// The message of one of these versions in front of the octets, as `decode` reads one of version 1.2.
+pub fn decode_as(alloc: Global, versions: &[Version], bytes: &[u8]) -> Result<Decoded, FrameFault>
+    requires { length bytes.now < 2 ^ 31 }
+    ensures within { IfOk result (λ d. d.used ≤ length bytes.now) }
+    ensures found { IfOk result (λ d. IsMessage versions.now d.message (take d.used bytes.now)) }
+    ensures only { FindsWhatStands versions.now bytes.now result }
+    ensures exact { Decodes versions.now bytes.now result }
+    ensures stays { IfErr result (IsRefusedForGood versions.now bytes.now) }
 {
     fields_are_read_exactly();
-    decode_front(alloc, bytes)
+    decode_front(alloc, versions, bytes)
 }
 
 #[tactic(auto, unfolding(crate::specs::Decode::decoded))]
-fn decode_front(alloc: Global, bytes: &[u8]) -> Result<Decoded, FrameFault>
+fn decode_front(alloc: Global, versions: &[Version], bytes: &[u8]) -> Result<Decoded, FrameFault>
     requires { length bytes.now < 2 ^ 31 }
-    ensures { Decodes bytes.now result }
+    ensures { Decodes versions.now bytes.now result }
 {
-    let header = read_header(Version::V1_2, bytes)?;
+    let header = read_header(versions, bytes)?;
     if header.is_fragmented() {
         return Err(FrameFault::BadFragment);
     }

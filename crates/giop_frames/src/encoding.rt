@@ -1,9 +1,9 @@
-ghost use Rattle.std.specs.Prelude.{◌≡◌, ◌+◌, ◌<◌, ◌≤◌, ◌^◌, ◌++◌, length, replicate, None, Some, OnErr, OnOk};
+ghost use Rattle.std.specs.Prelude.{◌≡◌, ◌+◌, ◌<◌, ◌≤◌, ◌^◌, [], ◌∷◌, ◌++◌, length, replicate, None, Some, OnErr, OnOk};
 ghost use Rattle.cdr_values.specs.Value.{octets_of};
 ghost use Rattle.cdr_values.specs.Appending.{Appends, AppendsSome};
 ghost use Rattle.giop_frames.specs.Fault.{IfRefused};
 ghost use Rattle.giop_frames.specs.declared.layout.Version.TheVariants.{V1_2};
-ghost use Rattle.giop_frames.specs.Header.{header_octets, flags_of};
+ghost use Rattle.giop_frames.specs.Header.{header_octets, flags_of, profile_versions};
 ghost use Rattle.giop_frames.specs.Layout.{body_alignment};
 ghost use Rattle.giop_frames.specs.Message.{IsMessage};
 ghost use Rattle.giop_frames.specs.Encode.{spelling, refusal_of, octets_in, content_of, fields_of, tail_of, padded_body};
@@ -29,7 +29,7 @@ const PADDING: [u8; 8] = [0; 8];
 pub fn encode(alloc: Global, message: &Message, into: &mut Vec<u8>) -> Result<(), FrameFault>
     requires { octets_in message.now < 2 ^ 31 }
     ensures ok { OnOk result (into.new.items ≡ into.old.items ++ spelling V1_2 message.now) }
-    ensures spelled { OnOk result (IsMessage message.now (spelling V1_2 message.now)) }
+    ensures spelled { OnOk result (IsMessage profile_versions message.now (spelling V1_2 message.now)) }
     ensures fits { OnOk result (refusal_of V1_2 message.now ≡ None) }
     ensures refused { IfRefused result (λ fault. refusal_of V1_2 message.now ≡ Some fault) }
     ensures err { OnErr result (into.new.items ≡ into.old.items) }
@@ -46,7 +46,7 @@ pub fn encode_as(
 ) -> Result<(), FrameFault>
     requires { octets_in message.now < 2 ^ 31 }
     ensures ok { OnOk result (into.new.items ≡ into.old.items ++ spelling version message.now) }
-    ensures spelled { OnOk result (IsMessage message.now (spelling version message.now)) }
+    ensures spelled { OnOk result (IsMessage (version ∷ []) message.now (spelling version message.now)) }
     ensures fits { OnOk result (refusal_of version message.now ≡ None) }
     ensures refused { IfRefused result (λ fault. refusal_of version message.now ≡ Some fault) }
     ensures err { OnErr result (into.new.items ≡ into.old.items) }
@@ -106,7 +106,7 @@ fn append_header(
 {
     into.extend_from_slice(&MAGIC)?;
     into.extend_from_slice(&version_octets(version))?;
-    into.extend_from_slice(&[flags_of(order), kind.octet()])?;
+    into.extend_from_slice(&[header_flags(order), kind.octet()])?;
     into.extend_from_slice(&size_octets(order, size))
 }
 
@@ -153,7 +153,7 @@ fn append_padding(count: usize, into: &mut Vec<u8>) -> Result<(), AllocError>
 }
 
 /// The flags of a message that isn't fragmented.
-fn flags_of(order: Order) -> u8
+fn header_flags(order: Order) -> u8
     ensures { result ≡ flags_of order }
 {
     match order {

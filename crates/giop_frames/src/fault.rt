@@ -22,7 +22,7 @@ pub const PROFILE_LIMIT: u32 = 65_536;
 pub enum FrameFault {
     /// The first four octets are not "GIOP".
     BadMagic,
-    /// The version is not 1.2.
+    /// The version is none of those that are admitted: not 1.2, where a call is given no versions.
     BadVersion,
     /// A message type above 7, or a target other than KeyAddr, ProfileAddr and ReferenceAddr.
     BadType,

@@ -1,7 +1,7 @@
-ghost use Rattle.std.specs.Prelude.{◌≡◌, ◌||◌, ◌≤◌, length, take, drop, IfOk};
+ghost use Rattle.std.specs.Prelude.{◌≡◌, ◌||◌, ◌≤◌, length, take, drop, IfOk, Some};
 ghost use Rattle.cdr_values.specs.Value.{number_in};
 ghost use Rattle.giop_frames.specs.Limits.{size_limit};
-ghost use Rattle.giop_frames.specs.Header.{kind_at, type_octet, order_of_flags, is_fragment, header_at, version_octets};
+ghost use Rattle.giop_frames.specs.Header.{kind_at, type_octet, order_of_flags, more_of_flags, is_fragment, header_at, header_of, version_at, version_octets};
 
 use crate::fault::{FrameFault, SIZE_LIMIT};
 use crate::layout::Version;
@@ -84,18 +84,27 @@ impl Header {
     }
 }
 
-/// The header in front of a part of this version, or its first fault, as its octets come.
+/// The header in front of a part of one of these versions, or its first fault, as its octets come.
 #[tactic(auto, unfolding(crate::specs::Header::header_at))]
-pub fn read_header(version: Version, octets: &[u8]) -> Result<Header, FrameFault>
-    ensures header { result ≡ header_at version octets.now }
+pub fn read_header(versions: &[Version], octets: &[u8]) -> Result<Header, FrameFault>
+    ensures header { result ≡ header_at versions.now octets.now }
     ensures small { IfOk result (λ header. header.size ≤ size_limit) }
 {
     if !MAGIC.starts_with(front(octets, 4)) {
         return Err(FrameFault::BadMagic);
     }
-    if !version_octets(version).starts_with(front(behind(octets, 4), 2)) {
-        return Err(FrameFault::BadVersion);
+    match version_at(versions, front(behind(octets, 4), 2)) {
+        Some(version) => read_behind(version, octets),
+        None if octets.len() > 4 => Err(FrameFault::BadVersion),
+        None => Err(FrameFault::Short),
     }
+}
+
+/// The header of this version behind its magic and version.
+fn read_behind(version: Version, octets: &[u8]) -> Result<Header, FrameFault>
+    ensures header { result ≡ header_of (Some version) octets.now }
+    ensures small { IfOk result (λ header. header.size ≤ size_limit) }
+{
     if octets.len() > 7 && octets[7] > 7 {
         return Err(FrameFault::BadType);
     }
@@ -110,10 +119,20 @@ pub fn read_header(version: Version, octets: &[u8]) -> Result<Header, FrameFault
     Ok(Header {
         version,
         order,
-        more: octets[6] / 2 % 2 == 1,
+        more: more_of_flags(version, octets[6]),
         kind: Kind::from_octet(octets[7]),
         size,
     })
+}
+
+/// The version whose octets these are, of those that are admitted; where octets are wanting, the first that they begin.
+fn version_at(versions: &[Version], octets: &[u8]) -> Option<Version>
+    ensures { result ≡ version_at versions.now octets.now }
+{
+    versions
+        .iter()
+        .copied()
+        .find(|version| version_octets(*version).starts_with(octets))
 }
 
 /// The octets of the version: the major one, and the minor one.
@@ -141,6 +160,14 @@ pub fn behind(octets: &[u8], n: usize) -> &[u8]
     ensures { result.now ≡ drop n octets.now }
 {
     if octets.len() < n { &[] } else { &octets[n..] }
+}
+
+fn more_of_flags(version: Version, flags: u8) -> bool
+    ensures { result ≡ more_of_flags version flags }
+{
+    match version {
+        Version::V1_2 => flags / 2 % 2 == 1,
+    }
 }
 
 fn order_of_flags(flags: u8) -> Order

@@ -1,5 +1,6 @@
 ghost use Rattle.std.specs.Prelude.{◌≡◌, ◌<◌, ◌≤◌};
 ghost use Rattle.cdr_values.specs.Value.{gap};
+ghost use Rattle.giop_frames.specs.Header.{profile_versions};
 ghost use Rattle.giop_frames.specs.Layout.{body_alignment, layout};
 
 use crate::header::Kind;
@@ -9,6 +10,15 @@ use crate::header::Kind;
 pub enum Version {
     /// GIOP 1.2.
     V1_2,
+}
+
+static PROFILE_VERSIONS: [Version; 1] = [Version::V1_2];
+
+/// The versions that are admitted where a call is given none (our profile).
+pub fn profile_versions() -> &'static [Version]
+    ensures { result.now ≡ profile_versions }
+{
+    &PROFILE_VERSIONS
 }
 
 /// A field in front of a message's body, as the tables of layouts list it.

@@ -1,7 +1,8 @@
-//! Messages of the General Inter-ORB Protocol, version 1.2: what octets spell them, and how they are written and read.
+//! Messages of the General Inter-ORB Protocol: what octets spell them, and how they are written and read. Each call
+//! that names no version is of version 1.2; the layouts of that version are the ones that are known.
 #![tactic(auto)]
 
-pub use decoding::{Decoded, decode};
+pub use decoding::{Decoded, decode, decode_as};
 pub use encoding::{encode, encode_as};
 pub use fault::{CONTEXT_LIMIT, FrameFault, KEY_LIMIT, PROFILE_LIMIT, SIZE_LIMIT};
 pub use framed::Framed;

@@ -5,7 +5,7 @@ ghost use Rattle.giop_frames.specs.Fault.{Fails};
 ghost use Rattle.giop_frames.specs.Header.{content_behind, is_fragment};
 ghost use Rattle.giop_frames.specs.Held.{AreShort};
 ghost use Rattle.giop_frames.specs.HeldInside.{Judges};
-ghost use Rattle.giop_frames.specs.Stream.{may_be_fragmented, may_go_on, opening, numbered, part_at, part_header_at, part_of, with_begun};
+ghost use Rattle.giop_frames.specs.Stream.{may_be_fragmented, may_be_part, may_go_on, may_stand, opening, numbered, part_at, part_header_at, part_of, with_begun};
 ghost use Rattle.giop_frames.specs.StreamInside.{FindsPart, IsAt, ReadsId};
 
 use crate::content::read_message;
@@ -22,11 +22,12 @@ pub const UNFINISHED_LIMIT: usize = 8;
 
 /// The header of the part in front of the octets, where the part is whole.
 #[tactic(auto, unfolding(crate::specs::Stream::part_at))]
-pub fn whole_part(octets: &[u8]) -> Result<Option<Header>, FrameFault>
-    ensures part { IfOk result (FindsPart octets.now) }
-    ensures refused { IfErr result (λ fault. (part_at octets.now ≡ Err fault) × (fault ≢ FrameFault.Short)) }
+pub fn whole_part(versions: &[Version], octets: &[u8]) -> Result<Option<Header>, FrameFault>
+    ensures part { IfOk result (FindsPart versions.now octets.now) }
+    ensures refused { IfErr result
+        (λ fault. (part_at versions.now octets.now ≡ Err fault) × (fault ≢ FrameFault.Short)) }
 {
-    match read_part_header(octets) {
+    match read_part_header(versions, octets) {
         Err(fault) if is_short(fault) => Ok(None),
         Err(fault) => Err(fault),
         Ok(header) if octets.len() < HEADER_LENGTH + header.size as usize => Ok(None),
@@ -50,15 +51,30 @@ fn is_short(fault: FrameFault) -> bool
 
 /// The header of the part in front of the octets, or its first fault, as its octets come.
 #[tactic(auto, unfolding(crate::specs::Stream::part_header_at))]
-fn read_part_header(octets: &[u8]) -> Result<Header, FrameFault>
-    ensures header { result ≡ part_header_at octets.now }
+fn read_part_header(versions: &[Version], octets: &[u8]) -> Result<Header, FrameFault>
+    ensures header { result ≡ part_header_at versions.now octets.now }
     ensures small { IfOk result (λ header. header.size ≤ size_limit) }
 {
-    let header = read_header(Version::V1_2, octets)?;
-    if header.more && !can_go_on(header) {
+    let header = read_header(versions, octets)?;
+    if !can_be_part(header) {
         return Err(FrameFault::BadFragment);
     }
     Ok(header)
+}
+
+fn can_be_part(header: Header) -> bool
+    requires { header.size ≤ size_limit }
+    ensures { result ≡ may_be_part header }
+{
+    can_stand(header.version, header.kind) && (!header.more || can_go_on(header))
+}
+
+fn can_stand(version: Version, kind: Kind) -> bool
+    ensures { result ≡ may_stand version kind }
+{
+    match (version, kind) {
+        (Version::V1_2, _) => true,
+    }
 }
 
 fn can_go_on(header: Header) -> bool

@@ -1,6 +1,7 @@
 ghost use Rattle.std.specs.Prelude.{◌≡◌, ◌↔◌, ◌+◌, ◌<◌, ◌≤◌, ◌^◌, [], length, drop, Option, None, Some, Ok, Err, IfSome, IsTrue, OnErr, OnOk};
 ghost use Rattle.giop_frames.specs.Fault.{IfRefused};
-ghost use Rattle.giop_frames.specs.Held.{Held, Holds, GivesNext, HasCome, HasGiven, HasGivenFramed, IsBounded, IsUnfinished, place_of};
+ghost use Rattle.giop_frames.specs.Held.{Held, Holds, GivesNext, nothing_of, HasCome, HasGiven, HasGivenFramed, IsBounded, IsUnfinished, place_of};
+ghost use Rattle.giop_frames.specs.Header.{profile_versions};
 ghost use Rattle.giop_frames.specs.Limits.{partial_limit};
 ghost use Rattle.giop_frames.specs.Stream.{part_at};
 ghost use Rattle.giop_frames.specs.HeldInside.{IsMostlyHeld, Takes, remembering};
@@ -8,18 +9,20 @@ ghost use Rattle.giop_frames.specs.HeldInside.{IsMostlyHeld, Takes, remembering}
 use crate::fault::FrameFault;
 use crate::framed::Framed;
 use crate::header::{HEADER_LENGTH, behind};
+use crate::layout::{Version, profile_versions};
 use crate::message::Message;
 use crate::parts::{content_of, judge, whole_part};
 use crate::unfinished::Unfinished;
 use std::alloc::Global;
 use std::marker::Model;
 
-/// Messages of a stream of octets that comes in pieces, with fragments of up to 8 unfinished messages. Contracts see
-/// what it holds back: the unfinished messages, the octets of no whole part yet and their offset, and the refusal that it
-/// answers for good.
+/// Messages of a stream of octets that comes in pieces, with fragments of up to 8 unfinished messages. Contracts see the
+/// versions that it admits, and what it holds back: the unfinished messages, the octets of no whole part yet and their
+/// offset, and the refusal that it answers for good.
 #[derive(Drop)]
 pub struct Stream {
     alloc: Global,
+    versions: &'static [Version],
     messages: Vec<Unfinished>,
     buffer: Vec<u8>,
     start: usize,
@@ -35,6 +38,7 @@ impl Model for Stream {
     ghost Value = { Held };
 
     ghost view = { λ s. record {
+      versions = s.versions.now;
       unfinished = s.messages.items;
       place = s.place;
       rest = drop s.start s.buffer.items;
@@ -56,14 +60,22 @@ enum Taken {
 }
 
 impl Stream {
-    /// A stream of which nothing has come.
+    /// A stream of messages of version 1.2, of which nothing has come.
     pub fn new(alloc: Global) -> Stream
-        ensures holds { Holds [] [] result }
-        ensures nothing { result
-            ≡ record { unfinished = []; place = 0; rest = []; refused = None; kept = 0 } }
+        ensures holds { Holds profile_versions [] [] result }
+        ensures nothing { result ≡ nothing_of profile_versions }
+    {
+        Stream::of(alloc, profile_versions())
+    }
+
+    /// A stream of messages of these versions, of which nothing has come.
+    pub fn of(alloc: Global, versions: &'static [Version]) -> Stream
+        ensures holds { Holds versions.now [] [] result }
+        ensures nothing { result ≡ nothing_of versions.now }
     {
         Stream {
             alloc,
+            versions,
             messages: Vec::new(alloc),
             buffer: Vec::new(alloc),
             start: 0,
@@ -99,9 +111,9 @@ impl Stream {
 
     /// The next message that is whole, in the order of last parts, with what the header of its first part says. A
     /// refusal other than want of memory is answered for good. BadFragment is a part with the "more fragments" bit
-    /// whose type comes in one part, or whose length isn't a multiple of 8; a Fragment whose request_id is that of no
-    /// unfinished message; and a first part with the bit whose request_id is that of an unfinished message, or which
-    /// would be the ninth.
+    /// whose type comes in one part, or whose length isn't a multiple of 8; a type that isn't in the version; a Fragment
+    /// whose request_id is that of no unfinished message; and a first part with the bit whose request_id is that of an
+    /// unfinished message, or which would be the ninth.
     pub fn next_framed(&mut self) -> Result<Option<Framed>, FrameFault>
         ensures { GivesNext HasGivenFramed result self.old self.new }
     {
@@ -145,7 +157,7 @@ impl Stream {
     pub fn kept(&self) -> usize
         ensures same { result ≡ self.now.kept }
         ensures bounded { IsBounded self.now }
-        ensures partial { part_at self.now.rest ≡ Err FrameFault.Short
+        ensures partial { part_at self.now.versions self.now.rest ≡ Err FrameFault.Short
             → result ≤ partial_limit + partial_limit }
     {
         self.buffer.len()
@@ -166,7 +178,7 @@ impl Stream {
         ensures { Takes self.old result self.new }
     {
         let rest = behind(&self.buffer, self.start);
-        let Some(header) = whole_part(rest)? else {
+        let Some(header) = whole_part(self.versions, rest)? else {
             return Ok(Taken::Nothing);
         };
         let content = content_of(header, rest);

@@ -7,9 +7,11 @@ use Rattle.std.proofs.Math.Seq.{take-append-add}
 use Rattle.giop_frames.specs.declared.fault.FrameFault.{FrameFault}
 use Rattle.giop_frames.specs.declared.fault.FrameFault.TheVariants as faults
 use Rattle.giop_frames.specs.declared.framed.Framed.{Framed}
-use Rattle.giop_frames.specs.Stream.{IsBegun, IsCut, IsRefused, IsWhole, Splits, Unfinished, part_at, part_header_at}
-use Rattle.giop_frames.specs.Header.{header_at}
-use Rattle.giop_frames.specs.Held.{Held, Holds, IsUnfinished, place_by, place_of}
+use Rattle.giop_frames.specs.declared.layout.Version.{Version}
+use Rattle.giop_frames.specs.Stream.{IsBegun, IsCut, IsRefused, IsWhole, Splits, Unfinished, unfinished, part_at, part_header_at}
+use Rattle.giop_frames.specs.Header.{header_at, profile_versions}
+use Rattle.giop_frames.specs.Held.{Held, HasCome, HasGivenFramed, Holds, IsRefusedAtPlace, IsUnfinished, place_by, place_of}
+use Rattle.giop_frames.specs.Laws.{RefusalGoesOn}
 use Rattle.ots_outside.specs.Sink.{Takes, TakesPart}
 use Rattle.ots_outside.specs.Source.{Gives}
 use Rattle.ots_program.specs.declared.status.Status.{Status}
@@ -21,11 +23,11 @@ use Rattle.ots_program.specs.MessageLine.{message_line, message_lines}
 use Rattle.ots_program.proofs.Taken.{Takes-none, Takes-trans}
 
 -- these messages come first where octets are held so
-pub held_begun : (octets : List ℕ) (messages : List Framed) (h : Held) → Holds octets messages h → IsBegun messages octets
+pub held_begun : (octets : List ℕ) (messages : List Framed) (h : Held) → Holds profile_versions octets messages h → IsBegun profile_versions messages octets
 held_begun octets messages h holds = record { parts = holds.parts; rest = h.rest; splits = holds.splits }
 
 -- messages that come first do so with more octets too
-pub begun_on : (octets more : List ℕ) (messages : List Framed) → IsBegun messages octets → IsBegun messages (octets ++ more)
+pub begun_on : (octets more : List ℕ) (messages : List Framed) → IsBegun profile_versions messages octets → IsBegun profile_versions messages (octets ++ more)
 begun_on octets more messages b = record {
   parts = b.parts;
   rest = b.rest ++ more;
@@ -47,10 +49,10 @@ pub record Telling (old now : Held) (piece told : List ℕ) : Type 0 where
   pub told_is : told ≡ message_lines messages
   pub accepts : now.refused ≡ None
 
-pub telling_start : (old now : Held) (piece told : List ℕ) → ((octets : List ℕ) (given : List Framed) → Holds octets given old → Holds (octets ++ piece) given now) → told ≡ [] → now.refused ≡ None → Telling old now piece told
+pub telling_start : (old now : Held) (piece told : List ℕ) → HasCome piece old now → told ≡ [] → now.refused ≡ None → Telling old now piece told
 telling_start old now piece told fed none accepts = record {
   messages = [];
-  gives = λ octets given h. subst (λ (ms : List Framed). Holds (octets ++ piece) ms now) (sym (append-nil given)) (fed octets given h);
+  gives = λ octets given h. subst (λ (ms : List Framed). Holds profile_versions (octets ++ piece) ms now) (sym (append-nil given)) (fed profile_versions octets given h);
   told_is = none;
   accepts = accepts;
 }
@@ -58,11 +60,11 @@ telling_start old now piece told fed none accepts = record {
 message_lines-push : (messages : List Framed) (m : Framed) → message_lines (messages ++ m ∷ []) ≡ message_lines messages ++ message_line m
 message_lines-push messages m = flat_map-append message_line messages (m ∷ []) ∙ ap (λ (x : List ℕ). message_lines messages ++ x) (append-nil (message_line m))
 
-pub telling_more : (old now next : Held) (piece told more : List ℕ) (m : Framed) → Telling old now piece told → ((octets : List ℕ) (given : List Framed) → Holds octets given now → Holds octets (given ++ m ∷ []) next)
+pub telling_more : (old now next : Held) (piece told more : List ℕ) (m : Framed) → Telling old now piece told → HasGivenFramed m now next
     → more ≡ told ++ message_line m → next.refused ≡ None → Telling old next piece more
 telling_more old now next piece told more m t gives written accepts = record {
   messages = t.messages ++ m ∷ [];
-  gives = λ octets given h. subst (λ (ms : List Framed). Holds (octets ++ piece) ms next) (append_assoc given t.messages (m ∷ [])) (gives (octets ++ piece) (given ++ t.messages) (t.gives octets given h));
+  gives = λ octets given h. subst (λ (ms : List Framed). Holds profile_versions (octets ++ piece) ms next) (append_assoc given t.messages (m ∷ [])) (gives profile_versions (octets ++ piece) (given ++ t.messages) (t.gives octets given h));
   told_is = written ∙ ap (λ (x : List ℕ). x ++ message_line m) t.told_is ∙ sym (message_lines-push t.messages m);
   accepts = accepts;
 }
@@ -81,7 +83,7 @@ telling_none : (old : Held) (piece told : List ℕ) → told ≡ [] → TellsBre
 telling_none old piece told none = record {
   messages = [];
   stops = tt;
-  breaks = λ octets given h. subst (λ (ms : List Framed). IsBegun ms (octets ++ piece)) (sym (append-nil given)) (begun_on octets piece given (held_begun octets given old h));
+  breaks = λ octets given h. subst (λ (ms : List Framed). IsBegun profile_versions ms (octets ++ piece)) (sym (append-nil given)) (begun_on octets piece given (held_begun octets given old h));
   told_is = none;
 }
 
@@ -95,20 +97,20 @@ placed : (h : Held) (fault : FrameFault) → h.refused ≡ Some fault → place_
 placed h fault e = ap (λ (r : Option FrameFault). place_by h.place r h.unfinished) e
 
 bad : (old now next : Held) (piece told : List ℕ) (fault : FrameFault) → Telling old now piece told → (fault ≢ faults.Memory)
-    → ((fault ≡ faults.Memory) ⊎ ((octets : List ℕ) (messages : List Framed) → Holds octets messages now → IsRefused messages next.place fault octets))
+    → ((fault ≡ faults.Memory) ⊎ IsRefusedAtPlace now next fault)
     → ((fault ≡ faults.Memory) ⊎ (next.refused ≡ Some fault)) → TellsBreak (statuses.BadMessage (place_of next) fault) old piece told
 bad old now next piece told fault t not refused (inl memory) = absurd (not memory)
 bad old now next piece told fault t not (inl memory) remembered = absurd (not memory)
 bad old now next piece told fault t not (inr refused) (inr remembered) = record {
   messages = t.messages;
   stops = tt;
-  breaks = λ octets given h. subst (λ (n : ℕ). IsRefused (given ++ t.messages) n fault (octets ++ piece)) (sym (placed next fault remembered)) (refused (octets ++ piece) (given ++ t.messages) (t.gives octets given h));
+  breaks = λ octets given h. subst (λ (n : ℕ). IsRefused profile_versions (given ++ t.messages) n fault (octets ++ piece)) (sym (placed next fault remembered)) (refused profile_versions (octets ++ piece) (given ++ t.messages) (t.gives octets given h));
   told_is = t.told_is;
 }
 
 -- a part was refused
 pub telling_refused : (old now next : Held) (piece told : List ℕ) (fault : FrameFault) → Telling old now piece told
-    → ((fault ≡ faults.Memory) ⊎ ((octets : List ℕ) (messages : List Framed) → Holds octets messages now → IsRefused messages next.place fault octets))
+    → ((fault ≡ faults.Memory) ⊎ IsRefusedAtPlace now next fault)
     → ((fault ≡ faults.Memory) ⊎ (next.refused ≡ Some fault)) → TellsBreak (status_by (place_of next) fault) old piece told
 telling_refused old now next piece told faults.BadMagic t r m = bad old now next piece told faults.BadMagic t (λ e. cc) r m
 telling_refused old now next piece told faults.BadVersion t r m = bad old now next piece told faults.BadVersion t (λ e. cc) r m
@@ -140,10 +142,10 @@ written : (status : Status) (messages : List Framed) (told : List ℕ) (before a
 written status messages told None after e t = tt
 written status messages told (Some taken) after e t = writes_whole status messages taken after (t ∙ ap (λ (x : List ℕ). Some (taken ++ x)) e)
 
-refused_begun : (messages : List Framed) (place : ℕ) (fault : FrameFault) (octets : List ℕ) → IsRefused messages place fault octets → IsBegun messages octets
+refused_begun : (messages : List Framed) (place : ℕ) (fault : FrameFault) (octets : List ℕ) → IsRefused profile_versions messages place fault octets → IsBegun profile_versions messages octets
 refused_begun messages place fault octets r = record { parts = r.parts; rest = r.rest; splits = r.splits }
 
-breaks_begun : (status : Status) (messages : List Framed) (octets : List ℕ) → Breaks status messages octets → IsBegun messages octets
+breaks_begun : (status : Status) (messages : List Framed) (octets : List ℕ) → Breaks status messages octets → IsBegun profile_versions messages octets
 breaks_begun statuses.Done messages octets b = b
 breaks_begun (statuses.BadMessage place fault) messages octets b = refused_begun messages place fault octets b
 breaks_begun statuses.Usage messages octets b = b
@@ -182,10 +184,10 @@ pub record Showing (octets : List ℕ) (left before now : Option (List ℕ)) (h 
   pub left_is : left ≡ Some rest
   pub whole : octets ≡ read ++ rest
   pub messages : List Framed
-  pub holds : Holds read messages h
+  pub holds : Holds profile_versions read messages h
   pub taken : Takes before (message_lines messages) now
 
-pub showing_start : (left before : Option (List ℕ)) (h : Held) → Holds [] [] h → IfSome left (λ octets. Showing octets left before before h)
+pub showing_start : (left before : Option (List ℕ)) (h : Held) → Holds profile_versions [] [] h → IfSome left (λ octets. Showing octets left before before h)
 showing_start None before h holds = tt
 showing_start (Some octets) before h holds = record { read = []; rest = octets; left_is = refl; whole = refl; messages = []; holds = holds; taken = Takes-none before }
 
@@ -211,9 +213,9 @@ told : (status : Status) (octets : List ℕ) (messages : List Framed) (before af
 told status octets messages before after ends writes = record { messages = messages; ends = ends; writes = writes }
 
 -- a status that comes without a further octet
-begun_shows : (status : Status) (octets : List ℕ) (left before now : Option (List ℕ)) (h : Held) → ((messages : List Framed) → IsBegun messages octets → Ends status messages octets) → Showing octets left before now h → ShowsOctets status octets before now
+begun_shows : (status : Status) (octets : List ℕ) (left before now : Option (List ℕ)) (h : Held) → ((messages : List Framed) → IsBegun profile_versions messages octets → Ends status messages octets) → Showing octets left before now h → ShowsOctets status octets before now
 begun_shows status octets left before now h ends s =
-    let begun : IsBegun s.messages octets = subst (λ (x : List ℕ). IsBegun s.messages x) (sym s.whole) (begun_on s.read s.rest s.messages (held_begun s.read s.messages h s.holds)) in
+    let begun : IsBegun profile_versions s.messages octets = subst (λ (x : List ℕ). IsBegun profile_versions s.messages x) (sym s.whole) (begun_on s.read s.rest s.messages (held_begun s.read s.messages h s.holds)) in
     told status octets s.messages before now (ends s.messages begun) (written status s.messages (message_lines s.messages) before now refl s.taken)
 
 read_failed : (script left before now : Option (List ℕ)) (h : Held) → IfSome script (λ octets. Showing octets left before now h) → IfSome script (λ octets. ShowsOctets statuses.ReadFault octets before now)
@@ -242,11 +244,11 @@ ended_told : (status : Status) (octets : List ℕ) (left next before now : Optio
     → ShowsOctets status octets before now
 ended_told statuses.Done octets left next before now h places n room s gives none place ends =
     let all = nothing_left octets left next before now h places n room s gives none place in
-    let whole : IsWhole s.messages octets = subst (λ (x : List ℕ). IsWhole s.messages x) (sym all.0) (ends s.read s.messages s.holds) in
+    let whole : IsWhole profile_versions s.messages octets = subst (λ (x : List ℕ). IsWhole profile_versions s.messages x) (sym all.0) (ends s.read s.messages s.holds) in
     told statuses.Done octets s.messages before now whole (written statuses.Done s.messages (message_lines s.messages) before now refl s.taken)
 ended_told (statuses.BadMessage at fault) octets left next before now h places n room s gives none place ends =
     let all = nothing_left octets left next before now h places n room s gives none place in
-    let cut : IsCut s.messages at octets = subst (λ (x : List ℕ). IsCut s.messages at x) (sym all.0) (ends.1 s.read s.messages s.holds) in
+    let cut : IsCut profile_versions s.messages at octets = subst (λ (x : List ℕ). IsCut profile_versions s.messages at x) (sym all.0) (ends.1 s.read s.messages s.holds) in
     told (statuses.BadMessage at fault) octets s.messages before now (inr (ends.0, cut)) (written (statuses.BadMessage at fault) s.messages (message_lines s.messages) before now refl s.taken)
 ended_told statuses.Usage octets left next before now h places n room s gives none place ends = absurd ends
 ended_told (statuses.Script line) octets left next before now h places n room s gives none place ends = absurd ends
@@ -276,10 +278,6 @@ pub showing_ended : (status : Status) (script left next before now : Option (Lis
 showing_ended status script left next before now h places n room s gives none place ends =
     record { of_show = OfShow-ended status h ends; shows = ended_writes status script left next before now h places n room s gives none place ends }
 
--- a law: octets that are refused are refused with more of them too
-abbrev pub RefusalGoesOn : Type 0
-RefusalGoesOn = (messages : List Framed) (place : ℕ) (fault : FrameFault) (octets more : List ℕ) → IsRefused messages place fault octets → IsRefused messages place fault (octets ++ more)
-
 breaks_end : RefusalGoesOn → (status : Status) (messages : List Framed) (octets more : List ℕ) → StopsShow status → Breaks status messages octets → Ends status messages (octets ++ more)
 breaks_end law statuses.Done messages octets more stops b = absurd stops
 breaks_end law statuses.Usage messages octets more stops b = absurd stops
@@ -288,7 +286,7 @@ breaks_end law (statuses.Limit line number) messages octets more stops b = absur
 breaks_end law statuses.ReadFault messages octets more stops b = absurd stops
 breaks_end law statuses.WriteFault messages octets more stops b = begun_on octets more messages b
 breaks_end law statuses.Memory messages octets more stops b = begun_on octets more messages b
-breaks_end law (statuses.BadMessage place fault) messages octets more stops b = inl (law messages place fault octets more b)
+breaks_end law (statuses.BadMessage place fault) messages octets more stops b = inl (law profile_versions messages place fault octets more b)
 
 ahead_front : (messages more : List Framed) (taken : List ℕ) (after : Option (List ℕ)) → ((n : ℕ) × (after ≡ Some ((taken ++ message_lines messages) ++ take n (message_lines more)))) → (n : ℕ) × (after ≡ Some (taken ++ take n (message_lines (messages ++ more))))
 ahead_front messages more taken after h =
@@ -344,7 +342,7 @@ showing_broke law status script left next before now after h places n room s giv
 ends_whole : (h : Held) → h.unfinished ≡ [] → h.rest ≡ [] → EndsStream statuses.Done h
 ends_whole h none empty octets messages holds = record {
   parts = holds.parts;
-  splits = subst (λ (rest : List ℕ). Splits octets holds.parts messages rest) empty holds.splits;
+  splits = subst (λ (rest : List ℕ). Splits profile_versions octets holds.parts messages rest) empty holds.splits;
   finished = sym holds.unfinished_are ∙ none;
 }
 
@@ -352,13 +350,24 @@ no_items : {X : Type 0} (xs : List X) → ((xs ≢ []) → ⊥) → xs ≡ []
 no_items [] h = refl
 no_items (x ∷ xs) h = absurd (h (λ e. cc))
 
--- the stream ends with no message unfinished
-pub ends_finished : (h : Held) → (IsUnfinished h → ⊥) → EndsStream statuses.Done h
-ends_finished h not = ends_whole h (no_items h.unfinished (λ some. not (inl some))) (no_items h.rest (λ some. not (inr some)))
-
 inside_parts : (h : Held) (messages : List Unfinished) → h.unfinished ≡ messages → IsUnfinished h → (messages ≢ []) ⊎ (h.rest ≢ [])
 inside_parts h messages e (inl some) = inl (λ none. some (e ∙ none))
 inside_parts h messages e (inr rest) = inr rest
+
+-- the stream ends inside a message
+pub ends_inside : (h : Held) (place : ℕ) → part_at h.versions h.rest ≡ Err faults.Short → h.refused ≡ None → place ≡ place_of h → IsUnfinished h → EndsStream (statuses.BadMessage place faults.Short) h
+ends_inside h place partial accepts is inside = (refl, λ octets messages holds. record {
+  parts = holds.parts;
+  rest = h.rest;
+  splits = holds.splits;
+  partial = ap (λ (vs : List Version). part_at vs h.rest) (sym holds.versions_are) ∙ partial;
+  inside = inside_parts h (unfinished holds.parts) holds.unfinished_are inside;
+  place_is = is ∙ rw (accepts, holds.place_is, holds.unfinished_are) refl;
+})
+
+-- the stream ends with no message unfinished
+pub ends_finished : (h : Held) → (IsUnfinished h → ⊥) → EndsStream statuses.Done h
+ends_finished h not = ends_whole h (no_items h.unfinished (λ some. not (inl some))) (no_items h.rest (λ some. not (inr some)))
 
 -- ---- a stop in a piece
 
@@ -388,6 +397,6 @@ not_write statuses.WriteFault own e = own
 not_write (statuses.Limit line number) own e = own
 
 -- nothing is less than a whole part
-pub nothing_partial : part_at [] ≡ Err faults.Short
+pub nothing_partial : part_at profile_versions [] ≡ Err faults.Short
 unfolding part_at part_header_at header_at
 nothing_partial = refl

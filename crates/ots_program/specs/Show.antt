@@ -3,6 +3,7 @@ use Rattle.std.specs.Prelude.{◌≡◌, ◌⊎◌, ℕ, List, ◌++◌, take, O
 use Rattle.giop_frames.specs.declared.fault.FrameFault.{FrameFault}
 use Rattle.giop_frames.specs.declared.fault.FrameFault.TheVariants.{Short}
 use Rattle.giop_frames.specs.declared.framed.Framed.{Framed}
+use Rattle.giop_frames.specs.Header.{profile_versions}
 use Rattle.giop_frames.specs.Stream.{IsBegun, IsCut, IsRefused, IsWhole}
 use Rattle.ots_program.specs.declared.status.Status.{Status}
 use Rattle.ots_program.specs.declared.status.Status.TheVariants as statuses
@@ -20,14 +21,14 @@ OfShow _ = ⊥
 -- behind these messages there is no further one: a part is refused, or the octets end inside a message
 abbrev pub EndsBadly : List Framed → ℕ → FrameFault → List ℕ → Type 0
 EndsBadly messages place fault octets =
-    IsRefused messages place fault octets ⊎ ((fault ≡ Short) × IsCut messages place octets)
+    IsRefused profile_versions messages place fault octets ⊎ ((fault ≡ Short) × IsCut profile_versions messages place octets)
 
 -- How a show of the octets ends, by its status, behind the messages whose lines were written. A fault or want of memory
 -- may cut the lines short.
 abbrev pub Ends : Status → List Framed → List ℕ → Type 0
-Ends statuses.Done messages octets = IsWhole messages octets
+Ends statuses.Done messages octets = IsWhole profile_versions messages octets
 Ends (statuses.BadMessage place fault) messages octets = EndsBadly messages place fault octets
-Ends _ messages octets = IsBegun messages octets
+Ends _ messages octets = IsBegun profile_versions messages octets
 
 -- the lines of these messages went out, whole or from the front, by the status
 abbrev pub WritesMessageLines : Status → List Framed → List ℕ → Option (List ℕ) → Type 0

@@ -117,7 +117,7 @@ fn refusal(stream: &Stream, fault: FrameFault) -> Status
 /// The stream has come to its end.
 fn end(stream: &Stream) -> Status
     requires accepts { stream.now.refused ≡ None }
-    requires partial { part_at stream.now.rest ≡ Err FrameFault.Short }
+    requires partial { part_at stream.now.versions stream.now.rest ≡ Err FrameFault.Short }
     ensures { EndsStream result stream.now }
 {
     if stream.unfinished() {

@@ -12,5 +12,5 @@ returns-in_err-found c =
     let h = c.in_ok-header.header in
     let bytes = c.args.bytes.now in
     let same : 12 + h.size - 12 ≡ h.size = omega arith in
-    rw (p.1, p.2) (fails_on c.in_err-found.field-0.0 (message_of h.version h.order h.kind (take (12 + h.size - 12) (drop 12 bytes))) (decoded bytes)
-    (λ e. decoded_fault bytes h _ (sym c.in_ok-header.ensures.header) (sym c.is_fragmented.ensures ∙ c.if-is_fragmented.false) (omega arith) (rw same at e)) c.in_err-found.ensures.message)
+    rw (p.1, p.2) (fails_on c.in_err-found.field-0.0 (message_of h.version h.order h.kind (take (12 + h.size - 12) (drop 12 bytes))) (decoded c.args.versions.now bytes)
+    (λ e. decoded_fault c.args.versions.now bytes h _ (sym c.in_ok-header.ensures.header) (sym c.is_fragmented.ensures ∙ c.if-is_fragmented.false) (omega arith) (rw same at e)) c.in_err-found.ensures.message)

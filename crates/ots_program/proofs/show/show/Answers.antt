@@ -7,7 +7,7 @@ use Rattle.ots_program.proofs.show.show.Goals as goal
 pub loop-init : goal.loop-init
 loop-init g c = record {
   accepts = ap (λ (h : Held). h.refused) c.new-stream.ensures.nothing;
-  partial = ap (λ (h : Held). part_at h.rest) c.new-stream.ensures.nothing ∙ nothing_partial;
+  partial = ap (λ (h : Held). part_at h.versions h.rest) c.new-stream.ensures.nothing ∙ nothing_partial;
   showing = showing_start (g.S.Source.remaining c.args.source.now) (g.K.Sink.taken c.args.sink.now) c.new-stream.result c.new-stream.ensures.holds;
   source_faults = omega arith;
   sink_faults = omega arith;

@@ -8,7 +8,7 @@ use Rattle.ots_program.proofs.show.show.Given as goal
 abbrev pub invariant-loop : goal.invariant-loop
 invariant-loop g l = record {
   accepts : l.stream.refused ≡ None;
-  partial : part_at l.stream.rest ≡ Err Short;
+  partial : part_at l.stream.versions l.stream.rest ≡ Err Short;
   showing : IfSome (g.S.Source.remaining l.fn.source) (λ octets. Showing octets (g.S.Source.remaining l.source) (g.K.Sink.taken l.fn.sink) (g.K.Sink.taken l.sink) l.stream);
   source_faults : g.S.Source.faults l.fn.source ≤ g.S.Source.faults l.source;
   sink_faults : g.K.Sink.faults l.fn.sink ≤ g.K.Sink.faults l.sink;

@@ -18,6 +18,6 @@ returns-clause-bounded c =
 pub returns-clause-partial : goal.returns-clause-partial
 returns-clause-partial c short =
     let inside = c.self.inside in
-    let rest : length c.args.self.now.rest ≤ partial_limit = partial_is_short c.args.self.now.rest short in
+    let rest : length c.args.self.now.rest ≤ partial_limit = partial_is_short c.args.self.now.versions c.args.self.now.rest short in
     let view : length (drop inside.start inside.buffer.items) ≡ length c.args.self.now.rest = ap (λ (h : Held). length h.rest) c.self.view_is in
     omega (arith, rest, view, length-drop inside.start inside.buffer.items, c.self.invariant.0)

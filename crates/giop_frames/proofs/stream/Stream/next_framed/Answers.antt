@@ -10,7 +10,7 @@ loop-framed-preserved c =
     let t = rw c.in-Ok-Piece.field-0-is at c.in-Ok-Piece.ensures in
     record {
       accepts = t.refused ∙ c.loop-framed.invariant.accepts;
-      goes_on = λ octets messages h. holds_piece octets messages c.loop-framed.self c.take_part.new.self t c.loop-framed.invariant.accepts (c.loop-framed.invariant.goes_on octets messages h);
+      goes_on = λ versions octets messages h. holds_piece versions octets messages c.loop-framed.self c.take_part.new.self t c.loop-framed.invariant.accepts (c.loop-framed.invariant.goes_on versions octets messages h);
       shorter = omega (arith, c.loop-framed.invariant.shorter, shorter c.loop-framed.self c.take_part.new.self _ t);
     }
 
@@ -19,9 +19,9 @@ returns-in-Ok-Nothing c =
     let t = rw c.in-Ok-Nothing.field-0-is at c.in-Ok-Nothing.ensures in
     record {
       message = tt;
-      nothing = λ e octets messages h.
-          let held = c.loop-framed.invariant.goes_on octets messages h in
-          (rw t.0 held, rw t.0 (holds_stream octets messages c.loop-framed.self t.1 held));
+      nothing = λ e versions octets messages h.
+          let held = c.loop-framed.invariant.goes_on versions octets messages h in
+          (rw t.0 held, rw t.0 (holds_stream versions octets messages c.loop-framed.self t.1 held));
       refused = tt;
       keeps = tt;
       remembered = tt;
@@ -35,8 +35,8 @@ pub returns-in-Ok-Whole : goal.returns-in-Ok-Whole
 returns-in-Ok-Whole c =
     let t = rw c.in-Ok-Whole.field-0-is at c.in-Ok-Whole.ensures in
     record {
-      message = λ octets messages h.
-          holds_part octets messages c.loop-framed.self c.take_part.new.self _ t c.loop-framed.invariant.accepts (c.loop-framed.invariant.goes_on octets messages h);
+      message = λ versions octets messages h.
+          holds_part versions octets messages c.loop-framed.self c.take_part.new.self _ t c.loop-framed.invariant.accepts (c.loop-framed.invariant.goes_on versions octets messages h);
       nothing = λ e. absurd cc;
       refused = tt;
       keeps = tt;
@@ -54,10 +54,10 @@ returns-in-Err c = record {
   refused =
       elim (refused_by c.loop-framed.self c.take_part.new.self c.remember.new.self c.in-Err.fault c.in-Err.ensures c.remember.ensures) [
         | inl memory ↦ inl memory
-        | inr refused ↦ inr (λ octets messages h. refused octets messages (c.loop-framed.invariant.goes_on octets messages h))
+        | inr refused ↦ inr (λ versions octets messages h. refused versions octets messages (c.loop-framed.invariant.goes_on versions octets messages h))
       ];
-  keeps = λ octets messages h.
-      kept_by octets messages c.loop-framed.self c.take_part.new.self c.remember.new.self c.in-Err.fault c.in-Err.ensures c.remember.ensures (c.loop-framed.invariant.goes_on octets messages h);
+  keeps = λ versions octets messages h.
+      kept_by versions octets messages c.loop-framed.self c.take_part.new.self c.remember.new.self c.in-Err.fault c.in-Err.ensures c.remember.ensures (c.loop-framed.invariant.goes_on versions octets messages h);
   remembered = search rules;
   again = search rules;
   accepts = tt;

@@ -1,12 +1,13 @@
 use Rattle.std.proofs.Common.{◌≡◌, ◌≤◌, ℕ, List, length, None}
 use Rattle.giop_frames.specs.declared.framed.Framed.{Framed}
+use Rattle.giop_frames.specs.declared.layout.Version.{Version}
 use Rattle.giop_frames.specs.Held.{Holds}
 use Rattle.giop_frames.proofs.stream.Stream.next_framed.Given as goal
 
 abbrev pub invariant-loop-framed : goal.invariant-loop-framed
 invariant-loop-framed l = record {
   accepts : l.self.refused ≡ None;
-  goes_on : (octets : List ℕ) (messages : List Framed) → Holds octets messages l.fn.self → Holds octets messages l.self;
+  goes_on : (versions : List Version) (octets : List ℕ) (messages : List Framed) → Holds versions octets messages l.fn.self → Holds versions octets messages l.self;
   shorter : length l.self.rest ≤ length l.fn.self.rest;
 }
 

@@ -11,10 +11,10 @@ returns-in_default-framed c =
     let rest : List ℕ = drop inside.start inside.buffer.items in
     let size = c.in-Some.header.size in
     let rest-is : c.behind-rest.result.now ≡ rest = c.behind-rest.ensures ∙ ap (drop inside.start) c.deref.ensures.value in
-    let front : IsInFront c.in-Some.header rest = rw (← rest-is) (rw c.in-Some.is at c.in_ok-header.ensures.part) in
+    let front : IsInFront inside.versions.now c.in-Some.header rest = rw (← rest-is) (rw c.in-Some.is at c.in_ok-header.ensures.part) in
     let content-is : c.content_of-content.result.now ≡ take size (drop 12 rest) = c.content_of-content.ensures ∙ ap (λ (x : List ℕ). take size (drop 12 x)) rest-is in
-    took inside.messages.items inside.place rest inside.refused (length inside.buffer.items) c.in-Some.header c.content_of-content.result.now None _ c.args.self.now c.self.view_is front content-is
-    (c.in_ok-framed.ensures.says ∙ ap (λ (a : Option Framed). Ok a) c.in_default-framed.is) c.in_ok-framed.ensures.after c.saturating_add-self-inside.ensures (c.give_back-self-inside.ensures.held ∙ sym (drop-drop (12 + size) inside.start inside.buffer.items)) refl
+    took inside.versions.now inside.messages.items inside.place rest inside.refused (length inside.buffer.items) c.in-Some.header c.content_of-content.result.now None _ c.args.self.now c.self.view_is front content-is
+    (c.in_ok-framed.ensures.says ∙ ap (λ (a : Option Framed). Ok a) c.in_default-framed.is) c.in_ok-framed.ensures.after c.saturating_add-self-inside.ensures (c.give_back-self-inside.ensures.held ∙ sym (drop-drop (12 + size) inside.start inside.buffer.items)) refl refl
 
 pub returns : goal.returns
 returns c =
@@ -22,7 +22,7 @@ returns c =
     let rest : List ℕ = drop inside.start inside.buffer.items in
     let size = c.in-Some.header.size in
     let rest-is : c.behind-rest.result.now ≡ rest = c.behind-rest.ensures ∙ ap (drop inside.start) c.deref.ensures.value in
-    let front : IsInFront c.in-Some.header rest = rw (← rest-is) (rw c.in-Some.is at c.in_ok-header.ensures.part) in
+    let front : IsInFront inside.versions.now c.in-Some.header rest = rw (← rest-is) (rw c.in-Some.is at c.in_ok-header.ensures.part) in
     let content-is : c.content_of-content.result.now ≡ take size (drop 12 rest) = c.content_of-content.ensures ∙ ap (λ (x : List ℕ). take size (drop 12 x)) rest-is in
-    took inside.messages.items inside.place rest inside.refused (length inside.buffer.items) c.in-Some.header c.content_of-content.result.now (Some c.in-Some-framed.framed) _ c.args.self.now c.self.view_is front content-is
-    (c.in_ok-framed.ensures.says ∙ ap (λ (a : Option Framed). Ok a) c.in-Some-framed.is) c.in_ok-framed.ensures.after c.saturating_add-self-inside.ensures (c.give_back-self-inside.ensures.held ∙ sym (drop-drop (12 + size) inside.start inside.buffer.items)) refl
+    took inside.versions.now inside.messages.items inside.place rest inside.refused (length inside.buffer.items) c.in-Some.header c.content_of-content.result.now (Some c.in-Some-framed.framed) _ c.args.self.now c.self.view_is front content-is
+    (c.in_ok-framed.ensures.says ∙ ap (λ (a : Option Framed). Ok a) c.in-Some-framed.is) c.in_ok-framed.ensures.after c.saturating_add-self-inside.ensures (c.give_back-self-inside.ensures.held ∙ sym (drop-drop (12 + size) inside.start inside.buffer.items)) refl refl
