@@ -19,7 +19,7 @@ use Rattle.giop_frames.specs.Layout.{Fields, IsField, AreFields, blank, contexts
 use Rattle.giop_frames.specs.Message.{IsContent, kind_of}
 use Rattle.giop_frames.specs.ContentInside.{FieldLaws}
 use Rattle.giop_frames.specs.Content.{target_at, contexts_at, field_at, fields_at, fields_in, front_of, message_behind, message_of, start_behind, start_of}
-use Rattle.giop_frames.specs.Laws.{IsFramed, WholeIsFramed}
+use Rattle.giop_frames.specs.Laws.{FramedIsWhole, IsFramed, WholeIsFramed}
 use Rattle.giop_frames.specs.Stream.{message_by, start_by, whole}
 use Rattle.giop_frames.specs.declared.framed.Framed.{Framed}
 use Rattle.giop_frames.specs.declared.header.Header.{Header}
@@ -149,14 +149,21 @@ content_found laws version order kind content m e =
     let p = content_and_start laws version order kind content m e in
     (p.0, p.1)
 
+-- the fields of a message with this content are read
+content_read : FieldLaws → (version : Version) (order : Order) (m : Message) (content : List ℕ) (is : IsContent version order m content) → fields_in version order (kind_of m) content ≡ Ok (is.told, after (front_of order content) is.fields is.tail)
+content_read laws version order m content is =
+    let r = front_of order content in
+    fields_only laws (layout version (kind_of m)) blank is.told is.values r (after r is.fields is.tail) is.are_fields (reads_spelled is.values r is.fields is.tail is.spelled is.parts)
+
 -- the message with this content is read
 pub content_only : FieldLaws → (version : Version) (order : Order) (m : Message) (content : List ℕ) → IsContent version order m content → message_of version order (kind_of m) content ≡ Ok m
 unfolding message_of
-content_only laws version order m content is =
-    let r = front_of order content in
-    let behind = after r is.fields is.tail in
-    let read : fields_in version order (kind_of m) content ≡ Ok (is.told, behind) = fields_only laws (layout version (kind_of m)) blank is.told is.values r behind is.are_fields (reads_spelled is.values r is.fields is.tail is.spelled is.parts) in
-    rw read is.made
+content_only laws version order m content is = rw (content_read laws version order m content is) is.made
+
+-- what it keeps begins behind the fields
+start_only : FieldLaws → (version : Version) (order : Order) (m : Message) (content : List ℕ) (is : IsContent version order m content) → start_of version order (kind_of m) content ≡ tail_start version (kind_of m) (12 + length is.fields)
+unfolding start_of
+start_only laws version order m content is = rw (content_read laws version order m content is) refl
 
 -- ---- messages of streams
 
@@ -180,3 +187,14 @@ framed_found laws place header content framed e =
       is_content = c.1;
       start_is = c.2;
     })
+
+-- what is so of a content is the whole message
+pub framed_only : FieldLaws → FramedIsWhole
+framed_only laws place header content framed is =
+    let v = header.version in
+    let order = header.order in
+    let m = framed.message in
+    let read : message_by header content ≡ Ok m = ap (λ (k : Kind). message_of v order k content) is.kind_is ∙ content_only laws v order m content is.is_content in
+    let at : ℕ = 12 + length is.is_content.fields in
+    let start : start_by header content ≡ framed.start = ap (λ (k : Kind). start_of v order k content) is.kind_is ∙ start_only laws v order m content is.is_content ∙ ap (λ (k : Kind). tail_start v k at) (sym is.kind_is) ∙ sym is.start_is in
+    rw (read, start, ← is.place_is, ← is.version_is, ← is.order_is, ← is.size_is) refl

@@ -1,5 +1,5 @@
 ghost use Rattle.giop_frames.specs.ContentInside.{FieldLaws};
-ghost use Rattle.giop_frames.specs.Laws.{BeginsAtEight, ContentIsRead, FragmentGoesOn, IsCutInOneWay, IsCutOffInOneWay, IsRefusedInOneWay, JoinsByRequestId, NoMessageBeginsAnother, ReadIsContent, RefusalGoesOn, RefusedIsNoStream, WholeIsFramed, WholeIsNotCut};
+ghost use Rattle.giop_frames.specs.Laws.{BeginsAtEight, ContentIsRead, FragmentGoesOn, FramedIsWhole, IsCutInOneWay, IsCutOffInOneWay, IsRefusedInOneWay, JoinsByRequestId, NoMessageBeginsAnother, ReadIsContent, RefusalGoesOn, RefusedIsNoStream, WholeIsFramed, WholeIsNotCut};
 
 use crate::fault::FrameFault;
 use crate::header::Kind;
@@ -56,10 +56,11 @@ pub fn fragments_join_by_request_id()
     ensures goes_on { FragmentGoesOn }
 {}
 
-/// A law: a message that a stream gives is by its fields the message of its joined octets, with what the header of its
-/// first part says; its `start` is where what it keeps behind the fields begins.
+/// A law: a stream's joined octets are whole as a message exactly where they are by their fields that message's, with
+/// what the header of its first part says; its `start` is where what it keeps behind the fields begins.
 pub fn a_framed_message_is_its_content()
-    ensures { WholeIsFramed }
+    ensures found { WholeIsFramed }
+    ensures only { FramedIsWhole }
 {
     fields_are_read_exactly();
 }
