@@ -22,7 +22,7 @@ pub record IsKept (disk : DiskState) (octets : List ℕ) : Type 0 where
   pub reads : disk.reads ≡ octets
   pub image : IsImage disk.present disk.reads
 
--- a disk in memory: the disk, the calls that are to fail, the number of the next call, and how often it failed
+-- a disk in memory: the disk, the calls that are to fail, in order, the number of the next call, and how often it failed
 pub record MemDiskState : Type 0 where
   pub disk : DiskState
   pub failing : List ℕ

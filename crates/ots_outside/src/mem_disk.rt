@@ -1,4 +1,5 @@
-ghost use Rattle.std.specs.Prelude.{◌≡◌, ◌≤◌, ◌+◌, ◌↔◌, length, IsErr, IfErr, IsErrOf, IfOk, OnOk, OnErr, Contains, slice_range};
+ghost use Rattle.std.specs.Prelude.{◌≡◌, ◌≤◌, ◌+◌, ◌↔◌, length, IsTrue, IsOk, IsErr, IfErr, IsErrOf, IfOk, OnOk, OnErr, Contains, slice_range};
+ghost use Rattle.std.specs.List.Sorted.{IsNonDecreasing, IsPermutation};
 ghost use Rattle.ots_outside.specs.declared.disk.DiskRefusal.TheVariants.{Failed};
 ghost use Rattle.ots_outside.specs.Source.{HasRisen, raised};
 ghost use Rattle.ots_outside.specs.Disk.{IsAfterRefusal, IsImage, at_first, overwritten, synced, written};
@@ -117,11 +118,29 @@ impl Disk for SureDisk {
 
     ghost told = { λ disk. Some disk };
 
-    fn len(&mut self) -> Result<u64, DiskRefusal> {
+    fn len(&mut self) -> Result<u64, DiskRefusal>
+        // What each disk promises.
+        ensures length { IfOk result (λ n. n ≡ length self.old.reads) }
+        ensures untouched { self.new ≡ self.old }
+        ensures image { IsImage self.old.present self.old.reads }
+
+        // It is never refused.
+        ensures sure { IsOk result }
+    {
         Ok(self.octets().len() as u64)
     }
 
-    fn read_at(&mut self, place: u64, into: &mut [u8]) -> Result<(), DiskRefusal> {
+    fn read_at(&mut self, place: u64, into: &mut [u8]) -> Result<(), DiskRefusal>
+        requires { place + length into.old ≤ length self.old.reads }
+
+        // What each disk promises.
+        ensures octets { into.new ≡ slice_range self.old.reads place (place + length into.old) }
+        ensures untouched { self.new ≡ self.old }
+        ensures image { IsImage self.old.present self.old.reads }
+
+        // It is never refused.
+        ensures sure { IsOk result }
+    {
         self.read(place, into);
         Ok(())
     }
@@ -146,6 +165,7 @@ pub struct MemDisk {
 
 impl Model for MemDisk {
     ghost use Rattle.ots_outside.specs.Disk.{IsImage};
+    ghost use Rattle.std.specs.List.Sorted.{IsNonDecreasing};
     ghost use Rattle.ots_outside.specs.MemDisk.{MemDiskState};
 
     ghost Value = { MemDiskState };
@@ -157,17 +177,23 @@ impl Model for MemDisk {
       faults = disk.faults;
     } };
 
-    ghost invariant = { λ disk. IsImage disk.disk.present disk.disk.reads };
+    ghost invariant = { λ disk.
+        IsImage disk.disk.present disk.disk.reads × IsNonDecreasing disk.failing.items };
 }
 
 impl MemDisk {
     /// A disk of these octets, all of them synced. The calls of any kind whose numbers, from 0, are `failing` fail.
-    pub fn new(alloc: Global, contents: Vec<u8>, failing: Vec<u64>) -> Result<MemDisk, AllocError>
+    pub fn new(
+        alloc: Global,
+        contents: Vec<u8>,
+        mut failing: Vec<u64>,
+    ) -> Result<MemDisk, AllocError>
         ensures disk { IfOk result (λ disk. disk.disk ≡ at_first contents.items) }
-        ensures failing { IfOk result (λ disk. disk.failing ≡ failing.items) }
+        ensures failing { IfOk result (λ disk. IsPermutation failing.items disk.failing) }
         ensures calls { IfOk result (λ disk. disk.calls ≡ 0) }
         ensures faults { IfOk result (λ disk. disk.faults ≡ 0) }
     {
+        failing.sort_unstable();
         Ok(MemDisk {
             disk: SureDisk::new(alloc, contents)?,
             failing,
@@ -193,6 +219,7 @@ impl MemDisk {
 
     /// Counts a call, which fails where it is listed.
     fn begin(&mut self) -> Result<(), DiskRefusal>
+        ensures only { IsErr result ↔ Contains self.old.failing self.old.calls }
         ensures failed { IfErr result (λ refusal. refusal ≡ Failed) }
         ensures disk { self.new.disk ≡ self.old.disk }
         ensures image { IsImage self.old.disk.present self.old.disk.reads }
@@ -202,12 +229,20 @@ impl MemDisk {
     {
         let call = self.calls;
         self.calls = call.saturating_add(1);
-        if self.failing.contains(&call) {
+        if is_listed(&self.failing, call) {
             self.faults = self.faults.saturating_add(1);
             return Err(DiskRefusal::Failed);
         }
         Ok(())
     }
+}
+
+/// Whether a call is among these, which are in order.
+fn is_listed(failing: &[u64], call: u64) -> bool
+    requires { IsNonDecreasing failing.now }
+    ensures { IsTrue result ↔ Contains failing.now call }
+{
+    failing.binary_search(&call).is_ok()
 }
 
 impl Disk for MemDisk {
@@ -225,8 +260,9 @@ impl Disk for MemDisk {
         ensures cause { IsErrOf result Failed → HasRisen self.old.faults self.new.faults }
         ensures later { self.old.faults ≤ self.new.faults }
 
-        // The listed calls fail, and no other.
+        // Exactly the listed calls fail.
         ensures count { CountsCall result self.old self.new }
+        ensures only { IsErr result ↔ Contains self.old.failing self.old.calls }
     {
         self.begin()?;
         Ok(self.octets().len() as u64)
@@ -243,8 +279,9 @@ impl Disk for MemDisk {
         ensures cause { IsErrOf result Failed → HasRisen self.old.faults self.new.faults }
         ensures later { self.old.faults ≤ self.new.faults }
 
-        // The listed calls fail, and no other.
+        // Exactly the listed calls fail.
         ensures count { CountsCall result self.old self.new }
+        ensures only { IsErr result ↔ Contains self.old.failing self.old.calls }
     {
         self.begin()?;
         self.disk.read(place, into);
@@ -263,7 +300,7 @@ impl Disk for MemDisk {
         ensures cause { IsErrOf result Failed → HasRisen self.old.faults self.new.faults }
         ensures later { self.old.faults ≤ self.new.faults }
 
-        // The listed calls fail, and no other. A refused one does nothing.
+        // Exactly the listed calls answer Failed. A refused one does nothing.
         ensures count { CountsCall result self.old self.new }
         ensures nothing { OnErr result (self.new.disk ≡ self.old.disk) }
     {
@@ -280,7 +317,7 @@ impl Disk for MemDisk {
         ensures cause { IsErrOf result Failed → HasRisen self.old.faults self.new.faults }
         ensures later { self.old.faults ≤ self.new.faults }
 
-        // The listed calls fail, and no other. A refused one does nothing.
+        // Exactly the listed calls answer Failed. A refused one does nothing.
         ensures count { CountsCall result self.old self.new }
         ensures nothing { OnErr result (self.new.disk ≡ self.old.disk) }
     {
