@@ -1,8 +1,8 @@
 -- A context that was written is read again.
-use Rattle.std.proofs.Common.{◌≡◌, ℕ, suc, ◌+◌, ◌<◌, ◌≤◌, ◌^◌, ◌&&◌, Bool, true, false, cond, ltb, leb, List, [], ◌∷◌, ◌++◌, length, map, Result, Ok, Err, refl, sym, ap, subst, ◌∙◌, arith, length-append, append_assoc}
+use Rattle.std.proofs.Common.{◌≡◌, ℕ, suc, ◌+◌, ◌<◌, ◌≤◌, ◌^◌, ◌&&◌, true, cond, ltb, List, [], ◌∷◌, ◌++◌, length, map, Ok, Err, refl, sym, ap, subst, ◌∙◌, arith, length-append, append_assoc}
 use Rattle.std.specs.Prelude.{All}
 use Rattle.std.specs.List.{flat_map, list_all}
-use Rattle.std.specs.Int.{w32, cast_signed, cast_unsigned}
+use Rattle.std.specs.Int.{w32, cast_unsigned}
 use Rattle.std.proofs.Math.Facts.{Fits-of_z}
 use Rattle.std.proofs.lemmas.Int.{to_z-of_z}
 use Rattle.std.proofs.lemmas.Bool.{ltb-false, lt-ltb, le-leb}
@@ -12,7 +12,6 @@ use Rattle.cdr_values.specs.declared.fault.CdrFault.TheVariants.{TooLong}
 use Rattle.cdr_values.specs.Again.{AllFit, standing, ValuesAreReadAgain}
 use Rattle.cdr_values.specs.Encapsulation.{begun}
 use Rattle.cdr_values.specs.Laws.{ReadingLaws}
-use Rattle.cdr_values.specs.Reading.{Reading}
 use Rattle.cdr_values.specs.Sequence.{sequence_values}
 use Rattle.cdr_values.specs.Tagged.{reference_values}
 use Rattle.cdr_values.specs.Value.{Value, ULong}
@@ -24,11 +23,11 @@ use Rattle.ots_context.specs.declared.context.Context.{Context}
 use Rattle.ots_context.specs.declared.context.AnyTail.{AnyTail}
 use Rattle.ots_context.specs.declared.fault.ContextFault.{ContextFault}
 use Rattle.ots_context.specs.declared.fault.ContextFault.TheVariants.{Cdr, TooMany, TailPlace}
-use Rattle.ots_context.specs.Identity.{Fields, IsIdentity, allows_fields, fields_of, fields_values, identity_of, identity_values, has_lengths, otid_values}
+use Rattle.ots_context.specs.Identity.{IsIdentity, allows_fields, fields_of, fields_values, identity_of, identity_values, otid_values}
 use Rattle.ots_context.specs.Laws.{ContextsAreReadWhereWritten, IsSound, WrittenContextsAreReadAgain}
 use Rattle.ots_context.specs.Reading.{context_at, context_in}
 use Rattle.ots_context.specs.Tail.{IsTail, can_stand, octets_of_tail, tail_at}
-use Rattle.ots_context.specs.Writing.{behind_current, behind_parents, with_context, with_tail, written}
+use Rattle.ots_context.specs.Writing.{behind_current, behind_parents, with_context, with_tail}
 use Rattle.ots_context.proofs.Exact.{context_at_only}
 use Rattle.ots_context.proofs.Given.{ok_is, guard_ok, check_ok, with_values-append, fit-append}
 use Rattle.ots_context.proofs.Tails.{stand_again, tail_found}

@@ -1,11 +1,9 @@
 -- Faults of steps as faults of the whole.
 use Rattle.std.proofs.Common.{◌≡◌, ◌∙◌, sym, refl, Result, Ok, Err}
 use Rattle.std.specs.Prelude.{MatchResult}
-use Rattle.cdr_values.specs.declared.fault.CdrFault.{CdrFault}
-use Rattle.cdr_values.specs.declared.fault.CdrFault.TheVariants as cdr
 use Rattle.ots_context.specs.declared.fault.ContextFault.{ContextFault}
 use Rattle.ots_context.specs.declared.fault.ContextFault.TheVariants.{Cdr, Ior, Otid, TooMany, TailPlace, Memory}
-use Rattle.ots_context.specs.Fault.{Fails, Finds, fault_of}
+use Rattle.ots_context.specs.Fault.{Fails, Finds}
 use Rattle.ots_context.proofs.Given.{ok_is}
 
 -- a fault of a step is the fault of the whole
@@ -16,15 +14,6 @@ fails_on Otid step whole on h = on h
 fails_on (TooMany n) step whole on h = on h
 fails_on TailPlace step whole on h = on h
 fails_on Memory step whole on h = tt
-
--- the fault of a value is not that of an otid
-pub not_otid : (fault : CdrFault) → fault_of fault ≡ Otid → ⊥
-not_otid (cdr.Short place) e = cc
-not_otid (cdr.BadBoolean place) e = cc
-not_otid (cdr.BadString place) e = cc
-not_otid (cdr.BadOrder place) e = cc
-not_otid (cdr.TooLong place length) e = cc
-not_otid cdr.Memory e = cc
 
 -- where reading gives something, only want of memory is answered in its place
 only_memory : {Y : Type 0} (fault : ContextFault) (read : Result Y ContextFault) (y : Y) → read ≡ Ok y → Fails fault read → fault ≡ Memory
