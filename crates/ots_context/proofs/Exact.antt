@@ -1,5 +1,5 @@
 -- Contexts are read exactly where their values stand.
-use Rattle.std.proofs.Common.{◌≡◌, ℕ, zero, suc, ◌+◌, ◌≤◌, ◌&&◌, Bool, true, false, cond, eqb, ltb, leb, List, [], ◌∷◌, ◌++◌, length, map, Result, Ok, Err, refl, sym, ap, subst, ◌∙◌, arith}
+use Rattle.std.proofs.Common.{◌≡◌, ℕ, zero, suc, ◌≤◌, ◌&&◌, Bool, true, false, cond, eqb, ltb, List, [], ◌∷◌, ◌++◌, length, map, Result, Ok, Err, refl, sym, ap, subst, ◌∙◌, arith}
 use Rattle.std.specs.List.{flat_map, list_all}
 use Rattle.std.proofs.lemmas.Bool.{ltb-false, le-ltb, and_parts}
 use Rattle.cdr_values.specs.declared.fault.CdrFault.{CdrFault}
@@ -7,7 +7,7 @@ use Rattle.cdr_values.specs.Laws.{ReadingLaws}
 use Rattle.cdr_values.specs.Reading.{Reading, Reads, ◌>>=◌, ulong_at, octets_at}
 use Rattle.cdr_values.specs.Sequence.{fault_as, each_at, sequence_at, sequence_values}
 use Rattle.cdr_values.specs.Tagged.{reference_values}
-use Rattle.cdr_values.specs.Value.{ULong, OctetSequence}
+use Rattle.cdr_values.specs.Value.{ULong}
 use Rattle.cdr_values.specs.Values.{ReadsAll}
 use Rattle.cdr_values.specs.declared.order.Order.{Order}
 use Rattle.cdr_values.specs.declared.order.Order.TheVariants.{Big, Little}
@@ -19,7 +19,7 @@ use Rattle.ior_refs.specs.Reading.{short_reference_at}
 use Rattle.ior_refs.specs.Reference.{Reference, is_short}
 use Rattle.otid_names.specs.Otid.{OtidParts}
 use Rattle.ots_context.specs.declared.fault.ContextFault.{ContextFault}
-use Rattle.ots_context.specs.declared.fault.ContextFault.TheVariants.{Otid, TooMany}
+use Rattle.ots_context.specs.declared.fault.ContextFault.TheVariants.{Otid}
 use Rattle.ots_context.specs.declared.context.Identity.{Identity}
 use Rattle.ots_context.specs.declared.context.Context.{Context}
 use Rattle.ots_context.specs.declared.context.AnyTail.{AnyTail}

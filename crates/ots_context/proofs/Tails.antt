@@ -7,12 +7,11 @@ use Rattle.cdr_values.specs.declared.order.Order.TheVariants.{Big, Little}
 use Rattle.cdr_values.specs.declared.fault.CdrFault.{CdrFault}
 use Rattle.cdr_values.specs.Again.{standing, ValuesAreReadAgain}
 use Rattle.cdr_values.specs.Laws.{ReadingLaws}
-use Rattle.cdr_values.specs.Reading.{Reading, Reads, ulong_at}
+use Rattle.cdr_values.specs.Reading.{Reading, ulong_at}
 use Rattle.cdr_values.specs.Value.{ULong, canonical}
 use Rattle.ots_context.specs.declared.context.AnyTail.{AnyTail}
 use Rattle.ots_context.specs.declared.context.AnyTail.TheVariants.{Null, Kept}
 use Rattle.ots_context.specs.Tail.{IsNull, IsTail, is_big, is_zero, reads_null, tail_at, octets_of_tail, can_stand}
-use Rattle.ots_context.proofs.Given.{ok_is}
 
 -- the length of nothing
 nothing_left : (xs : List ℕ) → (eqb (length xs) 0) ≡ true → xs ≡ []

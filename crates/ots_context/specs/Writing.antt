@@ -1,9 +1,9 @@
 -- Writing a context, and what refuses it (our profile). A context is written big endian, with padding 0.
-use Rattle.std.specs.Prelude.{◌≡◌, ℕ, ◌^◌, ◌<◌, nat_lt, List, ◌∷◌, ◌++◌, length, map, Result, Ok, Err, if◌then◌else◌}
+use Rattle.std.specs.Prelude.{ℕ, nat_lt, List, ◌∷◌, ◌++◌, length, Result, Ok, Err, if◌then◌else◌}
 use Rattle.cdr_values.specs.declared.order.Order.TheVariants.{Big}
 use Rattle.cdr_values.specs.declared.fault.CdrFault.TheVariants.{TooLong}
 use Rattle.cdr_values.specs.Limits.{output_limit}
-use Rattle.cdr_values.specs.Value.{Value, ULong}
+use Rattle.cdr_values.specs.Value.{ULong}
 use Rattle.cdr_values.specs.Values.{with_values}
 use Rattle.cdr_values.specs.Writing.{Writing, place_of}
 use Rattle.cdr_values.specs.Encapsulation.{begun}
@@ -13,7 +13,6 @@ use Rattle.ots_context.specs.Identity.{identity_values}
 use Rattle.ots_context.specs.Tail.{can_stand, octets_of_tail}
 use Rattle.ots_context.specs.declared.fault.ContextFault.{ContextFault}
 use Rattle.ots_context.specs.declared.fault.ContextFault.TheVariants.{Cdr, TooMany, TailPlace}
-use Rattle.ots_context.specs.declared.context.Identity.{Identity}
 use Rattle.ots_context.specs.declared.context.Context.{Context}
 use Rattle.ots_context.specs.declared.context.AnyTail.{AnyTail}
 use Rattle.ots_context.specs.declared.context.AnyTail.TheVariants.{Null, Kept}

@@ -1,8 +1,6 @@
-use Rattle.std.proofs.Common.{◌≡◌, ◌≤◌, ◌∙◌, Ok, arith, ap, sym, subst, length, All}
-use Rattle.std.proofs.lemmas.Result.{err_from_is_err_and}
+use Rattle.std.proofs.Common.{◌≡◌, ◌≤◌, ◌∙◌, arith, ap, sym, length}
 use Rattle.cdr_values.specs.Writing.{Writing}
-use Rattle.ots_context.specs.Identity.{IsIdentity}
-use Rattle.ots_context.specs.Writing.{behind_parents, with_context, with_tail}
+use Rattle.ots_context.specs.Writing.{with_context, with_tail}
 use Rattle.ots_context.proofs.Again.{front_order, front_start, front_of}
 use Rattle.ots_context.proofs.Placing.{few_parents}
 use Rattle.ots_context.proofs.Room.{current_room, parents_room}

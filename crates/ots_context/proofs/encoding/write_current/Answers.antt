@@ -1,8 +1,6 @@
-use Rattle.std.proofs.Common.{◌≡◌, ap, ◌∙◌, arith, length, Err}
-use Rattle.std.proofs.lemmas.Result.{err_from_is_err_and}
-use Rattle.cdr_values.specs.Value.{ULong}
+use Rattle.std.proofs.Common.{◌≡◌, ap, ◌∙◌, arith}
 use Rattle.cdr_values.specs.Values.{with_values}
-use Rattle.cdr_values.specs.Writing.{Writing, with_value}
+use Rattle.cdr_values.specs.Writing.{Writing}
 use Rattle.ots_context.specs.Identity.{identity_values}
 use Rattle.ots_context.specs.Writing.{behind_current}
 use Rattle.ots_context.proofs.Room.{map_ok, timeout_room}
