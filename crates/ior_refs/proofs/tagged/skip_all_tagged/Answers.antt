@@ -1,5 +1,5 @@
 use Rattle.std.proofs.lemmas.Result.{err_from_is_err_and}
-use Rattle.std.proofs.Common.{ap, ◌∙◌}
+use Rattle.std.proofs.Common.{ap}
 use Rattle.ior_refs.specs.Iiop.{passed}
 use Rattle.ior_refs.specs.Reading.{count_at, each_tagged_at}
 use Rattle.ior_refs.proofs.Counting.{counted, not_counted}
