@@ -356,14 +356,17 @@ inside_parts h messages e (inr rest) = inr rest
 
 -- the stream ends inside a message
 pub ends_inside : (h : Held) (place : ℕ) → part_at h.versions h.rest ≡ Err faults.Short → h.refused ≡ None → place ≡ place_of h → IsUnfinished h → EndsStream (statuses.BadMessage place faults.Short) h
-ends_inside h place partial accepts is inside = (refl, λ octets messages holds. record {
-  parts = holds.parts;
-  rest = h.rest;
-  splits = holds.splits;
-  partial = ap (λ (vs : List Version). part_at vs h.rest) (sym holds.versions_are) ∙ partial;
-  inside = inside_parts h (unfinished holds.parts) holds.unfinished_are inside;
-  place_is = is ∙ rw (accepts, holds.place_is, holds.unfinished_are) refl;
-})
+ends_inside h place partial accepts is inside = (
+  refl,
+  λ octets messages holds. record {
+    parts = holds.parts;
+    rest = h.rest;
+    splits = holds.splits;
+    partial = ap (λ (vs : List Version). part_at vs h.rest) (sym holds.versions_are) ∙ partial;
+    inside = inside_parts h (unfinished holds.parts) holds.unfinished_are inside;
+    place_is = is ∙ rw (accepts, holds.place_is, holds.unfinished_are) refl;
+  },
+)
 
 -- the stream ends with no message unfinished
 pub ends_finished : (h : Held) → (IsUnfinished h → ⊥) → EndsStream statuses.Done h

@@ -30,6 +30,11 @@ fn tell_line(alloc: Global, told: &mut Vec<u8>, line: &[u8]) -> io::Result<()> {
         told.write_all(shown)?;
         return writeln!(told);
     }
-    told.write_all(&shown[..MOST])?;
+    told.write_all(front(shown))?;
     writeln!(told, " .. {} octets", shown.len())
+}
+
+/// The first octets, as many as are told.
+fn front(shown: &[u8]) -> &[u8] {
+    &shown[..shown.len().min(MOST)]
 }

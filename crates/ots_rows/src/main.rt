@@ -34,13 +34,9 @@ use std::io;
 use std::io::Write;
 
 mod case;
-#[cfg(test)]
-mod frames;
 mod input;
 mod lines;
 mod pieces;
-#[cfg(test)]
-mod statuses;
 mod trees;
 mod values;
 

@@ -407,6 +407,3 @@ fn reason(word: &str) -> io::Result<Reason> {
         _ => return Err(ErrorKind::InvalidInput.into()),
     })
 }
-
-#[cfg(test)]
-mod tests;

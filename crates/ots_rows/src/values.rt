@@ -11,10 +11,10 @@ use std::io;
 use std::io::{ErrorKind, Write};
 
 /// How many octets of an input are looked at.
-const MOST: usize = 1_000_000;
+pub const MOST: usize = 1_000_000;
 
-/// The octets, up to that number.
-fn short(octets: &[u8]) -> &[u8]
+/// The octets, up to that number of them.
+pub fn short(octets: &[u8]) -> &[u8]
     ensures { length result.now ≤ 1000000 }
 {
     &octets[..octets.len().min(MOST)]
@@ -33,7 +33,7 @@ pub fn tell_text(alloc: Global, told: &mut Vec<u8>, text: &[u8]) -> io::Result<(
 }
 
 /// Tells what a reference is, and what its first IIOP profile says.
-fn tell_reference(
+pub fn tell_reference(
     alloc: Global,
     told: &mut Vec<u8>,
     what: &str,
@@ -54,7 +54,8 @@ fn tell_reference(
     }
 }
 
-fn digits(alloc: Global, octets: &[u8]) -> io::Result<String> {
+/// The hexadecimal digits of the octets.
+pub fn digits(alloc: Global, octets: &[u8]) -> io::Result<String> {
     Ok(hex::encode(alloc, octets)?)
 }
 
@@ -92,7 +93,8 @@ fn tell_found(alloc: Global, told: &mut Vec<u8>, request: &Request) -> io::Resul
     }
 }
 
-fn are_short(contexts: &[ServiceContext]) -> bool
+/// Whether each service context has few octets.
+pub fn are_short(contexts: &[ServiceContext]) -> bool
     ensures { IsTrue result → All (λ context. length context.bytes < 2 ^ 31) contexts.now }
 {
     contexts
@@ -100,14 +102,19 @@ fn are_short(contexts: &[ServiceContext]) -> bool
         .all(|context| context.bytes.bytes().len() < MOST)
 }
 
-/// Tells a context, and how it is written.
-fn tell_context(alloc: Global, told: &mut Vec<u8>, context: &Context) -> io::Result<()> {
+/// Tells what a context says.
+pub fn tell_fields(alloc: Global, told: &mut Vec<u8>, context: &Context) -> io::Result<()> {
     writeln!(told, "timeout {}", context.timeout)?;
     tell_identity(alloc, told, "current", &context.current)?;
     for parent in context.parents.items() {
         tell_identity(alloc, told, "parent", parent)?;
     }
-    tell_tail(alloc, told, &context.tail)?;
+    tell_tail(alloc, told, &context.tail)
+}
+
+/// Tells a context, and how it is written.
+fn tell_context(alloc: Global, told: &mut Vec<u8>, context: &Context) -> io::Result<()> {
+    tell_fields(alloc, told, context)?;
     if !is_short(&context.tail) {
         return Err(ErrorKind::InvalidInput.into());
     }
@@ -149,7 +156,8 @@ fn tell_tail(alloc: Global, told: &mut Vec<u8>, tail: &AnyTail) -> io::Result<()
     }
 }
 
-fn is_short(tail: &AnyTail) -> bool
+/// Whether a tail has few octets.
+pub fn is_short(tail: &AnyTail) -> bool
     ensures { IsTrue result → kept_length tail.now < 2 ^ 31 }
 {
     match tail {

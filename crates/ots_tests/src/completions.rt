@@ -1,3 +1,5 @@
+//! Test of a completion whose allocations fail.
+
 use ots_model::tree::Outcome;
 use ots_model::{CallNumber, Ground, Heard, RefBytes, Stood, Vote};
 use resource_votes::Votes;

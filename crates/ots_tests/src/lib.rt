@@ -1,0 +1,11 @@
+//! Tests that cases can't be: of messages and streams as calls of `giop_frames`, of completions under failing
+//! allocations, and of the text of each status. They stand in a crate of their own, since a crate with tests is proved
+//! once more with them.
+#![tactic(auto)]
+
+#[cfg(test)]
+mod completions;
+#[cfg(test)]
+mod frames;
+#[cfg(test)]
+mod statuses;
