@@ -7,9 +7,11 @@ use std::alloc::Global;
 use std::process::Abort;
 use std::test::Fail;
 
+mod reading;
 mod refused_messages;
 mod streaming;
-mod vectors;
+mod types;
+pub mod vectors;
 mod writing;
 
 /// The octets of hexadecimal words.

@@ -2,7 +2,9 @@ ghost use Rattle.std.specs.Prelude.{◌≡◌, ◌+◌, ◌<◌, ◌≤◌, ◌^
 ghost use Rattle.giop_frames.specs.Encode.{octets_in, octets_in_contexts};
 
 use super::octets;
-use super::vectors::{PREPARE_KEY, PREPARE_REQUEST};
+use super::vectors::{
+    COMMIT_CONTEXT, COMMIT_KEY, COMMIT_REQUEST, PREPARE_KEY, PREPARE_REQUEST, ZERO_REPLY,
+};
 use cdr_values::Order;
 use giop_frames::{Contexts, FrameFault, Message, Reply, Request, ServiceContext, Target, encode};
 use ots_model::Octets;
@@ -86,7 +88,7 @@ fn wanted(rt: &impl Abort, alloc: Global, words: &str) -> Result<Vec<u8>, Fail> 
 }
 
 /// The message is written as these words, behind what stands there.
-fn check(rt: &impl Abort, alloc: Global, message: Message, words: &str) -> Result<(), Fail>
+pub fn check(rt: &impl Abort, alloc: Global, message: Message, words: &str) -> Result<(), Fail>
     requires { octets_in message < 2 ^ 31 }
 {
     let into = written(alloc, message)?;
@@ -110,6 +112,12 @@ fn request_of(
     Ok(request(alloc, id, &key, operation, body)?)
 }
 
+const LITTLE_REQUEST: &str =
+    "47494f50 01020100 25000000 04000000 03000000 00000000 02000000 61620000 07000000 636f6d6d69740000 00000000 01";
+
+const LITTLE_REPLY: &str =
+    "47494f50 01020101 20000000 05000000 02000000 01000000 07000000 02000000 6162000000000000 626f6479";
+
 #[test]
 fn prepare_request_is_written(rt: HostRuntime) -> Result<(), Fail> {
     let found = request_of(&rt, rt.alloc(), 4, PREPARE_KEY, b"prepare", b"")?;
@@ -117,15 +125,62 @@ fn prepare_request_is_written(rt: HostRuntime) -> Result<(), Fail> {
 }
 
 #[test]
-fn contexts_are_made_of_a_vector_and_give_it_back(rt: HostRuntime) -> Result<(), Fail> {
+fn zero_reply_is_written(rt: HostRuntime) -> Result<(), Fail> {
+    let found = reply(rt.alloc(), &[0; 4])?;
+    check(&rt, rt.alloc(), found, ZERO_REPLY)
+}
+
+/// One context, which holds what these words spell.
+fn one_context(rt: &impl Abort, alloc: Global, id: u32, words: &str) -> Result<Contexts, Fail>
+    ensures { IfOk result (λ contexts. length contexts + octets_in_contexts contexts ≤ 1001) }
+{
+    let held = octets(rt, alloc, words)?;
     let context = ServiceContext {
-        id: 1,
-        bytes: Octets::new(rt.alloc(), b"ab")?,
+        id,
+        bytes: Octets::new(alloc, &held)?,
     };
-    let contexts = Contexts::from_vec(vec![in rt.alloc(); context]?);
-    match contexts.into_vec().as_slice() {
-        [only] => assert_eq!(rt; (only.id, only.bytes.bytes()), (1, b"ab".as_slice())),
-        other => panic!(rt; "{other:?}"),
-    }
-    Ok(())
+    Ok(Contexts::from_vec(vec![in alloc; context]?))
+}
+
+fn commit_request(rt: &impl Abort, alloc: Global) -> Result<Message, Fail>
+    ensures { IfOk result (λ m. octets_in m ≤ 3000) }
+{
+    let without = request_of(rt, alloc, 3, COMMIT_KEY, b"commit", &[0])?;
+    let contexts = one_context(rt, alloc, 0x4f54_5200, COMMIT_CONTEXT)?;
+    Ok(with_contexts(without, contexts))
+}
+
+#[test]
+fn commit_request_is_written(rt: HostRuntime) -> Result<(), Fail> {
+    let found = commit_request(&rt, rt.alloc())?;
+    check(&rt, rt.alloc(), found, COMMIT_REQUEST)
+}
+
+#[test]
+fn little_endian_request_is_written(rt: HostRuntime) -> Result<(), Fail> {
+    let big = request_of(&rt, rt.alloc(), 4, "6162", b"commit", &[1])?;
+    let little = Request {
+        order: Order::Little,
+        ..big
+    };
+    check(&rt, rt.alloc(), Message::Request(little), LITTLE_REQUEST)
+}
+
+/// A little endian Reply with one context.
+fn little_reply(rt: &impl Abort, alloc: Global) -> Result<Message, Fail>
+    ensures { IfOk result (λ m. octets_in m ≤ 3000) }
+{
+    Ok(Message::Reply(Reply {
+        id: 5,
+        status: 2,
+        contexts: one_context(rt, alloc, 7, "6162")?,
+        order: Order::Little,
+        body: Octets::new(alloc, b"body")?,
+    }))
+}
+
+#[test]
+fn little_endian_reply_with_a_context_is_written(rt: HostRuntime) -> Result<(), Fail> {
+    let found = little_reply(&rt, rt.alloc())?;
+    check(&rt, rt.alloc(), found, LITTLE_REPLY)
 }
