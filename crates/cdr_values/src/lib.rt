@@ -17,6 +17,4 @@ mod fault;
 mod laws;
 mod order;
 mod reader;
-#[cfg(test)]
-mod tests;
 mod writer;

@@ -1,4 +1,4 @@
-//! Tests that cases can't be: of messages and streams as calls of `giop_frames`, of completions under failing
+//! Tests that cases can't be: of values as octets, of messages and streams as calls of `giop_frames`, of completions under failing
 //! allocations, and of the text of each status. They stand in a crate of their own, since a crate with tests is proved
 //! once more with them.
 #![tactic(auto)]
@@ -9,3 +9,5 @@ mod completions;
 mod frames;
 #[cfg(test)]
 mod statuses;
+#[cfg(test)]
+mod values;

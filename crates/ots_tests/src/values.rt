@@ -1,0 +1,54 @@
+//! One value of each type, beside octets that were worked out by hand.
+
+use cdr_values::{CdrFault, Order, Reader, Writer};
+use ots_model::Octets;
+use std::alloc::Global;
+use std::test::Fail;
+
+/// An encapsulation of the values that `written` writes.
+const BIG: [u8; 43] = [
+    0, 7, 1, 2, 1, 0, 0, 0, 1, 2, 3, 4, 0, 0, 0, 3, b'h', b'i', 0, 0, 0, 0, 0, 2, 170, 187, 0, 0,
+    0, 0, 0, 0, 1, 2, 3, 4, 5, 6, 7, 8, 5, 6, 7,
+];
+
+const LITTLE: [u8; 43] = [
+    1, 7, 2, 1, 1, 0, 0, 0, 4, 3, 2, 1, 3, 0, 0, 0, b'h', b'i', 0, 0, 2, 0, 0, 0, 170, 187, 0, 0,
+    0, 0, 0, 0, 8, 7, 6, 5, 4, 3, 2, 1, 5, 6, 7,
+];
+
+fn written(alloc: Global, order: Order) -> Result<Octets, CdrFault> {
+    let mut writer = Writer::encapsulation(alloc, order)?;
+    writer.octet(7)?;
+    writer.ushort(0x0102)?;
+    writer.boolean(true)?;
+    writer.ulong(0x0102_0304)?;
+    writer.string(b"hi")?;
+    writer.octets(&[170, 187])?;
+    writer.ulonglong(0x0102_0304_0506_0708)?;
+    let place = writer.place();
+    writer.align(4)?;
+    writer.octet(9)?;
+    writer.take_back(place);
+    writer.raw(&[5, 6, 7])?;
+    Ok(writer.finish())
+}
+
+#[test]
+fn each_type_is_written_and_read(rt: HostRuntime) -> Result<(), Fail> {
+    for (bytes, order) in [(BIG, Order::Big), (LITTLE, Order::Little)] {
+        let octets = written(rt.alloc(), order)?;
+        assert_eq!(rt; octets.bytes(), bytes.as_slice());
+        let mut reader = Reader::encapsulation(&bytes)?;
+        assert_eq!(rt; reader.octet(), Ok(7));
+        assert_eq!(rt; reader.ushort(), Ok(0x0102));
+        assert_eq!(rt; reader.boolean(), Ok(true));
+        assert_eq!(rt; reader.align(4), Ok(()));
+        assert_eq!(rt; reader.ulong(), Ok(0x0102_0304));
+        assert_eq!(rt; reader.string(), Ok(b"hi".as_slice()));
+        assert_eq!(rt; reader.octets(), Ok([170, 187].as_slice()));
+        assert_eq!(rt; reader.ulonglong(), Ok(0x0102_0304_0506_0708));
+        assert_eq!(rt; reader.place(), 40);
+        assert_eq!(rt; reader.rest(), [5, 6, 7].as_slice());
+    }
+    Ok(())
+}
