@@ -12,6 +12,7 @@ pub mod Canonical
 pub mod Numbered
 pub mod Followed
 pub mod Walking
+pub mod Near
 pub mod Judging
 pub mod Holding
 pub mod Further

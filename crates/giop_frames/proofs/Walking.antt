@@ -1,6 +1,5 @@
 -- A step of a walk leaves what follows to the next step.
-use Rattle.std.proofs.Common.{◌≡◌, ℕ, zero, suc, ◌+◌, ◌-◌, ◌<◌, ◌≤◌, arith, true, false, List, [], ◌∷◌, ◌++◌, length, take, drop, set, map, get_or, take_all, Option, Some, None, Result, Ok, Err, refl, sym, ap, subst, ◌∙◌, append_assoc}
-use Rattle.std.specs.Prelude.{OnOk}
+use Rattle.std.proofs.Common.{◌≡◌, ℕ, zero, suc, ◌+◌, ◌-◌, ◌<◌, ◌≤◌, arith, Bool, true, false, cond, ltb, List, [], ◌∷◌, ◌++◌, length, take, drop, set, map, get_or, take_all, Option, Some, None, Result, Ok, Err, refl, sym, ap, subst, ◌∙◌, append_assoc}
 use Rattle.std.proofs.lemmas.Bool.{le-ltb}
 use Rattle.std.proofs.lemmas.List.{append-nil, drop-drop, drop_at, take_at, drop-append-le, length-append, length-drop, take_more_set, map_push}
 use Rattle.cdr_values.specs.declared.order.Order.{Order}
@@ -30,10 +29,11 @@ use Rattle.giop_frames.specs.declared.message.Target.TheVariants.{Reference}
 use Rattle.giop_frames.specs.Fault.{fault_of, too_long}
 use Rattle.giop_frames.specs.Header.{is_fragment}
 use Rattle.giop_frames.specs.Layout.{Fields, kept_tail, message_with, tail_start}
-use Rattle.giop_frames.specs.Stream.{message_by, so_far, start_by}
+use Rattle.giop_frames.specs.Stream.{Judgement, Unfinished, joined, message_by, so_far, start_by, whole}
+use Rattle.giop_frames.specs.StreamInside.{limited_so_far}
 use Rattle.giop_frames.specs.Content.{as_target, telling_target, key_at, profile_at, indexed_at, target_at, context_at, field_at, fields_at, message_of, start_of}
 use Rattle.giop_frames.specs.Walk.{FindsOctets, FindsTagged, GoesOn, IsBehind, IsDone, IsWalked, StandsBefore, StandsIn, context_of, fields_by, followed, left_at, standing, step_at, telling_contexts, told_by, walk_left, wants_octets}
-use Rattle.giop_frames.specs.Limits.{context_limit, key_limit, profile_limit}
+use Rattle.giop_frames.specs.Limits.{context_limit, key_limit, profile_limit, size_limit}
 use Rattle.giop_frames.proofs.Given.{reading_is}
 use Rattle.giop_frames.proofs.Followed.{here, further_on, kept, passed}
 
@@ -472,7 +472,7 @@ walked_on header content octets w is = record {
 -- ---- the message
 
 -- where no field is left, the fields tell what was found
-all_walked : (header : Header) (content : List ℕ) (w : Walk) → IsWalked header content w → IsDone w → fields_by header content ≡ Ok (told_by content w.found, standing header.order content w.place)
+pub all_walked : (header : Header) (content : List ℕ) (w : Walk) → IsWalked header content w → IsDone w → fields_by header content ≡ Ok (told_by content w.found, standing header.order content w.place)
 all_walked header content w is done =
     let told = told_by content w.found in
     walked_now header content w is ∙ ap (λ (n : Option Step). left_at n w.fields.now told (standing header.order content w.place)) done.step ∙ ap (λ (f : List Field). fields_at f told (standing header.order content w.place)) done.fields
@@ -505,11 +505,9 @@ so_far_whole order kinds.MessageError told tail m first e = rw e refl
 so_far_whole order kinds.Fragment told tail m first e = absurd cc
 
 -- the same of a walk that found no fault
-pub walked_so_far : (header : Header) (content : List ℕ) (w : Walk) (result : Result (Unit {0}) FrameFault) → is_fragment header.kind ≡ false → IsWalked header content w → OnOk result (IsDone w)
-    → OnOk result (so_far (message_by header content) ≡ Ok None)
-walked_so_far header content w (Ok nothing) first is done =
+pub so_far_done : (header : Header) (content : List ℕ) (w : Walk) → is_fragment header.kind ≡ false → IsWalked header content w → IsDone w → so_far (message_by header content) ≡ Ok None
+so_far_done header content w first is done =
     so_far_whole header.order header.kind (told_by content w.found) (kept_tail header.version header.kind w.place (drop (w.place - 12) content)) (message_by header content) first (message_walked header content w is done)
-walked_so_far header content w (Err fault) first is done = tt
 
 -- want of octets is no fault so far
 wanting : (fault : FrameFault) → wants_octets fault ≡ true → so_far (Err fault) ≡ Ok None
@@ -550,3 +548,29 @@ failing faults.Memory e = refl
 
 pub so_far_fails : (m : Result Message FrameFault) (fault : FrameFault) → m ≡ Err fault → wants_octets fault ≡ false → so_far m ≡ Err fault
 so_far_fails m fault e wants = rw e (failing fault wants)
+
+-- what octets say that are no more than a message may have
+pub limited_is : (header : Header) (octets content : List ℕ) (answer : Judgement) → octets ≡ content → length octets ≤ size_limit → so_far (message_by header octets) ≡ answer → limited_so_far header content ≡ answer
+limited_is header octets content answer same few e = subst (λ (x : List ℕ). limited_so_far header x ≡ answer) same (rw (le-ltb size_limit (length octets) few) e)
+
+-- a refusal
+abbrev judged_bad : FrameFault → Judgement
+judged_bad fault = Err fault
+
+-- what fails so far is a fault of the whole
+failed_so_far : (d fault : FrameFault) (wants : Bool) → wants_octets d ≡ wants → so_far (Err d) ≡ Err fault → judged_bad d ≡ Err fault
+failed_so_far d fault true w e =
+    let both = sym (wanting d w) ∙ e in
+    absurd cc
+failed_so_far d fault false w e = sym (failing d w) ∙ e
+
+last_fails : (b : Bool) (large : FrameFault) (m : Result Message FrameFault) (place start : ℕ) (header : Header) (fault : FrameFault)
+    → cond b (Err large) (so_far m) ≡ Err fault → cond b (Err large) (whole place header start m) ≡ Err fault
+last_fails true large m place start header fault e = e
+last_fails false large (Ok m) place start header fault e = absurd cc
+last_fails false large (Err d) place start header fault e = failed_so_far d fault (wants_octets d) refl e
+
+pub joined_fails : (octets : List ℕ) (u : Unfinished) (fault : FrameFault) → limited_so_far u.header (u.content ++ octets) ≡ Err fault → joined false octets u ≡ Err fault
+joined_fails octets u fault e =
+    let content = u.content ++ octets in
+    last_fails (ltb size_limit (length content)) (faults.TooLarge (length content)) (message_by u.header content) u.place (start_by u.header content) u.header fault e

@@ -1,5 +1,5 @@
 -- How the code finds a part and an unfinished message, and what its calls do.
-use Rattle.std.specs.Prelude.{◌≡◌, ℕ, ◌+◌, ◌≤◌, ◌<◌, ◌==◌, List, length, take, drop, Option, Some, None, Result, Ok, Err}
+use Rattle.std.specs.Prelude.{◌≡◌, ℕ, ◌+◌, ◌≤◌, ◌<◌, ◌==◌, nat_lt, List, length, take, drop, Option, Some, None, Result, Ok, Err, if◌then◌else◌}
 use Rattle.std.specs.List.{position_or_len}
 use Rattle.cdr_values.specs.declared.order.Order.{Order}
 use Rattle.cdr_values.specs.Value.{number_in}
@@ -9,7 +9,7 @@ use Rattle.giop_frames.specs.declared.header.Header.{Header}
 use Rattle.giop_frames.specs.declared.layout.Version.{Version}
 use Rattle.giop_frames.specs.Limits.{size_limit}
 use Rattle.giop_frames.specs.Header.{content_behind}
-use Rattle.giop_frames.specs.Stream.{Unfinished, part_at, part_of, without_id}
+use Rattle.giop_frames.specs.Stream.{Judgement, Unfinished, message_by, part_at, part_of, so_far, without_id}
 
 -- a whole part with this header stands in front
 pub record IsInFront (versions : List Version) (header : Header) (octets : List ℕ) : Type 0 where
@@ -30,6 +30,11 @@ ReadsId order content (Err fault) = (fault ≡ without_id) × (length content < 
 -- the content of a message is too large, which is this fault
 abbrev pub IsTooLarge : List ℕ → FrameFault → Type 0
 IsTooLarge content fault = (fault ≡ TooLarge (length content)) × (size_limit < length content)
+
+-- what the joined octets of a message whose last part hasn't come say; they have a limit
+abbrev pub limited_so_far : Header → List ℕ → Judgement
+limited_so_far header content =
+    if nat_lt size_limit (length content) then Err (TooLarge (length content)) else so_far (message_by header content)
 
 -- the unfinished message of this request_id is at this index, the first one that has it
 pub record IsAt (id : ℕ) (messages : List Unfinished) (index : ℕ) : Type 0 where

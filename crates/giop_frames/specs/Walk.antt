@@ -132,10 +132,16 @@ pub record GoesOn (step : Step) (old : Found) (r : Reading) (later : Option Step
   pub room : HasRoom later new
   pub less : steps_left later < steps_left (Some step)
 
--- a call made this step, or answered its fault
+-- where this fault is want of octets, the value that wants them begins less than 8 octets behind this place
+abbrev pub IsNear : ℕ → FrameFault → Type 0
+IsNear place (Body at (cdr.Short stood)) = at < place + 8
+IsNear place fault = Unit {0}
+
+-- a call made this step, or answered its fault; octets that are wanting are those of a value that is near
 abbrev pub MakesStep : Step → Found → Reading → Result (Option Step) FrameFault → Found → Reading → Type 0
 MakesStep step old r (Ok later) new s = GoesOn step old r later new s
-MakesStep step old r (Err fault) new s = ((told : Fields) → step_at step told r ≡ Err fault) × (new ≡ old)
+MakesStep step old r (Err fault) new s =
+    ((told : Fields) → step_at step told r ≡ Err fault) × (new ≡ old) × IsNear r.place fault
 
 -- a call found octets by this read, and the reader stands behind them
 pub record FindsOctets (read : Reading → Result (List ℕ × Reading) CdrFault) (span : Span) (r s : Reading) : Type 0 where
@@ -160,7 +166,7 @@ pub record FindsTagged (tag : ℕ) (span : Span) (r s : Reading) : Type 0 where
 -- a call found octets with a tag, or answered its fault
 abbrev pub ReadsTagged : Reading → Result (ℕ × Span) FrameFault → Reading → Type 0
 ReadsTagged r (Ok found) s = FindsTagged found.0 found.1 r s
-ReadsTagged r (Err fault) s = tagged_at fault_of r ≡ Err fault
+ReadsTagged r (Err fault) s = (tagged_at fault_of r ≡ Err fault) × IsNear r.place fault
 
 -- ---- a walk
 
@@ -186,6 +192,11 @@ pub record IsWalked (header : Header) (content : List ℕ) (w : Walk) : Type 0 w
       (more : List ℕ)
       → fields_by header (content ++ more)
       ≡ left_at w.step w.fields.now (told_by (content ++ more) w.found) (standing header.order (content ++ more) w.place)
+
+-- the walk has gone as far as it can: where octets are wanting, it stands at the value that wants them, or less than 8
+-- octets in front of it
+abbrev pub IsAsFar : Header → List ℕ → Walk → Type 0
+IsAsFar header content w = (fault : FrameFault) → fields_by header content ≡ Err fault → IsNear w.place fault
 
 -- no field is left
 pub record IsDone (w : Walk) : Type 0 where

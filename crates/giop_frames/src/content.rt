@@ -3,7 +3,7 @@ ghost use Rattle.giop_frames.specs.Limits.{size_limit};
 ghost use Rattle.giop_frames.specs.Fault.{Finds};
 ghost use Rattle.giop_frames.specs.Layout.{kept_tail, tail_gap, tail_start};
 ghost use Rattle.giop_frames.specs.Stream.{message_by, start_by};
-ghost use Rattle.giop_frames.specs.Walk.{IsWalked, context_of, message_found, spanned, target_of};
+ghost use Rattle.giop_frames.specs.Walk.{IsAsFar, IsWalked, context_of, message_found, spanned, target_of};
 
 use crate::fault::FrameFault;
 use crate::found::{Found, FoundContext, FoundTarget, Span};
@@ -27,10 +27,12 @@ pub fn read_message(alloc: Global, header: Header, content: &[u8]) -> Result<Con
     ensures message { Finds (λ found. found.message) result (message_by header content.now) }
     ensures start { IfOk result (λ found. found.start ≡ start_by header content.now) }
 {
-    finish_message(alloc, header, content, Walk::new(header))
+    let mut walk = Walk::new(header);
+    walk.go_on(header, content)?;
+    finish_message(alloc, header, content, walk)
 }
 
-/// The message whose first part has this header, with this content, over some of which a walk has gone.
+/// The message whose first part has this header, with this content, over which a walk has gone as far as it can.
 pub fn finish_message(
     alloc: Global,
     header: Header,
@@ -39,6 +41,7 @@ pub fn finish_message(
 ) -> Result<Content, FrameFault>
     requires short { length content.now ≤ size_limit }
     requires walked { IsWalked header content.now walk }
+    requires far { IsAsFar header content.now walk }
     ensures message { Finds (λ found. found.message) result (message_by header content.now) }
     ensures start { IfOk result (λ found. found.start ≡ start_by header content.now) }
 {

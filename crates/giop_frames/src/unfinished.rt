@@ -2,9 +2,9 @@ ghost use Rattle.std.specs.Prelude.{◌≡◌, ◌<◌, ◌≤◌, ◌++◌, tru
 ghost use Rattle.giop_frames.specs.Limits.{size_limit};
 ghost use Rattle.giop_frames.specs.Fault.{Fails, IfRefused};
 ghost use Rattle.giop_frames.specs.Header.{is_fragment};
-ghost use Rattle.giop_frames.specs.Walk.{IsWalked, wants_octets};
+ghost use Rattle.giop_frames.specs.Walk.{IsAsFar, IsWalked, wants_octets};
 ghost use Rattle.giop_frames.specs.Stream.{begun_as, joined, message_by, part_of, so_far, with_more};
-ghost use Rattle.giop_frames.specs.StreamInside.{IsTooLarge};
+ghost use Rattle.giop_frames.specs.StreamInside.{IsTooLarge, limited_so_far};
 
 use crate::content::finish_message;
 use crate::fault::{FrameFault, SIZE_LIMIT};
@@ -23,7 +23,7 @@ pub struct Unfinished {
     place: u64,
     header: Header,
     content: Vec<u8>,
-    /// How far a walk has come over its fields.
+    /// How far a walk has come over its fields: as far as its octets go.
     walk: Walk,
 }
 
@@ -31,7 +31,7 @@ impl Model for Unfinished {
     ghost use Rattle.std.specs.Prelude.{◌≡◌, false};
     ghost use Rattle.giop_frames.specs.Header.{is_fragment};
     ghost use Rattle.giop_frames.specs.Stream.{Unfinished as Message};
-    ghost use Rattle.giop_frames.specs.Walk.{IsWalked};
+    ghost use Rattle.giop_frames.specs.Walk.{IsAsFar, IsWalked};
 
     ghost Value = { Message };
 
@@ -39,7 +39,8 @@ impl Model for Unfinished {
 
     ghost invariant = { λ u.
         (is_fragment u.header.kind ≡ false)
-        × IsWalked u.header u.content.items u.walk };
+        × IsWalked u.header u.content.items u.walk
+        × IsAsFar u.header u.content.items u.walk };
 }
 
 impl Unfinished {
@@ -57,13 +58,14 @@ impl Unfinished {
         ensures sound { OnOk result (so_far (message_by header content.now) ≡ Ok None) }
         ensures refused { IfErr result (λ fault. Fails fault (so_far (message_by header content.now))) }
     {
+        let mut octets = Vec::new(alloc);
         let mut walk = Walk::new(header);
-        go_so_far(&mut walk, header, content)?;
+        go_so_far(&mut walk, header, &mut octets, content)?;
         Ok(Unfinished {
             id,
             place,
             header,
-            content: content.to_vec(alloc)?,
+            content: octets,
             walk,
         })
     }
@@ -92,19 +94,10 @@ impl Unfinished {
         ensures refused { IfErr result (λ fault. Fails fault (joined true octets.now self.old)) }
         ensures err { OnErr result (self.new ≡ self.old) }
     {
-        let before = self.content.len();
-        append(&mut self.content, octets)?;
         let mut walk = self.walk;
-        match go_so_far(&mut walk, self.header, &self.content) {
-            Ok(()) => {
-                self.walk = walk;
-                Ok(())
-            }
-            Err(fault) => {
-                self.content.truncate(before);
-                Err(fault)
-            }
-        }
+        go_so_far(&mut walk, self.header, &mut self.content, octets)?;
+        self.walk = walk;
+        Ok(())
     }
 
     /// Its last octets have come.
@@ -116,30 +109,44 @@ impl Unfinished {
         ensures err { OnErr result (self.new ≡ self.old) }
     {
         let before = self.content.len();
-        append(&mut self.content, octets)?;
         let header = self.header;
-        match finish_message(alloc, header, &self.content, self.walk) {
-            Ok(found) => Ok(frame(self.place, header, found)),
-            Err(fault) => {
-                self.content.truncate(before);
-                Err(fault)
-            }
-        }
+        let mut walk = self.walk;
+        go_so_far(&mut walk, header, &mut self.content, octets)?;
+        let finished = finish_message(alloc, header, &self.content, walk);
+        self.content.truncate(before);
+        Ok(frame(self.place, header, finished?))
     }
 }
 
-/// Goes on over the fields of a message whose octets are still coming. Want of octets is no fault.
-fn go_so_far(walk: &mut Walk, header: Header, content: &[u8]) -> Result<(), FrameFault>
-    requires short { length content.now ≤ size_limit }
+/// More octets of a message have come behind its content, and a walk that stood where octets were wanting goes on over
+/// them. That octets are wanting still is no fault; after one the content is as it was.
+fn go_so_far(
+    walk: &mut Walk,
+    header: Header,
+    content: &mut Vec<u8>,
+    octets: &[u8],
+) -> Result<(), FrameFault>
+    requires content { length content.old.items ≤ size_limit }
+    requires octets { length octets.now ≤ size_limit }
     requires first { is_fragment header.kind ≡ false }
-    requires walked { IsWalked header content.now walk.old }
-    ensures walked { IsWalked header content.now walk.new }
-    ensures sound { OnOk result (so_far (message_by header content.now) ≡ Ok None) }
-    ensures fault { IfErr result (λ fault. so_far (message_by header content.now) ≡ Err fault) }
+    requires walked { IsWalked header content.old.items walk.old }
+    requires far { IsAsFar header content.old.items walk.old }
+    ensures joined { OnOk result (content.new.items ≡ content.old.items ++ octets.now) }
+    ensures short { length content.new.items ≤ size_limit }
+    ensures walked { OnOk result (IsWalked header content.new.items walk.new) }
+    ensures far { OnOk result (IsAsFar header content.new.items walk.new) }
+    ensures says { OnOk result (limited_so_far header (content.old.items ++ octets.now) ≡ Ok None) }
+    ensures refused { IfErr result (λ fault. Fails fault (limited_so_far header (content.old.items ++ octets.now))) }
+    ensures err { OnErr result (content.new.items ≡ content.old.items) }
 {
+    let before = content.len();
+    append(content, octets)?;
     match walk.go_on(header, content) {
-        Err(fault) if wants_octets(fault) => Ok(()),
-        judged => judged,
+        Err(fault) if !wants_octets(fault) => {
+            content.truncate(before);
+            Err(fault)
+        }
+        _ => Ok(()),
     }
 }
 

@@ -1,8 +1,8 @@
-ghost use Rattle.std.specs.Prelude.{◌≡◌, ◌+◌, ◌<◌, ◌≤◌, ℕ, List, length, IfErr, OnOk, None, Some, Ok, Err};
+ghost use Rattle.std.specs.Prelude.{◌≡◌, ◌+◌, ◌<◌, ◌≤◌, ℕ, List, [], length, IfErr, OnOk, None, Some, Ok, Err};
 ghost use Rattle.cdr_values.specs.Reading.{octets_at, string_at};
 ghost use Rattle.giop_frames.specs.Limits.{context_limit, size_limit};
 ghost use Rattle.giop_frames.specs.Layout.{Fields};
-ghost use Rattle.giop_frames.specs.Walk.{HasRoom, IsDone, IsWalked, MakesStep, ReadsSpan, ReadsTagged, StandsBefore, fields_by};
+ghost use Rattle.giop_frames.specs.Walk.{HasRoom, IsAsFar, IsDone, IsWalked, MakesStep, ReadsSpan, ReadsTagged, StandsBefore, fields_by};
 
 use crate::fault::{CONTEXT_LIMIT, FrameFault, KEY_LIMIT, PROFILE_LIMIT, too_long};
 use crate::found::{Found, FoundContext, FoundTarget, Span};
@@ -47,7 +47,8 @@ pub struct Walk {
 impl Walk {
     /// A walk at the front of a message whose first part has this header.
     pub fn new(header: Header) -> Walk
-        ensures { (content : List ℕ) → IsWalked header content result }
+        ensures walked { (content : List ℕ) → IsWalked header content result }
+        ensures far { IsAsFar header [] result }
     {
         Walk {
             step: None,
@@ -58,11 +59,13 @@ impl Walk {
     }
 
     /// Goes on over the fields that stand in the content, up to their end or to the first fault, as want of octets is
-    /// one. It then stands behind what was whole.
+    /// one. It then stands behind what was whole, and never further in front than before.
     pub fn go_on(&mut self, header: Header, content: &[u8]) -> Result<(), FrameFault>
         requires short { length content.now ≤ size_limit }
         requires walked { IsWalked header content.now self.old }
         ensures walked { IsWalked header content.now self.new }
+        ensures far { IsAsFar header content.now self.new }
+        ensures forward { self.old.place ≤ self.new.place }
         ensures done { OnOk result (IsDone self.new) }
         ensures fault { IfErr result (λ fault. fields_by header content.now ≡ Err fault) }
     {

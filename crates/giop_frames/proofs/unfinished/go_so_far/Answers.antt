@@ -1,21 +1,32 @@
-use Rattle.std.proofs.Common.{◌∙◌, sym}
+use Rattle.std.proofs.Common.{◌∙◌, ◌++◌, sym}
 use Rattle.giop_frames.specs.Stream.{message_by}
-use Rattle.giop_frames.proofs.Walking.{message_fails, so_far_fails, so_far_wants, walked_so_far}
+use Rattle.giop_frames.proofs.Loops.{fails_from}
+use Rattle.giop_frames.proofs.Walking.{limited_is, message_fails, so_far_fails, so_far_wants, so_far_done}
 use Rattle.giop_frames.proofs.unfinished.go_so_far.Goals as goal
 
-pub returns-in-Err-clause-sound : goal.returns-in-Err-clause-sound
-returns-in-Err-clause-sound c =
+pub returns-in-Err-clause-refused : goal.returns-in-Err-clause-refused
+returns-in-Err-clause-refused c =
     let h = c.args.header in
-    let content = c.args.content.now in
-    so_far_wants (message_by h content) c.in-Err.fault (message_fails h content c.in-Err.fault c.in-Err.ensures.fault) (sym c.wants_octets.ensures ∙ c.if-wants_octets.true)
+    let octets = c.deref.result.now in
+    let fault = c.in-Err.fault in
+    let joined = c.deref.ensures.value ∙ c.in_ok-append.ensures.ok in
+    let fails = so_far_fails (message_by h octets) fault (message_fails h octets fault c.in-Err.ensures.fault) (sym c.wants_octets.ensures ∙ c.if-not-wants_octets.true) in
+    fails_from fault _ (limited_is h octets (c.args.content.now.items ++ c.args.octets.now) _ joined (rw c.deref.ensures.value c.in_ok-append.ensures.short) fails)
 
-pub returns-in_default-clause-fault : goal.returns-in_default-clause-fault
-returns-in_default-clause-fault c =
+pub returns-in_default-clause-says : goal.returns-in_default-clause-says
+returns-in_default-clause-says c =
     let h = c.args.header in
-    let content = c.args.content.now in
-    so_far_fails (message_by h content) c.in-Err.fault (message_fails h content c.in-Err.fault c.in-Err.ensures.fault) (sym c.wants_octets.ensures ∙ c.if-wants_octets.false)
+    let octets = c.deref.result.now in
+    let fault = c.in-Err.fault in
+    let joined = c.deref.ensures.value ∙ c.in_ok-append.ensures.ok in
+    let wants = so_far_wants (message_by h octets) fault (message_fails h octets fault c.in-Err.ensures.fault) (sym c.wants_octets.ensures ∙ c.if-not-wants_octets.false) in
+    limited_is h octets (c.args.content.now.items ++ c.args.octets.now) _ joined (rw c.deref.ensures.value c.in_ok-append.ensures.short) wants
 
-pub returns-in_default-2-clause-sound : goal.returns-in_default-2-clause-sound
-returns-in_default-2-clause-sound c =
+pub returns-in_default-2-clause-says : goal.returns-in_default-2-clause-says
+returns-in_default-2-clause-says c =
     let h = c.args.header in
-    walked_so_far h c.args.content.now c.go_on.new.self c.go_on.result c.requires.first c.go_on.ensures.walked c.go_on.ensures.done
+    let octets = c.deref.result.now in
+    let joined = c.deref.ensures.value ∙ c.in_ok-append.ensures.ok in
+    let is = c.in_default.ensures in
+    let says = so_far_done h octets c.go_on.new.self c.requires.first is.walked is.done in
+    limited_is h octets (c.args.content.now.items ++ c.args.octets.now) _ joined (rw c.deref.ensures.value c.in_ok-append.ensures.short) says
