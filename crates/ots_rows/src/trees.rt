@@ -13,8 +13,8 @@
 //! - `named G`: whether the record names it. `state`: the outcome, what is reported, and what is pending.
 ghost use Rattle.std.specs.Prelude.{◌<◌, length, IfOk};
 
-use ots_model::tree::{Outward, Reason, Word};
-use ots_model::{CallNumber, Disposition, Doubted, Heard, RefBytes, Stood, Vote};
+use ots_model::tree::{Heard, Outward, Reason, Word};
+use ots_model::{CallNumber, Disposition, Doubted, RefBytes, Stood, Vote};
 use resource_votes::{Registration, VoteFault, Votes};
 use std::alloc::Global;
 use std::io;

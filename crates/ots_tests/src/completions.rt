@@ -1,7 +1,7 @@
 //! Test of a completion whose allocations fail.
 
-use ots_model::tree::Outcome;
-use ots_model::{CallNumber, Ground, Heard, RefBytes, Stood, Vote};
+use ots_model::tree::{Heard, Outcome};
+use ots_model::{CallNumber, Ground, RefBytes, Stood, Vote};
 use resource_votes::Votes;
 use std::alloc::Global;
 use std::test::Fail;
@@ -38,10 +38,15 @@ fn what_comes_behind_reserve_needs_no_memory(rt: HostRuntime) -> Result<(), Fail
         return Ok(());
     }
     completion.start(&votes, 0, true, FIRST, false);
-    let commit = Heard::Voted(Vote::VoteCommit);
-    for heard in [commit, commit, Heard::Done, Heard::NoObject] {
+    let answers = [
+        Heard::Voted(Vote::VoteCommit),
+        Heard::Voted(Vote::VoteCommit),
+        Heard::Done,
+        Heard::NoObject,
+    ];
+    for heard in &answers {
         let outward = completion.next().ok_or("no word")?;
-        completion.answer(&outward.number, &heard);
+        completion.answer(&outward.number, heard);
         completion.decided(Stood::Stands(4));
     }
     assert_eq!(rt; completion.outcome(), Some(Outcome::Commit(Ground::Record)));

@@ -1,5 +1,6 @@
 ghost use Rattle.std.specs.Prelude.{◌≡◌, ◌≢◌, ℕ, ◌^◌, ◌<◌, ◌≤◌, ◌++◌, length, IsTrue, IsOk, IfOk, OnOk, OnErr};
 ghost use Rattle.std.specs.Option.{SomeIff};
+ghost use Rattle.ots_model.specs.Heard.{of_participant};
 ghost use Rattle.ots_model.specs.declared.completion.Heard.TheVariants.{Lost};
 ghost use Rattle.resource_votes.specs.Limits.{list_count};
 ghost use Rattle.resource_votes.specs.Ballots.{participants};
@@ -12,7 +13,7 @@ use crate::party::Stage;
 use crate::stock::Stock;
 use heuristic_join::report;
 use ots_model::tree::{Outcome, Outward, Reason};
-use ots_model::{CallNumber, Heard, Join, Stood};
+use ots_model::{CallNumber, Heard, Join, Stood, tree};
 use resource_votes::Votes;
 use std::alloc::{AllocError, Global};
 use std::marker::Model;
@@ -120,11 +121,11 @@ impl Completion {
     }
 
     /// What was heard of the word with this number. A number that isn't out changes nothing.
-    pub fn answer(&mut self, number: &CallNumber, heard: &Heard)
-        ensures after { self.new ≡ stages.after_answer number.now heard.now self.old }
+    pub fn answer(&mut self, number: &CallNumber, heard: &tree::Heard)
+        ensures after { self.new ≡ stages.after_answer number.now (of_participant heard.now) self.old }
     {
         if let Standing::Going(course) = &mut self.state {
-            course.answer(*number, *heard);
+            course.answer(*number, heard.of_participant());
         }
     }
 
@@ -132,7 +133,9 @@ impl Completion {
     pub fn lost(&mut self, number: &CallNumber)
         ensures after { self.new ≡ stages.after_answer number.now Lost self.old }
     {
-        self.answer(number, &Heard::Lost);
+        if let Standing::Going(course) = &mut self.state {
+            course.answer(*number, Heard::Lost);
+        }
     }
 
     /// Whether each participant has consented, one waits for the outcome, and the journal was not asked yet.
