@@ -86,7 +86,8 @@ impl<D: Disk> Journal<D> {
 
     /// Whether a record can follow those of the journal.
     pub fn takes(&self, item: &JournalRecord) -> bool
-        ensures { result ≡ can_follow self.now.found item.now }
+        ensures takes { result ≡ can_follow self.now.found item.now }
+        ensures follows { self.now.failed ≡ false → IsTrue result → MayFollow self.now item.now }
     {
         self.index.takes(item)
     }

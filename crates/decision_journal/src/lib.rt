@@ -19,6 +19,4 @@ mod reading;
 mod record;
 mod room;
 mod scan;
-#[cfg(test)]
-mod tests;
 mod writing;
