@@ -115,22 +115,29 @@ module _ (service : ℕ) (rs : List JournalRecord) (r : JournalRecord) (disk : D
   pub second_reads : second.reads ≡ f ++ 1 ∷ (body r ++ 0 ∷ behind)
   second_reads = ap (λ (l : List ℕ). overwritten l g (1 ∷ [])) first_reads ∙ over_gate f stands.gate (body r ++ 0 ∷ behind)
 
+  abbrev Old : List ℕ → Type 0
+  Old = λ c. StandsFor service c rs
+
   -- at the start
-  pub leaves_start : LeavesOnly P disk.present
-  leaves_start = leaves_at P disk.present _ settled (λ c image. inl ((subst (λ l. StandsFor service l rs) (sym (image_settled disk.reads c image)) stands)))
+  old_start : LeavesOnly Old disk.present
+  old_start = leaves_at Old disk.present _ settled (λ c image. subst (λ l. StandsFor service l rs) (sym (image_settled disk.reads c image)) stands)
 
   -- behind the gate anything may stand, and the gate isn't open
-  pub leaves_first : LeavesOnly P first.present
-  leaves_first =
-      leaves_at P first.present _ (one_write disk (g + 1) (behind_gate r) (f ++ stands.gate ∷ stands.behind) settled stands.octets_are) (λ c image.
+  old_first : LeavesOnly Old first.present
+  old_first =
+      leaves_at Old first.present _ (one_write disk (g + 1) (behind_gate r) (f ++ stands.gate ∷ stands.behind) settled stands.octets_are) (λ c image.
       let regrouped : f ++ stands.gate ∷ stands.behind ≡ (f ++ stands.gate ∷ []) ++ stands.behind = sym (append_assoc f (stands.gate ∷ []) stands.behind) in
       let image2 = subst (λ (l : List ℕ). IsImage (record { synced = l; writes = record { place = g + 1; octets = behind_gate r } ∷ [] }) c) regrouped image in
       let is = image_behind (f ++ stands.gate ∷ []) stands.behind (behind_gate r) c (g + 1) (omega (arith, length-append f (stands.gate ∷ []))) image2 in
-      inl ((stands_with service rs disk.reads stands stands.gate _ c (is ∙ append_assoc f (stands.gate ∷ []) _) stands.closed)))
+      stands_with service rs disk.reads stands stands.gate _ c (is ∙ append_assoc f (stands.gate ∷ []) _) stands.closed)
 
   -- the first write is whole
-  pub leaves_synced : LeavesOnly P (synced first).present
-  leaves_synced = λ c image. inl ((stands_with service rs disk.reads stands stands.gate _ c (image_settled first.reads c image ∙ first_reads) stands.closed))
+  old_synced : LeavesOnly Old (synced first).present
+  old_synced = λ c image. stands_with service rs disk.reads stands stands.gate _ c (image_settled first.reads c image ∙ first_reads) stands.closed
+
+  -- the records of before, up to the write of the gate
+  append_old : LeavesOnlySince Old disk (synced first)
+  append_old = record { more = (synced first).present ∷ first.present ∷ []; moments = refl; at_start = old_start; later = (old_synced, (old_first, tt)) }
 
   -- the gate is anything, before the whole record
   pub leaves_second : LeavesOnly P second.present
@@ -150,9 +157,12 @@ module _ (service : ℕ) (rs : List JournalRecord) (r : JournalRecord) (disk : D
     record {
       more = (synced second).present ∷ second.present ∷ (synced first).present ∷ first.present ∷ [];
       moments = refl;
-      at_start = leaves_start;
-      later = (leaves_after, (leaves_second, (leaves_synced, (leaves_first, tt))));
+      at_start = λ c image. inl (old_start c image);
+      later = (leaves_after, (leaves_second, ((λ c image. inl (old_synced c image)), ((λ c image. inl (old_first c image)), tt))));
     },
     stands_after,
     refl,
   )
+
+  pub append_lawful : let after = appended g (behind_gate r) disk in LeavesOnlySince Old disk (synced first) × LeavesOnlySince P disk after × StandsFor service after.reads (rs ++ r ∷ []) × IsSettled after
+  append_lawful = (append_old, append_safe.0, append_safe.1, append_safe.2)

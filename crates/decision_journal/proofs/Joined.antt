@@ -10,7 +10,8 @@ use Rattle.decision_journal.specs.declared.record.JournalRecord.TheVariants.{Don
 use Rattle.decision_journal.specs.declared.journal.JournalFault.{JournalFault}
 use Rattle.decision_journal.specs.declared.journal.JournalFault.TheVariants.{DiskFault, Full, BadHeader, BadRecord, LivesSpent, Memory}
 use Rattle.decision_journal.specs.Journal.{Found, StandsFor, is_decision_at}
-use Rattle.decision_journal.specs.State.{AppendIsDone, AppendIsSafe, DoneIsDone, HasAppended, HasDone, HasMore, HasReread, IsAppendFault, IsOld, IsOldOrMore, IsReadFault, JournalState, MayFind, MayHold, ReadIsDone, ReadIsSafe, need, used}
+use Rattle.decision_journal.specs.State.{AppendIsDone, AppendIsSafe, DoneIsDone, HasAppended, HasMore, HasReread, IsAppendFault, IsOld, IsOldOrMore, IsReadFault, JournalState, MayFind, MayHold, ReadIsDone, ReadIsSafe, need, used}
+use Rattle.decision_journal.specs.Calls.{HasDone, with_appended}
 use Rattle.decision_journal.proofs.Images.{image_settled}
 use Rattle.decision_journal.proofs.OneList.{one_list}
 use Rattle.decision_journal.proofs.Since.{since_then, since_weaker}
@@ -32,7 +33,7 @@ pub read_only : (service : ℕ) (r : JournalRecord) (a b : Option DiskState) →
 read_only service r a b safe = tells_weaker a b (ReadIsSafe service) (AppendIsSafe service r) (safe_weaker service r) safe
 
 -- two facts of one call
-tells_both : (a b : Option DiskState) (R S : DiskState → DiskState → Type 0) → Tells a b R → Tells a b S → Tells a b (λ s t. R s t × S s t)
+pub tells_both : (a b : Option DiskState) (R S : DiskState → DiskState → Type 0) → Tells a b R → Tells a b S → Tells a b (λ s t. R s t × S s t)
 tells_both None None R S x y = tt
 tells_both None (Some t) R S x y = absurd x
 tells_both (Some s) None R S x y = absurd x
@@ -101,11 +102,13 @@ module _ {D : Type 0} (before mid after : JournalState D) (r : JournalRecord) (p
         (subst (λ (a : ℕ). used mid.octets mid.found + need a mid.found r ≤ a) read.area room));
   }
 
-pub has_done : {D : Type 0} (before mid after : JournalState D) (place at : ℕ) → HasReread before mid → HasMore mid after (Done place) at → IsTrue (list_any (is_decision_at place) mid.found.standing) → HasDone before after place
-has_done before mid after place at read more stood = record {
+pub has_done : {D : Type 0} (told : D → Option DiskState) (before mid after : JournalState D) (place at : ℕ) → HasReread before mid → HasMore mid after (Done place) at → IsTrue (list_any (is_decision_at place) mid.found.standing)
+    → Tells (told before.disk) (told after.disk) (λ s t. t ≡ with_appended before.failed at (Done place) s) → HasDone told before after place
+has_done told before mid after place at read more stood disk = record {
   at = at;
   more = more_then before mid after (Done place) at read more;
   stood = subst (λ (f : Found). IsTrue (list_any (is_decision_at place) f.standing)) (sym (known_now more.octets mid.octets more.found mid.found mid.doubted read.doubted more.known).1) stood;
+  disk = disk;
 }
 
 -- ---- faults
@@ -118,18 +121,10 @@ pub risen_later : (before mid after : ℕ) → before ≤ mid → mid ≤ after 
 risen_later before mid after first second (inl rose) = inl (omega arith)
 risen_later before mid after first second (inr at_end) = elim (cases_lt before mid) [ inl less ↦ inl (omega arith) | inr same ↦ inr (omega (arith, first, same, at_end)) ]
 
-pub read_fault_then : (told : Option DiskState) (before mid after : ℕ) → before ≤ mid → mid ≤ after → (fault : JournalFault) → IsReadFault told mid after fault → IsReadFault told before after fault
-read_fault_then told before mid after first second DiskFault h = risen_later before mid after first second h
-read_fault_then told before mid after first second (Full u n) h = absurd h
-read_fault_then told before mid after first second (BadHeader place) h = h
-read_fault_then told before mid after first second (BadRecord place) h = h
-read_fault_then told before mid after first second LivesSpent h = absurd h
-read_fault_then told before mid after first second Memory h = tt
-
-pub append_fault : {D : Type 0} (journal : JournalState D) (r : JournalRecord) (told : Option DiskState) (before after : ℕ) (fault : JournalFault) → IsReadFault told before after fault → IsAppendFault journal r told before after fault
-append_fault journal r told before after DiskFault h = h
-append_fault journal r told before after (Full u n) h = absurd h
-append_fault journal r told before after (BadHeader place) h = h
-append_fault journal r told before after (BadRecord place) h = h
-append_fault journal r told before after LivesSpent h = absurd h
-append_fault journal r told before after Memory h = tt
+pub append_fault : (told : Option DiskState) (before after : ℕ) (fault : JournalFault) → IsReadFault told before after fault → IsAppendFault told before after fault
+append_fault told before after DiskFault h = h
+append_fault told before after (Full u n) h = absurd h
+append_fault told before after (BadHeader place) h = h
+append_fault told before after (BadRecord place) h = h
+append_fault told before after LivesSpent h = absurd h
+append_fault told before after Memory h = tt

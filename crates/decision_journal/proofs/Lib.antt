@@ -23,3 +23,5 @@ pub mod Meant
 pub mod Loads
 pub mod Places
 pub mod Below
+pub mod Calls
+pub mod Refused

@@ -21,7 +21,7 @@ fresh_test o (inl less) = rw (ltb_of less) refl
 fresh_test o (inr whole) = grind arith
 
 -- and a journal
-stands_test : (service : ℕ) (o : List ℕ) (rs : List JournalRecord) → StandsFor service o rs → is_fresh o ≡ false
+pub stands_test : (service : ℕ) (o : List ℕ) (rs : List JournalRecord) → StandsFor service o rs → is_fresh o ≡ false
 stands_test service o rs stands =
     let long : 16 < length o = omega (arith, ap length stands.octets_are, length-append (front service rs) (stands.gate ∷ stands.behind), length_front service rs) in
     let first : get_or o 0 0 ≡ first_letter = ap (λ (o : List ℕ). get_or o 0 0) stands.octets_are in

@@ -1,27 +1,23 @@
 -- What a load of a journal leaves.
-use Rattle.std.proofs.Common.{◌≡◌, inl, inr, ℕ, ◌+◌, ◌<◌, ◌≤◌, List, [], ◌∷◌, ◌++◌, length, Option, Some, None, refl, sym, ap, subst, ◌∙◌, arith, eq-eqb, ◌^◌}
+use Rattle.std.proofs.Common.{◌≡◌, inl, inr, ℕ, ◌≤◌, ◌<◌, ◌+◌, Bool, true, false, cond, List, [], ◌∷◌, ◌++◌, length, Option, Some, None, refl, sym, ap, subst, ◌∙◌, arith}
 use Rattle.std.specs.Prelude.{IfSome}
 use Rattle.std.specs.Option.{ForSome}
 use Rattle.std.proofs.lemmas.List.{append-nil}
-use Rattle.ots_outside.specs.Disk.{DiskState, Moment, IsImage, IsAfterRefusal, LeavesOnly, ReadsImage, Tells, synced, written}
+use Rattle.ots_outside.specs.Disk.{DiskState, Moment, IsImage, IsAfterRefusal, LeavesOnly, ReadsImage, Tells, moments, synced, written}
 use Rattle.decision_journal.specs.declared.record.JournalRecord.{JournalRecord}
 use Rattle.decision_journal.specs.declared.record.JournalRecord.TheVariants.{Life}
 use Rattle.decision_journal.specs.declared.journal.JournalFault.{JournalFault}
 use Rattle.decision_journal.specs.declared.journal.JournalFault.TheVariants.{DiskFault, Full, BadHeader, BadRecord, LivesSpent, Memory}
-use Rattle.decision_journal.specs.Limits.{area_limit}
-use Rattle.decision_journal.specs.Layout.{record_octets}
-use Rattle.decision_journal.specs.Journal.{Found, with_record, Holds, IsBroken, IsFilled, IsFresh, IsOtherHeader, IsScanFault, StandsAt, StandsFor, found_in, front, header, first_letter, nothing_found}
-use Rattle.decision_journal.specs.Laws.{IsOnTheWay, IsSettled, behind_letter, cleared, created}
-use Rattle.decision_journal.specs.State.{AppendIsDone, AppendIsSafe, IsAppendFault, IsAtRest, IsOldOrMore, IsWithinArea, JournalState, MayHold, used}
-use Rattle.decision_journal.specs.Loading.{IsDiskFault, IsHeld, IsHeldOrBegun, IsLoadFault, IsStartFault, IsStarted, LoadIsDone, LoadIsSafe, last_life, next_life}
+use Rattle.decision_journal.specs.Journal.{Found, Holds, IsBroken, IsFilled, IsFresh, IsOtherHeader, IsScanFault, StandsAt, StandsFor, found_in, front, header, first_letter, is_fresh, nothing_found}
+use Rattle.decision_journal.specs.Laws.{IsOnTheWay, IsSettled, appended, behind_gate, behind_letter, cleared, created}
+use Rattle.decision_journal.specs.State.{AppendIsDone, AppendIsSafe, IsOldOrMore, MayHold, used}
+use Rattle.decision_journal.specs.Loading.{HasBegunLoad, IsDiskFault, IsHeld, IsHeldOrBegun, IsLoadFault, IsStartFault, IsStarted, LoadIsDone, LoadIsSafe, last_life, loaded, next_life, readied}
 use Rattle.decision_journal.proofs.Creation.{creation_safe}
 use Rattle.decision_journal.proofs.Images.{image_settled}
-use Rattle.decision_journal.proofs.Joined.{known_now, risen_later}
-use Rattle.decision_journal.proofs.Kept.{each_doubted, stands_back, stands_from}
+use Rattle.decision_journal.proofs.Joined.{risen_later, tells_both}
+use Rattle.decision_journal.proofs.Kept.{stands_back, stands_from}
 use Rattle.decision_journal.proofs.OneList.{one_list}
 use Rattle.decision_journal.proofs.Since.{image_of, leaves_settled, since_refused, since_synced, since_then, since_weaker}
-use Rattle.decision_journal.proofs.Using.{life_length, room_more}
-use Rattle.decision_journal.proofs.Append.{front_more}
 use Rattle.decision_journal.proofs.Ways.{cleared_longer, on_the_way, tells_then, tells_weaker, way_before, way_behind, wrote_synced}
 
 -- ---- the calls of a creation
@@ -232,14 +228,27 @@ spent_told service octets found None b started spent = tt
 spent_told service octets found (Some s) None started spent = absurd started
 spent_told service octets found (Some s) (Some t) started spent = (started.records, (started.held, sym (ap (λ (f : Found). f.life) started.are.found_is) ∙ spent))
 
-pub full_told : (service u : ℕ) (octets : List ℕ) (found : Found) (a b : Option DiskState) → Tells a b (IsStarted service octets found) → u ≡ used octets found
-    → IfSome a (λ disk. (rs : List JournalRecord) × (Holds service disk.reads rs × (u ≡ used (front service rs) (found_in rs))))
-full_told service u octets found None b started is = tt
-full_told service u octets found (Some s) None started is = absurd started
-full_told service u octets found (Some s) (Some t) started is =
-    (started.records, (started.held, is ∙ ap (λ (l : List ℕ). used l found) started.are.octets_are ∙ ap (λ (f : Found). used (front service started.records) f) started.are.found_is))
+pub full_told : (service u : ℕ) (octets : List ℕ) (found : Found) (a b : Option DiskState) → Tells a b (IsStarted service octets found) → found.life < last_life → u ≡ used octets found
+    → IfSome a (λ disk. (rs : List JournalRecord) × (Holds service disk.reads rs × ((found_in rs).life < last_life) × (u ≡ used (front service rs) (found_in rs))))
+full_told service u octets found None b started left is = tt
+full_told service u octets found (Some s) None started left is = absurd started
+full_told service u octets found (Some s) (Some t) started left is = (
+  started.records,
+  (
+    started.held,
+    subst (λ (f : Found). f.life < last_life) started.are.found_is left,
+    is ∙ ap (λ (l : List ℕ). used l found) started.are.octets_are ∙ ap (λ (f : Found). used (front service started.records) f) started.are.found_is,
+  ),
+)
 
 -- ---- and the next life
+
+readied_by_longer : (b : Bool) (service : ℕ) (s : DiskState) → length (moments s) ≤ length (moments (cond b (created service (cleared (synced s))) (synced s)))
+readied_by_longer true service s = omega (arith, cleared_longer (synced s))
+readied_by_longer false service s = omega arith
+
+readied_longer : (service : ℕ) (s : DiskState) → length (moments s) ≤ length (moments (readied service (synced s)))
+readied_longer service s = readied_by_longer (is_fresh s.reads) service s
 
 module _ (service : ℕ) (octets : List ℕ) (found : Found) (l : ℕ) (l_is : l ≡ found.life + 1) where
   module _ (s t : DiskState) (started : IsStarted service octets found s t) where
@@ -265,13 +274,29 @@ module _ (service : ℕ) (octets : List ℕ) (found : Found) (l : ℕ) (l_is : l
     safe_from u first second premise =
         since_then (IsHeldOrBegun service s) s t u (first premise) (since_weaker (IsOldOrMore service t (Life l)) (IsHeldOrBegun service s) t u begun second)
 
-    done_from : (u : DiskState) → AppendIsDone service (Life l) t u → LoadIsDone service s u
-    done_from u done = record {
-      records = started.records;
-      held = started.held;
-      stands = more_is done.records u.reads (same_records done.records done.held) done.stands;
-      settled = done.settled;
-    }
+    -- the end of its calls, from those of the append
+    module _ (g : ℕ) (g_is : g ≡ length octets) (readied_is : t ≡ readied service (synced s)) where
+      end_is : appended g (behind_gate (Life l)) t ≡ loaded service started.records s
+      end_is =
+          ap (λ (g : ℕ). appended g (behind_gate (Life l)) t) (g_is ∙ ap length started.are.octets_are)
+          ∙ ap (λ (r : JournalRecord). appended (length (front service started.records)) (behind_gate r) t) life_is
+          ∙ ap (appended (length (front service started.records)) (behind_gate (next_life started.records))) readied_is
+
+      done_from : (u : DiskState) → u ≡ appended g (behind_gate (Life l)) t → AppendIsDone service (Life l) t u → LoadIsDone service s u
+      done_from u is done = record {
+        records = started.records;
+        held = started.held;
+        disk = is ∙ end_is;
+        stands = more_is done.records u.reads (same_records done.records done.held) done.stands;
+        settled = done.settled;
+      }
+
+      begun_from : (u : DiskState) → IsOnTheWay t (appended g (behind_gate (Life l)) t) u → HasBegunLoad service s u
+      begun_from u way =
+          let end = loaded service started.records s in
+          let at : IsOnTheWay t end u = subst (λ (e : DiskState). IsOnTheWay t e u) end_is way in
+          let longer : length (moments s) ≤ length (moments t) = subst (λ (m : DiskState). length (moments s) ≤ length (moments m)) (sym readied_is) (readied_longer service s) in
+          inr ((started.records, (started.held, way_behind s t end u longer at)))
 
   pub load_safe : (a b c : Option DiskState) → Tells a b (IsStarted service octets found) → Tells a b (LoadIsSafe service) → Tells b c (AppendIsSafe service (Life l)) → Tells a c (LoadIsSafe service)
   load_safe None None None started first second = tt
@@ -281,61 +306,20 @@ module _ (service : ℕ) (octets : List ℕ) (found : Found) (l : ℕ) (l_is : l
   load_safe (Some s) (Some t) None started first second = absurd second
   load_safe (Some s) (Some t) (Some u) started first second = safe_from s t started u first second
 
-  pub load_done : (a b c : Option DiskState) → Tells a b (IsStarted service octets found) → Tells b c (AppendIsDone service (Life l)) → Tells a c (LoadIsDone service)
-  load_done None None None started second = tt
-  load_done None None (Some u) started second = absurd second
-  load_done None (Some t) c started second = absurd started
-  load_done (Some s) None c started second = absurd started
-  load_done (Some s) (Some t) None started second = absurd second
-  load_done (Some s) (Some t) (Some u) started second = done_from s t started u second
+  module _ (g : ℕ) (g_is : g ≡ length octets) (a b c : Option DiskState) (started : Tells a b (IsStarted service octets found)) (ready : Tells a b (λ s t. t ≡ readied service (synced s))) where
+    abbrev Ready : DiskState → DiskState → Type 0
+    Ready s t = IsStarted service octets found s t × (t ≡ readied service (synced s))
 
-none_before : (a b : Option DiskState) (R : DiskState → DiskState → Type 0) (P : DiskState → Type 0) → Tells a b R → b ≡ None → IfSome a P
-none_before None b R P h e = tt
-none_before (Some s) None R P h e = absurd h
-none_before (Some s) (Some t) R P h e = absurd cc
+    both : Tells a b Ready
+    both = tells_both a b (IsStarted service octets found) (λ s t. t ≡ readied service (synced s)) started ready
 
-pub life_fault : {D : Type 0} (journal : JournalState D) (l area service : ℕ) (a c : Option DiskState) (before mid after : ℕ) → journal.doubted ≡ None → used journal.octets journal.found + 10 ≤ journal.area
-    → before ≤ mid → mid ≤ after → Tells a c (LoadIsSafe service) → (fault : JournalFault) → IsAppendFault journal (Life l) c mid after fault → IsLoadFault area service a before after fault
-life_fault journal l area service a c before mid after doubted room x y tells DiskFault f = risen_later before mid after x y f
-life_fault journal l area service a c before mid after doubted room x y tells (Full u n) f =
-    let same = known_now f.octets journal.octets f.found journal.found journal.doubted doubted f.known in
-    let u_is : u ≡ used journal.octets journal.found = f.used_is ∙ ap (λ (l : List ℕ). used l f.found) same.0 ∙ ap (λ (g : Found). used journal.octets g) same.1 in
-    absurd (omega (arith, room, u_is, f.need_is, f.more, life_length l))
-life_fault journal l area service a c before mid after doubted room x y tells (BadHeader place) f = none_before a c (LoadIsSafe service) _ tells f
-life_fault journal l area service a c before mid after doubted room x y tells (BadRecord place) f = none_before a c (LoadIsSafe service) _ tells f
-life_fault journal l area service a c before mid after doubted room x y tells LivesSpent f = absurd f
-life_fault journal l area service a c before mid after doubted room x y tells Memory f = tt
+    pub load_done : Tells b c (λ s t. t ≡ appended g (behind_gate (Life l)) s) → Tells b c (AppendIsDone service (Life l)) → Tells a c (LoadIsDone service)
+    load_done last done =
+        tells_weaker a c _ (LoadIsDone service) (λ s u h. done_from s h.0 h.1.0 g g_is h.1.1 u h.2.0 h.2.1)
+        (tells_then a b c Ready (λ s t. (t ≡ appended g (behind_gate (Life l)) s) × AppendIsDone service (Life l) s t) both
+        (tells_both b c (λ s t. t ≡ appended g (behind_gate (Life l)) s) (AppendIsDone service (Life l)) last done))
 
--- what the journal knows then
-pub life_added : (o octets after : List ℕ) (f found then : Found) (r : JournalRecord) → (o ≡ octets) × (f ≡ found) → after ≡ o ++ record_octets r → then ≡ with_record f (length o) r
-    → (after ≡ octets ++ record_octets r) × (then ≡ with_record found (length octets) r)
-life_added o octets after f found then r same after_is then_is = (
-  after_is ∙ ap (λ (o : List ℕ). o ++ record_octets r) same.0,
-  then_is ∙ ap (λ (o : List ℕ). with_record f (length o) r) same.0 ∙ ap (λ (f : Found). with_record f (length octets) r) same.1,
-)
-
-pub life_filled : (area service : ℕ) (octets after : List ℕ) (found then : Found) (l : ℕ) → IsFilled service octets found → l ≡ found.life + 1 → found.life < last_life → used octets found + 10 ≤ area → area ≤ area_limit
-    → (after ≡ octets ++ record_octets (Life l)) × (then ≡ with_record found (length octets) (Life l)) → IsFilled service after then
-life_filled area service octets after found then l filled l_is left room small are =
-    let fits : l < 2 ^ 32 = omega (arith, l_is, left) in
-    let within = room_more area octets found (Life l) room in
-    let now : IsWithinArea area service octets found = record { filled = filled; room = omega (arith, room) } in
-    let more = each_doubted area service octets found (Life l) now (omega (arith, small)) fits (eq-eqb l (found.life + 1) l_is) within in
-    subst (λ (o : List ℕ). IsFilled service o then) (sym are.0) (subst (λ (f : Found). IsFilled service (octets ++ record_octets (Life l)) f) (sym are.1) more.filled)
-
-rest_from : (service : ℕ) (octets : List ℕ) (found : Found) (l : ℕ) (l_is : l ≡ found.life + 1) (s t : DiskState) (started : IsStarted service octets found s t) (u : DiskState) → AppendIsDone service (Life l) t u → IsAtRest (octets ++ record_octets (Life l)) u
-rest_from service octets found l l_is s t started u done =
-    let front_is : octets ++ record_octets (Life l) ≡ front service (started.records ++ Life l ∷ []) = ap (λ (o : List ℕ). o ++ record_octets (Life l)) started.are.octets_are ∙ sym (front_more service started.records (Life l)) in
-    let same = same_records service octets found l l_is s t started done.records done.held in
-    record {
-      settled = done.settled;
-      stands = stands_back service (octets ++ record_octets (Life l)) u.reads (started.records ++ Life l ∷ []) front_is (subst (λ (rs : List JournalRecord). StandsFor service u.reads (rs ++ Life l ∷ [])) same done.stands);
-    }
-
-pub life_rest : (service : ℕ) (octets after : List ℕ) (found : Found) (l : ℕ) → l ≡ found.life + 1 → after ≡ octets ++ record_octets (Life l) → (a b c : Option DiskState) → Tells a b (IsStarted service octets found) → Tells b c (AppendIsDone service (Life l)) → IfSome c (IsAtRest after)
-life_rest service octets after found l l_is after_is None None None started done = tt
-life_rest service octets after found l l_is after_is None None (Some u) started done = absurd done
-life_rest service octets after found l l_is after_is None (Some t) c started done = absurd started
-life_rest service octets after found l l_is after_is (Some s) None c started done = absurd started
-life_rest service octets after found l l_is after_is (Some s) (Some t) None started done = absurd done
-life_rest service octets after found l l_is after_is (Some s) (Some t) (Some u) started done = subst (λ (o : List ℕ). IsAtRest o u) (sym after_is) (rest_from service octets found l l_is s t started u done)
+    pub load_begun : Tells b c (λ s t. IsOnTheWay s (appended g (behind_gate (Life l)) s) t) → Tells a c (HasBegunLoad service)
+    load_begun way =
+        tells_weaker a c _ (HasBegunLoad service) (λ s u h. begun_from s h.0 h.1.0 g g_is h.1.1 u h.2)
+        (tells_then a b c Ready (λ s t. IsOnTheWay s (appended g (behind_gate (Life l)) s) t) both way)

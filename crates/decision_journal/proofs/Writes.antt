@@ -1,5 +1,5 @@
 -- What a write of a record leaves of a journal.
-use Rattle.std.proofs.Common.{◌≡◌, ℕ, ◌+◌, ◌<◌, ◌≤◌, Bool, true, false, List, ◌++◌, length, Option, Some, None, sym, subst, arith, length-append}
+use Rattle.std.proofs.Common.{◌≡◌, ℕ, ◌+◌, ◌<◌, ◌≤◌, Bool, true, false, List, ◌++◌, length, Option, Some, None, refl, sym, subst, arith, length-append}
 use Rattle.std.specs.Prelude.{IsTrue, IfSome}
 use Rattle.ots_outside.specs.Disk.{DiskState, Tells}
 use Rattle.decision_journal.specs.declared.record.JournalRecord.{JournalRecord}
@@ -37,6 +37,14 @@ module _ (told : Option DiskState) (area service : ℕ) (octets : List ℕ) (fou
 
     at_end : End → Tells told after (λ s t. t ≡ appended (length octets) (behind_gate item) s)
     at_end end = retold told after (λ p b s t. t ≡ appended p b s) gate (length octets) behind (behind_gate item) gate_is behind_is end
+
+    -- at the gate behind octets that stay as they were
+    pub write_way : (l : List ℕ) → l ≡ octets → Way → Tells told after (λ s t. IsOnTheWay s (appended (length l) (behind_gate item) s) t)
+    write_way l l_is way = subst (λ (l : List ℕ). Tells told after (λ s t. IsOnTheWay s (appended (length l) (behind_gate item) s) t)) (sym l_is) (on_way way)
+
+    -- at the gate that was written
+    pub write_disk : End → Tells told after (λ s t. t ≡ appended gate (behind_gate item) s)
+    write_disk end = retold told after (λ p b s t. t ≡ appended p b s) gate gate behind (behind_gate item) refl behind_is end
 
     pub write_safe : Way → Tells told after (AppendIsSafe service item)
     write_safe way = way_safe service octets found item now.filled fits follows small told after rest (on_way way)

@@ -200,6 +200,15 @@ IsScanFault service octets (BadRecord place) = IsBroken service octets place
 IsScanFault service octets LivesSpent = ⊥
 IsScanFault service octets Memory = Unit {0}
 
+-- a fault of a disk, or of memory
+abbrev pub IsOfDisk : JournalFault → Type 0
+IsOfDisk DiskFault = Unit {0}
+IsOfDisk (Full used need) = ⊥
+IsOfDisk (BadHeader place) = ⊥
+IsOfDisk (BadRecord place) = ⊥
+IsOfDisk LivesSpent = ⊥
+IsOfDisk Memory = Unit {0}
+
 -- octets begin with these, and then comes a gate that isn't open
 pub record StandsAt (before octets : List ℕ) : Type 0 where
   pub gate : ℕ

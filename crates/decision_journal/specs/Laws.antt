@@ -44,17 +44,23 @@ pub record CanAppend (service : ℕ) (rs : List JournalRecord) (r : JournalRecor
 abbrev pub behind_gate : JournalRecord → List ℕ
 behind_gate r = drop 1 (record_octets r) ++ 0 ∷ []
 
+-- the disk before the gate of an append is written: octets behind it, and a sync
+abbrev pub filled_behind : ℕ → List ℕ → DiskState → DiskState
+filled_behind gate behind disk = synced (written (gate + 1) behind disk)
+
 -- the disk after an append: octets behind the gate, a sync, the open gate, a sync
 abbrev pub appended : ℕ → List ℕ → DiskState → DiskState
-appended gate behind disk = synced (written gate (1 ∷ []) (synced (written (gate + 1) behind disk)))
+appended gate behind disk = synced (written gate (1 ∷ []) (filled_behind gate behind disk))
 
--- a crash at any moment of an append leaves the records of before, or these and the new one; once it is done, the new one
--- is there
+-- a crash before the gate is written leaves the records of before; at any moment of an append it leaves these, or these and the
+-- new one; once it is done, the new one is there
 abbrev pub AppendsAreSafe : Type 0
 AppendsAreSafe = (service : ℕ) (rs : List JournalRecord) (r : JournalRecord) (disk : DiskState)
     → IsSettled disk → StandsFor service disk.reads rs → CanAppend service rs r
-    → let after = appended (length (front service rs)) (behind_gate r) disk in
-    LeavesOnlySince (StandsForEither service rs r) disk after
+    → let gate = length (front service rs) in
+    let after = appended gate (behind_gate r) disk in
+    LeavesOnlySince (λ c. StandsFor service c rs) disk (filled_behind gate (behind_gate r) disk)
+    × LeavesOnlySince (StandsForEither service rs r) disk after
     × StandsFor service after.reads (rs ++ r ∷ []) × IsSettled after
 
 -- the first letter stands there, or nothing does

@@ -5,4 +5,5 @@ pub mod Journal
 pub mod Index
 pub mod Laws
 pub mod State
+pub mod Calls
 pub mod Loading

@@ -7,8 +7,9 @@ use Rattle.decision_journal.specs.declared.journal.JournalFault.TheVariants.{Dis
 use Rattle.decision_journal.specs.declared.record.JournalRecord.{JournalRecord}
 use Rattle.decision_journal.specs.declared.record.JournalRecord.TheVariants.{Life}
 use Rattle.decision_journal.specs.Journal.{Found, AreRecords, Holds, IsBroken, IsFresh, IsOtherHeader, StandsFor, found_in, front, is_fresh}
-use Rattle.decision_journal.specs.Laws.{CanAppend, IsSettled, appended, behind_gate, cleared, created}
+use Rattle.decision_journal.specs.Laws.{CanAppend, IsOnTheWay, IsSettled, appended, behind_gate, cleared, created}
 use Rattle.decision_journal.specs.State.{IsAtRest, used}
+use Rattle.decision_journal.specs.Calls.{IsUnwritten}
 
 -- the octets hold some records
 abbrev pub IsHeld : ℕ → List ℕ → Type 0
@@ -51,10 +52,11 @@ LoadsAreSafe = (service : ℕ) (rs : List JournalRecord) (disk : DiskState)
     LeavesOnlySince (IsHeldOrBegun service disk) disk after
     × StandsFor service after.reads (rs ++ next_life rs ∷ []) × IsSettled after
 
--- all is synced, and stands for the records that the disk read and the next life
+-- the records that the disk read were loaded: all is synced, and stands for these and the next life
 pub record LoadIsDone (service : ℕ) (before after : DiskState) : Type 0 where
   pub records : List JournalRecord
   pub held : Holds service before.reads records
+  pub disk : after ≡ loaded service records before
   pub stands : StandsFor service after.reads (records ++ next_life records ∷ [])
   pub settled : IsSettled after
 
@@ -66,6 +68,21 @@ pub record IsStarted (service : ℕ) (octets : List ℕ) (found : Found) (before
   pub rest : IsAtRest octets after
   pub image : IsImage before.present before.reads
 
+-- nothing was written, or a load of the records that the disk read was begun
+abbrev pub HasBegunLoad : ℕ → DiskState → DiskState → Type 0
+HasBegunLoad service before after =
+    IsUnwritten before after ⊎ ((rs : List JournalRecord) × (Holds service before.reads rs × IsOnTheWay before (loaded service rs before) after))
+
+-- what a refused load makes of its disk. Octets that are no journal of this service, and one without a life left, stay as
+-- they are; and so does what has no room for a life, but that it is made a journal
+abbrev pub IsRefusedLoad : ℕ → JournalFault → DiskState → DiskState → Type 0
+IsRefusedLoad service DiskFault before after = HasBegunLoad service before after
+IsRefusedLoad service (Full u n) before after = after ≡ readied service (synced before)
+IsRefusedLoad service (BadHeader place) before after = after ≡ synced before
+IsRefusedLoad service (BadRecord place) before after = after ≡ synced before
+IsRefusedLoad service LivesSpent before after = after ≡ synced before
+IsRefusedLoad service Memory before after = HasBegunLoad service before after
+
 -- the last of all lives
 abbrev pub last_life : ℕ
 last_life = 2 ^ 32 - 1
@@ -74,7 +91,7 @@ last_life = 2 ^ 32 - 1
 abbrev pub IsLoadFault : ℕ → ℕ → Option DiskState → ℕ → ℕ → JournalFault → Type 0
 IsLoadFault area service told before after DiskFault = HasRisen before after
 IsLoadFault area service told before after (Full u n) = (area < u + n) × (n ≡ 10) × IfSome told
-    (λ disk. (rs : List JournalRecord) × (Holds service disk.reads rs × (u ≡ used (front service rs) (found_in rs))))
+    (λ disk. (rs : List JournalRecord) × (Holds service disk.reads rs × ((found_in rs).life < last_life) × (u ≡ used (front service rs) (found_in rs))))
 IsLoadFault area service told before after (BadHeader place) =
     IfSome told (λ disk. (IsFresh disk.reads → ⊥) × IsOtherHeader service disk.reads place)
 IsLoadFault area service told before after (BadRecord place) =

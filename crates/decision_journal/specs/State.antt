@@ -1,6 +1,6 @@
 -- A journal as its callers see it, and what its calls answer (our profile).
-use Rattle.std.specs.Prelude.{◌≡◌, ℕ, ◌+◌, ◌*◌, ◌<◌, ◌≤◌, ◌⊎◌, Bool, true, false, not, nat_lt, if◌then◌else◌, List, [], ◌∷◌, ◌++◌, length, Option, Some, None, IfSome, IsTrue}
-use Rattle.std.specs.List.{count_by, list_any}
+use Rattle.std.specs.Prelude.{◌≡◌, ℕ, ◌+◌, ◌*◌, ◌<◌, ◌≤◌, ◌⊎◌, Bool, true, false, nat_lt, if◌then◌else◌, List, [], ◌∷◌, ◌++◌, length, Option, Some, None, IfSome, IsTrue}
+use Rattle.std.specs.List.{count_by}
 use Rattle.ots_outside.specs.Disk.{DiskState, IsImage, LeavesOnly, LeavesOnlySince}
 use Rattle.ots_outside.specs.Source.{HasRisen}
 use Rattle.decision_journal.specs.declared.journal.JournalFault.{JournalFault}
@@ -9,7 +9,7 @@ use Rattle.decision_journal.specs.declared.record.JournalRecord.{JournalRecord}
 use Rattle.decision_journal.specs.declared.record.JournalRecord.TheVariants.{Done}
 use Rattle.decision_journal.specs.Limits.{area_limit, standing_limit}
 use Rattle.decision_journal.specs.Layout.{Fits, record_octets}
-use Rattle.decision_journal.specs.Journal.{Found, IsFilled, StandsAt, StandsFor, StandsForEither, can_follow, found_in, is_decision, is_decision_at, with_record}
+use Rattle.decision_journal.specs.Journal.{Found, IsFilled, StandsAt, StandsFor, StandsForEither, can_follow, found_in, is_decision, with_record}
 use Rattle.decision_journal.specs.Laws.{IsSettled}
 
 -- a journal: its disk, how large its area is, its service, the octets before the gate at the end, what their records leave,
@@ -88,10 +88,14 @@ need area found r =
     if is_decision r then (if nat_lt (decisions found) standing_limit then length (record_octets r) + 10 else area + 1)
     else length (record_octets r)
 
+-- so many octets are used and needed, which exceed the area together
+abbrev pub HasNoRoom : ℕ → List ℕ → Found → JournalRecord → ℕ → ℕ → Type 0
+HasNoRoom area octets found r u n = (u ≡ used octets found) × (n ≡ need area found r) × (area < u + n)
+
 -- why there is no room for a record behind so many octets
 abbrev pub IsRoomFault : ℕ → List ℕ → Found → JournalRecord → JournalFault → Type 0
 IsRoomFault area octets found r DiskFault = ⊥
-IsRoomFault area octets found r (Full u n) = (u ≡ used octets found) × (n ≡ need area found r) × (area < u + n)
+IsRoomFault area octets found r (Full u n) = HasNoRoom area octets found r u n
 IsRoomFault area octets found r (BadHeader place) = ⊥
 IsRoomFault area octets found r (BadRecord place) = ⊥
 IsRoomFault area octets found r LivesSpent = ⊥
@@ -160,10 +164,6 @@ pub record IsUnsure {D : Type 0} (before : JournalState D) (r : JournalRecord) (
   pub doubted : after.doubted ≡ Some r
   pub failed : after.failed ≡ true
 
--- a journal after a refused append: the disk was not read again, or nothing was written, or the record is in doubt
-abbrev pub IsAfterAppend : {D : Type 0} → JournalState D → JournalRecord → JournalState D → Type 0
-IsAfterAppend before r after = IsUnread before after ⊎ (HasReread before after ⊎ IsUnsure before r after)
-
 -- the record stands behind what the journal could find, at this place
 pub record HasMore {D : Type 0} (before after : JournalState D) (r : JournalRecord) (place : ℕ) : Type 0 where
   pub octets : List ℕ
@@ -192,38 +192,14 @@ IsReadFault told before after (BadRecord place) = told ≡ None
 IsReadFault told before after LivesSpent = ⊥
 IsReadFault told before after Memory = Unit {0}
 
--- there was no room for a record behind what the journal could find
-pub record HasNoRoom {D : Type 0} (journal : JournalState D) (r : JournalRecord) (u n : ℕ) : Type 0 where
-  pub octets : List ℕ
-  pub found : Found
-  pub known : MayHave journal octets found
-  pub used_is : u ≡ used octets found
-  pub need_is : n ≡ need journal.area found r
-  pub more : journal.area < u + n
-
--- why a record was not appended, to a disk that is so, and whose count of faults was and is so
-abbrev pub IsAppendFault : {D : Type 0} → JournalState D → JournalRecord → Option DiskState → ℕ → ℕ → JournalFault → Type 0
-IsAppendFault journal r told before after DiskFault = HasRisen before after
-IsAppendFault journal r told before after (Full u n) = HasNoRoom journal r u n
-IsAppendFault journal r told before after (BadHeader place) = told ≡ None
-IsAppendFault journal r told before after (BadRecord place) = told ≡ None
-IsAppendFault journal r told before after LivesSpent = ⊥
-IsAppendFault journal r told before after Memory = Unit {0}
-
--- a Done of a record that stood was appended
-pub record HasDone {D : Type 0} (before after : JournalState D) (place : ℕ) : Type 0 where
-  pub at : ℕ
-  pub more : HasMore before after (Done place) at
-  pub stood : IsTrue (list_any (is_decision_at place) more.found.standing)
-
--- no decision or prepared record stood at this place, and nothing was written
-pub record HasNone {D : Type 0} (before after : JournalState D) (place : ℕ) : Type 0 where
-  pub same : HasReread before after
-  pub none : IsTrue (not (list_any (is_decision_at place) after.found.standing))
-
--- the record at this place is done, or didn't stand
-abbrev pub IsAfterDone : {D : Type 0} → JournalState D → JournalState D → ℕ → Type 0
-IsAfterDone before after place = HasDone before after place ⊎ HasNone before after place
+-- why a record was not appended to such a disk. What is full is no cause of the disk
+abbrev pub IsAppendFault : Option DiskState → ℕ → ℕ → JournalFault → Type 0
+IsAppendFault told before after DiskFault = HasRisen before after
+IsAppendFault told before after (Full u n) = Unit {0}
+IsAppendFault told before after (BadHeader place) = told ≡ None
+IsAppendFault told before after (BadRecord place) = told ≡ None
+IsAppendFault told before after LivesSpent = ⊥
+IsAppendFault told before after Memory = Unit {0}
 
 -- all is synced, and stands for records that the disk held, or for these and the Done
 abbrev pub DoneIsDone : ℕ → ℕ → DiskState → DiskState → Type 0

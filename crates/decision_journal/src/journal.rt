@@ -1,5 +1,6 @@
 ghost use Rattle.std.specs.Prelude.{◌≡◌};
 ghost use Rattle.decision_journal.specs.declared.journal.JournalFault.TheVariants.{DiskFault, Memory};
+ghost use Rattle.decision_journal.specs.Journal.{IsOfDisk};
 
 use crate::record::JournalRecord;
 use ots_outside::DiskRefusal;
@@ -56,6 +57,7 @@ impl<T: Drop> From<AllocFailed<T>> for JournalFault {
 pub(crate) fn fault_of(refusal: DiskRefusal) -> JournalFault
     ensures failed { refusal ≡ DiskRefusal.Failed → result ≡ DiskFault }
     ensures memory { refusal ≡ DiskRefusal.Memory → result ≡ Memory }
+    ensures kind { IsOfDisk result }
 {
     match refusal {
         DiskRefusal::Failed => JournalFault::DiskFault,

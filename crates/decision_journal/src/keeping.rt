@@ -1,11 +1,11 @@
-ghost use Rattle.std.specs.Prelude.{◌≡◌, ◌≤◌, ◌+◌, ◌++◌, ◌∷◌, ◌⊎◌, [], length, false, None, IsTrue, IfOk, IfErr, IfSome, OnOk, OnErr};
+ghost use Rattle.std.specs.Prelude.{◌≡◌, ◌≤◌, ◌+◌, ◌++◌, ◌∷◌, [], length, false, true, None, IsTrue, IfOk, IfErr, OnOk, OnErr};
 ghost use Rattle.std.specs.List.{list_any};
 ghost use Rattle.std.specs.Option.{ForSome};
-ghost use Rattle.ots_outside.specs.Disk.{Tells};
+ghost use Rattle.ots_outside.specs.Disk.{Tells, synced};
 ghost use Rattle.decision_journal.specs.Layout.{Fits, record_octets};
-ghost use Rattle.decision_journal.specs.Laws.{IsSettled, behind_gate};
+ghost use Rattle.decision_journal.specs.Laws.{IsOnTheWay, appended, behind_gate};
 ghost use Rattle.decision_journal.specs.Limits.{area_limit};
-ghost use Rattle.decision_journal.specs.Journal.{IsFilled, can_follow, is_decision_at, with_record};
+ghost use Rattle.decision_journal.specs.Journal.{can_follow, is_decision_at, with_record};
 
 use crate::disk_calls::{append_at, read_whole};
 use crate::found::Index;
@@ -53,8 +53,9 @@ impl<D: Disk> Model for Journal<D> {
 }
 
 impl<D: Disk> Journal<D> {
-    ghost use Rattle.decision_journal.specs.Loading.{IsLoadFault, LoadIsDone, LoadIsSafe};
-    ghost use Rattle.decision_journal.specs.State.{AppendIsDone, AppendIsSafe, HasAppended, HasMore, HasReread, DoneIsDone, IsAfterAppend, IsAtRest, IsAfterDone, IsAppendFault, IsReadFault, IsRoomFault, IsUnread, IsUnsure, LeavesFound, MayFollow, ReadIsDone, ReadIsSafe, need, used};
+    ghost use Rattle.decision_journal.specs.Loading.{IsDiskFault, IsLoadFault, IsRefusedLoad, LoadIsDone, LoadIsSafe};
+    ghost use Rattle.decision_journal.specs.State.{AppendIsDone, AppendIsSafe, HasAppended, HasMore, HasReread, DoneIsDone, IsAppendFault, IsReadFault, IsRoomFault, IsUnread, IsUnsure, LeavesFound, MayFollow, ReadIsDone, ReadIsSafe, need, used};
+    ghost use Rattle.decision_journal.specs.Calls.{IsAfterDone, IsCurrent, IsReady, IsRefusedAppend, IsRefusedReading, IsUnwritten, reread, with_appended};
 
     /// Whether the next call reads the disk again.
     pub fn failed(&self) -> bool
@@ -95,9 +96,14 @@ impl<D: Disk> Journal<D> {
     /// Syncs the disk, and reads it again. Where a call had failed, this tells whether its record is there.
     pub fn reopen(&mut self) -> Result<(), JournalFault>
         ensures read { OnOk result (HasReread self.old self.new) }
+        ensures current { OnOk result (IsCurrent D.told self.new) }
+        ensures disk { OnOk result
+            (Tells (D.told self.old.disk) (D.told self.new.disk) (λ s t. t ≡ synced s)) }
         ensures done { OnOk result
             (Tells (D.told self.old.disk) (D.told self.new.disk) (ReadIsDone self.old.service)) }
         ensures unread { OnErr result (IsUnread self.old self.new) }
+        ensures unwritten { OnErr result
+            (Tells (D.told self.old.disk) (D.told self.new.disk) IsUnwritten) }
         ensures fault { IfErr result
             (IsReadFault (D.told self.new.disk) (D.faults self.old.disk) (D.faults self.new.disk)) }
         ensures later { D.faults self.old.disk ≤ D.faults self.new.disk }
@@ -127,9 +133,15 @@ impl<D: Disk> Journal<D> {
     /// Reads the disk again where a call has failed.
     fn ready(&mut self) -> Result<(), JournalFault>
         ensures read { OnOk result (HasReread self.old self.new) }
+        ensures current { OnOk result (IsCurrent D.told self.new) }
+        ensures disk { OnOk result
+            (Tells (D.told self.old.disk) (D.told self.new.disk) (λ s t. t ≡ reread self.old.failed s)) }
         ensures done { OnOk result
             (Tells (D.told self.old.disk) (D.told self.new.disk) (ReadIsDone self.old.service)) }
         ensures unread { OnErr result (IsUnread self.old self.new) }
+        ensures unwritten { OnErr result
+            (Tells (D.told self.old.disk) (D.told self.new.disk) IsUnwritten) }
+        ensures was { OnErr result (self.old.failed ≡ true) }
         ensures fault { IfErr result
             (IsReadFault (D.told self.new.disk) (D.faults self.old.disk) (D.faults self.new.disk)) }
         ensures later { D.faults self.old.disk ≤ D.faults self.new.disk }
@@ -175,11 +187,15 @@ impl<D: Disk> Journal<D> {
         requires within { used (self.old.octets ++ record_octets item)
             (with_record self.old.found (length self.old.octets) item) ≤ self.old.area }
         ensures more { IfOk result (HasMore self.old self.new item) }
+        ensures current { OnOk result (IsCurrent D.told self.new) }
+        ensures disk { IfOk result (λ place. Tells (D.told self.old.disk) (D.told self.new.disk)
+            (λ s t. t ≡ appended place (behind_gate item) s)) }
         ensures done { OnOk result
             (Tells (D.told self.old.disk) (D.told self.new.disk) (AppendIsDone self.old.service item)) }
         ensures unsure { OnErr result (IsUnsure self.old item self.new) }
-        ensures fault { IfErr result
-            (IsReadFault (D.told self.new.disk) (D.faults self.old.disk) (D.faults self.new.disk)) }
+        ensures way { OnErr result (Tells (D.told self.old.disk) (D.told self.new.disk)
+            (λ s t. IsOnTheWay s (appended (length self.new.octets) (behind_gate item) s) t)) }
+        ensures fault { IfErr result (IsDiskFault (D.faults self.old.disk) (D.faults self.new.disk)) }
         ensures later { D.faults self.old.disk ≤ D.faults self.new.disk }
         ensures safe { Tells (D.told self.old.disk) (D.told self.new.disk) (AppendIsSafe self.old.service item) }
     {
@@ -203,11 +219,14 @@ impl<D: Disk> Journal<D> {
         requires fits { Fits item }
         requires follows { MayFollow self.old item }
         ensures more { IfOk result (HasAppended self.old self.new item) }
+        ensures current { OnOk result (IsCurrent D.told self.new) }
+        ensures disk { IfOk result (λ place. Tells (D.told self.old.disk) (D.told self.new.disk)
+            (λ s t. t ≡ with_appended self.old.failed place item s)) }
         ensures done { OnOk result
             (Tells (D.told self.old.disk) (D.told self.new.disk) (AppendIsDone self.old.service item)) }
-        ensures refused { OnErr result (IsAfterAppend self.old item self.new) }
-        ensures fault { IfErr result (IsAppendFault self.old item (D.told self.new.disk)
-            (D.faults self.old.disk) (D.faults self.new.disk)) }
+        ensures refused { IfErr result (IsRefusedAppend D.told self.old item self.new) }
+        ensures fault { IfErr result
+            (IsAppendFault (D.told self.new.disk) (D.faults self.old.disk) (D.faults self.new.disk)) }
         ensures later { D.faults self.old.disk ≤ D.faults self.new.disk }
         ensures safe { Tells (D.told self.old.disk) (D.told self.new.disk) (AppendIsSafe self.old.service item) }
     {
@@ -219,10 +238,12 @@ impl<D: Disk> Journal<D> {
     /// Appends a Done of the decision or prepared record at this place, where one stands; else it writes nothing. Where a
     /// call has failed, the disk is read again first.
     pub fn done(&mut self, place: u32) -> Result<(), JournalFault>
-        ensures after { OnOk result (IsAfterDone self.old self.new place) }
+        ensures after { OnOk result (IsAfterDone D.told self.old self.new place) }
+        ensures current { OnOk result (IsCurrent D.told self.new) }
         ensures done { OnOk result
             (Tells (D.told self.old.disk) (D.told self.new.disk) (DoneIsDone self.old.service place)) }
-        ensures refused { OnErr result (IsAfterAppend self.old (JournalRecord.Done place) self.new) }
+        ensures refused { IfErr result
+            (IsRefusedAppend D.told self.old (JournalRecord.Done place) self.new) }
         ensures fault { IfErr result
             (IsReadFault (D.told self.new.disk) (D.faults self.old.disk) (D.faults self.new.disk)) }
         ensures later { D.faults self.old.disk ≤ D.faults self.new.disk }
@@ -242,13 +263,13 @@ impl<D: Disk> Journal<D> {
     /// Puts the journal's octets behind those of a list: all before the gate at the end, and a closed gate. Where a call has
     /// failed, the disk is read again first.
     pub fn bytes(&mut self, into: &mut Vec<u8>) -> Result<(), JournalFault>
-        ensures read { OnOk result (HasReread self.old self.new) }
+        ensures ready { OnOk result (IsReady D.told self.old self.new) }
         ensures octets { OnOk result (into.new.items ≡ into.old.items ++ (self.new.octets ++ 0 ∷ [])) }
         ensures stands { OnOk result
             (LeavesFound self.new.service (self.new.octets ++ 0 ∷ []) self.new.found) }
         ensures done { OnOk result
             (Tells (D.told self.old.disk) (D.told self.new.disk) (ReadIsDone self.old.service)) }
-        ensures refused { OnErr result (IsUnread self.old self.new ⊎ HasReread self.old self.new) }
+        ensures refused { IfErr result (IsRefusedReading D.told self.old self.new) }
         ensures same { OnErr result (into.new.items ≡ into.old.items) }
         ensures fault { IfErr result
             (IsReadFault (D.told self.new.disk) (D.faults self.old.disk) (D.faults self.new.disk)) }
@@ -290,16 +311,19 @@ impl<D: Disk> Journal<D> {
         ensures service { IfOk result (λ journal. journal.service ≡ service) }
         ensures failed { IfOk result (λ journal. journal.failed ≡ false) }
         ensures doubted { IfOk result (λ journal. journal.doubted ≡ None) }
-        ensures filled { IfOk result (λ journal. IsFilled service journal.octets journal.found) }
-        ensures rest { IfOk result (λ journal. IfSome (D.told journal.disk) (IsAtRest journal.octets)) }
+        ensures current { IfOk result (λ journal. IsCurrent D.told journal) }
         ensures done { IfOk result
             (λ journal. Tells (D.told disk) (D.told journal.disk) (LoadIsDone service)) }
         ensures safe_ok { IfOk result
             (λ journal. Tells (D.told disk) (D.told journal.disk) (LoadIsSafe service)) }
         ensures safe_err { IfErr result
             (λ back. Tells (D.told disk) (D.told back.value) (LoadIsSafe service)) }
+        ensures refused { IfErr result (λ back. Tells (D.told disk) (D.told back.value)
+            (IsRefusedLoad service back.fault)) }
         ensures fault { IfErr result (λ back. IsLoadFault area service (D.told disk) (D.faults disk)
             (D.faults back.value) back.fault) }
+        ensures later_ok { IfOk result (λ journal. D.faults disk ≤ D.faults journal.disk) }
+        ensures later_err { IfErr result (λ back. D.faults disk ≤ D.faults back.value) }
     {
         let start = match start_within(alloc, &mut disk, area, service) {
             Ok(start) => start,

@@ -1,11 +1,11 @@
 ghost use Rattle.std.specs.Prelude.{◌≡◌, ◌≤◌, ◌<◌, ◌+◌, ◌^◌, IfOk, IfErr, OnOk};
 ghost use Rattle.std.specs.Option.{ForSome};
-ghost use Rattle.ots_outside.specs.Disk.{Tells};
+ghost use Rattle.ots_outside.specs.Disk.{Tells, synced};
 ghost use Rattle.decision_journal.specs.Limits.{area_limit};
-ghost use Rattle.decision_journal.specs.Laws.{IsSettled};
+ghost use Rattle.decision_journal.specs.Laws.{IsOnTheWay, IsSettled, cleared, created};
 ghost use Rattle.decision_journal.specs.Journal.{IsFilled, IsFresh};
 ghost use Rattle.decision_journal.specs.State.{used};
-ghost use Rattle.decision_journal.specs.Loading.{IsDiskFault, IsLoadFault, IsStartFault, IsStarted, LoadIsSafe, last_life};
+ghost use Rattle.decision_journal.specs.Loading.{IsDiskFault, IsLoadFault, IsRefusedLoad, IsStartFault, IsStarted, LoadIsSafe, last_life, readied};
 
 use crate::disk_calls::{create_at, read_whole};
 use crate::found::Index;
@@ -41,6 +41,10 @@ fn create<D: Disk>(
     ensures started { IfOk result (λ start. Tells (D.told disk.old) (D.told disk.new)
         (IsStarted service start.octets.items start.index)) }
     ensures safe { Tells (D.told disk.old) (D.told disk.new) (LoadIsSafe service) }
+    ensures made { OnOk result
+        (Tells (D.told disk.old) (D.told disk.new) (λ s t. t ≡ created service (cleared s))) }
+    ensures way { Tells (D.told disk.old) (D.told disk.new)
+        (λ s t. IsOnTheWay s (created service (cleared s)) t) }
     ensures fault { IfErr result (IsDiskFault (D.faults disk.old) (D.faults disk.new)) }
     ensures later { D.faults disk.old ≤ D.faults disk.new }
 {
@@ -59,6 +63,10 @@ fn read_or_create<D: Disk>(alloc: Global, disk: &mut D, service: u64) -> Result<
     ensures started { IfOk result (λ start. Tells (D.told disk.old) (D.told disk.new)
         (IsStarted service start.octets.items start.index)) }
     ensures safe { Tells (D.told disk.old) (D.told disk.new) (LoadIsSafe service) }
+    ensures readied { OnOk result
+        (Tells (D.told disk.old) (D.told disk.new) (λ s t. t ≡ readied service (synced s))) }
+    ensures refused { IfErr result (λ fault. Tells (D.told disk.old) (D.told disk.new)
+        (IsRefusedLoad service fault)) }
     ensures fault { IfErr result
         (IsStartFault service (D.told disk.old) (D.faults disk.old) (D.faults disk.new)) }
     ensures later { D.faults disk.old ≤ D.faults disk.new }
@@ -88,6 +96,10 @@ pub(crate) fn start_within<D: Disk>(
     ensures started { IfOk result (λ start. Tells (D.told disk.old) (D.told disk.new)
         (IsStarted service start.octets.items start.index)) }
     ensures safe { Tells (D.told disk.old) (D.told disk.new) (LoadIsSafe service) }
+    ensures readied { OnOk result
+        (Tells (D.told disk.old) (D.told disk.new) (λ s t. t ≡ readied service (synced s))) }
+    ensures refused { IfErr result (λ fault. Tells (D.told disk.old) (D.told disk.new)
+        (IsRefusedLoad service fault)) }
     ensures fault { IfErr result
         (IsLoadFault area service (D.told disk.old) (D.faults disk.old) (D.faults disk.new)) }
     ensures later { D.faults disk.old ≤ D.faults disk.new }

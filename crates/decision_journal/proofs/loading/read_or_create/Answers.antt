@@ -1,5 +1,9 @@
-use Rattle.std.proofs.lemmas.Result.{IfOk-weaker}
+use Rattle.std.proofs.Common.{subst, sym}
+use Rattle.decision_journal.specs.Journal.{IsFresh}
+use Rattle.std.proofs.lemmas.Result.{IfOk-weaker, err_from_is_err_and, on_ok_weaker}
 use Rattle.decision_journal.proofs.Starts.{told_unread, told_read, told_behind, told_started}
+use Rattle.decision_journal.proofs.Joined.{if_err_weaker}
+use Rattle.decision_journal.proofs.Refused.{is_old, made_begun, made_readied, of_disk, read_readied, refused_begun, refused_scan, unwritten_begun}
 use Rattle.decision_journal.proofs.loading.read_or_create.Goals as goal
 
 pub returns-in-Err-clause-safe : goal.returns-in-Err-clause-safe
@@ -21,3 +25,25 @@ returns-in_err-index-clause-safe g c =
 pub returns-clause-safe : goal.returns-clause-safe
 returns-clause-safe g c =
     told_read c.args.service (g.D.Disk.told c.args.disk.now) (g.D.Disk.told c.read_whole.new.disk) c.read_whole.ensures.image c.in-Ok.ensures.settled
+
+pub returns-in-Err-clause-refused : goal.returns-in-Err-clause-refused
+returns-in-Err-clause-refused g c =
+    refused_begun c.args.service (g.D.Disk.told c.args.disk.now) (g.D.Disk.told c.read_whole.new.disk) (unwritten_begun c.args.service (g.D.Disk.told c.args.disk.now) (g.D.Disk.told c.read_whole.new.disk) c.read_whole.ensures.way) _ c.fault_of.ensures.kind
+
+pub returns-then-is_fresh-clause-readied : goal.returns-then-is_fresh-clause-readied
+returns-then-is_fresh-clause-readied g c =
+    on_ok_weaker c.create.result (made_readied c.args.service (g.D.Disk.told c.args.disk.now) (g.D.Disk.told c.read_whole.new.disk) c.read_whole.ensures.image _ c.in-Ok.ensures.settled c.in-Ok.ensures.octets (g.D.Disk.told c.create.new.disk) (subst IsFresh c.deref.ensures.value (c.is_fresh.ensures.0 c.if-is_fresh.true))) c.create.ensures.made
+
+pub returns-then-is_fresh-clause-refused : goal.returns-then-is_fresh-clause-refused
+returns-then-is_fresh-clause-refused g c =
+    if_err_weaker c.create.result _ _ (λ fault f. refused_begun c.args.service (g.D.Disk.told c.args.disk.now) (g.D.Disk.told c.create.new.disk)
+    (made_begun c.args.service (g.D.Disk.told c.args.disk.now) (g.D.Disk.told c.read_whole.new.disk) c.read_whole.ensures.image _ c.in-Ok.ensures.settled c.in-Ok.ensures.octets (g.D.Disk.told c.create.new.disk) (subst IsFresh c.deref.ensures.value (c.is_fresh.ensures.0 c.if-is_fresh.true)) c.create.ensures.way) fault (of_disk _ _ fault f)) c.create.ensures.fault
+
+pub returns-in_err-index-clause-refused : goal.returns-in_err-index-clause-refused
+returns-in_err-index-clause-refused g c =
+    let p = err_from_is_err_and c.from_residual.result c.from_residual.ensures.1 in
+    rw (p.1, p.2) (refused_scan c.args.service (g.D.Disk.told c.args.disk.now) (g.D.Disk.told c.read_whole.new.disk) _ c.in-Ok.ensures.settled c.read_whole.ensures.way _ c.in_err-index.ensures.fault)
+
+pub returns-clause-readied : goal.returns-clause-readied
+returns-clause-readied g c =
+    read_readied c.args.service (g.D.Disk.told c.args.disk.now) (g.D.Disk.told c.read_whole.new.disk) c.read_whole.ensures.image _ c.in-Ok.ensures.settled c.in-Ok.ensures.octets (λ fresh. is_old _ _ c.is_fresh.ensures.1 c.if-is_fresh.false (subst IsFresh (sym c.deref.ensures.value) fresh))

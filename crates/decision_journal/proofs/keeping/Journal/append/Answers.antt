@@ -1,6 +1,7 @@
-use Rattle.std.proofs.lemmas.Result.{on_ok_weaker, IfOk-weaker}
+use Rattle.std.proofs.lemmas.Result.{err_from_is_err_and, on_ok_weaker, IfOk-weaker}
 use Rattle.decision_journal.specs.State.{AppendIsDone, AppendIsSafe}
-use Rattle.decision_journal.proofs.Joined.{read_only, safe_then, done_then, at_service, appended_then, if_err_weaker, read_fault_then, append_fault}
+use Rattle.decision_journal.proofs.Joined.{read_only, safe_then, done_then, at_service, appended_then, if_err_weaker}
+use Rattle.decision_journal.proofs.Calls.{append_fault_then, refused_ready, refused_unready, refused_write, whole_then}
 use Rattle.decision_journal.proofs.keeping.Journal.append.Goals as goal
 
 pub returns-in_err-ready-clause-safe : goal.returns-in_err-ready-clause-safe
@@ -25,4 +26,22 @@ returns-clause-more g c =
 
 pub returns-clause-fault : goal.returns-clause-fault
 returns-clause-fault g c =
-    if_err_weaker c.write.result _ _ (λ fault h. append_fault c.args.self.now c.args.item _ _ _ fault (read_fault_then _ _ _ _ c.ready.ensures.later c.write.ensures.later fault h)) c.write.ensures.fault
+    if_err_weaker c.write.result _ _ (append_fault_then _ _ _ _ c.ready.ensures.later c.write.ensures.later) c.write.ensures.fault
+
+pub returns-in_err-ready-clause-refused : goal.returns-in_err-ready-clause-refused
+returns-in_err-ready-clause-refused g c =
+    let p = err_from_is_err_and c.from_residual.result c.from_residual.ensures.1 in
+    rw (p.1, p.2) (refused_unready g.D.Disk.told c.args.self.now c.ready.new.self c.in_err-ready.ensures.unread c.in_err-ready.ensures.unwritten c.in_err-ready.ensures.was c.args.item _ _ _ _ c.in_err-ready.ensures.fault)
+
+pub returns-in_err-behind-clause-refused : goal.returns-in_err-behind-clause-refused
+returns-in_err-behind-clause-refused g c =
+    let p = err_from_is_err_and c.from_residual-in_err-behind.result c.from_residual-in_err-behind.ensures.1 in
+    rw (p.1, p.2) (refused_ready g.D.Disk.told c.args.self.now c.ready.new.self c.in_ok-ready.ensures.read c.in_ok-ready.ensures.disk c.in_ok-ready.ensures.current c.args.item _ c.in_err-behind.ensures.fault)
+
+pub returns-clause-refused : goal.returns-clause-refused
+returns-clause-refused g c =
+    refused_write g.D.Disk.told c.args.self.now c.ready.new.self c.in_ok-ready.ensures.read c.in_ok-ready.ensures.disk c.in_ok-ready.ensures.current c.args.item c.write.result c.write.new.self _ _ c.write.ensures.fault c.write.ensures.unsure c.write.ensures.way
+
+pub returns-clause-disk : goal.returns-clause-disk
+returns-clause-disk g c =
+    IfOk-weaker c.write.result _ _ (λ place disk. whole_then c.args.self.now.failed place c.args.item (g.D.Disk.told c.args.self.now.disk) (g.D.Disk.told c.ready.new.self.disk) (g.D.Disk.told c.write.new.self.disk) c.in_ok-ready.ensures.disk disk) c.write.ensures.disk

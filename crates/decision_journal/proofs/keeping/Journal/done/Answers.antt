@@ -1,8 +1,9 @@
-use Rattle.std.proofs.Common.{◌∙◌, inl, sym}
+use Rattle.std.proofs.Common.{◌∙◌, ap, inl, inr, not, sym}
 use Rattle.std.proofs.lemmas.Result.{err_from_is_err_and}
 use Rattle.decision_journal.specs.declared.record.JournalRecord.TheVariants.{Done}
 use Rattle.decision_journal.specs.State.{AppendIsDone, AppendIsSafe}
-use Rattle.decision_journal.proofs.Joined.{read_only, safe_then, done_then, done_written, at_service, has_done, read_fault_then}
+use Rattle.decision_journal.proofs.Joined.{read_only, safe_then, done_then, done_written, at_service, has_done}
+use Rattle.decision_journal.proofs.Calls.{done_fault_then, ready_of, refused_doubt, refused_unready, whole_then}
 use Rattle.decision_journal.proofs.keeping.Journal.done.Goals as goal
 
 pub returns-in_err-ready-clause-safe : goal.returns-in_err-ready-clause-safe
@@ -31,8 +32,31 @@ returns-clause-done g c =
 
 pub returns-in_err-write-clause-fault : goal.returns-in_err-write-clause-fault
 returns-in_err-write-clause-fault g c =
-    let p = err_from_is_err_and c.from_residual-in_err-write.result c.from_residual-in_err-write.ensures.1 in rw (p.1, p.2) (read_fault_then _ _ _ _ c.ready.ensures.later c.write.ensures.later _ c.in_err-write.ensures.fault)
+    let p = err_from_is_err_and c.from_residual-in_err-write.result c.from_residual-in_err-write.ensures.1 in rw (p.1, p.2) (done_fault_then _ _ _ _ c.ready.ensures.later c.write.ensures.later _ c.in_err-write.ensures.fault)
 
 pub returns-clause-after : goal.returns-clause-after
 returns-clause-after g c =
-    inl (has_done c.args.self.now c.ready.new.self c.write.new.self c.args.place _ c.in_ok-ready.ensures.read c.in_ok-write.ensures.more (sym c.stands.ensures.stands ∙ c.if-not-stands.false))
+    inl (has_done g.D.Disk.told c.args.self.now c.ready.new.self c.write.new.self c.args.place _ c.in_ok-ready.ensures.read c.in_ok-write.ensures.more (sym c.stands.ensures.stands ∙ c.if-not-stands.false)
+    (whole_then c.args.self.now.failed c.in_ok-write.field-0 (Done c.args.place) (g.D.Disk.told c.args.self.now.disk) (g.D.Disk.told c.ready.new.self.disk) (g.D.Disk.told c.write.new.self.disk) c.in_ok-ready.ensures.disk c.in_ok-write.ensures.disk))
+
+pub returns-then-not-stands-clause-after : goal.returns-then-not-stands-clause-after
+returns-then-not-stands-clause-after g c =
+    inr (record {
+      ready = ready_of g.D.Disk.told c.args.self.now c.ready.new.self c.in_ok-ready.ensures.read c.in_ok-ready.ensures.disk c.in_ok-ready.ensures.current;
+      none = ap not (sym c.stands.ensures.stands ∙ c.if-not-stands.true);
+    })
+
+pub returns-in_err-ready-clause-refused : goal.returns-in_err-ready-clause-refused
+returns-in_err-ready-clause-refused g c =
+    let p = err_from_is_err_and c.from_residual.result c.from_residual.ensures.1 in
+    rw (p.1, p.2) (refused_unready g.D.Disk.told c.args.self.now c.ready.new.self c.in_err-ready.ensures.unread c.in_err-ready.ensures.unwritten c.in_err-ready.ensures.was (Done c.args.place) _ _ _ _ c.in_err-ready.ensures.fault)
+
+pub returns-in_err-behind-clause-refused : goal.returns-in_err-behind-clause-refused
+returns-in_err-behind-clause-refused g c =
+    let p = err_from_is_err_and c.from_residual-in_err-behind.result c.from_residual-in_err-behind.ensures.1 in
+    rw (p.1, p.2) (inr (inl (ready_of g.D.Disk.told c.args.self.now c.ready.new.self c.in_ok-ready.ensures.read c.in_ok-ready.ensures.disk c.in_ok-ready.ensures.current)))
+
+pub returns-in_err-write-clause-refused : goal.returns-in_err-write-clause-refused
+returns-in_err-write-clause-refused g c =
+    let p = err_from_is_err_and c.from_residual-in_err-write.result c.from_residual-in_err-write.ensures.1 in
+    rw (p.1, p.2) (refused_doubt g.D.Disk.told c.args.self.now c.ready.new.self c.in_ok-ready.ensures.read c.in_ok-ready.ensures.disk c.in_ok-ready.ensures.current (Done c.args.place) c.write.new.self c.in_err-write.ensures.unsure c.in_err-write.ensures.way _ _ _ c.in_err-write.ensures.fault)

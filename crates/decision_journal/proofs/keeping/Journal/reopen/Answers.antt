@@ -4,6 +4,7 @@ use Rattle.decision_journal.proofs.Below.{before_end}
 use Rattle.decision_journal.proofs.Kept.{within_now}
 use Rattle.decision_journal.proofs.Rereads.{read_safe, read_done, read_unread, read_known, read_doubted, doubted_small, known_small, sound_same, added_at, doubted_same}
 use Rattle.decision_journal.proofs.Begins.{stands_same}
+use Rattle.decision_journal.proofs.Calls.{current_of, on_refusal}
 use Rattle.decision_journal.proofs.keeping.Journal.reopen.Goals as goal
 
 pub returns-in-Err-clause-safe : goal.returns-in-Err-clause-safe
@@ -63,3 +64,30 @@ add_doubted-requires g c =
     let now = within_now (g.D.Disk.told c.self.inside.disk) c.self.inside.area c.self.inside.service c.self.inside.octets.items c.self.inside.index c.self.inside.failed c.self.inside.doubted c.self.invariant in
     let gate : c.len.result ≡ length c.self.inside.octets.items = omega (arith, c.len.ensures) in
     subst (λ (n : ℕ). AreBefore n c.self.inside.index.standing) (sym gate) (before_end c.self.inside.service c.self.inside.octets.items c.self.inside.index now.filled)
+
+pub returns-then-stands_at-clause-current : goal.returns-then-stands_at-clause-current
+returns-then-stands_at-clause-current g c =
+    current_of g.D.Disk.told _ (read_known (g.D.Disk.told c.self.inside.disk) c.self.inside.area c.self.inside.service c.self.inside.octets.items c.self.inside.index c.self.inside.failed c.self.inside.doubted c.self.invariant (g.D.Disk.told c.read_whole.new.disk) c.read_whole.ensures.image c.in-Ok.read.items c.in-Ok.ensures.octets c.in-Ok.ensures.settled _ c.drop_doubt.ensures (stands_same _ _ _ _ c.deref.ensures.value c.deref-2.ensures.value (c.stands_at.ensures.0 c.if-stands_at.true)))
+
+pub returns-clause-current : goal.returns-clause-current
+returns-clause-current g c =
+    let found = (rw c.in-Some.is at c.in_ok-found.ensures) in
+    let doubted = doubted_same _ _ c.self.inside.doubted _ _ c.in-Some.more.items c.deref-3.ensures.value c.deref-4.ensures.value found in
+    let gate : c.len.result ≡ length c.self.inside.octets.items = omega (arith, c.len.ensures) in
+    current_of g.D.Disk.told _ (read_doubted (g.D.Disk.told c.self.inside.disk) c.self.inside.area c.self.inside.service c.self.inside.octets.items c.self.inside.index c.self.inside.failed c.self.inside.doubted c.self.invariant (g.D.Disk.told c.read_whole.new.disk) c.read_whole.ensures.image c.in-Ok.read.items c.in-Ok.ensures.octets c.in-Ok.ensures.settled _ _ _ doubted
+    (added_at c.self.inside.doubted c.add_doubted.new.index c.self.inside.index _ _ gate c.in_ok-add_doubted.ensures.added) c.in_ok-add_doubted.ensures.none)
+
+pub returns-in-Err-clause-unwritten : goal.returns-in-Err-clause-unwritten
+returns-in-Err-clause-unwritten g c = rw (← c.self.view_is) c.read_whole.ensures.way
+
+pub returns-in_err-found-clause-unwritten : goal.returns-in_err-found-clause-unwritten
+returns-in_err-found-clause-unwritten g c = rw (← c.self.view_is) (on_refusal _ c.read_whole.ensures.way)
+
+pub returns-in_err-add_doubted-clause-unwritten : goal.returns-in_err-add_doubted-clause-unwritten
+returns-in_err-add_doubted-clause-unwritten g c = rw (← c.self.view_is) (on_refusal _ c.read_whole.ensures.way)
+
+pub returns-then-stands_at-clause-disk : goal.returns-then-stands_at-clause-disk
+returns-then-stands_at-clause-disk g c = rw (← c.self.view_is) c.in-Ok.ensures.settled
+
+pub returns-clause-disk : goal.returns-clause-disk
+returns-clause-disk g c = rw (← c.self.view_is) c.in-Ok.ensures.settled

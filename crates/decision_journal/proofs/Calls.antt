@@ -1,0 +1,156 @@
+-- A reading of a disk and then a write of a record: what is written, and what stands where that is refused.
+use Rattle.std.proofs.Common.{◌≡◌, inl, inr, ℕ, ◌≤◌, Bool, true, false, List, length, Option, Some, None, Result, Ok, Err, refl, sym, subst, ap, ◌∙◌, arith}
+use Rattle.std.specs.Prelude.{IfErr, OnErr}
+use Rattle.ots_outside.specs.Disk.{DiskState, Tells, moments}
+use Rattle.decision_journal.specs.declared.record.JournalRecord.{JournalRecord}
+use Rattle.decision_journal.specs.declared.journal.JournalFault.{JournalFault}
+use Rattle.decision_journal.specs.declared.journal.JournalFault.TheVariants.{DiskFault, Full, BadHeader, BadRecord, LivesSpent, Memory}
+use Rattle.decision_journal.specs.Journal.{Found}
+use Rattle.decision_journal.specs.Laws.{IsOnTheWay, appended, behind_gate}
+use Rattle.decision_journal.specs.State.{HasReread, IsAppendFault, IsReadFault, IsRoomFault, IsSound, IsUnread, IsUnsure, JournalState}
+use Rattle.decision_journal.specs.Calls.{HasBegun, IsCurrent, IsInDoubt, IsReady, IsRefusedAppend, IsRefusedReading, IsUnready, IsUnwritten, reread, with_appended}
+use Rattle.decision_journal.specs.Loading.{IsDiskFault}
+use Rattle.decision_journal.proofs.Joined.{known_then, risen_later}
+use Rattle.decision_journal.proofs.Kept.{at_rest, within_now}
+use Rattle.decision_journal.proofs.Ways.{tells_then, tells_weaker, way_behind}
+
+-- ---- disks
+
+reread_longer : (failed : Bool) (s : DiskState) → length (moments s) ≤ length (moments (reread failed s))
+reread_longer true s = omega arith
+reread_longer false s = omega arith
+
+module _ (failed : Bool) (gate : ℕ) (r : JournalRecord) (a b c : Option DiskState) (first : Tells a b (λ s t. t ≡ reread failed s)) where
+  pub whole_then : Tells b c (λ s t. t ≡ appended gate (behind_gate r) s) → Tells a c (λ s t. t ≡ with_appended failed gate r s)
+  whole_then second =
+      tells_weaker a c _ (λ s t. t ≡ with_appended failed gate r s) (λ s u h. h.2 ∙ ap (appended gate (behind_gate r)) h.1)
+      (tells_then a b c (λ s t. t ≡ reread failed s) (λ s t. t ≡ appended gate (behind_gate r) s) first second)
+
+  pub begun_then : Tells b c (λ s t. IsOnTheWay s (appended gate (behind_gate r) s) t) → Tells a c (HasBegun failed gate r)
+  begun_then second =
+      tells_weaker a c _ (HasBegun failed gate r) (λ s u h.
+      let at : IsOnTheWay (reread failed s) (with_appended failed gate r s) u = subst (λ (m : DiskState). IsOnTheWay m (appended gate (behind_gate r) m) u) h.1 h.2 in
+      way_behind s (reread failed s) (with_appended failed gate r s) u (reread_longer failed s) at)
+      (tells_then a b c (λ s t. t ≡ reread failed s) (λ s t. IsOnTheWay s (appended gate (behind_gate r) s) t) first second)
+
+-- where no call had failed, the disk is as it was
+pub reread_fine : (failed : Bool) (a : Option DiskState) → failed ≡ false → Tells a a (λ s t. t ≡ reread failed s)
+reread_fine failed None e = tt
+reread_fine failed (Some s) e = subst (λ (f : Bool). s ≡ reread f s) (sym e) refl
+
+-- where one had, it was synced
+pub reread_failed : (failed : Bool) (a b : Option DiskState) → failed ≡ true → Tells a b (λ s t. t ≡ reread true s) → Tells a b (λ s t. t ≡ reread failed s)
+reread_failed failed a b e h = subst (λ (f : Bool). Tells a b (λ s t. t ≡ reread f s)) (sym e) h
+
+-- what holds is so of a refusal
+pub on_refusal : {T E : Type 0} {P : Type 0} (r : Result T E) → P → OnErr r P
+on_refusal (Ok x) p = tt
+on_refusal (Err e) p = p
+
+-- ---- journals
+
+-- a journal that needn't read its disk again has what it holds
+pub current_fine : {D : Type 0} (told : D → Option DiskState) (j : JournalState D) → IsSound (told j.disk) j.area j.service j.octets j.found j.failed j.doubted → j.failed ≡ false → IsCurrent told j
+current_fine told j sound fine = record {
+  within = within_now (told j.disk) j.area j.service j.octets j.found j.failed j.doubted sound;
+  rest = at_rest j.failed j.octets j.doubted (told j.disk) fine sound.kept;
+}
+
+pub current_of : {D : Type 0} (told : D → Option DiskState) (j : JournalState D) → IsSound (told j.disk) j.area j.service j.octets j.found false j.doubted → IsCurrent told j
+current_of told j sound = record {
+  within = within_now (told j.disk) j.area j.service j.octets j.found false j.doubted sound;
+  rest = at_rest false j.octets j.doubted (told j.disk) refl sound.kept;
+}
+
+unsure_then : {D : Type 0} (before mid after : JournalState D) (r : JournalRecord) → HasReread before mid → IsUnsure mid r after → IsUnsure before r after
+unsure_then before mid after r read unsure = record {
+  area = unsure.area ∙ read.area;
+  service = unsure.service ∙ read.service;
+  known = known_then before.octets mid.octets after.octets before.found mid.found after.found before.doubted mid.doubted read.doubted read.known unsure.known;
+  doubted = unsure.doubted;
+  failed = unsure.failed;
+}
+
+-- ---- refusals
+
+module _ {D : Type 0} (told : D → Option DiskState) (before : JournalState D) where
+  module _ (after : JournalState D) (unread : IsUnread before after) (unwritten : Tells (told before.disk) (told after.disk) IsUnwritten) (was : before.failed ≡ true) where
+    unready : IsUnready told before after
+    unready = record { journal = unread; disk = unwritten; was = was }
+
+    pub refused_unready : (r : JournalRecord) (now : Option DiskState) (n m : ℕ) (fault : JournalFault) → IsReadFault now n m fault → IsRefusedAppend told before r after fault
+    refused_unready r now n m DiskFault f = inl unready
+    refused_unready r now n m (Full u k) f = absurd f
+    refused_unready r now n m (BadHeader place) f = unready
+    refused_unready r now n m (BadRecord place) f = unready
+    refused_unready r now n m LivesSpent f = absurd f
+    refused_unready r now n m Memory f = inl unready
+
+    pub unready_reading : (now : Option DiskState) (n m : ℕ) (fault : JournalFault) → IsReadFault now n m fault → IsRefusedReading told before after fault
+    unready_reading now n m DiskFault f = unready
+    unready_reading now n m (Full u k) f = absurd f
+    unready_reading now n m (BadHeader place) f = unready
+    unready_reading now n m (BadRecord place) f = unready
+    unready_reading now n m LivesSpent f = absurd f
+    unready_reading now n m Memory f = inl unready
+
+  module _ (mid : JournalState D) (read : HasReread before mid) (disk : Tells (told before.disk) (told mid.disk) (λ s t. t ≡ reread before.failed s)) (current : IsCurrent told mid) where
+    pub ready_of : IsReady told before mid
+    ready_of = record { journal = read; disk = disk; current = current }
+
+    module _ (r : JournalRecord) where
+      pub refused_ready : (fault : JournalFault) → IsRoomFault mid.area mid.octets mid.found r fault → IsRefusedAppend told before r mid fault
+      refused_ready DiskFault f = absurd f
+      refused_ready (Full u n) f = (ready_of, f)
+      refused_ready (BadHeader place) f = absurd f
+      refused_ready (BadRecord place) f = absurd f
+      refused_ready LivesSpent f = absurd f
+      refused_ready Memory f = inr (inl ready_of)
+
+      module _ (after : JournalState D) (unsure : IsUnsure mid r after) (way : Tells (told mid.disk) (told after.disk) (λ s t. IsOnTheWay s (appended (length after.octets) (behind_gate r) s) t)) where
+        doubt : IsInDoubt told before r after
+        doubt = record {
+          journal = unsure_then before mid after r read unsure;
+          disk = begun_then before.failed (length after.octets) r (told before.disk) (told mid.disk) (told after.disk) disk way;
+        }
+
+        pub refused_doubt : (n m : ℕ) (fault : JournalFault) → IsDiskFault n m fault → IsRefusedAppend told before r after fault
+        refused_doubt n m DiskFault f = inr doubt
+        refused_doubt n m (Full u k) f = absurd f
+        refused_doubt n m (BadHeader place) f = absurd f
+        refused_doubt n m (BadRecord place) f = absurd f
+        refused_doubt n m LivesSpent f = absurd f
+        refused_doubt n m Memory f = inr (inr doubt)
+
+      -- of what a write answers
+      pub refused_write : {T : Type 0} (result : Result T JournalFault) (after : JournalState D) (n m : ℕ) → IfErr result (IsDiskFault n m) → OnErr result (IsUnsure mid r after)
+          → OnErr result (Tells (told mid.disk) (told after.disk) (λ s t. IsOnTheWay s (appended (length after.octets) (behind_gate r) s) t)) → IfErr result (IsRefusedAppend told before r after)
+      refused_write (Ok x) after n m f unsure way = tt
+      refused_write (Err fault) after n m f unsure way = refused_doubt after unsure way n m fault f
+
+-- ---- causes
+
+module _ (told : Option DiskState) (before mid after : ℕ) (first : before ≤ mid) (second : mid ≤ after) where
+  pub append_fault_then : (fault : JournalFault) → IsDiskFault mid after fault → IsAppendFault told before after fault
+  append_fault_then DiskFault f = risen_later before mid after first second f
+  append_fault_then (Full u n) f = absurd f
+  append_fault_then (BadHeader place) f = absurd f
+  append_fault_then (BadRecord place) f = absurd f
+  append_fault_then LivesSpent f = absurd f
+  append_fault_then Memory f = tt
+
+  pub done_fault_then : (fault : JournalFault) → IsDiskFault mid after fault → IsReadFault told before after fault
+  done_fault_then DiskFault f = risen_later before mid after first second f
+  done_fault_then (Full u n) f = absurd f
+  done_fault_then (BadHeader place) f = absurd f
+  done_fault_then (BadRecord place) f = absurd f
+  done_fault_then LivesSpent f = absurd f
+  done_fault_then Memory f = tt
+
+pub room_append_fault : (area : ℕ) (octets : List ℕ) (found : Found) (r : JournalRecord) (told : Option DiskState) (before after : ℕ) (fault : JournalFault) → IsRoomFault area octets found r fault → IsAppendFault told before after fault
+room_append_fault area octets found r told before after DiskFault f = absurd f
+room_append_fault area octets found r told before after (Full u n) f = tt
+room_append_fault area octets found r told before after (BadHeader place) f = absurd f
+room_append_fault area octets found r told before after (BadRecord place) f = absurd f
+room_append_fault area octets found r told before after LivesSpent f = absurd f
+room_append_fault area octets found r told before after Memory f = tt
