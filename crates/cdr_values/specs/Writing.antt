@@ -1,5 +1,5 @@
 -- Writing values at the end (CORBA, CDR Transfer Syntax), and what refuses them (our profile).
-use Rattle.std.specs.Prelude.{◌≡◌, ℕ, ◌+◌, ◌-◌, ◌⊎◌, Bool, false, nat_lt, List, ◌++◌, length, take, Option, Some, None, Result, IfErr, OnErr, OnOk, if◌then◌else◌}
+use Rattle.std.specs.Prelude.{◌≡◌, ℕ, ◌+◌, ◌-◌, ◌⊎◌, Bool, false, nat_lt, List, ◌++◌, length, take, Option, Some, None, Result, Err, IfErr, IfSome, OnErr, OnOk, if◌then◌else◌}
 use Rattle.cdr_values.specs.declared.order.Order.{Order}
 use Rattle.cdr_values.specs.declared.fault.CdrFault.{CdrFault}
 use Rattle.cdr_values.specs.declared.fault.CdrFault.TheVariants.{BadString, TooLong, Memory}
@@ -44,9 +44,11 @@ abbrev pub refusal : Writing → Value → Option CdrFault
 refusal w value =
     if is_bad value then Some (BadString (place_of w)) else no_room w (canonical w.order (place_of w) value)
 
--- a call wrote the value, or answered why it isn't written, or for want of memory; then the writer is as it was
+-- a call wrote the value, or answered why it isn't written, or for want of memory; then the writer is as it was. What
+-- refuses the value is told, never want of memory.
 pub record WritesValue (value : Value) (result : Result (Unit {0}) CdrFault) (old new : Writing) : Type 0 where
   pub ok : OnOk result (new ≡ with_value old value)
   pub fits : OnOk result (refusal old value ≡ None)
   pub refused : IfErr result (λ fault. (fault ≡ Memory) ⊎ (refusal old value ≡ Some fault))
+  pub told : IfSome (refusal old value) (λ fault. result ≡ Err fault)
   pub err : OnErr result (new ≡ old)

@@ -10,7 +10,7 @@ pub use laws::{
     values_are_written_canonically, what_is_read_begins_no_other,
 };
 pub use order::Order;
-pub use reader::Reader;
+pub use reader::{Reader, gap_before};
 pub use writer::Writer;
 
 mod fault;

@@ -156,7 +156,7 @@ impl<'a> Reader<'a> {
         requires { IsSize n }
         ensures { Gives (λ nothing. nothing) result self.new self.old (aligned_at n self.old) }
     {
-        let gap = gap_before(n, self.place);
+        let gap = gap_before(n as usize, self.place as usize);
         if self.rest.len() < gap {
             return Err(CdrFault::Short(self.place));
         }
@@ -172,7 +172,7 @@ impl<'a> Reader<'a> {
         ensures size { IfOk result (λ octets. length octets.now ≡ size) }
         ensures exact { Gives (λ octets. octets.now) result self.new self.old (sized_at size self.old) }
     {
-        let gap = gap_before(size, self.place);
+        let gap = gap_before(size as usize, self.place as usize);
         let end = gap + size as usize;
         if self.rest.len() < end {
             return Err(CdrFault::Short(self.place));
@@ -289,11 +289,12 @@ impl<'a> Reader<'a> {
 }
 
 /// How many octets there are from an offset up to the next multiple of n.
-pub fn gap_before(n: u32, place: u32) -> usize
-    requires { IsSize n }
-    ensures { result ≡ gap n place }
+pub fn gap_before(n: usize, place: usize) -> usize
+    requires { 0 < n }
+    ensures gap { result ≡ gap n place }
+    ensures within { result < n }
 {
-    ((n - place % n) % n) as usize
+    (n - place % n) % n
 }
 
 fn ushort_in(order: Order, octets: &[u8]) -> u16

@@ -181,7 +181,7 @@ impl Writer {
         requires end { length end.now ≤ 1 }
         ensures { Puts self.old (padded n (place_of self.old) (number.now ++ (items.now ++ end.now))) result self.new }
     {
-        let gap = gap_before(n, self.place());
+        let gap = gap_before(n as usize, self.place() as usize);
         let length = self.octets.len() + gap + number.len() + items.len() + end.len();
         if length > OUTPUT_LIMIT {
             return Err(CdrFault::TooLong {

@@ -12,7 +12,8 @@ use Rattle.giop_frames.specs.declared.layout.Version.{Version}
 use Rattle.giop_frames.specs.Header.{header_at, magic, type_octet, version_octets}
 use Rattle.giop_frames.specs.Stream.{Part, Unfinished, IsStreamPart, IsRefused, IsStream, Refuses, after, given, judged, may_be_part, part_at, part_header_at, says}
 use Rattle.giop_frames.specs.StreamInside.{IsInFront}
-use Rattle.giop_frames.specs.Held.{Held, Holds}
+use Rattle.giop_frames.specs.Fault.{Fails}
+use Rattle.giop_frames.specs.Held.{HasPart, Held, Holds}
 use Rattle.giop_frames.specs.HeldInside.{RefusesHeld, Takes, Took, remembering}
 use Rattle.giop_frames.proofs.Headers.{header_found}
 
@@ -115,6 +116,29 @@ took versions messages place rest refused kept header content answer new old vie
     let made : Took held answer new = record { part = part; stands = stands; says = said; unfinished_are = messages_are; place_is = place_is; refused = refused_is; versions_are = versions_is } in
     subst (λ (h : Held). Took h answer new) view made
 
+-- or refuses it, or wants memory for it
+refuses_part : (old : Held) (p : Part) (behind : List ℕ) (fault : FrameFault) → part_at old.versions old.rest ≡ Ok (p, behind) → Fails fault (judged old.unfinished old.place p) → Takes old (Err fault) old
+refuses_part old p behind faults.BadMagic part fails = (refl, inr (p, behind, part, fails))
+refuses_part old p behind faults.BadVersion part fails = (refl, inr (p, behind, part, fails))
+refuses_part old p behind faults.BadType part fails = (refl, inr (p, behind, part, fails))
+refuses_part old p behind (faults.TooLarge n) part fails = (refl, inr (p, behind, part, fails))
+refuses_part old p behind faults.BadFragment part fails = (refl, inr (p, behind, part, fails))
+refuses_part old p behind (faults.Body at cdr) part fails = (refl, inr (p, behind, part, fails))
+refuses_part old p behind faults.Short part fails = (refl, inr (p, behind, part, fails))
+refuses_part old p behind faults.NotWritten part fails = (refl, inr (p, behind, part, fails))
+refuses_part old p behind faults.Memory part fails = (refl, (p, behind, part))
+
+pub refused_part : (versions : List Version) (messages : List Unfinished) (place : ℕ) (rest : List ℕ) (refused : Option FrameFault) (kept : ℕ) (header : Header) (content : List ℕ) (fault : FrameFault) (after : List Unfinished) (old : Held)
+    → record { versions = versions; unfinished = messages; place = place; rest = rest; refused = refused; kept = kept } ≡ old → IsInFront versions header rest → content ≡ take header.size (drop 12 rest)
+    → Fails fault (judged messages place (record { header = header; content = content })) → after ≡ messages → Takes old (Err fault) (record { versions = versions; unfinished = after; place = place; rest = rest; refused = refused; kept = kept })
+refused_part versions messages place rest refused kept header content fault after old view front is fails same =
+    let part : Part = record { header = header; content = content } in
+    let behind : List ℕ = drop (12 + header.size) rest in
+    let stands : part_at versions rest ≡ Ok (part, behind) = front.part ∙ ap (λ (x : List ℕ). Ok (record { header = header; content = x }, behind)) (sym is) in
+    let held : List Unfinished → Held = λ unfinished. record { versions = versions; unfinished = unfinished; place = place; rest = rest; refused = refused; kept = kept } in
+    let made : Takes (held messages) (Err fault) (held messages) = refuses_part (held messages) part behind fault stands fails in
+    subst (λ (h : Held). Takes h (Err fault) (held after)) view (subst (λ (m : List Unfinished). Takes (held messages) (Err fault) (held m)) (sym same) made)
+
 placed : (versions : List Version) → (octets : List ℕ) (messages : List Framed) (old new now : Held) (fault : FrameFault) → new ≡ old → now.place ≡ new.place → IsRefused versions messages old.place fault octets → IsRefused versions messages now.place fault octets
 placed versions octets messages old new now fault e is r = rw (is, e) r
 
@@ -148,7 +172,30 @@ kept_by versions octets messages old new now faults.BadFragment t is h = remembe
 kept_by versions octets messages old new now (faults.Body place cdr) t is h = remembers_of versions octets messages old new now (faults.Body place cdr) t.0 is t.1 h
 kept_by versions octets messages old new now faults.Short t is h = remembers_of versions octets messages old new now faults.Short t.0 is t.1 h
 kept_by versions octets messages old new now faults.NotWritten t is h = remembers_of versions octets messages old new now faults.NotWritten t.0 is t.1 h
-kept_by versions octets messages old new now faults.Memory t is h = rw (is, t) h
+kept_by versions octets messages old new now faults.Memory t is h = rw (is, t.0) h
+
+-- refusals that are equal have one fault
+abbrev refusal : (X : Type 0) → FrameFault → Result X FrameFault
+refusal X fault = Err fault
+
+fault_is : (X : Type 0) (one other : FrameFault) → refusal X one ≡ refusal X other → one ≡ other
+fault_is X one other e = cc
+
+-- memory is wanted for a whole part
+pub part_of : (old new now : Held) (fault : FrameFault) → Takes old (Err fault) new → now ≡ remembering new fault → fault ≡ faults.Memory → HasPart now
+part_of old new now faults.BadMagic t is e = absurd cc
+part_of old new now faults.BadVersion t is e = absurd cc
+part_of old new now faults.BadType t is e = absurd cc
+part_of old new now (faults.TooLarge n) t is e = absurd cc
+part_of old new now faults.BadFragment t is e = absurd cc
+part_of old new now (faults.Body place cdr) t is e = absurd cc
+part_of old new now faults.Short t is e = absurd cc
+part_of old new now faults.NotWritten t is e = absurd cc
+part_of old new now faults.Memory t is e = rw (is, t.0) t.1
+
+-- a call that answers want of memory has met it
+pub memory_is : {X : Type 0} (fault : FrameFault) (result : Result X FrameFault) → result ≡ Err fault → result ≡ Err faults.Memory → fault ≡ faults.Memory
+memory_is fault result e memory = fault_is _ fault faults.Memory (sym e ∙ memory)
 
 -- less is left behind a part
 pub shorter : (old new : Held) (answer : Option Framed) → Took old answer new → length new.rest < length old.rest

@@ -3,6 +3,7 @@ use Rattle.std.proofs.Common.{◌≡◌, ℕ, ◌+◌, ◌≤◌, ◌||◌, fals
 use Rattle.std.specs.Prelude.{IfOk, IfErr}
 use Rattle.std.proofs.lemmas.Bool.{le-ltb, ltb-false, or_parts}
 use Rattle.std.proofs.lemmas.List.{take_at, drop_at, length-append}
+use Rattle.cdr_values.specs.Reading.{◌>>=◌}
 use Rattle.giop_frames.specs.declared.fault.FrameFault.{FrameFault}
 use Rattle.giop_frames.specs.declared.fault.FrameFault.TheVariants as faults
 use Rattle.giop_frames.specs.declared.fault.FrameFault.TheVariants.{BadFragment, Short}
@@ -19,6 +20,12 @@ use Rattle.giop_frames.specs.Decode.{decoded}
 use Rattle.giop_frames.proofs.Given.{ok_is, bind_ok, guard_ok}
 use Rattle.giop_frames.proofs.Headers.{header_found, header_only}
 use Rattle.giop_frames.proofs.Exact.{content_found, content_only}
+
+-- the whole is what the content says
+pub decoded_content : (versions : List Version) → (octets : List ℕ) (h : Header) → header_at versions octets ≡ Ok h → (h.more || is_fragment h.kind) ≡ false → 12 + h.size ≤ length octets
+    → decoded versions octets ≡ (message_of h.version h.order h.kind (take h.size (drop 12 octets)) >>= λ message. Ok (message, 12 + h.size))
+unfolding decoded
+decoded_content versions octets h e whole long = rw (e, whole, le-ltb (length octets) (12 + h.size) long) refl
 
 -- a fault of the content is the fault of the whole
 pub decoded_fault : (versions : List Version) → (octets : List ℕ) (h : Header) (fault : FrameFault) → header_at versions octets ≡ Ok h → (h.more || is_fragment h.kind) ≡ false → 12 + h.size ≤ length octets

@@ -17,7 +17,7 @@ use Rattle.giop_frames.specs.declared.message.Target.TheVariants.{Key, Profile, 
 use Rattle.giop_frames.specs.declared.message.ServiceContext.{ServiceContext}
 use Rattle.giop_frames.specs.Limits.{context_limit, key_limit, profile_limit}
 use Rattle.giop_frames.specs.Fault.{fault_of, field, too_long}
-use Rattle.giop_frames.specs.Layout.{Fields, blank, kept_tail, layout, message_with, tail_start}
+use Rattle.giop_frames.specs.Layout.{Fields, blank, kept_tail, key_addr, layout, message_with, profile_addr, reference_addr, tail_start}
 
 unfoldable pub key_at : Reading → Result (Target × Reading) FrameFault
 key_at r = do
@@ -39,8 +39,9 @@ indexed_at r = field (ulong_at r) >>= λ index. as_target Reference (reference_a
 unfoldable pub target_at : Reading → Result (Target × Reading) FrameFault
 target_at r = do
   way ← field (ushort_at r)
-  if way.0 == 0 then key_at way.1 else (
-      if way.0 == 1 then profile_at way.1 else (if way.0 == 2 then indexed_at way.1 else Err BadType))
+  if way.0 == key_addr then key_at way.1 else (
+      if way.0 == profile_addr then profile_at way.1 else (
+      if way.0 == reference_addr then indexed_at way.1 else Err BadType))
 
 -- a service context
 unfoldable pub context_at : Read ServiceContext FrameFault

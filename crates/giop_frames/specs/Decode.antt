@@ -24,6 +24,10 @@ decoded versions octets = do
 abbrev pub Decodes : List Version → List ℕ → Result Decoded FrameFault → Type 0
 Decodes versions bytes result = Finds (λ d. (d.message, d.used)) result (decoded versions bytes)
 
+-- a fault that reading finds is answered, never want of memory
+abbrev pub TellsFault : List Version → List ℕ → Result Decoded FrameFault → Type 0
+TellsFault versions bytes result = IfErr (decoded versions bytes) (λ fault. result ≡ Err fault)
+
 -- a fault that isn't want of octets or of memory is found whatever octets follow
 abbrev pub IsRefusedForGood : List Version → List ℕ → FrameFault → Type 0
 IsRefusedForGood versions bytes fault =

@@ -5,7 +5,7 @@ use Rattle.std.specs.List.{flat_map}
 use Rattle.cdr_values.specs.declared.order.Order.{Order}
 use Rattle.cdr_values.specs.declared.order.Order.TheVariants.{Big}
 use Rattle.cdr_values.specs.declared.fault.CdrFault.TheVariants as cdr
-use Rattle.cdr_values.specs.Value.{Value, Octet, UShort, ULong, OctetSequence, Text, gap, has_nul}
+use Rattle.cdr_values.specs.Value.{Value, Octet, UShort, ULong, Text, gap, has_nul}
 use Rattle.cdr_values.specs.Values.{canonical_all}
 use Rattle.giop_frames.specs.declared.fault.FrameFault.{FrameFault}
 use Rattle.giop_frames.specs.declared.fault.FrameFault.TheVariants.{TooLarge, Body, NotWritten}
@@ -21,7 +21,7 @@ use Rattle.giop_frames.specs.declared.message.ServiceContext.{ServiceContext}
 use Rattle.giop_frames.specs.Limits.{context_limit, key_limit, size_limit}
 use Rattle.giop_frames.specs.Fault.{too_long}
 use Rattle.giop_frames.specs.Header.{header_octets}
-use Rattle.giop_frames.specs.Layout.{Fields, blank, body_alignment, contexts_values, layout}
+use Rattle.giop_frames.specs.Layout.{Fields, blank, body_alignment, contexts_values, key_addr, key_values, layout}
 use Rattle.giop_frames.specs.Message.{kind_of}
 use Rattle.giop_frames.specs.Sizes.{end_of}
 
@@ -46,7 +46,7 @@ told_of messages.Error = blank
 
 -- the values of a target; those of a profile and of a reference are not written
 abbrev pub target_values : Target → List Value
-target_values (Key key) = UShort 0 ∷ OctetSequence key ∷ []
+target_values (Key key) = key_values key
 target_values Profile = []
 target_values Reference = []
 
@@ -104,7 +104,7 @@ spelling version m =
 -- a target: profiles and references are not written, and a key has a limit
 abbrev pub target_refusal : ℕ → Target → Option FrameFault
 target_refusal at (Key key) =
-    if nat_lt key_limit (length key) then Some (too_long (end_of at (UShort 0 ∷ [])) (length key)) else None
+    if nat_lt key_limit (length key) then Some (too_long (end_of at (UShort key_addr ∷ [])) (length key)) else None
 target_refusal at Profile = Some NotWritten
 target_refusal at Reference = Some NotWritten
 

@@ -2,7 +2,7 @@
 use Rattle.std.specs.Prelude.{◌≡◌, ◌≢◌, ◌⊎◌, ◌<◌, ◌≤◌, ◌+◌, ℕ, List, [], ◌∷◌, ◌++◌, length, Option, Some, None, IfSome, IsSome, Result, Ok, Err, IfOk, OnErr, OnOk}
 use Rattle.std.specs.List.{AllByRecursion}
 use Rattle.giop_frames.specs.declared.fault.FrameFault.{FrameFault}
-use Rattle.giop_frames.specs.declared.fault.FrameFault.TheVariants.{Short}
+use Rattle.giop_frames.specs.declared.fault.FrameFault.TheVariants.{Short, Memory}
 use Rattle.giop_frames.specs.declared.framed.Framed.{Framed}
 use Rattle.giop_frames.specs.declared.layout.Version.{Version}
 use Rattle.giop_frames.specs.declared.message.Message.{Message}
@@ -97,14 +97,19 @@ IsRefusedAtPlace old new fault =
     (versions : List Version) (octets : List ℕ) (messages : List Framed) → Holds versions octets messages old
     → IsRefused versions messages new.place fault octets
 
+-- a whole part stands at a stream's place
+abbrev pub HasPart : Held → Type 0
+HasPart h = (p : Part) × (behind : List ℕ) × (part_at h.versions h.rest ≡ Ok (p, behind))
+
 -- A call asked for the next message: it was given so, or there is none, or a part is refused. A refusal is answered for
--- good, and loses nothing.
+-- good, and loses nothing. Memory is wanted for a whole part alone.
 pub record GivesNext {X : Type 0} (Gave : X → Held → Held → Type 0) (result : Result (Option X) FrameFault)
     (old new : Held) : Type 0 where
   pub message : IfOk result (λ found. IfSome found (λ m. Gave m old new))
   pub nothing : result ≡ Ok None → HasGivenAll old new
   pub refused : IfRefused result (IsRefusedAtPlace old new)
   pub keeps : OnErr result (HasKept old new)
+  pub memory : old.refused ≡ None → result ≡ Err Memory → HasPart new
   pub remembered : IfRefused result (λ fault. new.refused ≡ Some fault)
   pub again : IfSome old.refused (λ fault. (result ≡ Err fault) × (new ≡ old))
   pub accepts : OnOk result (new.refused ≡ None)

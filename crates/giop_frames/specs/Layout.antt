@@ -52,15 +52,35 @@ pub record Fields : Type 0 where
 abbrev pub blank : Fields
 blank = record { id = 0; flags = 0; status = 0; target = Reference; operation = []; contexts = [] }
 
--- the values of a target (TargetAddress): KeyAddr and the key, whose length has a limit (our profile); ProfileAddr and
--- a profile; or ReferenceAddr, an index and a reference, whose number of profiles has a limit (our profile). CORBA's
--- discriminator is a short, of which 0, 1 and 2 are used.
+-- the numbers that tell which case of a target stands behind them (KeyAddr, ProfileAddr, ReferenceAddr); CORBA's
+-- discriminator is a short
+abbrev pub key_addr : ℕ
+key_addr = 0
+
+abbrev pub profile_addr : ℕ
+profile_addr = 1
+
+abbrev pub reference_addr : ℕ
+reference_addr = 2
+
+-- the values of a target that is this key, that is this tagged profile, or that is a reference with an index
+abbrev pub key_values : List ℕ → List Value
+key_values key = UShort key_addr ∷ OctetSequence key ∷ []
+
+abbrev pub profile_values : ℕ × List ℕ → List Value
+profile_values profile = UShort profile_addr ∷ tagged_values profile
+
+abbrev pub indexed_values : ℕ → List ℕ × List (ℕ × List ℕ) → List Value
+indexed_values index reference = UShort reference_addr ∷ ULong index ∷ reference_values reference
+
+-- the values of a target (TargetAddress): a key, whose length has a limit (our profile); a profile; or a reference,
+-- whose number of profiles has a limit (our profile)
 abbrev pub IsTarget : Target → List Value → Type 0
-IsTarget (Key key) values = (values ≡ UShort 0 ∷ OctetSequence key ∷ []) × (length key ≤ key_limit)
-IsTarget Profile values = (profile : ℕ × List ℕ) × (values ≡ UShort 1 ∷ tagged_values profile)
+IsTarget (Key key) values = (values ≡ key_values key) × (length key ≤ key_limit)
+IsTarget Profile values = (profile : ℕ × List ℕ) × (values ≡ profile_values profile)
 IsTarget Reference values =
     (index : ℕ) × (reference : List ℕ × List (ℕ × List ℕ)) × (length reference.1 ≤ profile_limit)
-    × (values ≡ UShort 2 ∷ ULong index ∷ reference_values reference)
+    × (values ≡ indexed_values index reference)
 
 -- a service context (ORB Interoperability Architecture, ServiceContext)
 abbrev pub context_values : ServiceContext → List Value

@@ -1,4 +1,4 @@
-ghost use Rattle.std.specs.Prelude.{◌≡◌, ◌≤◌, ◌<◌, ◌^◌, length, map, IfOk};
+ghost use Rattle.std.specs.Prelude.{◌≡◌, ◌≤◌, ◌<◌, ◌^◌, length, map, Err, IfErr, IfOk};
 ghost use Rattle.giop_frames.specs.Limits.{size_limit};
 ghost use Rattle.giop_frames.specs.Fault.{Finds};
 ghost use Rattle.giop_frames.specs.Layout.{kept_tail, tail_gap, tail_start};
@@ -8,9 +8,10 @@ ghost use Rattle.giop_frames.specs.Walk.{IsAsFar, IsWalked, context_of, message_
 use crate::fault::FrameFault;
 use crate::found::{Found, FoundContext, FoundTarget, Span};
 use crate::header::{HEADER_LENGTH, Header, Kind, behind, front};
-use crate::layout::{body_alignment, gap_before};
+use crate::layout::body_alignment;
 use crate::message::{Contexts, Locate, Located, Message, Reply, Request, ServiceContext, Target};
 use crate::walk::Walk;
+use cdr_values::gap_before;
 use ots_model::Octets;
 use std::alloc::{AllocError, Global};
 
@@ -25,6 +26,7 @@ pub struct Content {
 pub fn read_message(alloc: Global, header: Header, content: &[u8]) -> Result<Content, FrameFault>
     requires { length content.now ≤ size_limit }
     ensures message { Finds (λ found. found.message) result (message_by header content.now) }
+    ensures told { IfErr (message_by header content.now) (λ fault. result ≡ Err fault) }
     ensures start { IfOk result (λ found. found.start ≡ start_by header content.now) }
 {
     let mut walk = Walk::new(header);
@@ -43,6 +45,7 @@ pub fn finish_message(
     requires walked { IsWalked header content.now walk }
     requires far { IsAsFar header content.now walk }
     ensures message { Finds (λ found. found.message) result (message_by header content.now) }
+    ensures told { IfErr (message_by header content.now) (λ fault. result ≡ Err fault) }
     ensures start { IfOk result (λ found. found.start ≡ start_by header content.now) }
 {
     walk.go_on(header, content)?;
@@ -63,7 +66,8 @@ fn build(
     found: &Found,
     tail: &[u8],
 ) -> Result<Message, FrameFault>
-    ensures { Finds (λ m. m) result (message_found header content.now found.now tail.now) }
+    ensures message { Finds (λ m. m) result (message_found header content.now found.now tail.now) }
+    ensures told { IfErr (message_found header content.now found.now tail.now) (λ fault. result ≡ Err fault) }
 {
     let order = header.order;
     match header.kind {

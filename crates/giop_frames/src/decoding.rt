@@ -1,7 +1,7 @@
 ghost use Rattle.std.specs.Prelude.{◌≤◌, ◌^◌, ◌<◌, length, take, IfErr, IfOk};
 ghost use Rattle.giop_frames.specs.Header.{profile_versions};
 ghost use Rattle.giop_frames.specs.Message.{IsMessage};
-ghost use Rattle.giop_frames.specs.Decode.{Decodes, FindsWhatStands, IsRefusedForGood};
+ghost use Rattle.giop_frames.specs.Decode.{Decodes, FindsWhatStands, IsRefusedForGood, TellsFault};
 
 use crate::content::read_message;
 use crate::fault::FrameFault;
@@ -28,6 +28,7 @@ pub fn decode(alloc: Global, bytes: &[u8]) -> Result<Decoded, FrameFault>
     ensures found { IfOk result (λ d. IsMessage profile_versions d.message (take d.used bytes.now)) }
     ensures only { FindsWhatStands profile_versions bytes.now result }
     ensures exact { Decodes profile_versions bytes.now result }
+    ensures told { TellsFault profile_versions bytes.now result }
     ensures stays { IfErr result (IsRefusedForGood profile_versions bytes.now) }
 {
     decode_as(alloc, profile_versions(), bytes)
@@ -40,6 +41,7 @@ pub fn decode_as(alloc: Global, versions: &[Version], bytes: &[u8]) -> Result<De
     ensures found { IfOk result (λ d. IsMessage versions.now d.message (take d.used bytes.now)) }
     ensures only { FindsWhatStands versions.now bytes.now result }
     ensures exact { Decodes versions.now bytes.now result }
+    ensures told { TellsFault versions.now bytes.now result }
     ensures stays { IfErr result (IsRefusedForGood versions.now bytes.now) }
 {
     fields_are_read_exactly();
@@ -49,7 +51,8 @@ pub fn decode_as(alloc: Global, versions: &[Version], bytes: &[u8]) -> Result<De
 #[tactic(auto, unfolding(crate::specs::Decode::decoded))]
 fn decode_front(alloc: Global, versions: &[Version], bytes: &[u8]) -> Result<Decoded, FrameFault>
     requires { length bytes.now < 2 ^ 31 }
-    ensures { Decodes versions.now bytes.now result }
+    ensures exact { Decodes versions.now bytes.now result }
+    ensures told { TellsFault versions.now bytes.now result }
 {
     let header = read_header(versions, bytes)?;
     if header.is_fragmented() {

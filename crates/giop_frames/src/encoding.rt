@@ -1,4 +1,4 @@
-ghost use Rattle.std.specs.Prelude.{◌≡◌, ◌+◌, ◌<◌, ◌≤◌, ◌^◌, [], ◌∷◌, ◌++◌, length, replicate, None, Some, OnErr, OnOk};
+ghost use Rattle.std.specs.Prelude.{◌≡◌, ◌+◌, ◌<◌, ◌≤◌, ◌^◌, [], ◌∷◌, ◌++◌, length, replicate, None, Some, Err, IfSome, OnErr, OnOk};
 ghost use Rattle.cdr_values.specs.Value.{octets_of};
 ghost use Rattle.cdr_values.specs.Appending.{Appends, AppendsSome};
 ghost use Rattle.giop_frames.specs.Fault.{IfRefused};
@@ -11,12 +11,12 @@ ghost use Rattle.giop_frames.specs.Encode.{spelling, refusal_of, octets_in, cont
 use crate::fault::FrameFault;
 use crate::fields::fields_octets;
 use crate::header::{HEADER_LENGTH, Kind, MAGIC, version_octets};
-use crate::layout::{Version, body_alignment, gap_before};
+use crate::layout::{Version, body_alignment};
 use crate::message::Message;
 use crate::sizes::content_size;
 use crate::told::{kind_of, order_of};
 use byteorder::{BigEndian, ByteOrder, LittleEndian};
-use cdr_values::Order;
+use cdr_values::{Order, gap_before};
 use std::alloc::{AllocError, Global};
 
 const PADDING: [u8; 8] = [0; 8];
@@ -32,6 +32,7 @@ pub fn encode(alloc: Global, message: &Message, into: &mut Vec<u8>) -> Result<()
     ensures spelled { OnOk result (IsMessage profile_versions message.now (spelling V1_2 message.now)) }
     ensures fits { OnOk result (refusal_of V1_2 message.now ≡ None) }
     ensures refused { IfRefused result (λ fault. refusal_of V1_2 message.now ≡ Some fault) }
+    ensures told { IfSome (refusal_of V1_2 message.now) (λ fault. result ≡ Err fault) }
     ensures err { OnErr result (into.new.items ≡ into.old.items) }
 {
     encode_as(alloc, Version::V1_2, message, into)
@@ -49,6 +50,7 @@ pub fn encode_as(
     ensures spelled { OnOk result (IsMessage (version ∷ []) message.now (spelling version message.now)) }
     ensures fits { OnOk result (refusal_of version message.now ≡ None) }
     ensures refused { IfRefused result (λ fault. refusal_of version message.now ≡ Some fault) }
+    ensures told { IfSome (refusal_of version message.now) (λ fault. result ≡ Err fault) }
     ensures err { OnErr result (into.new.items ≡ into.old.items) }
 {
     cdr_values::canonical_octets_spell();

@@ -9,7 +9,7 @@ ghost use Rattle.giop_frames.specs.Write.{Writes, ArePlain};
 
 use crate::fault::FrameFault;
 use crate::header::HEADER_LENGTH;
-use crate::layout::{Field, Version, layout};
+use crate::layout::{Field, KEY_ADDR, Version, layout};
 use crate::message::{Message, ServiceContext};
 use crate::told::{
     contexts_of, flags_of, id_of, key_of, kind_of, operation_of, order_of, status_of,
@@ -71,7 +71,7 @@ fn write_target(writer: &mut Writer, message: &Message) -> Result<(), FrameFault
     ensures plain { OnOk result (ArePlain (target_values (told_of message.now).target)) }
 {
     if let Some(key) = key_of(message) {
-        writer.ushort(0)?;
+        writer.ushort(KEY_ADDR)?;
         writer.octets(key)?;
     }
     Ok(())

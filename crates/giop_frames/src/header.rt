@@ -1,4 +1,4 @@
-ghost use Rattle.std.specs.Prelude.{◌≡◌, ◌||◌, ◌≤◌, length, take, drop, IfOk, Some};
+ghost use Rattle.std.specs.Prelude.{◌≡◌, ◌≢◌, ◌||◌, ◌≤◌, length, take, drop, IfErr, IfOk, Some};
 ghost use Rattle.cdr_values.specs.Value.{number_in};
 ghost use Rattle.giop_frames.specs.Limits.{size_limit};
 ghost use Rattle.giop_frames.specs.Header.{kind_at, type_octet, order_of_flags, more_of_flags, is_fragment, header_at, header_of, version_at, version_octets};
@@ -89,6 +89,7 @@ impl Header {
 pub fn read_header(versions: &[Version], octets: &[u8]) -> Result<Header, FrameFault>
     ensures header { result ≡ header_at versions.now octets.now }
     ensures small { IfOk result (λ header. header.size ≤ size_limit) }
+    ensures memory { IfErr result (λ fault. fault ≢ FrameFault.Memory) }
 {
     if !MAGIC.starts_with(front(octets, 4)) {
         return Err(FrameFault::BadMagic);
@@ -104,6 +105,7 @@ pub fn read_header(versions: &[Version], octets: &[u8]) -> Result<Header, FrameF
 fn read_behind(version: Version, octets: &[u8]) -> Result<Header, FrameFault>
     ensures header { result ≡ header_of (Some version) octets.now }
     ensures small { IfOk result (λ header. header.size ≤ size_limit) }
+    ensures memory { IfErr result (λ fault. fault ≢ FrameFault.Memory) }
 {
     if octets.len() > 7 && octets[7] > 7 {
         return Err(FrameFault::BadType);

@@ -1,5 +1,4 @@
 ghost use Rattle.std.specs.Prelude.{◌≡◌, ◌<◌, ◌≤◌};
-ghost use Rattle.cdr_values.specs.Value.{gap};
 ghost use Rattle.giop_frames.specs.Header.{profile_versions};
 ghost use Rattle.giop_frames.specs.Layout.{body_alignment, layout};
 
@@ -59,6 +58,15 @@ static LOCATE: [Field; 2] = [Field::Id, Field::Target];
 
 static LOCATED: [Field; 2] = [Field::Id, Field::Status];
 
+/// The number in front of a target that is an object key.
+pub const KEY_ADDR: u16 = 0;
+
+/// The number in front of a target that is a profile.
+pub const PROFILE_ADDR: u16 = 1;
+
+/// The number in front of a target that is an index and a reference.
+pub const REFERENCE_ADDR: u16 = 2;
+
 /// The fields of a message of this kind, in order.
 pub fn layout(version: Version, kind: Kind) -> &'static [Field]
     ensures { result.now ≡ layout version kind }
@@ -81,13 +89,4 @@ pub fn body_alignment(version: Version) -> usize
     match version {
         Version::V1_2 => 8,
     }
-}
-
-/// How many octets there are from an offset up to the next multiple of n.
-pub fn gap_before(n: usize, at: usize) -> usize
-    requires { 0 < n }
-    ensures gap { result ≡ gap n at }
-    ensures within { result < n }
-{
-    (n - at % n) % n
 }

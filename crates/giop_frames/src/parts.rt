@@ -26,6 +26,7 @@ pub fn whole_part(versions: &[Version], octets: &[u8]) -> Result<Option<Header>,
     ensures part { IfOk result (FindsPart versions.now octets.now) }
     ensures refused { IfErr result
         (λ fault. (part_at versions.now octets.now ≡ Err fault) × (fault ≢ FrameFault.Short)) }
+    ensures memory { IfErr result (λ fault. fault ≢ FrameFault.Memory) }
 {
     match read_part_header(versions, octets) {
         Err(fault) if is_short(fault) => Ok(None),
@@ -54,6 +55,7 @@ fn is_short(fault: FrameFault) -> bool
 fn read_part_header(versions: &[Version], octets: &[u8]) -> Result<Header, FrameFault>
     ensures header { result ≡ part_header_at versions.now octets.now }
     ensures small { IfOk result (λ header. header.size ≤ size_limit) }
+    ensures memory { IfErr result (λ fault. fault ≢ FrameFault.Memory) }
 {
     let header = read_header(versions, octets)?;
     if !can_be_part(header) {

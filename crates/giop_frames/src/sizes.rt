@@ -9,10 +9,10 @@ ghost use Rattle.giop_frames.specs.EncodeInside.{content_size, field_end, fields
 
 use crate::fault::{CONTEXT_LIMIT, FrameFault, KEY_LIMIT, SIZE_LIMIT, too_long};
 use crate::header::HEADER_LENGTH;
-use crate::layout::{Field, Version, body_alignment, gap_before, layout};
+use crate::layout::{Field, Version, body_alignment, layout};
 use crate::message::{Message, ServiceContext};
 use crate::told::{contexts_of, key_of, kind_of, operation_of};
-use cdr_values::CdrFault;
+use cdr_values::{CdrFault, gap_before};
 
 /// How many octets stand behind the header of a message, or why it is not written.
 #[tactic(auto, unfolding(crate::specs::EncodeInside::content_size))]

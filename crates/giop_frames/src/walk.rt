@@ -7,7 +7,7 @@ ghost use Rattle.giop_frames.specs.Walk.{HasRoom, IsAsFar, IsDone, IsWalked, Mak
 use crate::fault::{CONTEXT_LIMIT, FrameFault, KEY_LIMIT, PROFILE_LIMIT, too_long};
 use crate::found::{Found, FoundContext, FoundTarget, Span};
 use crate::header::{HEADER_LENGTH, Header, behind};
-use crate::layout::{Field, layout};
+use crate::layout::{Field, KEY_ADDR, PROFILE_ADDR, REFERENCE_ADDR, layout};
 use cdr_values::{CdrFault, Reader, reading_is_exact};
 
 /// What comes next of a field.
@@ -156,9 +156,9 @@ fn begin_target(reader: &mut Reader) -> Result<Option<Step>, FrameFault>
 {
     reading_is_exact();
     match reader.ushort()? {
-        0 => Ok(Some(Step::Key)),
-        1 => Ok(Some(Step::Profile)),
-        2 => Ok(Some(Step::Index)),
+        KEY_ADDR => Ok(Some(Step::Key)),
+        PROFILE_ADDR => Ok(Some(Step::Profile)),
+        REFERENCE_ADDR => Ok(Some(Step::Index)),
         _ => Err(FrameFault::BadType),
     }
 }

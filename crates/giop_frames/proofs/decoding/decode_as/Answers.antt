@@ -10,13 +10,13 @@ abbrev view : Decoded → Message × ℕ
 view d = (d.message, d.used)
 
 pub returns-clause-within : goal.returns-clause-within
-returns-clause-within c = within_from c.args.versions.now c.fields_are_read_exactly.ensures view c.args.bytes.now c.decode_front.result c.decode_front.ensures
+returns-clause-within c = within_from c.args.versions.now c.fields_are_read_exactly.ensures view c.args.bytes.now c.decode_front.result c.decode_front.ensures.exact
 
 pub returns-clause-found : goal.returns-clause-found
-returns-clause-found c = found_from c.args.versions.now c.fields_are_read_exactly.ensures view c.args.bytes.now c.decode_front.result c.decode_front.ensures
+returns-clause-found c = found_from c.args.versions.now c.fields_are_read_exactly.ensures view c.args.bytes.now c.decode_front.result c.decode_front.ensures.exact
 
 pub returns-clause-only : goal.returns-clause-only
-returns-clause-only c = only_from c.args.versions.now c.fields_are_read_exactly.ensures view c.args.bytes.now c.decode_front.result c.decode_front.ensures
+returns-clause-only c = only_from c.args.versions.now c.fields_are_read_exactly.ensures view c.args.bytes.now c.decode_front.result c.decode_front.ensures.exact
 
 pub returns-clause-stays : goal.returns-clause-stays
-returns-clause-stays c = stays_from c.args.versions.now view c.args.bytes.now c.decode_front.result c.decode_front.ensures
+returns-clause-stays c = stays_from c.args.versions.now view c.args.bytes.now c.decode_front.result c.decode_front.ensures.exact

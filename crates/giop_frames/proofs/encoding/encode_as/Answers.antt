@@ -1,4 +1,4 @@
-use Rattle.std.proofs.Common.{inr, arith}
+use Rattle.std.proofs.Common.{inr, refl, arith}
 use Rattle.std.proofs.lemmas.Result.{err_from_is_err_and}
 use Rattle.giop_frames.proofs.Refused.{size_found, refused, size_is_small}
 use Rattle.giop_frames.proofs.Canonical.{spelled}
@@ -26,3 +26,17 @@ returns-clause-spelled c =
 
 pub returns-clause-fits : goal.returns-clause-fits
 returns-clause-fits c = (size_found c.args.version c.args.message.now c.in_ok-size.size c.in_ok-size.ensures).0
+
+pub returns-in_err-size-clause-told : goal.returns-in_err-size-clause-told
+returns-in_err-size-clause-told c =
+    let p = err_from_is_err_and c.from_residual.result c.from_residual.ensures.1 in
+    rw (p.1, p.2, refused c.args.version c.args.message.now c.in_err-size.field-0.0 c.in_err-size.ensures) refl
+
+pub returns-in_err-fields-clause-told : goal.returns-in_err-fields-clause-told
+returns-in_err-fields-clause-told c = rw (size_found c.args.version c.args.message.now c.in_ok-size.size c.in_ok-size.ensures).0 tt
+
+pub returns-in_err-append-clause-told : goal.returns-in_err-append-clause-told
+returns-in_err-append-clause-told c = rw (size_found c.args.version c.args.message.now c.in_ok-size.size c.in_ok-size.ensures).0 tt
+
+pub returns-clause-told : goal.returns-clause-told
+returns-clause-told c = rw (size_found c.args.version c.args.message.now c.in_ok-size.size c.in_ok-size.ensures).0 tt

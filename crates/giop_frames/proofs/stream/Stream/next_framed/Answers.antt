@@ -1,5 +1,5 @@
-use Rattle.std.proofs.Common.{◌∙◌, inl, inr, rules, arith}
-use Rattle.giop_frames.proofs.Holding.{holds_part, holds_piece, holds_stream, kept_by, refused_by, shorter}
+use Rattle.std.proofs.Common.{◌∙◌, refl, inl, inr, rules, arith}
+use Rattle.giop_frames.proofs.Holding.{holds_part, holds_piece, holds_stream, kept_by, memory_is, part_of, refused_by, shorter}
 use Rattle.giop_frames.proofs.stream.Stream.next_framed.Goals as goal
 
 pub loop-framed-smaller : goal.loop-framed-smaller
@@ -24,6 +24,7 @@ returns-in-Ok-Nothing c =
           (rw t.0 held, rw t.0 (holds_stream versions octets messages c.loop-framed.self t.1 held));
       refused = tt;
       keeps = tt;
+      memory = λ none e. absurd cc;
       remembered = tt;
       again = search rules;
       accepts = search rules;
@@ -40,6 +41,7 @@ returns-in-Ok-Whole c =
       nothing = λ e. absurd cc;
       refused = tt;
       keeps = tt;
+      memory = λ none e. absurd cc;
       remembered = tt;
       again = search rules;
       accepts = search rules;
@@ -58,6 +60,7 @@ returns-in-Err c = record {
       ];
   keeps = λ versions octets messages h.
       kept_by versions octets messages c.loop-framed.self c.take_part.new.self c.remember.new.self c.in-Err.fault c.in-Err.ensures c.remember.ensures (c.loop-framed.invariant.goes_on versions octets messages h);
+  memory = λ none e. part_of c.loop-framed.self c.take_part.new.self c.remember.new.self c.in-Err.fault c.in-Err.ensures c.remember.ensures (memory_is c.in-Err.fault _ refl e);
   remembered = search rules;
   again = search rules;
   accepts = tt;
