@@ -1,7 +1,7 @@
 -- What the definitions of trees say (nested transactions, and interface Coordinator of module CosTransactions).
-use Rattle.std.specs.Prelude.{◌≡◌, ℕ, ◌<◌, ◌≤◌, ◌⊎◌, true, MatchOption, ◌==◌, ◌&&◌, ◌||◌, Bool, false, List, length}
+use Rattle.std.specs.Prelude.{◌≡◌, ℕ, suc, ◌<◌, ◌≤◌, ◌⊎◌, true, MatchOption, ◌==◌, ◌&&◌, ◌||◌, Bool, false, List, length}
 use Rattle.std.specs.Option.{option_map_or}
-use Rattle.txn_tree.specs.Rows.{parent, state, IsTree, is_ancestor, is_committed, is_committed_up, depth}
+use Rattle.txn_tree.specs.Rows.{parent, state, IsTree, is_ancestor, is_committed, is_committed_up, depth, are_related}
 use Rattle.txn_tree.specs.Calls.{created, ended, marked, is_live_below, live_under}
 use Rattle.txn_tree.specs.declared.row.Row.{Row}
 
@@ -9,6 +9,16 @@ use Rattle.txn_tree.specs.declared.row.Row.{Row}
 abbrev pub AncestryFollowsParents : Type 0
 AncestryFollowsParents = (rows : List Row) → IsTree rows → (a b : ℕ) → b < length rows
     → is_ancestor rows a b ≡ ((b == a) || option_map_or (λ p. is_ancestor rows a p) (parent rows b) false)
+
+-- a branch lies one deeper than its parent, and the top has depth 1
+abbrev pub DepthFollowsParents : Type 0
+DepthFollowsParents = (rows : List Row) → IsTree rows → (b : ℕ) → b < length rows
+    → depth rows b ≡ suc (option_map_or (λ p. depth rows p) (parent rows b) 0)
+
+-- the top is an ancestor of each branch, so all are related
+abbrev pub AllAreRelated : Type 0
+AllAreRelated = (rows : List Row) → IsTree rows → (a b : ℕ) → a < length rows → b < length rows
+    → (is_ancestor rows 0 b ≡ true) × (are_related rows a b ≡ true)
 
 -- a branch is committed up to another one exactly where it is that one, or it was committed and its parent is
 -- committed up to it

@@ -1,9 +1,19 @@
 // Laws of the definitions: these functions do nothing, and their contracts are the laws.
-ghost use Rattle.txn_tree.specs.Laws.{AncestryFollowsParents, CommitFollowsParents, NextIsFirst, TreesStayTrees};
+ghost use Rattle.txn_tree.specs.Laws.{AllAreRelated, AncestryFollowsParents, CommitFollowsParents, DepthFollowsParents, NextIsFirst, TreesStayTrees};
 
 /// A transaction is an ancestor of another exactly where it is that one, or an ancestor of its parent.
 pub fn ancestry_follows_parents()
     ensures { AncestryFollowsParents }
+{}
+
+/// A transaction lies one deeper than its parent, and the top has depth 1.
+pub fn depth_follows_parents()
+    ensures { DepthFollowsParents }
+{}
+
+/// The top is an ancestor of each transaction of its tree, so all of them are related.
+pub fn all_are_related()
+    ensures { AllAreRelated }
 {}
 
 /// A transaction is committed up to another exactly where it is that one, or it was committed and its parent is committed
