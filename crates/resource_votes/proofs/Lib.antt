@@ -4,3 +4,4 @@ pub mod Handed
 pub mod Upward
 pub mod Tallies
 pub mod Few
+pub mod Members

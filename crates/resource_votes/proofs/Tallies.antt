@@ -188,10 +188,10 @@ numbered_past e (suc i) h = ap (λ (y : Option (Option ℕ)). option_and_then (�
     place (y ∷ e) zero h = absurd (omega arith)
     place (y ∷ e) (suc i) h = place e i (omega arith)
 
-times_append : (i : ℕ) (xs ys : List ℕ) → times i (xs ++ ys) ≡ times i xs + times i ys
+pub times_append : (i : ℕ) (xs ys : List ℕ) → times i (xs ++ ys) ≡ times i xs + times i ys
 times_append i xs ys = sum_by-append _ xs ys
 
-times_itself : (i n : ℕ) → i ≡ n → times i (n ∷ []) ≡ 1
+pub times_itself : (i n : ℕ) → i ≡ n → times i (n ∷ []) ≡ 1
 times_itself i n h = rw (h, is_same n) refl
 
 times_other : (i n : ℕ) → i ≢ n → times i (n ∷ []) ≡ 0
@@ -409,8 +409,3 @@ tallied law stays _ _ _ (rolls_back rows b e p l within allowed) =
 tallied law stays _ _ _ (commits rows b e child p l within its allowed) =
     let h = tallied law stays rows b e l in
     tallied_adopted law rows b e child p h (commit_of stays rows child p h.tree within its allowed)
-
-pub members : CommitFollowsParents → TreesStayTrees → (rows : List Row) (b : Ballots) (e : List (Option ℕ)) → Leave rows b e → (i : ℕ) → times i (list_at b.lists 0) ≡ share rows 0 e i
-members law stays rows b e l i =
-    let h = tallied law stays rows b e l in
-    h.shares 0 i h.tree.some h.top_open

@@ -1,15 +1,15 @@
 -- Who takes part in a top-level transaction (nested transactions of the Transaction Service): each resource that was
 -- registered with it, or with a subtransaction that was committed up to it.
-use Rattle.std.specs.Prelude.{◌≡◌, ℕ, ◌<◌, ◌≤◌, ◌==◌, Bool, true, false, List, [], ◌∷◌, ◌++◌, length, count_by, Option, Some, None, if◌then◌else◌}
+use Rattle.std.specs.Prelude.{◌≡◌, ℕ, ◌<◌, ◌≤◌, ◌==◌, Bool, true, false, List, [], ◌∷◌, ◌++◌, length, map, count_by, Option, Some, None, if◌then◌else◌}
 use Rattle.std.specs.Option.{option_map_or, option_and_then}
 use Rattle.ots_model.specs.declared.completion.Vote.{Vote}
 use Rattle.txn_tree.specs.declared.row.Row.{Row}
 use Rattle.txn_tree.specs.Rows.{parent, is_committed_up}
 use Rattle.txn_tree.specs.Calls.{top_alone, created, creating, marked, marking, ended, ending}
-use Rattle.resource_votes.specs.Lists.{list_at}
-use Rattle.resource_votes.specs.Ballots.{Ballots, no_ballots, numbered, registered, registering, registered_aware, registering_aware, registered_sync, registering_sync, adopted, voted}
+use Rattle.resource_votes.specs.declared.registration.Registration.{Registration}
+use Rattle.resource_votes.specs.Ballots.{Ballots, no_ballots, numbered, registered, registering, registered_aware, registering_aware, registered_sync, registering_sync, adopted, voted, participants}
 
--- The accepted calls on a tree and its registrations, until the top ends: the rows that they leave, the ballots, and for
+-- The accepted calls on a tree and its registrations, until the top is committed: the rows that they leave, the ballots, and for
 -- each registration the transaction that it takes part in, if it does. Where a subtransaction is committed, its parent
 -- adopts its list.
 pub data Leave : List Row → Ballots → List (Option ℕ) → Type 0 where
@@ -46,4 +46,4 @@ share rows top e i = option_map_or (λ t. if is_committed_up rows top t then 1 e
 -- the participants of the top are exactly the registrations whose transaction was committed up to it, each once
 abbrev pub ParticipantsAreCommittedUp : Type 0
 ParticipantsAreCommittedUp = (rows : List Row) (b : Ballots) (e : List (Option ℕ)) → Leave rows b e
-    → (i : ℕ) → times i (list_at b.lists 0) ≡ share rows 0 e i
+    → (i : ℕ) → times i (map (λ (r : Registration). r.index) (participants 0 b)) ≡ share rows 0 e i

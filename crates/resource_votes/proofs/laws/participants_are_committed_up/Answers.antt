@@ -1,4 +1,4 @@
-use Rattle.resource_votes.proofs.Tallies.{members}
+use Rattle.resource_votes.proofs.Members.{members}
 use Rattle.resource_votes.proofs.laws.participants_are_committed_up.Goals as goal
 
 pub returns : goal.returns
