@@ -8,13 +8,14 @@
 //! - `participants B`: who takes part. `told B G`: who is told of the end of B next, behind G. `synchronization N`: whether
 //!   there is such a one. `vote G V`: it votes, and what it has voted then.
 //! - `begin asked alone`: the completion of the top begins. Any other word in place of `asked` or `alone` says no.
+//!   `back asked alone REASON`: it begins with a rollback.
 //! - `send`: the next word goes out. `hear ANSWER`: the same, and its answer comes.
 //! - `decided ANSWER`, `reread PLACE`, `overtake REASON`: what else comes.
 //! - `named G`: whether the record names it. `state`: the outcome, what is reported, and what is pending.
 ghost use Rattle.std.specs.Prelude.{◌<◌, length, IfOk};
 
 use ots_model::tree::{Heard, Outward, Reason, Word};
-use ots_model::{CallNumber, Disposition, Doubted, RefBytes, Stood, Vote};
+use ots_model::{CallNumber, Disposition, Doubted, RefBytes, Status, Stood, Vote};
 use resource_votes::{Registration, VoteFault, Votes};
 use std::alloc::Global;
 use std::io;
@@ -66,6 +67,9 @@ impl Trial {
             ["told", branch, after] => self.tell_aware(told, branch, after),
             ["vote", index, vote] => self.vote(told, index, vote),
             ["begin", asked, alone] => self.begin(alloc, *asked == "asked", *alone == "alone"),
+            ["back", asked, alone, why] => {
+                self.begin_rollback(alloc, *asked == "asked", *alone == "alone", reason(why)?)
+            }
             [call, word] => self.call(alloc, told, call, word),
             _ => Err(ErrorKind::InvalidInput.into()),
         }
@@ -260,6 +264,20 @@ impl Trial {
         Ok(())
     }
 
+    fn begin_rollback(
+        &mut self,
+        alloc: Global,
+        asked: bool,
+        one_phase: bool,
+        reason: Reason,
+    ) -> io::Result<()> {
+        let mut completion = Completion::idle(alloc);
+        completion.reserve(self.votes.participants(0).count() as u32)?;
+        completion.start_rollback(&self.votes, 0, asked, FIRST, one_phase, reason);
+        self.completion = completion;
+        Ok(())
+    }
+
     fn send(&mut self, told: &mut Vec<u8>) -> io::Result<()> {
         match self.completion.next() {
             Some(outward) => {
@@ -365,6 +383,7 @@ fn heard(word: &str) -> io::Result<Heard> {
         "OBJECT_NOT_EXIST" => Heard::NoObject,
         "other" => Heard::Other,
         "starved" => Heard::Starved,
+        "status" => Heard::Told(Status::Active),
         _ => return named_vote(word),
     })
 }
@@ -404,6 +423,7 @@ fn reason(word: &str) -> io::Result<Reason> {
         "marked" => Reason::Marked,
         "timeout" => Reason::Timeout,
         "superior" => Reason::Superior,
+        "stored" => Reason::NotStored,
         _ => return Err(ErrorKind::InvalidInput.into()),
     })
 }

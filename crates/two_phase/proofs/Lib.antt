@@ -12,3 +12,4 @@ pub mod Overtaken
 pub mod Rests
 pub mod Stays
 pub mod OneWay
+pub mod Causes

@@ -17,9 +17,9 @@ use Rattle.ots_model.specs.declared.tree.Outcome.{Outcome}
 use Rattle.ots_model.specs.declared.tree.Outcome.TheVariants as outcomes
 use Rattle.ots_model.specs.declared.tree.Reason.{Reason}
 use Rattle.two_phase.specs.Poll.{same_number}
-use Rattle.two_phase.specs.Course.{Course, decides_alone, all_consent, some_commit, outcome_word, by_one, outcome, errand, next_word, word_of, outward_of, outward, after_next, answered, heard_at, heard_by, wants_decision, after_decided, is_doubtful, after_reread, may_roll_back, after_rollback}
+use Rattle.two_phase.specs.Course.{Course, decides_alone, all_consent, some_commit, outcome_word, by_one, outcome, errand, next_word, word_of, outward_of, outward, after_next, answered, heard_at, heard_by, wants_decision, after_decided, is_doubtful, after_reread, is_outside, may_roll_back, after_rollback}
 use Rattle.two_phase.specs.CourseInside.{IsOpen}
-use Rattle.two_phase.specs.LawsOfCourses.{MayBeTold, MayBeAsked, IsRollback, RestsOn}
+use Rattle.two_phase.specs.LawsOfCourses.{MayBeTold, MayBeAsked, MayBeRolledBack, IsRollback, RestsOn}
 use Rattle.two_phase.specs.LawsOfReached.{TreeBecomes, IsReached, TreeGoesOn, IsCommitWord}
 use Rattle.two_phase.specs.LawsOfReached.TreeBecomes.{by_word, by_answer, by_record as by_stood, by_reread as by_found, by_rollback}
 use Rattle.two_phase.specs.LawsOfReached.IsReached.{goes_on}
@@ -30,7 +30,7 @@ use Rattle.two_phase.specs.declared.party.Stage.{Stage}
 use Rattle.two_phase.specs.declared.party.Stage.TheVariants as stages
 use Rattle.two_phase.specs.declared.party.Errand.{Errand}
 use Rattle.two_phase.proofs.Answered.{opened, heard_is}
-use Rattle.two_phase.proofs.Rests.{Says, errand_tells, words_rest, alone_is, alone_first, one_alone}
+use Rattle.two_phase.proofs.Rests.{and_right, Says, errand_tells, words_rest, alone_is, alone_first, one_alone}
 use Rattle.two_phase.proofs.Overtaken.{overtaken_ends}
 use Rattle.two_phase.proofs.Stays.{Goes, goes, if_case, outcome_stays}
 
@@ -76,13 +76,16 @@ stays_on c later fixed r (further between _ on step) is =
 
 -- a rollback word goes out only where the outcome is rollback
 rolls_back : (c : Course) (o : Outward) → next_word c ≡ Some o → o.word ≡ words.Rollback → IsRollback (outcome c)
-rolls_back c o h w = let g = words_rest c o h in subst (λ word. RestsOn word g.party c) w g.rests
+rolls_back c o h w =
+    let g = words_rest c o h in
+    let told : MayBeRolledBack g.party c = subst (λ word. RestsOn word g.place g.party c) w g.rests in
+    told.fixed
 
 after_commit : (c later : Course) (first second : Outward) → IsReached c → next_word c ≡ Some first → first.word ≡ words.Commit
     → TreeGoesOn (after_next c) later → next_word later ≡ Some second → second.word ≡ words.Rollback → ⊥
 after_commit c later first second r h w on later_word back =
     let g = words_rest c first h in
-    let told : MayBeTold g.party c = subst (λ word. RestsOn word g.party c) w g.rests in
+    let told : MayBeTold g.party c = subst (λ word. RestsOn word g.place g.party c) w g.rests in
     let out = outcome_stays c (after_next c) (outcomes.Commit Record) r (by_word c) told.fixed in
     let end = stays_on (after_next c) later (outcomes.Commit Record) (goes_on c (after_next c) r (by_word c)) on out in
     subst IsRollback end.1 (rolls_back later second later_word back)
@@ -188,7 +191,8 @@ no_rollback c k may (has_answered p h at ballot) =
     cc (contrary)
 
 rollback_keeps : (c : Course) (reason : Reason) → Keeps c → Keeps (after_rollback reason c)
-rollback_keeps c reason k = if_case Keeps (may_roll_back c) _ c (λ may. absurd (no_rollback c k may k.one)) k
+rollback_keeps c reason k =
+    if_case Keeps (is_outside reason && may_roll_back c) _ c (λ may. absurd (no_rollback c k (and_right (is_outside reason) (may_roll_back c) may) k.one)) k
 
 keeps_by : (c later : Course) → TreeBecomes c later → Goes c → Keeps c → Keeps later
 keeps_by _ _ (by_word c) g k = word_keeps c k k.one
@@ -224,16 +228,16 @@ told_back c k q h ballot (outcomes.Rollback reason) is told back =
     not_told h (ap (λ b. hears_rollback b (Some h)) (sym k.alone) ∙ ap (hears_rollback (decides_alone c)) (sym ballot) ∙ told)
 told_back c k q h ballot outcomes.Unknown is told back = cc (told)
 
-stage_back : (c : Course) → Keeps c → (q : Party) (h : Heard) → q.ballot ≡ Some h → (stage : Stage) → Says c stage q → word_of c stage ≡ words.Rollback → IsRollback (outcome c) → ⊥
-stage_back c k q h ballot stages.Asking says w back = subst IsRollback says.undecided back
-stage_back c k q h ballot stages.Telling says w back = told_back c k q h ballot says.0 says.1 says.2 back
-stage_back c k q h ballot stages.Forgetting says w back = cc (w)
+stage_back : (c : Course) → Keeps c → (q : Party) (h : Heard) → q.ballot ≡ Some h → (stage : Stage) (i : ℕ) → Says c stage i q → word_of c stage ≡ words.Rollback → IsRollback (outcome c) → ⊥
+stage_back c k q h ballot stages.Asking i says w back = subst IsRollback says.undecided back
+stage_back c k q h ballot stages.Telling i says w back = told_back c k q h ballot says.fixed says.ends says.told back
+stage_back c k q h ballot stages.Forgetting i says w back = cc (w)
 
 one_back : (c : Course) (o : Outward) → Keeps c → IsAskedOne c → Sent c o → o.word ≡ words.Rollback → IsRollback (outcome c) → ⊥
 one_back c o k (waits e is asks) s w back = let contrary : None ≡ Some e = sym s.free ∙ is in cc (contrary)
 one_back c o k (has_answered p h at ballot) s w back =
     let same : s.party ≡ p = same_Some s.party p (sym (alone_first c s.task.place s.party k.alone s.there) ∙ at) in
-    stage_back c k s.party h (ap (λ (y : Party). y.ballot) same ∙ ballot) s.task.stage (errand_tells c s.task s.next s.party s.there) (sym s.word ∙ w) back
+    stage_back c k s.party h (ap (λ (y : Party). y.ballot) same ∙ ballot) s.task.stage s.task.place (errand_tells c s.task s.next s.party s.there) (sym s.word ∙ w) back
 
 -- the word that asks one to decide is that of the stage of asking
 asks_one : (c : Course) (stage : Stage) → word_of c stage ≡ words.CommitOnePhase → stage ≡ stages.Asking
@@ -250,7 +254,7 @@ asks_one c stages.Forgetting w = absurd (cc (w))
 begins_alone : (c : Course) (o : Outward) → next_word c ≡ Some o → o.word ≡ words.CommitOnePhase → Keeps (after_next c)
 begins_alone c o h w =
     let g = words_rest c o h in
-    let rests : MayBeAsked g.party c × (decides_alone c ≡ true) = subst (λ word. RestsOn word g.party c) w g.rests in
+    let rests : MayBeAsked g.place g.party c × (decides_alone c ≡ true) = subst (λ word. RestsOn word g.place g.party c) w g.rests in
     let s = sent c o h in
     let stage = asks_one c s.task.stage (sym s.word ∙ w) in
     free_keeps (c.out) s.free rests.1 (not_before c c.overtaken refl rests.0.undecided) s.task s.next stage
@@ -281,14 +285,14 @@ pub one_way : (c later : Course) (first second : Outward) → IsReached c → ne
 one_way c later first second r h commits on later_word back = by_first_word c later first second r h first.word refl commits on later_word back
 
 -- no commit word rests on a rollback
-rests_back : (c : Course) (p : Party) (w : Word) → RestsOn w p c → IsCommitWord w → (reason : Reason) → outcome c ≡ Some (outcomes.Rollback reason) → ⊥
-rests_back c p words.Commit told commits reason is =
+rests_back : (c : Course) (i : ℕ) (p : Party) (w : Word) → RestsOn w i p c → IsCommitWord w → (reason : Reason) → outcome c ≡ Some (outcomes.Rollback reason) → ⊥
+rests_back c i p words.Commit told commits reason is =
     let contrary : Some (outcomes.Commit Record) ≡ Some (outcomes.Rollback reason) = sym told.fixed ∙ is in
     cc (contrary)
-rests_back c p words.CommitOnePhase asked commits reason is =
+rests_back c i p words.CommitOnePhase asked commits reason is =
     let contrary : None ≡ Some (outcomes.Rollback reason) = sym asked.0.undecided ∙ is in
     cc (contrary)
-rests_back c p _ rests commits reason is = commits
+rests_back c i p _ rests commits reason is = commits
 
 by_outcome : (c later : Course) (second : Outward) → IsReached c → TreeGoesOn (after_next c) later → next_word later ≡ Some second → IsCommitWord second.word
     → (o : Option Outcome) → outcome c ≡ o → IsRollback o → ⊥
@@ -300,7 +304,7 @@ by_outcome c later second r on later_word commits (Some (outcomes.Rollback reaso
     let out = outcome_stays c (after_next c) fixed r (by_word c) is in
     let end = stays_on (after_next c) later fixed (goes_on c (after_next c) r (by_word c)) on out in
     let g = words_rest later second later_word in
-    rests_back later g.party second.word g.rests commits reason end.1
+    rests_back later g.place g.party second.word g.rests commits reason end.1
 
 pub other_way : (c later : Course) (first second : Outward) → IsReached c → next_word c ≡ Some first → first.word ≡ words.Rollback
     → TreeGoesOn (after_next c) later → next_word later ≡ Some second → IsCommitWord second.word → ⊥

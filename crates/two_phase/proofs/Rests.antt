@@ -16,7 +16,7 @@ use Rattle.ots_model.specs.declared.tree.Outcome.{Outcome}
 use Rattle.ots_model.specs.declared.tree.Outcome.TheVariants as outcomes
 use Rattle.ots_model.specs.declared.tree.Reason.{Reason}
 use Rattle.two_phase.specs.Course.{Course, decides_alone, all_consent, some_commit, first_refuser, by_refusal, by_record, by_one, by_votes, record_place, outcome, errand, asking, telling, forgetting, may_forget, errand_at, next_asked, next_told, next_forgetting, first_word, outcome_word, word_of, outward, outward_of, next_word}
-use Rattle.two_phase.specs.LawsOfCourses.{MayBeTold, MayBeAsked, IsRollback, RestsOn, GoesRightly}
+use Rattle.two_phase.specs.LawsOfCourses.{MayBeTold, MayBeAsked, MayForget, IsRollback, RestsOn, GoesRightly}
 use Rattle.two_phase.specs.Parties.{has_voted_commit, is_unasked, is_untold, is_told, is_unforgotten, has_raised, by_answer, reason_of}
 use Rattle.two_phase.specs.declared.party.Party.{Party}
 use Rattle.two_phase.specs.declared.party.Stage.{Stage}
@@ -27,19 +27,25 @@ use Rattle.two_phase.proofs.Named.{commit_vote_is}
 use Rattle.two_phase.proofs.Opened.{nobody, none_is}
 use Rattle.two_phase.proofs.Overtaken.{overtaken_ends}
 
-and_left : (a b : Bool) → (a && b) ≡ true → a ≡ true
+pub and_left : (a b : Bool) → (a && b) ≡ true → a ≡ true
 and_left true b e = refl
 and_left false b e = absurd (cc (e))
 
-and_right : (a b : Bool) → (a && b) ≡ true → b ≡ true
+pub and_right : (a b : Bool) → (a && b) ≡ true → b ≡ true
 and_right true b e = e
 and_right false b e = absurd (cc (e))
 
 -- what is known of a participant that is sent a word of this stage
-abbrev pub Says : Course → Stage → Party → Type 0
-Says c stages.Asking p = MayBeAsked p c
-Says c stages.Telling p = (fixed : Outcome) × (outcome c ≡ Some fixed) × (is_told (decides_alone c) fixed p ≡ true)
-Says c stages.Forgetting p = has_raised p ≡ true
+pub record IsUntold (p : Party) (c : Course) : Type 0 where
+  pub fixed : Outcome
+  pub ends : outcome c ≡ Some fixed
+  pub told : is_told (decides_alone c) fixed p ≡ true
+  pub untold : p.told ≡ None
+
+abbrev pub Says : Course → Stage → ℕ → Party → Type 0
+Says c stages.Asking i p = MayBeAsked i p c
+Says c stages.Telling i p = IsUntold p c
+Says c stages.Forgetting i p = MayForget p c
 
 -- a participant that is found by a test passes it
 passes : (test : Party → Bool) (ps : List Party) (i : ℕ) (p : Party) → position test ps ≡ Some i → slice_get ps i ≡ Some p → test p ≡ true
@@ -47,35 +53,52 @@ passes test ps i p e there =
     let at = position-Some test ps i nobody e in
     ap test (sym (get_or_from_slice_get ps i p nobody there)) ∙ at.1
 
-asked_says : (c : Course) (i : ℕ) (p : Party) → outcome c ≡ None → next_asked c.parties ≡ Some i → slice_get c.parties i ≡ Some p → Says c stages.Asking p
+asked_says : (c : Course) (i : ℕ) (p : Party) → outcome c ≡ None → next_asked c.parties ≡ Some i → slice_get c.parties i ≡ Some p → Says c stages.Asking i p
 unfolding next_asked
-asked_says c i p none e there = record { undecided = none; unanswered = none_is p.ballot (passes is_unasked c.parties i p e there) }
+asked_says c i p none e there = record { undecided = none; unanswered = none_is p.ballot (passes is_unasked c.parties i p e there); first = e }
 
-told_says : (c : Course) (fixed : Outcome) (i : ℕ) (p : Party) → outcome c ≡ Some fixed → next_told (decides_alone c) fixed c.parties ≡ Some i → slice_get c.parties i ≡ Some p → Says c stages.Telling p
+told_says : (c : Course) (fixed : Outcome) (i : ℕ) (p : Party) → outcome c ≡ Some fixed → next_told (decides_alone c) fixed c.parties ≡ Some i → slice_get c.parties i ≡ Some p → Says c stages.Telling i p
 unfolding next_told
 told_says c fixed i p is e there =
-    (fixed, is, and_right (is_none p.told) (is_told (decides_alone c) fixed p) (passes (is_untold (decides_alone c) fixed) c.parties i p e there))
+    let both = passes (is_untold (decides_alone c) fixed) c.parties i p e there in
+    record {
+      fixed = fixed;
+      ends = is;
+      told = and_right (is_none p.told) (is_told (decides_alone c) fixed p) both;
+      untold = none_is p.told (and_left (is_none p.told) (is_told (decides_alone c) fixed p) both);
+    }
 
-forgetting_says : (c : Course) (i : ℕ) (p : Party) → next_forgetting c.parties ≡ Some i → slice_get c.parties i ≡ Some p → Says c stages.Forgetting p
+forgetting_says : (c : Course) (fixed : Outcome) → outcome c ≡ Some fixed → next_told (decides_alone c) fixed c.parties ≡ None → may_forget c fixed ≡ true
+    → (i : ℕ) (p : Party) → next_forgetting c.parties ≡ Some i → slice_get c.parties i ≡ Some p → Says c stages.Forgetting i p
 unfolding next_forgetting
-forgetting_says c i p e there = and_right (is_none p.forgot) (has_raised p) (passes is_unforgotten c.parties i p e there)
+forgetting_says c fixed is told may i p e there =
+    let both = passes is_unforgotten c.parties i p e there in
+    record {
+      fixed = fixed;
+      ends = is;
+      all_told = told;
+      may = may;
+      raised = and_right (is_none p.forgot) (has_raised p) both;
+      untold = none_is p.forgot (and_left (is_none p.forgot) (has_raised p) both);
+    }
 
 -- the same of the errand that it is
 abbrev pub Tells : Course → Errand → Type 0
-Tells c e = (p : Party) → slice_get c.parties e.place ≡ Some p → Says c e.stage p
+Tells c e = (p : Party) → slice_get c.parties e.place ≡ Some p → Says c e.stage e.place p
 
-at_tells : (c : Course) (stage : Stage) (o : Option ℕ) → ((i : ℕ) → o ≡ Some i → (p : Party) → slice_get c.parties i ≡ Some p → Says c stage p)
+at_tells : (c : Course) (stage : Stage) (o : Option ℕ) → ((i : ℕ) → o ≡ Some i → (p : Party) → slice_get c.parties i ≡ Some p → Says c stage i p)
     → (e : Errand) → errand_at stage o ≡ Some e → Tells c e
 at_tells c stage None says e h = absurd (cc (h))
 at_tells c stage (Some i) says e h = subst (Tells c) (same_Some (record { stage = stage; place = i }) e h) (says i refl)
 
-may_tells : (c : Course) (b : Bool) (e : Errand) → (if b then errand_at stages.Forgetting (next_forgetting c.parties) else None) ≡ Some e → Tells c e
-may_tells c true e h = at_tells c stages.Forgetting (next_forgetting c.parties) (λ i is p. forgetting_says c i p is) e h
-may_tells c false e h = absurd (cc (h))
+may_tells : (c : Course) (fixed : Outcome) → outcome c ≡ Some fixed → next_told (decides_alone c) fixed c.parties ≡ None
+    → (b : Bool) → may_forget c fixed ≡ b → (e : Errand) → (if b then errand_at stages.Forgetting (next_forgetting c.parties) else None) ≡ Some e → Tells c e
+may_tells c fixed is told true may e h = at_tells c stages.Forgetting (next_forgetting c.parties) (λ i next p. forgetting_says c fixed is told may i p next) e h
+may_tells c fixed is told false may e h = absurd (cc (h))
 
 telling_tells : (c : Course) (fixed : Outcome) → outcome c ≡ Some fixed → (o : Option ℕ) → next_told (decides_alone c) fixed c.parties ≡ o → (e : Errand)
     → elim o [ Some place ↦ Some (record { stage = stages.Telling; place = place }) | None ↦ forgetting c fixed ] ≡ Some e → Tells c e
-telling_tells c fixed is None next e h = may_tells c (may_forget c fixed) e h
+telling_tells c fixed is None next e h = may_tells c fixed is next (may_forget c fixed) refl e h
 telling_tells c fixed is (Some i) next e h =
     at_tells c stages.Telling (Some i) (λ j same p. told_says c fixed j p is (next ∙ same)) e h
 
@@ -114,7 +137,7 @@ pub alone_is : (c : Course) → c.overtaken ≡ None → decides_alone c ≡ tru
 unfolding outcome
 alone_is c e a = rw (e, a) refl
 
-votes_is : (c : Course) → c.overtaken ≡ None → decides_alone c ≡ false → outcome c ≡ by_votes c
+pub votes_is : (c : Course) → c.overtaken ≡ None → decides_alone c ≡ false → outcome c ≡ by_votes c
 unfolding outcome
 votes_is c e a = rw (e, a) refl
 
@@ -152,13 +175,13 @@ by_first : (c : Course) → some_commit c ≡ true → (o : Option Party) → fi
 by_first c some None is h = let all = by_all c (all_consent c) refl some h in (is, all.0, all.1)
 by_first c some (Some q) is h = absurd (refuses_commit q.index q.ballot h)
 
-votes_rest : (c : Course) (place : ℕ) (p : Party) → IsCommit (outcome c) → slice_get c.parties place ≡ Some p → has_voted_commit p ≡ true
+votes_rest : (c : Course) (place : ℕ) (p : Party) → IsCommit (outcome c) → slice_get c.parties place ≡ Some p → has_voted_commit p ≡ true → p.told ≡ None
     → c.overtaken ≡ None → (b : Bool) → decides_alone c ≡ b → MayBeTold p c
-votes_rest c place p h there votes e true a =
+votes_rest c place p h there votes untold e true a =
     let unknown : outcome c ≡ Some outcomes.Unknown =
     alone_is c e a ∙ ap by_one (alone_first c place p a there) ∙ ap (option_map (by_answer p.index)) (voted_by p.ballot votes) in
     absurd (subst IsCommit unknown h)
-votes_rest c place p h there votes e false a =
+votes_rest c place p h there votes untold e false a =
     let some = some_votes c place p there votes in
     let known = by_first c some (first_refuser c.parties) refl (subst IsCommit (votes_is c e a) h) in
     let stands = known.2 in
@@ -168,28 +191,29 @@ votes_rest c place p h there votes e false a =
       place = stands.place;
       stands = stands.stands;
       fixed = votes_is c e a ∙ rw (by_votes, known.0, known.1, some) stands.fixed;
+      untold = untold;
     }
 
-over_rest : (c : Course) (place : ℕ) (p : Party) → IsCommit (outcome c) → slice_get c.parties place ≡ Some p → has_voted_commit p ≡ true
+over_rest : (c : Course) (place : ℕ) (p : Party) → IsCommit (outcome c) → slice_get c.parties place ≡ Some p → has_voted_commit p ≡ true → p.told ≡ None
     → (o : Option Reason) → c.overtaken ≡ o → MayBeTold p c
-over_rest c place p h there votes (Some r) e = absurd (subst IsCommit (overtaken_ends c r e) h)
-over_rest c place p h there votes None e = votes_rest c place p h there votes e (decides_alone c) refl
+over_rest c place p h there votes untold (Some r) e = absurd (subst IsCommit (overtaken_ends c r e) h)
+over_rest c place p h there votes untold None e = votes_rest c place p h there votes untold e (decides_alone c) refl
 
 -- what the word that tells an outcome rests on
-told_rests : (c : Course) (place : ℕ) (p : Party) (fixed : Outcome) → outcome c ≡ Some fixed → is_told (decides_alone c) fixed p ≡ true → slice_get c.parties place ≡ Some p
-    → RestsOn (outcome_word (Some fixed)) p c
-told_rests c place p (outcomes.Commit basis) is told there = over_rest c place p (subst IsCommit (sym is) tt) there told c.overtaken refl
-told_rests c place p (outcomes.Rollback reason) is told there = subst IsRollback (sym is) tt
-told_rests c place p outcomes.Unknown is told there = absurd (cc (told))
+told_rests : (c : Course) (place : ℕ) (p : Party) (fixed : Outcome) → outcome c ≡ Some fixed → is_told (decides_alone c) fixed p ≡ true → p.told ≡ None → slice_get c.parties place ≡ Some p
+    → RestsOn (outcome_word (Some fixed)) place p c
+told_rests c place p (outcomes.Commit basis) is told untold there = over_rest c place p (subst IsCommit (sym is) tt) there told untold c.overtaken refl
+told_rests c place p (outcomes.Rollback reason) is told untold there = record { fixed = subst IsRollback (sym is) tt; hears = told; untold = untold }
+told_rests c place p outcomes.Unknown is told untold there = absurd (cc (told))
 
-asked_rests : (c : Course) (p : Party) → MayBeAsked p c → (b : Bool) → decides_alone c ≡ b → RestsOn (first_word b) p c
-asked_rests c p may true a = (may, a)
-asked_rests c p may false a = may
+asked_rests : (c : Course) (place : ℕ) (p : Party) → MayBeAsked place p c → (b : Bool) → decides_alone c ≡ b → RestsOn (first_word b) place p c
+asked_rests c place p may true a = (may, a)
+asked_rests c place p may false a = may
 
-rests : (c : Course) (place : ℕ) (p : Party) (stage : Stage) → Says c stage p → slice_get c.parties place ≡ Some p → RestsOn (word_of c stage) p c
-rests c place p stages.Asking says there = asked_rests c p says (decides_alone c) refl
+rests : (c : Course) (place : ℕ) (p : Party) (stage : Stage) → Says c stage place p → slice_get c.parties place ≡ Some p → RestsOn (word_of c stage) place p c
+rests c place p stages.Asking says there = asked_rests c place p says (decides_alone c) refl
 rests c place p stages.Telling says there =
-    subst (λ o. RestsOn (outcome_word o) p c) (sym says.1) (told_rests c place p says.0 says.1 says.2 there)
+    subst (λ o. RestsOn (outcome_word o) place p c) (sym says.ends) (told_rests c place p says.fixed says.ends says.told says.untold there)
 rests c place p stages.Forgetting says there = says
 
 to_party : (c : Course) (e : Errand) → Tells c e → (x : Option Party) → slice_get c.parties e.place ≡ x → (o : Outward)
@@ -202,6 +226,7 @@ to_party c e tells (Some p) there o h = subst (λ q. GoesRightly q c) (same_Some
   registration = refl;
   reference = refl;
   number = refl;
+  receipt = refl;
   rests = rests c e.place p e.stage (tells p there) there;
 })
 

@@ -13,11 +13,11 @@ use Rattle.ots_model.specs.declared.tree.Outcome.{Outcome}
 use Rattle.ots_model.specs.declared.tree.Outcome.TheVariants as outcomes
 use Rattle.ots_model.specs.declared.tree.Reason.{Reason}
 use Rattle.two_phase.specs.Poll.{same_number, consents}
-use Rattle.two_phase.specs.Course.{Course, decides_alone, all_consent, some_commit, first_refuser, by_refusal, by_record, by_one, outcome, errand, after_next, answered, heard_at, wants_decision, after_decided, is_unsure, is_doubtful, after_reread, may_roll_back, after_rollback}
+use Rattle.two_phase.specs.Course.{Course, decides_alone, all_consent, some_commit, first_refuser, by_refusal, by_record, by_one, outcome, errand, after_next, answered, heard_at, wants_decision, after_decided, is_unsure, is_doubtful, after_reread, is_outside, may_roll_back, after_rollback}
 use Rattle.two_phase.specs.CourseInside.{IsOpen, answer_at}
 use Rattle.two_phase.specs.LawsOfReached.{TreeBecomes, IsReached}
 use Rattle.two_phase.specs.LawsOfReached.TreeBecomes.{by_word, by_answer, by_record as by_stood, by_reread as by_found, by_rollback}
-use Rattle.two_phase.specs.LawsOfReached.IsReached.{begins, goes_on}
+use Rattle.two_phase.specs.LawsOfReached.IsReached.{begins, rolls_back, goes_on}
 use Rattle.two_phase.specs.Parties.{has_consented, has_refused, has_voted_commit}
 use Rattle.two_phase.specs.declared.party.Party.{Party}
 use Rattle.two_phase.specs.declared.party.Stage.{Stage}
@@ -25,7 +25,7 @@ use Rattle.two_phase.specs.declared.party.Stage.TheVariants as stages
 use Rattle.two_phase.specs.declared.party.Errand.{Errand}
 use Rattle.two_phase.proofs.Answered.{opened, heard_is}
 use Rattle.two_phase.proofs.Opened.{errand_open}
-use Rattle.two_phase.proofs.Rests.{Says, errand_tells}
+use Rattle.two_phase.proofs.Rests.{and_right, Says, errand_tells}
 
 -- the outcome, by what it follows from
 abbrev value : Option Reason → Bool → Option Outcome → Option (Option Outcome) → Bool → Bool → Option Outcome → Option Outcome
@@ -155,7 +155,7 @@ open_errand c (Some e) is = errand_open c e is
 undecided : (c : Course) (e : Errand) → errand c ≡ Some e → e.stage ≡ stages.Asking → outcome c ≡ None
 undecided c e is asks =
     let o = opened c.parties e (slice_get c.parties e.place) refl (errand_open c e is) in
-    (subst (λ stage. Says c stage o.0) asks (errand_tells c e is o.0 o.1)).undecided
+    (subst (λ stage. Says c stage e.place o.0) asks (errand_tells c e is o.0 o.1)).undecided
 
 goes_word : (c : Course) → Goes c → Goes (after_next c)
 goes_word c g = if_case Goes (is_some c.out) c (record c { out = errand c }) (λ _. g) (record {
@@ -219,7 +219,7 @@ nothing_out : (e : Errand) (A : Type 0) → None ≡ Some e → A
 nothing_out e A h = absurd (cc (h))
 
 goes_rollback : (c : Course) (reason : Reason) → Goes c → Goes (after_rollback reason c)
-goes_rollback c reason g = if_case Goes (may_roll_back c) _ c (λ may. record {
+goes_rollback c reason g = if_case Goes (is_outside reason && may_roll_back c) _ c (λ may. record {
   unheard = tt;
   asking = λ e is asks. nothing_out e _ is;
 }) g
@@ -240,6 +240,7 @@ goes_becomes _ _ (by_rollback c reason) g = goes_rollback c reason g
 
 pub goes : (c : Course) → IsReached c → Goes c
 goes _ (begins participants asked first one_phase) = record { unheard = tt; asking = λ e is asks. nothing_out e _ is }
+goes _ (rolls_back participants asked first one_phase reason) = record { unheard = tt; asking = λ e is asks. nothing_out e _ is }
 goes _ (goes_on c later r b) = goes_becomes c later b (goes c r)
 
 stays_heard : (c : Course) (fixed : Outcome) → Goes c → outcome c ≡ Some fixed → (n : CallNumber) (h : Heard) (o : Option Errand) → c.out ≡ o
@@ -292,7 +293,8 @@ first_true true b d h = refl
 first_true false b d h = absurd (cc (h))
 
 stays_rollback : (c : Course) (fixed : Outcome) (reason : Reason) → outcome c ≡ Some fixed → outcome (after_rollback reason c) ≡ Some fixed
-stays_rollback c fixed reason is = if_case (λ x. outcome x ≡ Some fixed) (may_roll_back c) _ c (λ may.
+stays_rollback c fixed reason is = if_case (λ x. outcome x ≡ Some fixed) (is_outside reason && may_roll_back c) _ c (λ both.
+    let may = and_right (is_outside reason) (may_roll_back c) both in
     let open_still : is_none (outcome c) ≡ true = first_true (is_none (outcome c)) _ _ may in
     let never : false ≡ true = ap is_none (sym is) ∙ open_still in
     absurd (cc (never))) is

@@ -57,6 +57,22 @@ begun participants asked first one_phase = record {
   reread = None;
 }
 
+-- a reason that comes from outside: neither an answer nor the record gives it
+abbrev pub is_outside : Reason → Bool
+is_outside reasons.Asked = true
+is_outside reasons.Marked = true
+is_outside reasons.Timeout = true
+is_outside (reasons.SyncLost sync) = true
+is_outside (reasons.SyncStarved sync) = true
+is_outside reasons.Superior = true
+is_outside reasons.NotEnlisted = true
+is_outside _ = false
+
+-- a completion that begins with a rollback from outside, so nobody is asked
+abbrev pub begun_rollback : List Registration → Bool → CallNumber → Bool → Reason → Course
+begun_rollback participants asked first one_phase reason =
+    record (begun participants asked first one_phase) { overtaken = if is_outside reason then Some reason else None }
+
 -- there is a single participant, which is to decide alone
 abbrev pub decides_alone : Course → Bool
 decides_alone c = c.one_phase && length c.parties == 1
@@ -256,7 +272,7 @@ overtaken_number c = if is_some c.out then following c.number else c.number
 
 abbrev pub after_rollback : Reason → Course → Course
 after_rollback reason c =
-    if may_roll_back c then record c { overtaken = Some reason; out = None; number = overtaken_number c } else c
+    if is_outside reason && may_roll_back c then record c { overtaken = Some reason; out = None; number = overtaken_number c } else c
 
 -- the decision record names the registrations that have voted commit
 abbrev pub is_named : Course → ℕ → Bool

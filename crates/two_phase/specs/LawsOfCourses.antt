@@ -10,38 +10,55 @@ use Rattle.ots_model.specs.declared.tree.Word.TheVariants as words
 use Rattle.ots_model.specs.declared.tree.Outcome.{Outcome}
 use Rattle.ots_model.specs.declared.tree.Outcome.TheVariants.{Commit, Rollback}
 use Rattle.ots_model.specs.declared.tree.Outward.{Outward}
-use Rattle.two_phase.specs.Course.{Course, all_consent, decides_alone, outcome, next_word, record_place}
-use Rattle.two_phase.specs.Parties.{has_raised}
+use Rattle.two_phase.specs.Course.{Course, all_consent, decides_alone, outcome, next_word, record_place, receipt_of, next_asked, next_told, may_forget}
+use Rattle.two_phase.specs.Parties.{has_raised, hears_rollback}
 use Rattle.two_phase.specs.declared.party.Party.{Party}
 
--- commit is told: each participant has consented, this one by VoteCommit, a record stands, and the outcome is commit by it
+-- commit is told once: each participant has consented, this one by VoteCommit, a record stands, and the outcome is commit by it
 pub record MayBeTold (p : Party) (c : Course) : Type 0 where
   pub consent : all_consent c ≡ true
   pub voted : p.ballot ≡ Some (Voted VoteCommit)
   pub place : ℕ
   pub stands : record_place c.stood c.reread ≡ Some place
   pub fixed : outcome c ≡ Some (Commit Record)
+  pub untold : p.told ≡ None
 
 -- the outcome is rollback
 abbrev pub IsRollback : Option Outcome → Type 0
 IsRollback (Some (Rollback reason)) = Unit {0}
 IsRollback _ = ⊥
 
--- a participant is asked while the outcome is open, and hasn't answered
-pub record MayBeAsked (p : Party) (c : Course) : Type 0 where
+-- rollback is told once: the outcome is rollback, and this participant hears it
+pub record MayBeRolledBack (p : Party) (c : Course) : Type 0 where
+  pub fixed : IsRollback (outcome c)
+  pub hears : hears_rollback (decides_alone c) p.ballot ≡ true
+  pub untold : p.told ≡ None
+
+-- a participant is asked while the outcome is open: the first one in the list that hasn't answered
+pub record MayBeAsked (place : ℕ) (p : Party) (c : Course) : Type 0 where
   pub undecided : outcome c ≡ None
   pub unanswered : p.ballot ≡ None
+  pub first : next_asked c.parties ≡ Some place
 
--- what a word to a participant rests on: no other word goes out
-abbrev pub RestsOn : Word → Party → Course → Type 0
-RestsOn words.Prepare p c = MayBeAsked p c
-RestsOn words.CommitOnePhase p c = MayBeAsked p c × (decides_alone c ≡ true)
-RestsOn words.Commit p c = MayBeTold p c
-RestsOn words.Rollback p c = IsRollback (outcome c)
-RestsOn words.Forget p c = has_raised p ≡ true
-RestsOn _ p c = ⊥
+-- forget is told once: to one that has raised a heuristic exception, where all were told the outcome and it lets forget go out
+pub record MayForget (p : Party) (c : Course) : Type 0 where
+  pub fixed : Outcome
+  pub ends : outcome c ≡ Some fixed
+  pub all_told : next_told (decides_alone c) fixed c.parties ≡ None
+  pub may : may_forget c fixed ≡ true
+  pub raised : has_raised p ≡ true
+  pub untold : p.forgot ≡ None
 
--- a word goes to one of the participants, with the next number
+-- what a word to the participant at this place rests on: no other word goes out
+abbrev pub RestsOn : Word → ℕ → Party → Course → Type 0
+RestsOn words.Prepare place p c = MayBeAsked place p c
+RestsOn words.CommitOnePhase place p c = MayBeAsked place p c × (decides_alone c ≡ true)
+RestsOn words.Commit place p c = MayBeTold p c
+RestsOn words.Rollback place p c = MayBeRolledBack p c
+RestsOn words.Forget place p c = MayForget p c
+RestsOn _ place p c = ⊥
+
+-- a word goes to one of the participants, with the next number, and a commit word with the record that stands
 pub record GoesRightly (o : Outward) (c : Course) : Type 0 where
   pub place : ℕ
   pub party : Party
@@ -49,7 +66,8 @@ pub record GoesRightly (o : Outward) (c : Course) : Type 0 where
   pub registration : o.registration ≡ party.index
   pub reference : o.to ≡ party.to
   pub number : o.number ≡ c.number
-  pub rests : RestsOn o.word party c
+  pub receipt : o.receipt ≡ receipt_of o.word (record_place c.stood c.reread) party.index
+  pub rests : RestsOn o.word place party c
 
 -- each word that goes out goes rightly
 abbrev pub TreeWordsGoRightly : Type 0

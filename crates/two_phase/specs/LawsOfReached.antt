@@ -10,7 +10,7 @@ use Rattle.ots_model.specs.declared.tree.Outward.{Outward}
 use Rattle.ots_model.specs.declared.tree.Word.{Word}
 use Rattle.ots_model.specs.declared.tree.Word.TheVariants as words
 use Rattle.resource_votes.specs.declared.registration.Registration.{Registration}
-use Rattle.two_phase.specs.Course.{Course, begun, outcome, next_word, after_next, after_answer, after_decided, after_reread, after_rollback}
+use Rattle.two_phase.specs.Course.{Course, begun, begun_rollback, outcome, next_word, after_next, after_answer, after_decided, after_reread, after_rollback}
 
 -- what a completion becomes: a word goes out, an answer comes, the journal answers, a reread tells, or it is rolled back from
 -- outside
@@ -21,9 +21,10 @@ pub data TreeBecomes : Course → Course → Type 0 where
   by_reread : (c : Course) (found : Option ℕ) → TreeBecomes c (after_reread found c)
   by_rollback : (c : Course) (reason : Reason) → TreeBecomes c (after_rollback reason c)
 
--- the completions that there are: one that begins, and what it becomes
+-- the completions that there are: one that begins, by asking or by rolling back, and what it becomes
 pub data IsReached : Course → Type 0 where
   begins : (participants : List Registration) (asked : Bool) (first : CallNumber) (one_phase : Bool) → IsReached (begun participants asked first one_phase)
+  rolls_back : (participants : List Registration) (asked : Bool) (first : CallNumber) (one_phase : Bool) (reason : Reason) → IsReached (begun_rollback participants asked first one_phase reason)
   goes_on : (c later : Course) → IsReached c → TreeBecomes c later → IsReached later
 
 -- an outcome that is fixed stays

@@ -16,3 +16,4 @@ pub mod Stages
 pub mod StandingInside
 pub mod LawsOfCourses
 pub mod LawsOfReached
+pub mod LawsOfOutcomes

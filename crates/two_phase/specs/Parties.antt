@@ -116,7 +116,7 @@ lets_go hears.Done = true
 lets_go hears.NoObject = true
 lets_go _ = false
 
--- what it is still owed after a commit: the commit, as long as it has voted so and hasn't completed; forget, as long as it
+-- what it is still owed: the commit, as long as it has voted so and hasn't completed; forget, as long as it
 -- has raised a heuristic exception and may keep its outcome
 abbrev pub is_owed : Stage → Party → Bool
 is_owed stages.Asking p = false

@@ -1,6 +1,6 @@
 -- What a completion reports: what became of the updates and what that makes together (exceptions HeuristicMixed and
 -- HeuristicHazard of module CosTransactions), whether all have completed, and what is still to be told after a commit.
-use Rattle.std.specs.Prelude.{ℕ, Bool, true, false, not, ◌&&◌, List, [], map, filter, Option, Some, None, if◌then◌else◌}
+use Rattle.std.specs.Prelude.{ℕ, Bool, true, false, not, ◌&&◌, ◌||◌, List, [], map, filter, Option, Some, None, if◌then◌else◌}
 use Rattle.std.specs.List.{flat_map, list_all, list_any}
 use Rattle.ots_model.specs.declared.line.Decision.{Decision}
 use Rattle.ots_model.specs.declared.line.Decision.TheVariants.{Commit, Rollback}
@@ -10,7 +10,7 @@ use Rattle.ots_model.specs.declared.service.Join.TheVariants as joins
 use Rattle.ots_model.specs.declared.tree.Outcome.{Outcome}
 use Rattle.ots_model.specs.declared.tree.Outcome.TheVariants as outcomes
 use Rattle.heuristic_join.specs.Join.{join_root, join_sub}
-use Rattle.two_phase.specs.Course.{Course, decides_alone, outcome}
+use Rattle.two_phase.specs.Course.{Course, decides_alone, outcome, waits_for_superior}
 use Rattle.two_phase.specs.Parties.{dispositions_of, is_through, is_owed}
 use Rattle.two_phase.specs.declared.party.Party.{Party}
 use Rattle.two_phase.specs.declared.party.Stage.{Stage}
@@ -75,13 +75,18 @@ abbrev pub is_commit : Option Outcome → Bool
 is_commit (Some (outcomes.Commit basis)) = true
 is_commit _ = false
 
--- nothing is owed where it isn't
-abbrev pub owed_by : Stage → Option Outcome → List Party → List ℕ
-owed_by stage fixed parties = if is_commit fixed then owed_numbers stage parties else []
+-- whether a word of this stage may be owed: after a commit, and a forget also where a superior tells it
+abbrev pub may_owe : Stage → Course → Bool
+may_owe stages.Forgetting c = is_commit (outcome c) || waits_for_superior c
+may_owe _ c = is_commit (outcome c)
+
+-- nothing is owed where it may not
+abbrev pub owed_by : Stage → Course → List ℕ
+owed_by stage c = if may_owe stage c then owed_numbers stage c.parties else []
 
 -- who is still to be told to commit, and who to forget
 abbrev pub pending_commits : Course → List ℕ
-pending_commits c = owed_by stages.Telling (outcome c) c.parties
+pending_commits c = owed_by stages.Telling c
 
 abbrev pub pending_forgets : Course → List ℕ
-pending_forgets c = owed_by stages.Forgetting (outcome c) c.parties
+pending_forgets c = owed_by stages.Forgetting c

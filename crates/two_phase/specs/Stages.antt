@@ -23,6 +23,10 @@ pub data Standing : Type 0 where
 abbrev pub started : List Registration → Bool → CallNumber → Bool → Standing
 started participants asked first one_phase = Going (course.begun participants asked first one_phase)
 
+-- it begins with a rollback from outside
+abbrev pub started_rollback : List Registration → Bool → CallNumber → Bool → Reason → Standing
+started_rollback participants asked first one_phase reason = Going (course.begun_rollback participants asked first one_phase reason)
+
 -- it hasn't started, and has room for so many participants
 abbrev pub HasRoom : Standing → ℕ → Type 0
 HasRoom (Waiting room) n = n ≤ room

@@ -1,13 +1,14 @@
-ghost use Rattle.std.specs.Prelude.{◌≡◌, ◌≢◌, ℕ, ◌^◌, ◌<◌, ◌≤◌, ◌++◌, length, IsTrue, IsOk, IfOk, OnOk, OnErr};
+ghost use Rattle.std.specs.Prelude.{◌≡◌, ◌≢◌, ℕ, ◌^◌, ◌<◌, ◌≤◌, ◌++◌, ◌+◌, length, IsTrue, IsOk, IfOk, OnOk, OnErr, vec_len, vec_capacity};
 ghost use Rattle.std.specs.Option.{SomeIff};
 ghost use Rattle.ots_model.specs.Heard.{of_participant};
+ghost use Rattle.ots_model.specs.Limits.{registration_limit};
 ghost use Rattle.ots_model.specs.declared.completion.Heard.TheVariants.{Lost};
 ghost use Rattle.resource_votes.specs.Limits.{list_count};
 ghost use Rattle.resource_votes.specs.Ballots.{participants};
 ghost use Rattle.two_phase.specs.Stages as stages;
 ghost use Rattle.two_phase.specs.Stages.{Waiting, HasRoom, IsGoing};
 
-use crate::course::Course;
+use crate::course::{Course, is_outside};
 use crate::dispositions::Dispositions;
 use crate::party::Stage;
 use crate::stock::Stock;
@@ -57,6 +58,7 @@ impl Completion {
     pub fn reserve(&mut self, participants: u32) -> Result<(), AllocError>
         ensures ok { OnOk result (self.new ≡ stages.after_reserve participants self.old) }
         ensures err { OnErr result (self.new ≡ self.old) }
+        ensures there { HasRoom self.old participants → IsOk result }
         ensures under_way { IsGoing self.old → IsOk result }
     {
         match &mut self.state {
@@ -65,8 +67,9 @@ impl Completion {
         }
     }
 
-    /// Begins. It needs no memory. `first` is the number of the first word. Where `one_phase` is false a single
-    /// participant is sent prepare as well.
+    /// Begins. It needs no memory. `first` is the number of the first word. Where `one_phase` is false this is the
+    /// completion of a subordinate: a single participant is sent prepare as well, and forget waits for the superior's
+    /// where a record stands.
     pub fn start(
         &mut self,
         votes: &Votes,
@@ -84,7 +87,34 @@ impl Completion {
         if let Standing::Waiting(stock) = &mut self.state {
             let stock = stock.take();
             let walk = votes.participants(top);
-            self.state = Standing::Going(Course::begin(stock, walk, asked, first, one_phase));
+            self.state = Standing::Going(Course::begin(stock, walk, asked, first, one_phase, None));
+        }
+    }
+
+    /// Begins with a rollback for a reason from outside, as that of a transaction that was never asked to commit: nobody is
+    /// asked, and each participant is told. It needs no memory. With any other reason it begins as `start` has it.
+    pub fn start_rollback(
+        &mut self,
+        votes: &Votes,
+        top: u32,
+        asked: bool,
+        first: CallNumber,
+        one_phase: bool,
+        reason: Reason,
+    )
+        requires there { top < list_count }
+        requires room { HasRoom self.old (length (participants top votes.now.ballots)) }
+        requires serial { first.serial < 2 ^ 31 }
+        ensures started { self.new
+            ≡ stages.started_rollback (participants top votes.now.ballots) asked first one_phase reason }
+    {
+        if let Standing::Waiting(stock) = &mut self.state {
+            let stock = stock.take();
+            let walk = votes.participants(top);
+            let reason = is_outside(reason).then_some(reason);
+            self.state = Standing::Going(Course::begin(
+                stock, walk, asked, first, one_phase, reason,
+            ));
         }
     }
 
@@ -109,7 +139,7 @@ impl Completion {
     }
 
     /// The word that goes out next. There is none while one is out, while a decision is wanted or nobody knows whether it
-    /// stands, and at the end.
+    /// stands, while forget waits for those that have not completed or for the superior, and at the end.
     pub fn next(&mut self) -> Option<Outward>
         ensures word { result ≡ stages.next_word self.old }
         ensures after { self.new ≡ stages.after_next self.old }
@@ -148,7 +178,9 @@ impl Completion {
         }
     }
 
-    /// What the journal answered to the decision record. Where no decision is wanted, this changes nothing.
+    /// What the journal answered to the decision record. Where no decision is wanted, this changes nothing. A subordinate
+    /// decides by its superior's word: that its own record stands is told once the superior has committed, and that it is
+    /// in doubt only where a reread has found none.
     pub fn decided(&mut self, stood: Stood)
         ensures after { self.new ≡ stages.after_decided stood self.old }
     {
@@ -178,8 +210,8 @@ impl Completion {
     }
 
     /// Rolls back for a reason from outside, as the client's rollback, a mark, or the superior's word. The word that is out
-    /// is heard no more. Where the outcome is fixed, the journal was asked, or the only participant was told to decide, this
-    /// changes nothing.
+    /// is heard no more. Where the outcome is fixed, as it is from the start where nobody takes part, the journal was asked,
+    /// the only participant was told to decide, or the reason is none from outside, this changes nothing.
     pub fn roll_back(&mut self, reason: Reason)
         ensures after { self.new ≡ stages.after_rollback reason self.old }
     {
@@ -286,6 +318,8 @@ impl Completion {
     pub fn pending_commits(&self, into: &mut Vec<u32>) -> Result<(), AllocError>
         ensures ok { OnOk result (into.new.items ≡ into.old.items ++ stages.pending_commits self.now) }
         ensures err { OnErr result (into.new.items ≡ into.old.items) }
+        ensures reserved { vec_len into.old + registration_limit ≤ vec_capacity into.old → IsOk result }
+        ensures capacity { vec_capacity into.old ≤ vec_capacity into.new }
     {
         match &self.state {
             Standing::Waiting(_) => Ok(()),
@@ -294,10 +328,13 @@ impl Completion {
     }
 
     /// Appends the registrations that are still to be told to forget, in list order: each that has raised a heuristic
-    /// exception and hasn't answered forget plainly or by OBJECT_NOT_EXIST. There are none where the outcome isn't commit.
+    /// exception and hasn't answered forget plainly or by OBJECT_NOT_EXIST. Where the outcome isn't commit there are only
+    /// those whose forget waits for the superior's.
     pub fn pending_forgets(&self, into: &mut Vec<u32>) -> Result<(), AllocError>
         ensures ok { OnOk result (into.new.items ≡ into.old.items ++ stages.pending_forgets self.now) }
         ensures err { OnErr result (into.new.items ≡ into.old.items) }
+        ensures reserved { vec_len into.old + registration_limit ≤ vec_capacity into.old → IsOk result }
+        ensures capacity { vec_capacity into.old ≤ vec_capacity into.new }
     {
         match &self.state {
             Standing::Waiting(_) => Ok(()),

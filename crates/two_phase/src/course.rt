@@ -1,5 +1,5 @@
 // The completion of a tree of transactions, under way.
-ghost use Rattle.std.specs.Prelude.{◌≡◌, ℕ, ◌+◌, ◌^◌, ◌<◌, ◌≤◌, ◌++◌, length, None, Some, IfSome, OnOk, OnErr, vec_len, vec_capacity};
+ghost use Rattle.std.specs.Prelude.{◌≡◌, ℕ, ◌+◌, ◌^◌, ◌<◌, ◌≤◌, ◌++◌, length, None, Some, IfSome, IsOk, OnOk, OnErr, vec_len, vec_capacity};
 ghost use Rattle.std.specs.Option.{option_copied, option_map, option_to_list};
 ghost use Rattle.std.specs.List.{slice_get};
 ghost use Rattle.ots_model.specs.Limits.{registration_limit};
@@ -45,18 +45,21 @@ impl Model for Course {
 }
 
 impl Course {
-    /// Begins, with participants that have answered nothing. It needs no memory.
+    /// Begins, with participants that have answered nothing; where there is a reason, by rolling back. It needs no
+    /// memory.
     pub fn begin(
         stock: Stock,
         walk: Walk<'_>,
         asked: bool,
         first: CallNumber,
         one_phase: bool,
+        overtaken: Option<Reason>,
     ) -> Course
         requires room { length walk ≤ stock }
         requires few { length walk ≤ registration_limit }
         requires serial { first.serial < 2 ^ 31 }
-        ensures { result ≡ course.begun walk.entry asked first one_phase }
+        ensures { result
+            ≡ record (course.begun walk.entry asked first one_phase) { overtaken = overtaken } }
     {
         let Stock {
             size: _,
@@ -70,7 +73,7 @@ impl Course {
             one_phase,
             number: first,
             out: None,
-            overtaken: None,
+            overtaken,
             stood: None,
             reread: None,
             blanks,
@@ -86,8 +89,9 @@ impl Course {
         if self.out.is_some() {
             return None;
         }
-        let errand = self.errand()?;
-        let word = self.word_of(errand.stage);
+        let fixed = self.outcome();
+        let errand = self.errand(fixed)?;
+        let word = self.word_of(errand.stage, fixed);
         Some(self.send(errand, word))
     }
 
@@ -168,7 +172,7 @@ impl Course {
     pub fn roll_back(&mut self, reason: Reason)
         ensures { self.new ≡ course.after_rollback reason self.old }
     {
-        if !self.may_roll_back() {
+        if !is_outside(reason) || !self.may_roll_back() {
             return;
         }
         let number = self.overtaken_number();
@@ -287,17 +291,28 @@ impl Course {
         self.all_completed() && !some_owed(Stage::Forgetting, &self.parties)
     }
 
-    /// Appends the numbers of those that are owed a word of this stage, where the outcome is commit.
+    /// Appends the numbers of those that are owed a word of this stage.
     pub fn add_owed(&self, stage: Stage, into: &mut Vec<u32>) -> Result<(), AllocError>
-        ensures ok { OnOk result (into.new.items
-            ≡ into.old.items ++ reports.owed_by stage (course.outcome self.now) (self.now).parties) }
+        ensures ok { OnOk result (into.new.items ≡ into.old.items ++ reports.owed_by stage self.now) }
         ensures err { OnErr result (into.new.items ≡ into.old.items) }
+        ensures reserved { vec_len into.old + registration_limit ≤ vec_capacity into.old → IsOk result }
+        ensures capacity { vec_capacity into.old ≤ vec_capacity into.new }
     {
-        if is_commit(self.outcome()) {
-            into.reserve(self.parties.len())?;
+        if self.may_owe(stage) {
+            make_room(self.parties.len(), into)?;
             add_owed_numbers(stage, &self.parties, into);
         }
         Ok(())
+    }
+
+    /// Whether a word of this stage may be owed.
+    fn may_owe(&self, stage: Stage) -> bool
+        ensures { result ≡ reports.may_owe stage self.now }
+    {
+        match stage {
+            Stage::Forgetting => is_commit(self.outcome()) || self.waits_for_superior(),
+            Stage::Asking | Stage::Telling => is_commit(self.outcome()),
+        }
     }
 
     /// Whether there is a single participant, which is to decide alone.
@@ -323,12 +338,13 @@ impl Course {
         self.parties.iter().any(|p| p.has_voted_commit())
     }
 
-    /// Who is sent a word next.
+    /// Who is sent a word next, where this is the outcome.
     #[tactic(auto, unfolding(crate::specs::Course::errand))]
-    fn errand(&self) -> Option<Errand>
+    fn errand(&self, fixed: Option<Outcome>) -> Option<Errand>
+        requires { fixed ≡ course.outcome self.now }
         ensures { result ≡ course.errand self.now }
     {
-        match self.outcome() {
+        match fixed {
             Some(fixed) => self.telling(fixed),
             None => self.asking(),
         }
@@ -395,13 +411,14 @@ impl Course {
         self.overtaken.is_some() && self.all_consent() && self.some_commit()
     }
 
-    /// The word of a stage.
-    fn word_of(&self, stage: Stage) -> Word
+    /// The word of a stage, where this is the outcome.
+    fn word_of(&self, stage: Stage, fixed: Option<Outcome>) -> Word
+        requires { fixed ≡ course.outcome self.now }
         ensures { result ≡ course.word_of self.now stage }
     {
         match stage {
             Stage::Asking => first_word(self.decides_alone()),
-            Stage::Telling => outcome_word(self.outcome()),
+            Stage::Telling => outcome_word(fixed),
             Stage::Forgetting => Word::Forget,
         }
     }
@@ -475,6 +492,22 @@ fn next_forgetting(parties: &[Party]) -> Option<usize>
     parties.iter().position(|p| p.is_unforgotten())
 }
 
+/// Whether a reason comes from outside.
+pub(crate) fn is_outside(reason: Reason) -> bool
+    ensures { result ≡ course.is_outside reason }
+{
+    matches!(
+        reason,
+        Reason::Asked
+            | Reason::Marked
+            | Reason::Timeout
+            | Reason::SyncLost(_)
+            | Reason::SyncStarved(_)
+            | Reason::Superior
+            | Reason::NotEnlisted
+    )
+}
+
 /// What is decided by an outcome.
 fn decision_by(outcome: Option<Outcome>) -> Decision
     ensures { result ≡ reports.decision_by outcome }
@@ -532,11 +565,25 @@ fn some_owed(stage: Stage, parties: &[Party]) -> bool
     parties.iter().any(|p| p.is_owed(stage))
 }
 
+/// Takes memory for so many more numbers, where there is none yet.
+fn make_room(count: usize, into: &mut Vec<u32>) -> Result<(), AllocError>
+    ensures ok { OnOk result (vec_len into.new + count ≤ vec_capacity into.new) }
+    ensures same { into.new.items ≡ into.old.items }
+    ensures reserved { vec_len into.old + count ≤ vec_capacity into.old → IsOk result }
+    ensures capacity { vec_capacity into.old ≤ vec_capacity into.new }
+{
+    if into.capacity() - into.len() < count {
+        into.reserve(count)?;
+    }
+    Ok(())
+}
+
 /// Appends the numbers of those that are owed a word of this stage. It needs no memory.
 #[tactic(auto, unfolding(crate::specs::Reports::owed_numbers))]
 fn add_owed_numbers(stage: Stage, parties: &[Party], into: &mut Vec<u32>)
     requires room { vec_len into.old + length parties.now ≤ vec_capacity into.old }
-    ensures { into.new.items ≡ into.old.items ++ reports.owed_numbers stage parties.now }
+    ensures numbers { into.new.items ≡ into.old.items ++ reports.owed_numbers stage parties.now }
+    ensures capacity { vec_capacity into.new ≡ vec_capacity into.old }
 {
     for party in parties {
         if party.is_owed(stage) {

@@ -52,6 +52,7 @@ impl FlatCompletion {
             HasRoom self.new participants × HasRoom self.new room) }
         ensures reserved { OnOk result (self.new ≡ after_reserve participants self.old) }
         ensures err { OnErr result (self.new ≡ self.old) }
+        ensures there { HasRoom self.old participants → IsOk result }
         ensures under_way { IsPolling self.old → IsOk result × (self.new ≡ self.old) }
     {
         match &mut self.state {

@@ -1,5 +1,6 @@
 // Laws of the definitions: these functions do nothing, and their contracts are the laws.
 ghost use Rattle.two_phase.specs.LawsOfCourses.{TreeWordsGoRightly};
+ghost use Rattle.two_phase.specs.LawsOfOutcomes.{OutcomesHaveCauses};
 ghost use Rattle.two_phase.specs.LawsOfReached.{NoCommitAfterRollback, NoRollbackAfterCommit, TreeOutcomeStays};
 ghost use Rattle.two_phase.specs.LawsOfPolls.{OutcomeAwaitsAll, OutcomeStays, WordsGoRightly};
 
@@ -37,4 +38,11 @@ pub fn a_tree_outcome_stays()
 pub fn a_tree_goes_one_way()
     ensures commits { NoRollbackAfterCommit }
     ensures rolls_back { NoCommitAfterRollback }
+{}
+
+/// In a completion of a tree there stands behind each outcome what it names: the record and each consent, the answer of the
+/// only participant, or votes that are all read-only; and behind each reason of a rollback the answer, what the record
+/// came to, or that it came from outside.
+pub fn tree_outcomes_have_causes()
+    ensures { OutcomesHaveCauses }
 {}

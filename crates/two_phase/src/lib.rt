@@ -6,7 +6,7 @@ pub use dispositions::Dispositions;
 pub use flat_completion::FlatCompletion;
 pub use laws::{
     a_tree_goes_one_way, a_tree_outcome_stays, an_outcome_awaits_all, an_outcome_stays,
-    tree_words_go_rightly, words_go_rightly,
+    tree_outcomes_have_causes, tree_words_go_rightly, words_go_rightly,
 };
 
 mod completion;

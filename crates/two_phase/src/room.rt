@@ -1,5 +1,5 @@
 // Memory that was taken before a completion starts.
-ghost use Rattle.std.specs.Prelude.{◌≡◌, ℕ, ◌+◌, ◌*◌, ◌^◌, ◌<◌, ◌≤◌, [], ◌++◌, length, max, OnOk, OnErr, vec_len, vec_capacity};
+ghost use Rattle.std.specs.Prelude.{◌≡◌, ℕ, ◌+◌, ◌*◌, ◌^◌, ◌<◌, ◌≤◌, [], ◌++◌, length, max, IsOk, OnOk, OnErr, vec_len, vec_capacity};
 ghost use Rattle.ots_model.specs.Limits.{reference_limit};
 
 use crate::plan::{Plan, Planned};
@@ -98,6 +98,7 @@ impl Room {
     pub fn reserve(&mut self, participants: u32) -> Result<(), AllocError>
         ensures ok { OnOk result (self.new ≡ max self.old participants) }
         ensures err { OnErr result (self.new ≡ self.old) }
+        ensures there { participants ≤ self.old → IsOk result }
     {
         if participants <= self.size {
             return Ok(());

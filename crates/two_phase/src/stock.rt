@@ -1,5 +1,5 @@
 // Memory that was taken before the completion of a tree starts.
-ghost use Rattle.std.specs.Prelude.{◌≡◌, ℕ, ◌+◌, ◌*◌, ◌<◌, ◌≤◌, [], ◌++◌, length, map, max, OnOk, OnErr, vec_len, vec_capacity};
+ghost use Rattle.std.specs.Prelude.{◌≡◌, ℕ, ◌+◌, ◌*◌, ◌<◌, ◌≤◌, [], ◌++◌, length, map, max, IsOk, OnOk, OnErr, vec_len, vec_capacity};
 ghost use Rattle.two_phase.specs.Parties.{party_of};
 
 use crate::party::Party;
@@ -54,6 +54,7 @@ impl Stock {
     pub fn reserve(&mut self, participants: u32) -> Result<(), AllocError>
         ensures ok { OnOk result (self.new ≡ max self.old participants) }
         ensures err { OnErr result (self.new ≡ self.old) }
+        ensures there { participants ≤ self.old → IsOk result }
     {
         if participants <= self.size {
             return Ok(());

@@ -8,4 +8,5 @@ abbrev pub invariant-loop-party : goal.invariant-loop-party
 invariant-loop-party l = record {
   so_far : l.into.items ≡ l.initial.into.items ++ map (λ (p : Party). p.index) (filter (is_owed l.stage) (take l.party-index l.parties));
   room : vec_len l.into + length l.parties ≤ vec_capacity l.into + l.party-index;
+  capacity : vec_capacity l.into ≡ vec_capacity l.initial.into;
 }
