@@ -1,5 +1,5 @@
 -- A reading of a disk, and then a write of a record.
-use Rattle.std.proofs.Common.{◌≡◌, inl, inr, ℕ, ◌+◌, ◌≤◌, List, Option, Some, None, Result, Ok, Err, sym, subst, ◌∙◌, arith}
+use Rattle.std.proofs.Common.{◌≡◌, inl, inr, ℕ, ◌+◌, ◌≤◌, List, [], ◌∷◌, ◌++◌, Option, Some, None, Result, Ok, Err, sym, subst, ◌∙◌, arith}
 use Rattle.std.specs.Prelude.{IfErr, IsTrue}
 use Rattle.std.specs.List.{list_any}
 use Rattle.std.proofs.lemmas.Bool.{cases_lt}
@@ -9,7 +9,7 @@ use Rattle.decision_journal.specs.declared.record.JournalRecord.{JournalRecord}
 use Rattle.decision_journal.specs.declared.record.JournalRecord.TheVariants.{Done}
 use Rattle.decision_journal.specs.declared.journal.JournalFault.{JournalFault}
 use Rattle.decision_journal.specs.declared.journal.JournalFault.TheVariants.{DiskFault, Full, BadHeader, BadRecord, LivesSpent, Memory}
-use Rattle.decision_journal.specs.Journal.{Found, StandsFor, is_decision_at}
+use Rattle.decision_journal.specs.Journal.{AreRecords, Found, StandsFor, is_decision_at}
 use Rattle.decision_journal.specs.State.{AppendIsDone, AppendIsSafe, DoneIsDone, HasAppended, HasMore, HasReread, IsAppendFault, IsOld, IsOldOrMore, IsReadFault, JournalState, MayFind, MayHold, ReadIsDone, ReadIsSafe, need, used}
 use Rattle.decision_journal.specs.Calls.{HasDone, with_appended}
 use Rattle.decision_journal.proofs.Images.{image_settled}
@@ -81,12 +81,15 @@ module _ {D : Type 0} (before mid after : JournalState D) (r : JournalRecord) (p
   more_then = record {
     octets = more.octets;
     found = more.found;
+    records = more.records;
     known = known_then before.octets mid.octets more.octets before.found mid.found more.found before.doubted mid.doubted read.doubted read.known more.known;
+    were = subst (λ (n : ℕ). AreRecords n more.octets more.found more.records) read.service more.were;
     place_is = more.place_is;
     area = more.area ∙ read.area;
     service = more.service ∙ read.service;
     octets_are = more.octets_are;
     found_is = more.found_is;
+    are = subst (λ (n : ℕ). AreRecords n after.octets after.found (more.records ++ r ∷ [])) read.service more.are;
     failed = more.failed;
     doubted = more.doubted;
   }

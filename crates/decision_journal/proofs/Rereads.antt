@@ -7,7 +7,7 @@ use Rattle.decision_journal.specs.declared.journal.JournalFault.{JournalFault}
 use Rattle.decision_journal.specs.declared.journal.JournalFault.TheVariants.{DiskFault, Full, BadHeader, BadRecord, LivesSpent, Memory}
 use Rattle.decision_journal.specs.Limits.{area_limit}
 use Rattle.decision_journal.specs.Layout.{Fits, record_octets}
-use Rattle.decision_journal.specs.Journal.{Found, IsFilled, IsOther, StandsAt, with_record}
+use Rattle.decision_journal.specs.Journal.{Found, IsFilled, IsOther, IsScanFault, StandsAt, with_record}
 use Rattle.decision_journal.specs.State.{BeginsWithEither, IsAtRest, IsDoubted, IsKept, IsNotDoubted, IsOld, IsReadFault, IsSound, IsWithinArea, MayFind, ReadIsDone, ReadIsSafe}
 use Rattle.decision_journal.proofs.Kept.{at_rest, each_of, stands_from, within_now}
 use Rattle.decision_journal.proofs.Since.{image_of, leaves_now, leaves_settled, since_refused, since_start}
@@ -35,13 +35,23 @@ not_either octets None c differs none at = differs at
 not_either octets (Some r) c differs none (inl at) = differs at
 not_either octets (Some r) c differs none (inr at) = none at
 
-pub other_fault : (told : Option DiskState) (before after : ℕ) (fault : JournalFault) → IsOther fault → told ≡ None → IsReadFault told before after fault
-other_fault told before after DiskFault other none = absurd other
-other_fault told before after (Full u n) other none = absurd other
-other_fault told before after (BadHeader place) other none = none
-other_fault told before after (BadRecord place) other none = none
-other_fault told before after LivesSpent other none = absurd other
-other_fault told before after Memory other none = tt
+module _ (service : ℕ) (known read : List ℕ) where
+  pub other_fault : (told : Option DiskState) (before after : ℕ) (fault : JournalFault) → IsOther service known read fault → told ≡ None → IsReadFault told before after fault
+  other_fault told before after DiskFault other none = absurd other
+  other_fault told before after (Full u n) other none = absurd other
+  other_fault told before after (BadHeader place) other none = none
+  other_fault told before after (BadRecord place) other none = none
+  other_fault told before after LivesSpent other none = absurd other
+  other_fault told before after Memory other none = tt
+
+  -- octets that stand for nothing
+  pub other_scan : (fault : JournalFault) → (16 < length read) × IsScanFault service read fault → IsOther service known read fault
+  other_scan DiskFault f = absurd f.1
+  other_scan (Full u n) f = absurd f.1
+  other_scan (BadHeader place) f = inl f
+  other_scan (BadRecord place) f = inl f.1
+  other_scan LivesSpent f = absurd f.1
+  other_scan Memory f = tt
 
 module _ (told : Option DiskState) (area service : ℕ) (octets : List ℕ) (found : Found) (failed : Bool) (doubted : Option JournalRecord) (sound : IsSound told area service octets found failed doubted) (after : Option DiskState) (image : ReadsImage told) where
   held : IfSome told (λ s. LeavesOnly (BeginsWithEither octets doubted) s.present)

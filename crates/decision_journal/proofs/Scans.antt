@@ -7,7 +7,7 @@ use Rattle.std.proofs.lemmas.List.Concat.{flat_map-cons}
 use Rattle.decision_journal.specs.declared.record.JournalRecord.{JournalRecord}
 use Rattle.decision_journal.specs.Limits.{area_limit}
 use Rattle.decision_journal.specs.Layout.{record_octets, Fits}
-use Rattle.decision_journal.specs.Journal.{Found, nothing_found, first_gate, with_record, with_records, found_in, can_follow, front, header, IsFilled, IsStep, HasNoStep, IsBroken, IsScanned}
+use Rattle.decision_journal.specs.Journal.{AreRecords, Found, nothing_found, first_gate, with_record, with_records, found_in, can_follow, front, header, IsFilled, IsStep, HasNoStep, IsBroken, IsScanned}
 use Rattle.decision_journal.proofs.Append.{fit_more, in_turn_more, front_more}
 
 pub with_records-more : (found : Found) (place : ℕ) (rs : List JournalRecord) (r : JournalRecord) → with_records found place (rs ++ r ∷ []) ≡ with_record (with_records found place rs) (place + length (flat_map record_octets rs)) r
@@ -22,21 +22,22 @@ pub length_front : (service : ℕ) (rs : List JournalRecord) → length (front s
 length_front service rs = omega (arith, length-append (header service) (flat_map record_octets rs))
 
 -- records, with one more behind them
+pub more_are : (service gate : ℕ) (before : List ℕ) (found after : Found) (item : JournalRecord) (rs : List JournalRecord) → AreRecords service before found rs → gate ≡ length before → Fits item → IsTrue (can_follow found item)
+    → gate + length (record_octets item) < area_limit → after ≡ with_record found gate item → AreRecords service (before ++ record_octets item) after (rs ++ item ∷ [])
+more_are service gate before found after item rs a gate_is fits follows within after_is =
+    let place : gate ≡ first_gate + length (flat_map record_octets rs) = omega (arith, gate_is, ap length a.octets_are, length_front service rs) in
+    record {
+      octets_are = ap (λ (l : List ℕ). l ++ record_octets item) a.octets_are ∙ sym (front_more service rs item);
+      fit = fit_more rs item a.fit fits;
+      in_turn = in_turn_more nothing_found first_gate rs item a.in_turn (subst (λ (f : Found). IsTrue (can_follow f item)) a.found_is follows);
+      within = omega (arith, ap length (front_more service rs item), length-append (front service rs) (record_octets item), gate_is, ap length a.octets_are, within);
+      found_is = after_is ∙ ap (λ (f : Found). with_record f gate item) a.found_is ∙ ap (λ (p : ℕ). with_record (found_in rs) p item) place ∙ sym (with_records-more nothing_found first_gate rs item);
+    }
+
 pub more_records : (service gate : ℕ) (before : List ℕ) (found after : Found) (item : JournalRecord) → IsFilled service before found → gate ≡ length before → Fits item → IsTrue (can_follow found item)
     → gate + length (record_octets item) < area_limit → after ≡ with_record found gate item → IsFilled service (before ++ record_octets item) after
 more_records service gate before found after item filled gate_is fits follows within after_is =
-    let rs = filled.0 in
-    let a = filled.1 in
-    let place : gate ≡ first_gate + length (flat_map record_octets rs) = omega (arith, gate_is, ap length a.octets_are, length_front service rs) in (
-      rs ++ item ∷ [],
-      record {
-        octets_are = ap (λ (l : List ℕ). l ++ record_octets item) a.octets_are ∙ sym (front_more service rs item);
-        fit = fit_more rs item a.fit fits;
-        in_turn = in_turn_more nothing_found first_gate rs item a.in_turn (subst (λ (f : Found). IsTrue (can_follow f item)) a.found_is follows);
-        within = omega (arith, ap length (front_more service rs item), length-append (front service rs) (record_octets item), gate_is, ap length a.octets_are, within);
-        found_is = after_is ∙ ap (λ (f : Found). with_record f gate item) a.found_is ∙ ap (λ (p : ℕ). with_record (found_in rs) p item) place ∙ sym (with_records-more nothing_found first_gate rs item);
-      },
-    )
+    (filled.0 ++ item ∷ [], more_are service gate before found after item filled.0 filled.1 gate_is fits follows within after_is)
 
 -- records, and a rest, of which there is some
 pub record IsScanning (service : ℕ) (octets : List ℕ) (found : Found) (rest : List ℕ) : Type 0 where

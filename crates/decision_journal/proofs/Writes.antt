@@ -1,13 +1,14 @@
 -- What a write of a record leaves of a journal.
-use Rattle.std.proofs.Common.{◌≡◌, ℕ, ◌+◌, ◌<◌, ◌≤◌, Bool, true, false, List, ◌++◌, length, Option, Some, None, refl, sym, subst, arith, length-append}
+use Rattle.std.proofs.Common.{◌≡◌, ℕ, ◌+◌, ◌<◌, ◌≤◌, Bool, true, false, List, [], ◌∷◌, ◌++◌, length, Option, Some, None, refl, sym, subst, arith, length-append}
 use Rattle.std.specs.Prelude.{IsTrue, IfSome}
 use Rattle.ots_outside.specs.Disk.{DiskState, Tells}
 use Rattle.decision_journal.specs.declared.record.JournalRecord.{JournalRecord}
 use Rattle.decision_journal.specs.Limits.{area_limit}
 use Rattle.decision_journal.specs.Layout.{Fits, record_octets}
-use Rattle.decision_journal.specs.Journal.{Found, can_follow, with_record}
+use Rattle.decision_journal.specs.Journal.{AreRecords, Found, can_follow, with_record}
 use Rattle.decision_journal.specs.Laws.{IsOnTheWay, appended, behind_gate}
 use Rattle.decision_journal.specs.State.{AppendIsDone, AppendIsSafe, IsAtRest, IsSound, IsWithinArea, used}
+use Rattle.decision_journal.proofs.Scans.{more_are}
 use Rattle.decision_journal.proofs.Kept.{at_rest, no_doubt, way_safe, end_done, end_kept, doubt_kept, retold, within_now, each_doubted, each_of}
 
 module _ (told : Option DiskState) (area service : ℕ) (octets : List ℕ) (found : Found) (failed : Bool) (doubted : Option JournalRecord) (item : JournalRecord)
@@ -24,6 +25,13 @@ module _ (told : Option DiskState) (area service : ℕ) (octets : List ℕ) (fou
 
   more : IsWithinArea area service (octets ++ record_octets item) (with_record found (length octets) item)
   more = each_doubted area service octets found item now sound.area_is fits follows room
+
+  -- the records of before, and these with the new one
+  pub write_records : (l : List ℕ) (f : Found) → l ≡ octets ++ record_octets item → f ≡ with_record found (length octets) item → (rs : List JournalRecord) × (AreRecords service octets found rs × AreRecords service l f (rs ++ item ∷ []))
+  write_records l f l_is f_is =
+      let rs = now.filled.0 in
+      let are = more_are service (length octets) octets found (with_record found (length octets) item) item rs now.filled.1 refl fits follows small refl in
+      (rs, (now.filled.1, subst (λ (l : List ℕ). AreRecords service l f (rs ++ item ∷ [])) (sym l_is) (subst (λ (f : Found). AreRecords service (octets ++ record_octets item) f (rs ++ item ∷ [])) (sym f_is) are)))
 
   module _ (after : Option DiskState) (gate : ℕ) (behind : List ℕ) (gate_is : gate ≡ length octets) (behind_is : behind ≡ behind_gate item) where
     abbrev pub Way : Type 0

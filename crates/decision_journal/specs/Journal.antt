@@ -1,6 +1,6 @@
 -- What the octets of a journal stand for (our profile). A journal is a header, records with open gates, and a gate that
 -- isn't open; what stands behind that gate doesn't count. A gate is open where it is 1.
-use Rattle.std.specs.Prelude.{◌≡◌, ◌≢◌, ℕ, ◌+◌, ◌-◌, ◌<◌, ◌⊎◌, ◌==◌, nat_lt, not, Bool, true, false, ◌&&◌, ◌||◌, List, [], ◌∷◌, ◌++◌, length, drop, slice_index, position, Option, Some, None, IsTrue}
+use Rattle.std.specs.Prelude.{◌≡◌, ◌≢◌, ℕ, ◌+◌, ◌-◌, ◌<◌, ◌≤◌, ◌⊎◌, ◌==◌, nat_lt, not, Bool, true, false, ◌&&◌, ◌||◌, List, [], ◌∷◌, ◌++◌, length, drop, slice_index, position, Option, Some, None, IsTrue}
 use Rattle.std.specs.List.{flat_map, list_any, remove, AllByRecursion}
 use Rattle.decision_journal.specs.declared.record.JournalRecord.{JournalRecord}
 use Rattle.decision_journal.specs.declared.record.JournalRecord.TheVariants.{Life, Decision, Done, Prepared, CellsPrepared, CellsOutcome, CellsOnePhase}
@@ -216,14 +216,25 @@ pub record StandsAt (before octets : List ℕ) : Type 0 where
   pub octets_are : octets ≡ before ++ gate ∷ behind
   pub closed : gate ≢ 1
 
--- why octets are not those that were expected: they stand for nothing, or begin otherwise
-abbrev pub IsOther : JournalFault → Type 0
-IsOther DiskFault = ⊥
-IsOther (Full used need) = ⊥
-IsOther (BadHeader place) = Unit {0}
-IsOther (BadRecord place) = Unit {0}
-IsOther LivesSpent = ⊥
-IsOther Memory = Unit {0}
+-- the first place at which octets are not those that are known, or the end of either
+pub record IsFirstOther (known read : List ℕ) (place : ℕ) : Type 0 where
+  pub same : (k : ℕ) → k < place → slice_index read k ≡ slice_index known k
+  pub within : (place ≤ length known) × (place ≤ length read)
+  pub differs : place < length known → place < length read → slice_index read place ≢ slice_index known place
+
+-- octets are too few for a journal, or stand for records
+abbrev pub HasNoScanFault : ℕ → List ℕ → Type 0
+HasNoScanFault service octets = (length octets < 17) ⊎ ((rs : List JournalRecord) × StandsFor service octets rs)
+
+-- why octets that were read are not those that are known: they stand for nothing, or else the first place that differs
+abbrev pub IsOther : ℕ → List ℕ → List ℕ → JournalFault → Type 0
+IsOther service known read DiskFault = ⊥
+IsOther service known read (Full used need) = ⊥
+IsOther service known read (BadHeader place) =
+    ((first_gate < length read) × IsOtherHeader service read place) ⊎ (HasNoScanFault service read × IsFirstOther known read place × (place < first_gate))
+IsOther service known read (BadRecord place) = IsBroken service read place ⊎ (HasNoScanFault service read × IsFirstOther known read place × (first_gate ≤ place))
+IsOther service known read LivesSpent = ⊥
+IsOther service known read Memory = Unit {0}
 
 -- what octets can mean: records, or the place where they break a rule, or the place from which their header is another
 pub data Meaning : Type 0 where

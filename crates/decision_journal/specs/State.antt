@@ -9,7 +9,7 @@ use Rattle.decision_journal.specs.declared.record.JournalRecord.{JournalRecord}
 use Rattle.decision_journal.specs.declared.record.JournalRecord.TheVariants.{Done}
 use Rattle.decision_journal.specs.Limits.{area_limit, standing_limit}
 use Rattle.decision_journal.specs.Layout.{Fits, record_octets}
-use Rattle.decision_journal.specs.Journal.{Found, IsFilled, StandsAt, StandsFor, StandsForEither, can_follow, found_in, is_decision, with_record}
+use Rattle.decision_journal.specs.Journal.{AreRecords, Found, IsFilled, StandsAt, StandsFor, StandsForEither, can_follow, found_in, is_decision, with_record}
 use Rattle.decision_journal.specs.Laws.{IsSettled}
 
 -- a journal: its disk, how large its area is, its service, the octets before the gate at the end, what their records leave,
@@ -74,6 +74,10 @@ used octets found = length octets + 1 + 10 * decisions found
 pub record IsWithinArea (area service : ℕ) (octets : List ℕ) (found : Found) : Type 0 where
   pub filled : IsFilled service octets found
   pub room : used octets found ≤ area
+
+-- whatever a journal may find are records that leave what it then finds, and they are within the area
+abbrev pub StaysWithinArea : {D : Type 0} → JournalState D → Type 0
+StaysWithinArea journal = (octets : List ℕ) (found : Found) → MayHave journal octets found → IsWithinArea journal.area journal.service octets found
 
 -- what holds of a journal at any time
 pub record IsSound (told : Option DiskState) (area service : ℕ) (octets : List ℕ) (found : Found) (failed : Bool) (doubted : Option JournalRecord) : Type 0 where
@@ -164,16 +168,19 @@ pub record IsUnsure {D : Type 0} (before : JournalState D) (r : JournalRecord) (
   pub doubted : after.doubted ≡ Some r
   pub failed : after.failed ≡ true
 
--- the record stands behind what the journal could find, at this place
+-- the record stands behind what the journal could find, at this place: it is the last of the journal's records
 pub record HasMore {D : Type 0} (before after : JournalState D) (r : JournalRecord) (place : ℕ) : Type 0 where
   pub octets : List ℕ
   pub found : Found
+  pub records : List JournalRecord
   pub known : MayHave before octets found
+  pub were : AreRecords before.service octets found records
   pub place_is : place ≡ length octets
   pub area : after.area ≡ before.area
   pub service : after.service ≡ before.service
   pub octets_are : after.octets ≡ octets ++ record_octets r
   pub found_is : after.found ≡ with_record found (length octets) r
+  pub are : AreRecords before.service after.octets after.found (records ++ r ∷ [])
   pub failed : after.failed ≡ false
   pub doubted : after.doubted ≡ None
 

@@ -54,7 +54,7 @@ impl<D: Disk> Model for Journal<D> {
 
 impl<D: Disk> Journal<D> {
     ghost use Rattle.decision_journal.specs.Loading.{IsDiskFault, IsLoadFault, IsRefusedLoad, LoadIsDone, LoadIsSafe};
-    ghost use Rattle.decision_journal.specs.State.{AppendIsDone, AppendIsSafe, HasAppended, HasMore, HasReread, DoneIsDone, IsAppendFault, IsReadFault, IsRoomFault, IsUnread, IsUnsure, LeavesFound, MayFollow, ReadIsDone, ReadIsSafe, need, used};
+    ghost use Rattle.decision_journal.specs.State.{AppendIsDone, AppendIsSafe, HasAppended, HasMore, HasReread, DoneIsDone, IsAppendFault, IsReadFault, IsRoomFault, IsUnread, IsUnsure, IsKept, LeavesFound, StaysWithinArea, MayFollow, ReadIsDone, ReadIsSafe, need, used};
     ghost use Rattle.decision_journal.specs.Calls.{IsAfterDone, IsCurrent, IsReady, IsRefusedAppend, IsRefusedReading, IsUnwritten, reread, with_appended};
 
     /// Whether the next call reads the disk again.
@@ -78,9 +78,11 @@ impl<D: Disk> Journal<D> {
         self.index.standing()
     }
 
-    /// The disk.
+    /// The disk, and what it holds: all that the journal may find has room and keeps the rules.
     pub fn disk(&self) -> &D
-        ensures { result.now ≡ self.now.disk }
+        ensures disk { result.now ≡ self.now.disk }
+        ensures kept { IsKept self.now.failed self.now.octets self.now.doubted (D.told self.now.disk) }
+        ensures each { StaysWithinArea self.now }
     {
         &self.disk
     }

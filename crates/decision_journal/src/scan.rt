@@ -3,7 +3,7 @@ ghost use Rattle.decision_journal.specs.declared.reading.ReadFault.TheVariants.{
 ghost use Rattle.decision_journal.specs.Limits.{area_limit};
 ghost use Rattle.decision_journal.specs.Laws.{behind_letter, is_letter_due};
 ghost use Rattle.decision_journal.specs.Index.{AreBefore};
-ghost use Rattle.decision_journal.specs.Journal.{HasNoStep, IsFilled, IsFresh, IsOther, IsOtherHeader, IsScanFault, IsScanned, IsStep, IsWithin, StandsAt, header, nothing_found};
+ghost use Rattle.decision_journal.specs.Journal.{HasNoScanFault, HasNoStep, IsFilled, IsFirstOther, IsFresh, IsOther, IsOtherHeader, IsScanFault, IsScanned, IsStep, IsWithin, StandsAt, header, nothing_found};
 
 use crate::found::Index;
 use crate::journal::JournalFault;
@@ -166,16 +166,28 @@ pub(crate) fn filled(
     Ok(index)
 }
 
-/// Why octets that were read are not those that are known: they stand for nothing, or the first place that differs.
-pub(crate) fn other(alloc: Global, service: u64, known: &[u8], mut read: Vec<u8>) -> JournalFault
+/// Why octets stand for nothing, where they are enough for a journal.
+fn scan_fault(alloc: Global, service: u64, mut read: Vec<u8>) -> Option<JournalFault>
+    ensures fault { IfSome result (λ fault. (16 < length read.items) × IsScanFault service read.items fault) }
+    ensures none { IfNone result (HasNoScanFault service read.items) }
+{
+    if read.len() <= HEADER_LENGTH {
+        return None;
+    }
+    match filled(alloc, service, &mut read) {
+        Ok(_) => None,
+        Err(fault) => Some(fault),
+    }
+}
+
+/// Why octets that were read are not those that are known: they stand for nothing, or else the first place that differs.
+pub(crate) fn other(alloc: Global, service: u64, known: &[u8], read: Vec<u8>) -> JournalFault
     requires { length known.now < 2 ^ 32 }
-    ensures { IsOther result }
+    ensures { IsOther service known.now read.items result }
 {
     let place = first_other(known, &read);
-    if read.len() > HEADER_LENGTH {
-        if let Err(fault) = filled(alloc, service, &mut read) {
-            return fault;
-        }
+    if let Some(fault) = scan_fault(alloc, service, read) {
+        return fault;
     }
     if place < HEADER_LENGTH {
         JournalFault::BadHeader(place as u32)
@@ -184,14 +196,15 @@ pub(crate) fn other(alloc: Global, service: u64, known: &[u8], mut read: Vec<u8>
     }
 }
 
-/// The first place at which octets are not those that are known.
+/// The first place at which octets are not those that are known, or the end of either.
 fn first_other(known: &[u8], read: &[u8]) -> usize
-    ensures { result ≤ length known.now }
+    ensures { IsFirstOther known.now read.now result }
 {
-    for (place, octet) in known.iter().enumerate() {
-        if read.get(place) != Some(octet) {
+    let end = known.len().min(read.len());
+    for place in 0..end {
+        if read[place] != known[place] {
             return place;
         }
     }
-    known.len()
+    end
 }

@@ -5,7 +5,7 @@ use Rattle.decision_journal.specs.State.{JournalState, used}
 use Rattle.decision_journal.specs.Journal.{can_follow, with_record}
 use Rattle.decision_journal.proofs.Kept.{body_kept, known, no_doubt, within_now}
 use Rattle.decision_journal.proofs.Below.{before_end}
-use Rattle.decision_journal.proofs.Writes.{write_safe, write_done, write_disk, write_unsure, write_sound, write_way}
+use Rattle.decision_journal.proofs.Writes.{write_safe, write_done, write_disk, write_records, write_unsure, write_sound, write_way}
 use Rattle.decision_journal.proofs.Calls.{current_of}
 use Rattle.decision_journal.proofs.keeping.Journal.write.Goals as goal
 
@@ -68,18 +68,24 @@ invariant_of-self-2 g c =
 
 pub returns-clause-more : goal.returns-clause-more
 returns-clause-more g c =
+    let within = subst (λ (j : JournalState g.row.D.Denot). used (j.octets ++ record_octets c.args.item) (with_record j.found (length j.octets) c.args.item) ≤ j.area) (sym c.self.view_is) c.requires.within in
+    let follows = subst (λ (j : JournalState g.row.D.Denot). IsTrue (can_follow j.found c.args.item)) (sym c.self.view_is) c.requires.follows in
     let kept = ap (λ (j : JournalState g.row.D.Denot). j.failed) c.self.view_is ∙ c.requires.kept in
     let gate : c.len-gate.result ≡ length c.self.inside.octets.items = omega (arith, c.len-gate.ensures) in
     let octets = c.in_default-keep.ensures.octets ∙ ap (λ (l : List ℕ). c.self.inside.octets.items ++ l) (body_kept c.args.item c.args.behind.now (length c.args.behind.now - 1) c.requires.behind refl) in
+    let records = write_records (g.D.Disk.told c.self.inside.disk) c.self.inside.area c.self.inside.service c.self.inside.octets.items c.self.inside.index c.self.inside.failed c.self.inside.doubted c.args.item c.self.invariant kept c.requires.fits follows within _ _ octets c.in_default-keep.ensures.found in
     rw (← c.self.view_is) (record {
       octets = c.self.inside.octets.items;
       found = c.self.inside.index;
+      records = records.0;
       known = known c.self.inside.octets.items c.self.inside.index c.self.inside.doubted;
+      were = records.1.0;
       place_is = gate;
       area = refl;
       service = refl;
       octets_are = octets;
       found_is = c.in_default-keep.ensures.found;
+      are = records.1.1;
       failed = refl;
       doubted = no_doubt c.self.inside.failed c.self.inside.octets.items c.self.inside.doubted (g.D.Disk.told c.self.inside.disk) kept c.self.invariant.kept;
     })
