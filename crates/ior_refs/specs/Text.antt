@@ -1,9 +1,8 @@
 -- Stringified references (CORBA, ORB Interoperability Architecture, Stringified Object References): "IOR:", and the
 -- hexadecimal digits of an encapsulation. That the prefix is in capitals, that digits are written in lower case, and
 -- the faults are our profile.
-use Rattle.std.specs.Prelude.{◌≡◌, ℕ, ◌+◌, ◌<◌, ◌==◌, List, ◌++◌, length, drop, codes, zip, take_while, IsTrue, Result, Ok, Err, if◌then◌else◌}
+use Rattle.std.specs.Prelude.{◌≡◌, ℕ, ◌+◌, ◌==◌, List, ◌++◌, length, drop, codes, zip, take_while, IsTrue, Result, Ok, Err, IfErr, if◌then◌else◌}
 use Rattle.hex.specs.declared.error.FromHexError.{FromHexError}
-use Rattle.hex.specs.declared.error.FromHexError.TheVariants.{OutOfMemory}
 use Rattle.std.specs.Char.{is_ascii_hexdigit}
 use Rattle.hex.specs.Hex.{decode_of, encode_lower}
 use Rattle.cdr_values.specs.declared.order.Order.TheVariants.{Big}
@@ -16,7 +15,7 @@ use Rattle.ior_refs.specs.Reference.{Reference, is_short}
 use Rattle.ior_refs.specs.Fault.{fault_of}
 use Rattle.ior_refs.specs.Reading.{IsWhole, short_reference_at, whole}
 use Rattle.ior_refs.specs.declared.fault.IorFault.{IorFault}
-use Rattle.ior_refs.specs.declared.fault.IorFault.TheVariants.{BadText, Memory}
+use Rattle.ior_refs.specs.declared.fault.IorFault.TheVariants.{BadText}
 
 -- what a stringified reference begins with
 abbrev pub prefix : List ℕ
@@ -26,29 +25,24 @@ prefix = codes "IOR:"
 abbrev pub agreeing : List ℕ → List ℕ → ℕ
 agreeing xs ys = length (take_while (λ pair. pair.0 == pair.1) (zip xs ys))
 
--- a call tells where a text begins to differ from the prefix, or ends in it
-abbrev pub TellsPrefix : {X : Type 0} → List ℕ → Result X IorFault → Type 0
-TellsPrefix text result = agreeing prefix text < length prefix → result ≡ Err (BadText (agreeing prefix text))
-
 -- how many digits stand in front of the first octet that is none
 abbrev pub digits_in_front : List ℕ → ℕ
 digits_in_front octets = length (take_while is_ascii_hexdigit octets)
 
--- why digits are no octets: an octet that is no digit, or a digit is wanting. It is told with its place in the text.
-abbrev pub digits_fault : List ℕ → FromHexError → IorFault
-digits_fault digits OutOfMemory = Memory
-digits_fault digits _ = BadText (4 + digits_in_front digits)
-
--- the octets of digits in pairs
+-- the octets of digits in pairs. Else an octet is no digit, or a digit is wanting, and its place in the text is told.
 abbrev pub octets_of_digits : List ℕ → Result (List ℕ) FromHexError → Result (List ℕ) IorFault
 octets_of_digits digits (Ok octets) = Ok octets
-octets_of_digits digits (Err fault) = Err (digits_fault digits fault)
+octets_of_digits digits (Err fault) = Err (BadText (4 + digits_in_front digits))
 
 -- the octets of a text; else the place of the first octet of the text that has not its form
 unfoldable pub octets_in_text : List ℕ → Result (List ℕ) IorFault
 octets_in_text text =
     if agreeing prefix text == 4 then octets_of_digits (drop 4 text) (decode_of (drop 4 text))
     else Err (BadText (agreeing prefix text))
+
+-- a call tells a text that has not the form for that, and never wants memory instead
+abbrev pub TellsForm : {X : Type 0} → List ℕ → Result X IorFault → Type 0
+TellsForm text result = IfErr (octets_in_text text) (λ fault. result ≡ Err fault)
 
 -- the reference of an encapsulation, which is the whole of the octets
 unfoldable pub reference_in_octets : List ℕ → Result Reference IorFault

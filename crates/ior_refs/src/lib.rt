@@ -22,6 +22,4 @@ mod making;
 mod profile;
 mod reference;
 mod tagged;
-#[cfg(test)]
-mod tests;
 mod text;

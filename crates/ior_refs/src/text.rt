@@ -1,24 +1,23 @@
 ghost use Rattle.std.specs.Prelude.{◌≡◌, ◌^◌, ◌<◌, length, IfOk};
 ghost use Rattle.ior_refs.specs.Fault.{Finds};
-ghost use Rattle.ior_refs.specs.Text.{TellsPrefix, agreeing, digits_fault, digits_in_front, encapsulated, octets_in_text, prefix, reference_in_octets, reference_in_text, text_of};
+ghost use Rattle.ior_refs.specs.Text.{TellsForm, agreeing, digits_in_front, encapsulated, octets_in_text, prefix, reference_in_octets, reference_in_text, text_of};
 
 use crate::fault::IorFault;
 use crate::reference::{ObjectRef, read_whole, write_ref};
 use cdr_values::{Order, Reader, Writer};
-use hex::FromHexError;
 use ots_model::Octets;
 use std::alloc::{AllocError, Global};
 
 const PREFIX: &[u8; 4] = b"IOR:";
 
 /// The reference of a text: "IOR:" and the hexadecimal digits, of either case, of an encapsulation (string_to_object).
-/// The text is judged first, from its front on, and then the octets of its digits. Their offsets count from the
-/// encapsulation's first octet.
+/// The text is judged first, from its front on and without memory, and then the octets of its digits. Their offsets
+/// count from the encapsulation's first octet.
 #[tactic(auto, unfolding(crate::specs::Text::reference_in_text))]
 pub fn parse_ior(alloc: Global, text: &[u8]) -> Result<ObjectRef, IorFault>
     requires { length text.now < 2 ^ 31 }
     ensures exact { Finds (λ o. o) result (reference_in_text text.now) }
-    ensures prefix { TellsPrefix text.now result }
+    ensures form { TellsForm text.now result }
 {
     let octets = text_octets(alloc, text)?;
     reference_of(alloc, octets.as_slice())
@@ -50,7 +49,7 @@ fn encapsulated(alloc: Global, o: &ObjectRef) -> Result<Octets, AllocError>
 fn text_octets(alloc: Global, text: &[u8]) -> Result<Vec<u8>, IorFault>
     requires { length text.now < 2 ^ 31 }
     ensures exact { Finds (λ octets. octets.items) result (octets_in_text text.now) }
-    ensures prefix { TellsPrefix text.now result }
+    ensures form { TellsForm text.now result }
     ensures short { IfOk result (λ octets. length octets.items < 2 ^ 31) }
 {
     let front = agreeing_front(text);
@@ -58,20 +57,13 @@ fn text_octets(alloc: Global, text: &[u8]) -> Result<Vec<u8>, IorFault>
         return Err(IorFault::BadText(front as u32));
     }
     let digits = &text[PREFIX.len()..];
+    let good = digits_in_front(digits);
+    if good < digits.len() || digits.len() % 2 == 1 {
+        return Err(IorFault::BadText((PREFIX.len() + good) as u32));
+    }
     match hex::decode(alloc, digits) {
         Ok(octets) => Ok(octets),
-        Err(fault) => Err(bad_digits(digits, fault)),
-    }
-}
-
-/// Why these are no digits of octets.
-fn bad_digits(digits: &[u8], fault: FromHexError) -> IorFault
-    requires { length digits.now < 2 ^ 31 }
-    ensures { result ≡ digits_fault digits.now fault }
-{
-    match fault {
-        FromHexError::OutOfMemory => IorFault::Memory,
-        _ => IorFault::BadText((PREFIX.len() + digits_in_front(digits)) as u32),
+        Err(_) => Err(IorFault::Memory),
     }
 }
 

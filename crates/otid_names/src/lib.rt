@@ -10,5 +10,3 @@ pub use otid::{Otid, OtidFault, OwnNumbers, TID_LIMIT};
 mod laws;
 mod name;
 mod otid;
-#[cfg(test)]
-mod tests;

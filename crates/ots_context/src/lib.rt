@@ -18,5 +18,3 @@ mod fault;
 mod identity;
 mod laws;
 mod tail;
-#[cfg(test)]
-mod tests;
