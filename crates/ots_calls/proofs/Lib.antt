@@ -7,3 +7,4 @@ pub mod Contexts
 pub mod Exceptions
 pub mod Answers
 pub mod Sizes
+pub mod Shapes

@@ -1,11 +1,16 @@
 -- How many octets what was written has.
-use Rattle.std.proofs.Common.{◌≡◌, ℕ, ◌+◌, List, [], ◌∷◌, ◌++◌, length, refl, arith, length-append}
+use Rattle.std.proofs.Common.{◌≡◌, ℕ, ◌+◌, ◌≤◌, false, List, [], ◌∷◌, ◌++◌, length, refl, arith, length-append}
+use Rattle.std.proofs.lemmas.Bool.{le-ltb}
 use Rattle.std.proofs.lemmas.List.Sums.{sum_by_push}
-use Rattle.giop_frames.specs.Encode.{octets_in_contexts}
+use Rattle.cdr_values.specs.Value.{has_nul}
+use Rattle.cdr_values.specs.declared.order.Order.TheVariants.{Big}
+use Rattle.giop_frames.specs.Encode.{octets_in_contexts, refusal_of}
+use Rattle.giop_frames.specs.declared.message.Message.TheVariants as messages
+use Rattle.giop_frames.specs.declared.message.Target.TheVariants.{Key}
 use Rattle.giop_frames.specs.declared.message.ServiceContext.{ServiceContext}
 use Rattle.ior_refs.specs.Key.{octets_of_key}
 use Rattle.ior_refs.specs.declared.key.ObjectKey.{ObjectKey}
-use Rattle.ots_calls.specs.Writing.{size_of_contexts}
+use Rattle.ots_calls.specs.Writing.{OnlySizeRefuses, size_of_contexts}
 
 -- one more service context
 pub size_more : (contexts : List ServiceContext) (x : ServiceContext) → size_of_contexts (contexts ++ x ∷ []) ≡ size_of_contexts contexts + (1 + length x.bytes)
@@ -16,3 +21,8 @@ size_more contexts x =
 -- a key
 pub key_length : (k : ObjectKey) → length (octets_of_key k) ≡ 32
 key_length k = refl
+
+-- a request for a short key, whose name has no NUL and which has few service contexts
+pub framed : (id : ℕ) (key word : List ℕ) (contexts : List ServiceContext) (body : List ℕ) → length key ≤ 256 → has_nul word ≡ false → length contexts ≤ 16 → OnlySizeRefuses (messages.Request (record { id = id; flags = 3; target = Key key; operation = word; contexts = contexts; order = Big; body = body }))
+unfolding refusal_of
+framed id key word contexts body short plain few = rw (le-ltb 256 (length key) short, plain, le-ltb 16 (length contexts) few) refl

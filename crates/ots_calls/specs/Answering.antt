@@ -1,5 +1,5 @@
 -- Reading the answer to a call from the left, and the first fault (our profile).
-use Rattle.std.specs.Prelude.{ℕ, ◌==◌, Bool, not, List, [], ◌∷◌, Option, find, Some, None, Result, Ok, Err, if◌then◌else◌}
+use Rattle.std.specs.Prelude.{ℕ, ◌==◌, Bool, not, [], ◌∷◌, Option, find, Some, None, Result, Ok, Err, if◌then◌else◌}
 use Rattle.cdr_values.specs.Again.{standing}
 use Rattle.cdr_values.specs.Reading.{Reading, ◌>>=◌, boolean_at, ulong_at, ulonglong_at, string_at}
 use Rattle.giop_frames.specs.declared.message.Reply.{Reply}

@@ -10,6 +10,7 @@ use Rattle.ots_model.specs.declared.service.Status.{Status}
 use Rattle.ots_model.specs.declared.service.Status.TheVariants as statuses
 use Rattle.ots_context.specs.Reading.{context_at}
 use Rattle.ots_calls.specs.Limits.{left_limit}
+use Rattle.ots_calls.specs.Table.{Shape, Void, Flag, Number, Reference, State, Word, Transaction, Cell, CellAndValue}
 use Rattle.ots_calls.specs.declared.operation.Operation.{Operation}
 use Rattle.ots_calls.specs.declared.operation.Operation.TheVariants as operations
 use Rattle.ots_calls.specs.declared.call.Call.{Call}
@@ -26,6 +27,18 @@ operation_of (calls.AfterCompletion status) = operations.AfterCompletion
 operation_of (calls.Put cell value) = operations.Put
 operation_of (calls.Get cell) = operations.Get
 operation_of (calls.IsA id) = operations.IsA
+
+-- the shape of what a call hands over
+abbrev pub shape_of : Call → Shape
+shape_of (calls.Bare bare) = Void
+shape_of (calls.Handing handing reference) = Reference
+shape_of (calls.Create time_out) = Number
+shape_of (calls.Recreate context) = Transaction
+shape_of (calls.CommitTransaction report_heuristics) = Flag
+shape_of (calls.AfterCompletion status) = State
+shape_of (calls.Put cell value) = CellAndValue
+shape_of (calls.Get cell) = Cell
+shape_of (calls.IsA id) = Word
 
 -- the number of a Status
 abbrev pub status_number : Status → ℕ

@@ -1,5 +1,6 @@
 ghost use Rattle.std.specs.Prelude.{◌≡◌};
-ghost use Rattle.ots_calls.specs.Call.{operation_of};
+ghost use Rattle.ots_calls.specs.Call.{operation_of, shape_of};
+ghost use Rattle.ots_calls.specs.Table.{row_of};
 
 use crate::operation::{Bare, Handing, Operation};
 use ior_refs::{ObjectKey, ObjectRef};
@@ -31,8 +32,10 @@ pub enum Call {
 
 impl Call {
     /// Its operation.
+    #[tactic(auto, using(crate::proofs::Shapes::takes))]
     pub fn operation(&self) -> Operation
-        ensures { result ≡ operation_of self.now }
+        ensures row { result ≡ operation_of self.now }
+        ensures takes { shape_of self.now ≡ (row_of result).takes }
     {
         match self {
             Call::Bare(bare) => Operation::Bare(*bare),

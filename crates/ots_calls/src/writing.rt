@@ -9,7 +9,7 @@ ghost use Rattle.ots_context.specs.Writing.{kept_length};
 ghost use Rattle.ots_calls.specs.Fault.{Finds};
 ghost use Rattle.ots_calls.specs.Request.{AreBoth, IsCall, called_with};
 ghost use Rattle.ots_calls.specs.Retry.{IsRetry, first_retry};
-ghost use Rattle.ots_calls.specs.Writing.{carried_length, contexts_of, handed_length, request_of, retry_octets, size_of_contexts, with_retry, with_transaction};
+ghost use Rattle.ots_calls.specs.Writing.{OnlySizeRefuses, carried_length, contexts_of, handed_length, request_of, retry_octets, size_of_contexts, with_retry, with_transaction};
 
 use crate::body::body_of;
 use crate::call::Called;
@@ -39,6 +39,7 @@ pub fn write_call(alloc: Global, id: u32, c: &Called) -> Result<Request, CallFau
     ensures again { IfOk result (λ request. called_with c.now.key request ≡ Ok c.now) }
     ensures big { IfOk result (λ request. request.order ≡ Big) }
     ensures short { IfOk result (λ request. octets_in (messages.Request request) < 2 ^ 31) }
+    ensures framed { IfOk result (λ request. OnlySizeRefuses (messages.Request request)) }
 {
     requests_are_read_exactly();
     let operation = c.call.operation();
@@ -68,6 +69,7 @@ fn contexts_of(alloc: Global, c: &Called) -> Result<Contexts, CallFault>
     ensures exact { Finds (λ contexts. contexts) result (contexts_of c.now) }
     ensures transaction { IfOk result (λ contexts. AreBoth IsContext c.now.context (first_context contexts)) }
     ensures retry { IfOk result (λ contexts. AreBoth IsRetry c.now.retry (first_retry contexts)) }
+    ensures few { IfOk result (λ contexts. length contexts ≤ 2) }
     ensures short { IfOk result (λ contexts. size_of_contexts contexts ≤ 2 + 2 * output_limit) }
 {
     let mut contexts = Vec::new(alloc);
@@ -88,6 +90,7 @@ fn push_transaction(
     ensures exact { Finds (λ nothing. contexts.new.items) result (with_transaction context.now contexts.old.items) }
     ensures transaction { OnOk result (AreBoth IsContext context.now (first_context contexts.new.items)) }
     ensures retry { OnOk result (first_retry contexts.new.items ≡ None) }
+    ensures few { OnOk result (length contexts.new.items ≤ 1) }
     ensures short { OnOk result (size_of_contexts contexts.new.items ≤ 1 + output_limit) }
 {
     if let Some(context) = context {
@@ -111,6 +114,7 @@ fn push_retry(
     ensures exact { Finds (λ nothing. contexts.new.items) result (Ok (with_retry key contexts.old.items)) }
     ensures transaction { OnOk result (first_context contexts.new.items ≡ first_context contexts.old.items) }
     ensures retry { OnOk result (AreBoth IsRetry key (first_retry contexts.new.items)) }
+    ensures few { OnOk result (length contexts.new.items ≤ length contexts.old.items + 1) }
     ensures short { OnOk result
         (size_of_contexts contexts.new.items ≤ size_of_contexts contexts.old.items + (1 + output_limit)) }
 {
