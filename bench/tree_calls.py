@@ -3,7 +3,8 @@
 
 `tree_calls.py calls SEED COUNT BRANCHES` prints about so many random calls on a tree of at most so many branches, and
 `answers` in place of `calls` their answers by the plain account below, which knows nothing of the program.
-`tree_calls.py bench KIND SIZE COUNT` prints about so many calls of a kind on trees of that size (see bench/trees.sh).
+`tree_calls.py bench KIND SIZE COUNT` prints about so many calls of a kind on trees of that size (see bench/trees.sh), and
+`setup` in place of `bench` only what makes these trees.
 """
 import random
 import sys
@@ -127,6 +128,8 @@ def bench(kind, size):
     if kind == "adopt":
         handed = ["create 0"] * size + [f"register {branch + 1}" for branch in range(size)]
         return handed, [f"commit {branch + 1}" for branch in range(size)]
+    if kind == "handed":
+        return chain(DEPTH) + [f"register {DEPTH - 1}"] * size, [f"commit {branch}" for branch in range(DEPTH - 1, 0, -1)]
     if kind == "completion":
         votes = ["hear VoteCommit"] * size + ["decided stands"]
         return ["register 0"] * size, ["begin no no"] + votes + ["hear ok"] * size
@@ -135,11 +138,10 @@ def bench(kind, size):
 
 def main():
     what, *words = sys.argv[1:]
-    if what == "bench":
+    if what in ("bench", "setup"):
         first, again = bench(words[0], int(words[1]))
         for _ in range(max(1, int(words[2]) // (len(first) + len(again)))):
-            print("== tree")
-            print("\n".join(first + again))
+            print("\n".join(["== tree"] + first + (again if what == "bench" else [])))
         return
     for call, answer in random_calls(*map(int, words)):
         print(call if what == "calls" else answer)

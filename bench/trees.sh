@@ -1,7 +1,8 @@
 #!/usr/bin/env bash
 # Makes calls on trees of transactions of growing size, on their registrations and on their completions, by the cases of
-# crates/ots_rows, and prints the time per call and how it grows with the size. Run it anywhere; it builds the program
-# first. How many calls a row makes may be given as an argument.
+# crates/ots_rows, and prints the time per call and how it grows with the size. What the trees take that the calls are made
+# on is timed alone, and taken off. Run it anywhere; it builds the program first. How many calls a row makes may be given as
+# an argument.
 set -euo pipefail
 . "$(dirname "$0")/timing.sh"
 calls=${1:-200000}
@@ -13,9 +14,14 @@ row() {
   local kind=$1
   shift
   make() { python3 "$here/bench/tree_calls.py" bench "$kind" "$1" "$calls"; }
-  rows cases make "$@" | python3 -c '
+  setup() { python3 "$here/bench/tree_calls.py" setup "$kind" "$1" "$calls"; }
+  rows cases make "$@" >"$work/all"
+  rows cases setup "$@" | paste -d " " "$work/all" - | python3 -c '
 import sys
-rows = [tuple(map(int, line.split())) for line in sys.stdin]
+rows = []
+for line in sys.stdin:
+    size, octets, took, told, _, _, setup, before = map(int, line.split())
+    rows.append((size, octets, max(1, took - setup), told - before))
 for size, _, took, told in rows:
     print(f"{size:>6}: {told:>8} calls, {took / 1e6:8.1f} ms, {took / told:8.0f} ns per call")
 (small, _, first, once), (large, _, last, again) = rows[0], rows[-1]
@@ -31,6 +37,8 @@ echo "is_ancestor, is_related and is_same, by the depth of a branch:"
 row ancestry 2 4 16
 echo "end_sub and adopt, by the subtransactions that hand one registration each to the top:"
 row adopt 2 16 63
+echo "end_sub and adopt, by the registrations that each subtransaction hands to its parent:"
+row handed 1 16 60
 echo "participants of the top, by its registrations:"
 row participants 2 16 64
 echo "next and answer, by the participants of a completion:"

@@ -107,21 +107,3 @@ fn is_other(told: Decision, d: Disposition) -> bool
         Decision::Rollback => matches!(d, Disposition::Committed),
     }
 }
-
-#[cfg(test)]
-mod tests {
-    use super::*;
-    use Disposition::{Committed, Mixed, RolledBack, Unknown};
-    use std::test::Fail;
-
-    #[test]
-    fn each_call_once(rt: HostRuntime) -> Result<(), Fail> {
-        let root = join_root(Decision::Commit, &[RolledBack, Unknown]);
-        assert_eq!(rt; root, Join::Mixed);
-        let sub = join_sub(Decision::Commit, &[RolledBack, RolledBack]);
-        assert_eq!(rt; sub, Join::Opposite);
-        let mixed = join_sub(Decision::Rollback, &[Unknown, Mixed, Committed]);
-        assert_eq!(rt; report(mixed, true), Some(Join::Mixed));
-        Ok(())
-    }
-}
