@@ -1,0 +1,76 @@
+//! How long a journal over a real file takes, in nanoseconds. The words are one of these:
+//!
+//! - `appends FILE COUNT`: so many decisions are appended to the journal in a file.
+//! - `bare FILE COUNT`: as many octets are written and synced so often, with no journal.
+//! - `load FILE COUNT`: the journal in a file is loaded.
+ghost use Rattle.std.specs.Prelude.{◌<◌, ◌^◌};
+
+use crate::records::{number, record_of};
+use decision_journal::Journal;
+use ots_outside::{Disk, DiskRefusal, FileDisk};
+use std::fs::File;
+use std::io;
+use std::io::{ErrorKind, Write};
+use std::time::Instant;
+
+/// How many octets the area of a journal has.
+const AREA: u64 = 67_108_864;
+
+/// A decision with two references of 116 octets.
+const WORDS: &str =
+    "decision 0000002949444c3a6f6d672e6f72672f436f735472616e73616374696f6e732f5265736f757263653a312e300000000000000001000000000000003800010200000000036531000000010000000000204f5453520000000000000002000000010000000000000000000000010000000000000000 0000002949444c3a6f6d672e6f72672f436f735472616e73616374696f6e732f5265736f757263653a312e300000000000000001000000000000003800010200000000036531000000010000000000204f5453520000000000000002000000010000000000000000000000020000000000000000";
+
+/// How many octets such a decision has.
+const LENGTH: u64 = 286;
+
+/// What is written behind its gate, and the next gate.
+const BEHIND: [u8; 286] = [0; 286];
+
+/// Runs one of these, and writes how long it took.
+pub fn run(rt: &HostRuntime, kind: &str, path: &str, count: &str) -> io::Result<()> {
+    let count = number(count)?;
+    let mut options = File::options();
+    options.read(true).write(true).create(true);
+    let disk = FileDisk::new(options.open(rt, path)?, None);
+    let start = Instant::now(rt)?;
+    match kind {
+        "appends" => appends(rt, disk, count)?,
+        "load" => appends(rt, disk, 0)?,
+        _ => bare(disk, count)?,
+    }
+    let took = start.elapsed(rt)?.as_nanos();
+    writeln!(rt.stdout(), "{took}")
+}
+
+/// Loads a journal, and appends so many decisions to it.
+fn appends(rt: &HostRuntime, disk: FileDisk, count: u32) -> io::Result<()> {
+    let Ok(mut journal) = Journal::load(rt.alloc(), disk, AREA, 1) else {
+        return Err(ErrorKind::InvalidData.into());
+    };
+    for _ in 0..count {
+        let item = record_of(rt.alloc(), WORDS)?;
+        if journal.append(item).is_err() {
+            return Err(ErrorKind::Other.into());
+        }
+    }
+    Ok(())
+}
+
+/// Makes the writes and syncs of as many appends.
+fn bare(mut disk: FileDisk, count: u32) -> io::Result<()> {
+    for place in 0..u64::from(count) {
+        if write_twice(&mut disk, 26 + LENGTH * place).is_err() {
+            return Err(ErrorKind::Other.into());
+        }
+    }
+    Ok(())
+}
+
+fn write_twice(disk: &mut FileDisk, gate: u64) -> Result<(), DiskRefusal>
+    requires { gate < 2 ^ 63 }
+{
+    disk.write_at(gate + 1, &BEHIND)?;
+    disk.sync()?;
+    disk.write_at(gate, &[1])?;
+    disk.sync()
+}

@@ -1,0 +1,83 @@
+//! The calls of a journal. Each line is one of these:
+//!
+//! - `append RECORD ..`: a record is appended, as `records` says. `times N RECORD ..`: so often.
+//! - `outcome PLACE`: the outcome that the cells which were prepared there were applied, where it can follow.
+//! - `done PLACE`, `reopen`: these calls.
+//! - `bytes`: the octets that the journal gives. `disk`: those that its disk reads. `standing`: what stands.
+
+use crate::records::{number, record_of};
+use decision_journal::{CellsEnd, Journal, JournalRecord};
+use ots_outside::MemDisk;
+use std::alloc::Global;
+use std::io;
+use std::io::{ErrorKind, Write};
+
+/// How many places are told at most.
+const MOST: usize = 20;
+
+/// Makes the call of a line, and tells its answer.
+pub fn call(
+    alloc: Global,
+    journal: &mut Journal<MemDisk>,
+    line: &str,
+    told: &mut Vec<u8>,
+) -> io::Result<()> {
+    let (word, rest) = line.split_once(' ').unwrap_or((line, ""));
+    match word {
+        "append" => append(alloc, journal, 1, rest, told),
+        "times" => {
+            let (count, rest) = rest.split_once(' ').ok_or(ErrorKind::InvalidInput)?;
+            append(alloc, journal, number(count)?, rest, told)
+        }
+        "outcome" => append_outcome(journal, number(rest)?, told),
+        "done" => write!(told, "{:?}", journal.done(number(rest)?)),
+        "reopen" => write!(told, "{:?}", journal.reopen()),
+        "bytes" => {
+            let mut octets = Vec::new(alloc);
+            let answer = journal.bytes(&mut octets);
+            write!(told, "{answer:?} {}", hex::encode(alloc, &octets)?)
+        }
+        "disk" => write!(told, "{}", hex::encode(alloc, journal.disk().octets())?),
+        _ => tell_standing(journal, told),
+    }
+}
+
+/// Appends a record so many times, and tells the last answer.
+fn append(
+    alloc: Global,
+    journal: &mut Journal<MemDisk>,
+    count: u32,
+    words: &str,
+    told: &mut Vec<u8>,
+) -> io::Result<()> {
+    let mut answer = Ok(0);
+    for _ in 0..count {
+        let item = record_of(alloc, words)?;
+        answer = journal.append(item);
+    }
+    write!(told, "{answer:?}")
+}
+
+/// Appends the outcome of cells, where it can follow.
+fn append_outcome(
+    journal: &mut Journal<MemDisk>,
+    place: u32,
+    told: &mut Vec<u8>,
+) -> io::Result<()> {
+    let item = JournalRecord::CellsOutcome(place, CellsEnd::Applied);
+    if journal.failed() || !journal.takes(&item) {
+        return write!(told, "it can't follow");
+    }
+    let answer = journal.append(item);
+    write!(told, "{answer:?}")
+}
+
+/// Tells the life, and the places of what stands.
+pub fn tell_standing(journal: &Journal<MemDisk>, told: &mut Vec<u8>) -> io::Result<()> {
+    write!(told, "life {}", journal.life())?;
+    let standing = journal.standing();
+    for standing in &standing[..standing.len().min(MOST)] {
+        write!(told, " {}", standing.place)?;
+    }
+    Ok(())
+}

@@ -1,0 +1,49 @@
+//! Runs the cases on standard input, each on a journal over a disk in memory, and tells what comes of it.
+//!
+//! A case begins with a line `== KIND ..`. The lines behind it say what the disk holds at first, and what is done:
+//!
+//! - `octets HEX ..`: these octets too. `fill N`: so many more that are 1.
+//! - `area N`, `service N`: what the journal is loaded with.
+//! - Each other line is a call, as `calls` says.
+//!
+//! There are these kinds:
+//!
+//! - `calls`: the journal is loaded, and the calls are made. At last the disk is loaded anew.
+//! - `garbage`: each call is `PLACE OCTET LENGTH`. The journal is loaded from octets of which one is another, and no more
+//!   than so many are left.
+//! - `fails`: the case is run once for each call of its disk, which fails.
+//! - `crashes`: of each call of the disk it is told what a crash in it leaves. In front of it come the places that were
+//!   written. Each image has the front of what was written, and behind it what stood there, or octets that are 1. Its
+//!   records are told by how many octets they and the header have, and by the life that the next load begins.
+//!
+//! With words behind its name the program is a benchmark, as `bench` says.
+#![tactic(auto)]
+
+use case::Case;
+use std::io::Write;
+use std::{env, io};
+
+mod bench;
+mod calls;
+mod case;
+mod crashes;
+mod records;
+
+fn main(rt: HostRuntime) -> io::Result<()> {
+    let words: Vec<String> = env::args(&rt)?.skip(1).collect(rt.alloc())?;
+    if let [kind, path, count] = words.as_slice() {
+        return bench::run(&rt, kind.as_str(), path.as_str(), count.as_str());
+    }
+    let text = io::read_to_string(rt.alloc(), rt.stdin())?;
+    let mut out = rt.stdout();
+    for case in text.as_str().split("\n== ").skip(1) {
+        let lines: Vec<&str> = case.lines().collect(rt.alloc())?;
+        if let [head, lines @ ..] = lines.as_slice() {
+            let case = Case::of(rt.alloc(), lines)?;
+            let told = case.told(rt.alloc(), head)?;
+            writeln!(out, "== {head}")?;
+            out.write_all(told.as_slice())?;
+        }
+    }
+    Ok(())
+}
