@@ -8,11 +8,13 @@ use std::fs::File;
 use std::io;
 use std::os::unix::fs::FileExt;
 
-/// A disk over a file. Each failure that it answers counts as one fault. It tells nothing of its octets.
+/// A disk over a file. Each failure that it answers counts as one fault. It tells nothing of its octets. Once a sync has
+/// failed, each call fails: what the file reads then may be lost in a crash, even behind a later sync that succeeds.
 #[derive(Drop)]
 pub struct FileDisk {
     file: File,
     folder: Option<File>,
+    lost: bool,
     faults: u64,
 }
 
@@ -27,6 +29,7 @@ impl FileDisk {
         FileDisk {
             file,
             folder,
+            lost: false,
             faults: 0,
         }
     }
@@ -38,15 +41,15 @@ impl FileDisk {
         self.faults
     }
 
-    /// The answer of a call to the file, with its failure counted.
+    /// The answer of a call to the file, with its failure counted. Once a sync has failed, it is a failure too.
     fn counted<T: Drop>(&mut self, answer: io::Result<T>) -> Result<T, DiskRefusal>
         ensures cause { OnErr result (HasRisen (file_disk_faults self.old) (file_disk_faults self.new)) }
         ensures later { file_disk_faults self.old ≤ file_disk_faults self.new }
         ensures faults { CountsFault result (file_disk_faults self.old) (file_disk_faults self.new) }
     {
         match answer {
-            Ok(value) => Ok(value),
-            Err(_) => {
+            Ok(value) if !self.lost => Ok(value),
+            _ => {
                 Failed::counted(&mut self.faults);
                 Err(DiskRefusal::Failed)
             }
@@ -109,6 +112,8 @@ impl Disk for FileDisk {
         let synced = sync_both(&self.file, &self.folder);
         if synced.is_ok() {
             self.folder = None;
+        } else {
+            self.lost = true;
         }
         self.counted(synced)
     }

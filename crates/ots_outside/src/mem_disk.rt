@@ -145,11 +145,31 @@ impl Disk for SureDisk {
         Ok(())
     }
 
-    fn write_at(&mut self, place: u64, bytes: &[u8]) -> Result<(), DiskRefusal> {
+    fn write_at(&mut self, place: u64, bytes: &[u8]) -> Result<(), DiskRefusal>
+        requires { place ≤ length self.old.reads }
+
+        // What each disk promises.
+        ensures whole { OnOk result (self.new ≡ written place bytes.now self.old) }
+        ensures refused { OnErr result (IsAfterRefusal self.old (written place bytes.now self.old) self.new) }
+        ensures image { IsImage self.old.present self.old.reads × IsImage self.new.present self.new.reads }
+        ensures cause { IsErrOf result Failed → ⊥ }
+
+        // A refused one does nothing.
+        ensures nothing { OnErr result (self.new ≡ self.old) }
+    {
         Ok(self.write(place, bytes)?)
     }
 
-    fn sync(&mut self) -> Result<(), DiskRefusal> {
+    fn sync(&mut self) -> Result<(), DiskRefusal>
+        // What each disk promises.
+        ensures whole { OnOk result (self.new ≡ synced self.old) }
+        ensures refused { OnErr result (IsAfterRefusal self.old (synced self.old) self.new) }
+        ensures image { IsImage self.old.present self.old.reads × IsImage self.new.present self.new.reads }
+        ensures cause { IsErrOf result Failed → ⊥ }
+
+        // A refused one does nothing.
+        ensures nothing { OnErr result (self.new ≡ self.old) }
+    {
         Ok(self.mark()?)
     }
 }
