@@ -1,42 +1,30 @@
 -- A reading of a disk and then a write of a record: what is written, and what stands where that is refused.
-use Rattle.std.proofs.Common.{◌≡◌, inl, inr, ℕ, ◌≤◌, Bool, true, false, List, length, Option, Some, None, Result, Ok, Err, refl, sym, subst, ap, ◌∙◌, arith}
-use Rattle.std.specs.Prelude.{IfErr, OnErr}
-use Rattle.ots_outside.specs.Disk.{DiskState, Tells, moments}
+use Rattle.std.proofs.Common.{◌≡◌, inl, inr, ℕ, ◌+◌, ◌≤◌, Bool, true, false, List, length, Option, Some, None, Result, Ok, Err, refl, sym, subst}
+use Rattle.std.specs.Prelude.{IfErr, IfOk, OnErr}
+use Rattle.ots_outside.specs.Disk.{DiskState, Tells}
 use Rattle.decision_journal.specs.declared.record.JournalRecord.{JournalRecord}
 use Rattle.decision_journal.specs.declared.journal.JournalFault.{JournalFault}
 use Rattle.decision_journal.specs.declared.journal.JournalFault.TheVariants.{DiskFault, Full, BadHeader, BadRecord, LivesSpent, Memory}
 use Rattle.decision_journal.specs.Journal.{Found}
 use Rattle.decision_journal.specs.Laws.{IsOnTheWay, appended, behind_gate}
-use Rattle.decision_journal.specs.State.{HasReread, IsAppendFault, IsReadFault, IsRoomFault, IsSound, IsUnread, IsUnsure, JournalState}
-use Rattle.decision_journal.specs.Calls.{HasBegun, IsCurrent, IsInDoubt, IsReady, IsRefusedAppend, IsRefusedReading, IsUnready, IsUnwritten, reread, with_appended}
+use Rattle.decision_journal.specs.State.{HasMore, HasReread, IsAppendFault, IsReadFault, IsRoomFault, IsSound, IsUnread, IsUnsure, JournalState, need, used}
+use Rattle.decision_journal.specs.Calls.{HasAppended, HasDoubt, IsCurrent, IsReady, IsRefusedAppend, IsRefusedReading, IsUnready, IsUnwritten, reread}
 use Rattle.decision_journal.specs.Loading.{IsDiskFault}
-use Rattle.decision_journal.proofs.Joined.{known_then, risen_later}
+use Rattle.decision_journal.proofs.Joined.{risen_later}
 use Rattle.decision_journal.proofs.Kept.{at_rest, within_now}
-use Rattle.decision_journal.proofs.Ways.{tells_then, tells_weaker, way_behind}
+use Rattle.decision_journal.proofs.Ways.{tells_then, tells_weaker}
 
 -- ---- disks
-
-reread_longer : (failed : Bool) (s : DiskState) → length (moments s) ≤ length (moments (reread failed s))
-reread_longer true s = omega arith
-reread_longer false s = omega arith
-
-module _ (failed : Bool) (gate : ℕ) (r : JournalRecord) (a b c : Option DiskState) (first : Tells a b (λ s t. t ≡ reread failed s)) where
-  pub whole_then : Tells b c (λ s t. t ≡ appended gate (behind_gate r) s) → Tells a c (λ s t. t ≡ with_appended failed gate r s)
-  whole_then second =
-      tells_weaker a c _ (λ s t. t ≡ with_appended failed gate r s) (λ s u h. h.2 ∙ ap (appended gate (behind_gate r)) h.1)
-      (tells_then a b c (λ s t. t ≡ reread failed s) (λ s t. t ≡ appended gate (behind_gate r) s) first second)
-
-  pub begun_then : Tells b c (λ s t. IsOnTheWay s (appended gate (behind_gate r) s) t) → Tells a c (HasBegun failed gate r)
-  begun_then second =
-      tells_weaker a c _ (HasBegun failed gate r) (λ s u h.
-      let at : IsOnTheWay (reread failed s) (with_appended failed gate r s) u = subst (λ (m : DiskState). IsOnTheWay m (appended gate (behind_gate r) m) u) h.1 h.2 in
-      way_behind s (reread failed s) (with_appended failed gate r s) u (reread_longer failed s) at)
-      (tells_then a b c (λ s t. t ≡ reread failed s) (λ s t. IsOnTheWay s (appended gate (behind_gate r) s) t) first second)
 
 -- where no call had failed, the disk is as it was
 pub reread_fine : (failed : Bool) (a : Option DiskState) → failed ≡ false → Tells a a (λ s t. t ≡ reread failed s)
 reread_fine failed None e = tt
 reread_fine failed (Some s) e = subst (λ (f : Bool). s ≡ reread f s) (sym e) refl
+
+-- and what comes behind it is so of the disk before
+pub fine_then : (failed : Bool) → failed ≡ false → (a b c : Option DiskState) (R : DiskState → DiskState → Type 0) → Tells a b (λ s t. t ≡ reread failed s) → Tells b c R → Tells a c R
+fine_then true e a b c R first second = absurd cc
+fine_then false e a b c R first second = tells_weaker a c _ R (λ s u h. subst (λ (m : DiskState). R m u) h.1 h.2) (tells_then a b c (λ s t. t ≡ s) R first second)
 
 -- where one had, it was synced
 pub reread_failed : (failed : Bool) (a b : Option DiskState) → failed ≡ true → Tells a b (λ s t. t ≡ reread true s) → Tells a b (λ s t. t ≡ reread failed s)
@@ -60,15 +48,6 @@ pub current_of : {D : Type 0} (told : D → Option DiskState) (j : JournalState 
 current_of told j sound = record {
   within = within_now (told j.disk) j.area j.service j.octets j.found false j.doubted sound;
   rest = at_rest false j.octets j.doubted (told j.disk) refl sound.kept;
-}
-
-unsure_then : {D : Type 0} (before mid after : JournalState D) (r : JournalRecord) → HasReread before mid → IsUnsure mid r after → IsUnsure before r after
-unsure_then before mid after r read unsure = record {
-  area = unsure.area ∙ read.area;
-  service = unsure.service ∙ read.service;
-  known = known_then before.octets mid.octets after.octets before.found mid.found after.found before.doubted mid.doubted read.doubted read.known unsure.known;
-  doubted = unsure.doubted;
-  failed = unsure.failed;
 }
 
 -- ---- refusals
@@ -107,12 +86,9 @@ module _ {D : Type 0} (told : D → Option DiskState) (before : JournalState D) 
       refused_ready LivesSpent f = absurd f
       refused_ready Memory f = inr (inl ready_of)
 
-      module _ (after : JournalState D) (unsure : IsUnsure mid r after) (way : Tells (told mid.disk) (told after.disk) (λ s t. IsOnTheWay s (appended (length after.octets) (behind_gate r) s) t)) where
-        doubt : IsInDoubt told before r after
-        doubt = record {
-          journal = unsure_then before mid after r read unsure;
-          disk = begun_then before.failed (length after.octets) r (told before.disk) (told mid.disk) (told after.disk) disk way;
-        }
+      module _ (after : JournalState D) (unsure : IsUnsure mid r after) (way : Tells (told mid.disk) (told after.disk) (λ s t. IsOnTheWay s (appended (length mid.octets) (behind_gate r) s) t)) where
+        doubt : HasDoubt told before r after
+        doubt = record { ready = mid; is_ready = ready_of; doubt = record { journal = unsure; disk = way } }
 
         pub refused_doubt : (n m : ℕ) (fault : JournalFault) → IsDiskFault n m fault → IsRefusedAppend told before r after fault
         refused_doubt n m DiskFault f = inr doubt
@@ -124,9 +100,14 @@ module _ {D : Type 0} (told : D → Option DiskState) (before : JournalState D) 
 
       -- of what a write answers
       pub refused_write : {T : Type 0} (result : Result T JournalFault) (after : JournalState D) (n m : ℕ) → IfErr result (IsDiskFault n m) → OnErr result (IsUnsure mid r after)
-          → OnErr result (Tells (told mid.disk) (told after.disk) (λ s t. IsOnTheWay s (appended (length after.octets) (behind_gate r) s) t)) → IfErr result (IsRefusedAppend told before r after)
+          → OnErr result (Tells (told mid.disk) (told after.disk) (λ s t. IsOnTheWay s (appended (length mid.octets) (behind_gate r) s) t)) → IfErr result (IsRefusedAppend told before r after)
       refused_write (Ok x) after n m f unsure way = tt
       refused_write (Err fault) after n m f unsure way = refused_doubt after unsure way n m fault f
+
+      pub appended_write : (result : Result ℕ JournalFault) (after : JournalState D) → IfOk result (HasMore mid after r) → IfOk result (λ place. Tells (told mid.disk) (told after.disk) (λ s t. t ≡ appended place (behind_gate r) s))
+          → used mid.octets mid.found + need mid.area mid.found r ≤ mid.area → IfOk result (HasAppended told before r after)
+      appended_write (Ok place) after more written room = record { ready = mid; is_ready = ready_of; appended = record { journal = more; disk = written }; room = room }
+      appended_write (Err fault) after more written room = tt
 
 -- ---- causes
 

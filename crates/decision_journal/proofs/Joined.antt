@@ -1,7 +1,6 @@
 -- A reading of a disk, and then a write of a record.
-use Rattle.std.proofs.Common.{◌≡◌, inl, inr, ℕ, ◌+◌, ◌≤◌, List, [], ◌∷◌, ◌++◌, Option, Some, None, Result, Ok, Err, sym, subst, ◌∙◌, arith}
-use Rattle.std.specs.Prelude.{IfErr, IsTrue}
-use Rattle.std.specs.List.{list_any}
+use Rattle.std.proofs.Common.{◌≡◌, inl, inr, ℕ, ◌≤◌, List, Option, Some, None, Result, Ok, Err, subst, arith}
+use Rattle.std.specs.Prelude.{IfErr}
 use Rattle.std.proofs.lemmas.Bool.{cases_lt}
 use Rattle.ots_outside.specs.Disk.{DiskState, Tells}
 use Rattle.ots_outside.specs.Source.{HasRisen}
@@ -9,9 +8,8 @@ use Rattle.decision_journal.specs.declared.record.JournalRecord.{JournalRecord}
 use Rattle.decision_journal.specs.declared.record.JournalRecord.TheVariants.{Done}
 use Rattle.decision_journal.specs.declared.journal.JournalFault.{JournalFault}
 use Rattle.decision_journal.specs.declared.journal.JournalFault.TheVariants.{DiskFault, Full, BadHeader, BadRecord, LivesSpent, Memory}
-use Rattle.decision_journal.specs.Journal.{AreRecords, Found, StandsFor, is_decision_at}
-use Rattle.decision_journal.specs.State.{AppendIsDone, AppendIsSafe, DoneIsDone, HasAppended, HasMore, HasReread, IsAppendFault, IsOld, IsOldOrMore, IsReadFault, JournalState, MayFind, MayHold, ReadIsDone, ReadIsSafe, need, used}
-use Rattle.decision_journal.specs.Calls.{HasDone, with_appended}
+use Rattle.decision_journal.specs.Journal.{Found, StandsFor}
+use Rattle.decision_journal.specs.State.{AppendIsDone, AppendIsSafe, DoneIsDone, IsAppendFault, IsOld, IsOldOrMore, IsReadFault, MayFind, MayHold, ReadIsDone, ReadIsSafe}
 use Rattle.decision_journal.proofs.Images.{image_settled}
 use Rattle.decision_journal.proofs.OneList.{one_list}
 use Rattle.decision_journal.proofs.Since.{since_then, since_weaker}
@@ -70,49 +68,6 @@ at_service R a b x y e h = subst (λ (n : ℕ). Tells a b (R n)) e h
 pub known_now : (o octets : List ℕ) (f found : Found) (d : Option JournalRecord) → d ≡ None → MayFind octets found d o f → (o ≡ octets) × (f ≡ found)
 known_now o octets f found None e may = may
 known_now o octets f found (Some r) e may = absurd cc
-
-pub known_then : (octets mid o : List ℕ) (found middle f : Found) (doubted d : Option JournalRecord) → d ≡ None → MayFind octets found doubted mid middle → MayFind mid middle d o f → MayFind octets found doubted o f
-known_then octets mid o found middle f doubted d none may now =
-    let same = known_now o mid f middle d none now in
-    subst (λ (o : List ℕ). MayFind octets found doubted o f) (sym same.0) (subst (λ (f : Found). MayFind octets found doubted mid f) (sym same.1) may)
-
-module _ {D : Type 0} (before mid after : JournalState D) (r : JournalRecord) (place : ℕ) (read : HasReread before mid) (more : HasMore mid after r place) where
-  abbrev pub more_then : HasMore before after r place
-  more_then = record {
-    octets = more.octets;
-    found = more.found;
-    records = more.records;
-    known = known_then before.octets mid.octets more.octets before.found mid.found more.found before.doubted mid.doubted read.doubted read.known more.known;
-    were = subst (λ (n : ℕ). AreRecords n more.octets more.found more.records) read.service more.were;
-    place_is = more.place_is;
-    area = more.area ∙ read.area;
-    service = more.service ∙ read.service;
-    octets_are = more.octets_are;
-    found_is = more.found_is;
-    are = subst (λ (n : ℕ). AreRecords n after.octets after.found (more.records ++ r ∷ [])) read.service more.are;
-    failed = more.failed;
-    doubted = more.doubted;
-  }
-
-  same : (more.octets ≡ mid.octets) × (more.found ≡ mid.found)
-  same = known_now more.octets mid.octets more.found mid.found mid.doubted read.doubted more.known
-
-  pub appended_then : used mid.octets mid.found + need mid.area mid.found r ≤ mid.area → HasAppended before after r place
-  appended_then room = record {
-    more = more_then;
-    room = subst (λ (o : List ℕ). used o more.found + need before.area more.found r ≤ before.area) (sym same.0)
-        (subst (λ (f : Found). used mid.octets f + need before.area f r ≤ before.area) (sym same.1)
-        (subst (λ (a : ℕ). used mid.octets mid.found + need a mid.found r ≤ a) read.area room));
-  }
-
-pub has_done : {D : Type 0} (told : D → Option DiskState) (before mid after : JournalState D) (place at : ℕ) → HasReread before mid → HasMore mid after (Done place) at → IsTrue (list_any (is_decision_at place) mid.found.standing)
-    → Tells (told before.disk) (told after.disk) (λ s t. t ≡ with_appended before.failed at (Done place) s) → HasDone told before after place
-has_done told before mid after place at read more stood disk = record {
-  at = at;
-  more = more_then before mid after (Done place) at read more;
-  stood = subst (λ (f : Found). IsTrue (list_any (is_decision_at place) f.standing)) (sym (known_now more.octets mid.octets more.found mid.found mid.doubted read.doubted more.known).1) stood;
-  disk = disk;
-}
 
 -- ---- faults
 

@@ -10,8 +10,9 @@ use Rattle.decision_journal.specs.declared.journal.JournalFault.TheVariants.{Dis
 use Rattle.decision_journal.specs.Journal.{Found, Holds, IsFresh, IsOfDisk, IsScanFault, first_letter, found_in, front, is_fresh}
 use Rattle.decision_journal.specs.Laws.{IsOnTheWay, appended, behind_gate, cleared, created}
 use Rattle.decision_journal.specs.State.{HasNoRoom, IsAppendFault, JournalState, used}
-use Rattle.decision_journal.specs.Calls.{HasBegun, IsInDoubt, IsReady, IsRefusedAppend, IsUnready, IsUnwritten, reread}
+use Rattle.decision_journal.specs.Calls.{HasDoubt, IsReady, IsRefusedAppend, IsUnready, IsUnwritten, reread}
 use Rattle.decision_journal.specs.Loading.{HasBegunLoad, IsDiskFault, IsLoadFault, IsRefusedLoad, IsStarted, last_life, loaded, next_life, readied}
+use Rattle.decision_journal.proofs.Calls.{fine_then}
 use Rattle.decision_journal.proofs.Joined.{known_now, risen_later}
 use Rattle.decision_journal.proofs.Loads.{fresh_test, stands_test}
 use Rattle.decision_journal.proofs.Starts.{load_begun, told_reads}
@@ -126,9 +127,6 @@ way_none : (failed : Bool) → failed ≡ false → (g : ℕ) (b : List ℕ) (s 
 way_none true e g b s t is = absurd cc
 way_none false e g b s t is = record { left = 4; within = omega arith; moments_are = ap moments is }
 
-begun_fine : (failed : Bool) → failed ≡ false → (g : ℕ) (r : JournalRecord) (b c : Option DiskState) → Tells b c (HasBegun failed g r) → Tells b c (λ s t. IsOnTheWay s (appended g (behind_gate r) s) t)
-begun_fine failed e g r b c h = subst (λ (f : Bool). Tells b c (HasBegun f g r)) e h
-
 module _ {D : Type 0} (told : D → Option DiskState) (journal after : JournalState D) (area service l : ℕ) (l_is : l ≡ journal.found.life + 1) (failed : journal.failed ≡ false) (doubted : journal.doubted ≡ None) where
   never : IsUnready told journal after → ⊥
   never unready = never_both journal.failed failed unready.was
@@ -149,11 +147,11 @@ module _ {D : Type 0} (told : D → Option DiskState) (journal after : JournalSt
     life_fault a before mid end x y Memory h f = tt
 
     module _ (a : Option DiskState) (started : Tells a (told journal.disk) (IsStarted service journal.octets journal.found)) (made : Tells a (told journal.disk) (λ s t. t ≡ readied service (synced s))) where
-      doubt : IsInDoubt told journal (Life l) after → Tells a (told after.disk) (HasBegunLoad service)
+      doubt : HasDoubt told journal (Life l) after → Tells a (told after.disk) (HasBegunLoad service)
       doubt d =
-          let same = known_now after.octets journal.octets after.found journal.found journal.doubted doubted d.journal.known in
-          load_begun service journal.octets journal.found l l_is (length after.octets) (ap length same.0) a (told journal.disk) (told after.disk) started made
-          (begun_fine journal.failed failed (length after.octets) (Life l) (told journal.disk) (told after.disk) d.disk)
+          let same = known_now d.ready.octets journal.octets d.ready.found journal.found journal.doubted doubted d.is_ready.journal.known in
+          load_begun service journal.octets journal.found l l_is (length d.ready.octets) (ap length same.0) a (told journal.disk) (told after.disk) started made
+          (fine_then journal.failed failed (told journal.disk) (told d.ready.disk) (told after.disk) _ d.is_ready.disk d.doubt.disk)
 
       idle : IsReady told journal after → Tells a (told after.disk) (HasBegunLoad service)
       idle ready =

@@ -40,15 +40,11 @@ module _ (told : Option DiskState) (area service : ℕ) (octets : List ℕ) (fou
     abbrev pub End : Type 0
     End = Tells told after (λ s t. t ≡ appended gate behind s)
 
-    on_way : Way → Tells told after (λ s t. IsOnTheWay s (appended (length octets) (behind_gate item) s) t)
+    pub on_way : Way → Tells told after (λ s t. IsOnTheWay s (appended (length octets) (behind_gate item) s) t)
     on_way way = retold told after (λ p b s t. IsOnTheWay s (appended p b s) t) gate (length octets) behind (behind_gate item) gate_is behind_is way
 
     at_end : End → Tells told after (λ s t. t ≡ appended (length octets) (behind_gate item) s)
     at_end end = retold told after (λ p b s t. t ≡ appended p b s) gate (length octets) behind (behind_gate item) gate_is behind_is end
-
-    -- at the gate behind octets that stay as they were
-    pub write_way : (l : List ℕ) → l ≡ octets → Way → Tells told after (λ s t. IsOnTheWay s (appended (length l) (behind_gate item) s) t)
-    write_way l l_is way = subst (λ (l : List ℕ). Tells told after (λ s t. IsOnTheWay s (appended (length l) (behind_gate item) s) t)) (sym l_is) (on_way way)
 
     -- at the gate that was written
     pub write_disk : End → Tells told after (λ s t. t ≡ appended gate (behind_gate item) s)

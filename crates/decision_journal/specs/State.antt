@@ -160,34 +160,27 @@ pub record IsUnread {D : Type 0} (before after : JournalState D) : Type 0 where
   pub doubted : after.doubted ≡ before.doubted
   pub failed : after.failed ≡ true
 
--- the record may have been appended to what the journal could find
+-- the record may have been appended to what the journal knew
 pub record IsUnsure {D : Type 0} (before : JournalState D) (r : JournalRecord) (after : JournalState D) : Type 0 where
   pub area : after.area ≡ before.area
   pub service : after.service ≡ before.service
-  pub known : MayHave before after.octets after.found
+  pub octets : after.octets ≡ before.octets
+  pub found : after.found ≡ before.found
   pub doubted : after.doubted ≡ Some r
   pub failed : after.failed ≡ true
 
--- the record stands behind what the journal could find, at this place: it is the last of the journal's records
+-- the record stands behind what the journal knew, at this place: it is the last of the journal's records
 pub record HasMore {D : Type 0} (before after : JournalState D) (r : JournalRecord) (place : ℕ) : Type 0 where
-  pub octets : List ℕ
-  pub found : Found
   pub records : List JournalRecord
-  pub known : MayHave before octets found
-  pub were : AreRecords before.service octets found records
-  pub place_is : place ≡ length octets
+  pub were : AreRecords before.service before.octets before.found records
+  pub place_is : place ≡ length before.octets
   pub area : after.area ≡ before.area
   pub service : after.service ≡ before.service
-  pub octets_are : after.octets ≡ octets ++ record_octets r
-  pub found_is : after.found ≡ with_record found (length octets) r
+  pub octets_are : after.octets ≡ before.octets ++ record_octets r
+  pub found_is : after.found ≡ with_record before.found (length before.octets) r
   pub are : AreRecords before.service after.octets after.found (records ++ r ∷ [])
   pub failed : after.failed ≡ false
   pub doubted : after.doubted ≡ None
-
--- the record was appended at this place, and there was room for it
-pub record HasAppended {D : Type 0} (before after : JournalState D) (r : JournalRecord) (place : ℕ) : Type 0 where
-  pub more : HasMore before after r place
-  pub room : used more.octets more.found + need before.area more.found r ≤ before.area
 
 -- why a disk was not read again, of one that was and is so, and whose count of faults was and is so. One that tells its
 -- state reads what is expected

@@ -54,8 +54,8 @@ impl<D: Disk> Model for Journal<D> {
 
 impl<D: Disk> Journal<D> {
     ghost use Rattle.decision_journal.specs.Loading.{IsDiskFault, IsLoadFault, IsRefusedLoad, LoadIsDone, LoadIsSafe};
-    ghost use Rattle.decision_journal.specs.State.{AppendIsDone, AppendIsSafe, HasAppended, HasMore, HasReread, DoneIsDone, IsAppendFault, IsReadFault, IsRoomFault, IsUnread, IsUnsure, IsKept, LeavesFound, StaysWithinArea, MayFollow, ReadIsDone, ReadIsSafe, need, used};
-    ghost use Rattle.decision_journal.specs.Calls.{IsAfterDone, IsCurrent, IsReady, IsRefusedAppend, IsRefusedReading, IsUnwritten, reread, with_appended};
+    ghost use Rattle.decision_journal.specs.State.{AppendIsDone, AppendIsSafe, HasMore, HasReread, DoneIsDone, IsAppendFault, IsReadFault, IsRoomFault, IsUnread, IsUnsure, IsKept, LeavesFound, StaysWithinArea, MayFollow, ReadIsDone, ReadIsSafe, need, used};
+    ghost use Rattle.decision_journal.specs.Calls.{HasAppended, IsAfterDone, IsCurrent, IsReady, IsRefusedAppend, IsRefusedReading, IsUnwritten, reread};
 
     /// Whether the next call reads the disk again.
     pub fn failed(&self) -> bool
@@ -196,7 +196,7 @@ impl<D: Disk> Journal<D> {
             (Tells (D.told self.old.disk) (D.told self.new.disk) (AppendIsDone self.old.service item)) }
         ensures unsure { OnErr result (IsUnsure self.old item self.new) }
         ensures way { OnErr result (Tells (D.told self.old.disk) (D.told self.new.disk)
-            (λ s t. IsOnTheWay s (appended (length self.new.octets) (behind_gate item) s) t)) }
+            (λ s t. IsOnTheWay s (appended (length self.old.octets) (behind_gate item) s) t)) }
         ensures fault { IfErr result (IsDiskFault (D.faults self.old.disk) (D.faults self.new.disk)) }
         ensures later { D.faults self.old.disk ≤ D.faults self.new.disk }
         ensures safe { Tells (D.told self.old.disk) (D.told self.new.disk) (AppendIsSafe self.old.service item) }
@@ -220,10 +220,8 @@ impl<D: Disk> Journal<D> {
     pub fn append(&mut self, item: JournalRecord) -> Result<u32, JournalFault>
         requires fits { Fits item }
         requires follows { MayFollow self.old item }
-        ensures more { IfOk result (HasAppended self.old self.new item) }
+        ensures more { IfOk result (HasAppended D.told self.old item self.new) }
         ensures current { OnOk result (IsCurrent D.told self.new) }
-        ensures disk { IfOk result (λ place. Tells (D.told self.old.disk) (D.told self.new.disk)
-            (λ s t. t ≡ with_appended self.old.failed place item s)) }
         ensures done { OnOk result
             (Tells (D.told self.old.disk) (D.told self.new.disk) (AppendIsDone self.old.service item)) }
         ensures refused { IfErr result (IsRefusedAppend D.told self.old item self.new) }

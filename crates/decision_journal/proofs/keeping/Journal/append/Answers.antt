@@ -1,7 +1,7 @@
-use Rattle.std.proofs.lemmas.Result.{err_from_is_err_and, on_ok_weaker, IfOk-weaker}
+use Rattle.std.proofs.lemmas.Result.{err_from_is_err_and, on_ok_weaker}
 use Rattle.decision_journal.specs.State.{AppendIsDone, AppendIsSafe}
-use Rattle.decision_journal.proofs.Joined.{read_only, safe_then, done_then, at_service, appended_then, if_err_weaker}
-use Rattle.decision_journal.proofs.Calls.{append_fault_then, refused_ready, refused_unready, refused_write, whole_then}
+use Rattle.decision_journal.proofs.Joined.{read_only, safe_then, done_then, at_service, if_err_weaker}
+use Rattle.decision_journal.proofs.Calls.{append_fault_then, appended_write, refused_ready, refused_unready, refused_write}
 use Rattle.decision_journal.proofs.keeping.Journal.append.Goals as goal
 
 pub returns-in_err-ready-clause-safe : goal.returns-in_err-ready-clause-safe
@@ -22,7 +22,7 @@ returns-clause-done g c =
 
 pub returns-clause-more : goal.returns-clause-more
 returns-clause-more g c =
-    IfOk-weaker c.write.result _ _ (λ place more. appended_then c.args.self.now c.ready.new.self c.write.new.self c.args.item place c.in_ok-ready.ensures.read more c.in_ok-behind.ensures.room) c.write.ensures.more
+    appended_write g.D.Disk.told c.args.self.now c.ready.new.self c.in_ok-ready.ensures.read c.in_ok-ready.ensures.disk c.in_ok-ready.ensures.current c.args.item c.write.result c.write.new.self c.write.ensures.more c.write.ensures.disk c.in_ok-behind.ensures.room
 
 pub returns-clause-fault : goal.returns-clause-fault
 returns-clause-fault g c =
@@ -41,7 +41,3 @@ returns-in_err-behind-clause-refused g c =
 pub returns-clause-refused : goal.returns-clause-refused
 returns-clause-refused g c =
     refused_write g.D.Disk.told c.args.self.now c.ready.new.self c.in_ok-ready.ensures.read c.in_ok-ready.ensures.disk c.in_ok-ready.ensures.current c.args.item c.write.result c.write.new.self _ _ c.write.ensures.fault c.write.ensures.unsure c.write.ensures.way
-
-pub returns-clause-disk : goal.returns-clause-disk
-returns-clause-disk g c =
-    IfOk-weaker c.write.result _ _ (λ place disk. whole_then c.args.self.now.failed place c.args.item (g.D.Disk.told c.args.self.now.disk) (g.D.Disk.told c.ready.new.self.disk) (g.D.Disk.told c.write.new.self.disk) c.in_ok-ready.ensures.disk disk) c.write.ensures.disk

@@ -2,8 +2,8 @@ use Rattle.std.proofs.Common.{◌∙◌, ap, inl, inr, not, sym}
 use Rattle.std.proofs.lemmas.Result.{err_from_is_err_and}
 use Rattle.decision_journal.specs.declared.record.JournalRecord.TheVariants.{Done}
 use Rattle.decision_journal.specs.State.{AppendIsDone, AppendIsSafe}
-use Rattle.decision_journal.proofs.Joined.{read_only, safe_then, done_then, done_written, at_service, has_done}
-use Rattle.decision_journal.proofs.Calls.{done_fault_then, ready_of, refused_doubt, refused_unready, whole_then}
+use Rattle.decision_journal.proofs.Joined.{read_only, safe_then, done_then, done_written, at_service}
+use Rattle.decision_journal.proofs.Calls.{done_fault_then, ready_of, refused_doubt, refused_unready}
 use Rattle.decision_journal.proofs.keeping.Journal.done.Goals as goal
 
 pub returns-in_err-ready-clause-safe : goal.returns-in_err-ready-clause-safe
@@ -36,8 +36,13 @@ returns-in_err-write-clause-fault g c =
 
 pub returns-clause-after : goal.returns-clause-after
 returns-clause-after g c =
-    inl (has_done g.D.Disk.told c.args.self.now c.ready.new.self c.write.new.self c.args.place _ c.in_ok-ready.ensures.read c.in_ok-write.ensures.more (sym c.stands.ensures.stands ∙ c.if-not-stands.false)
-    (whole_then c.args.self.now.failed c.in_ok-write.field-0 (Done c.args.place) (g.D.Disk.told c.args.self.now.disk) (g.D.Disk.told c.ready.new.self.disk) (g.D.Disk.told c.write.new.self.disk) c.in_ok-ready.ensures.disk c.in_ok-write.ensures.disk))
+    inl (record {
+      ready = c.ready.new.self;
+      is_ready = ready_of g.D.Disk.told c.args.self.now c.ready.new.self c.in_ok-ready.ensures.read c.in_ok-ready.ensures.disk c.in_ok-ready.ensures.current;
+      at = c.in_ok-write.field-0;
+      appended = record { journal = c.in_ok-write.ensures.more; disk = c.in_ok-write.ensures.disk };
+      stood = sym c.stands.ensures.stands ∙ c.if-not-stands.false;
+    })
 
 pub returns-then-not-stands-clause-after : goal.returns-then-not-stands-clause-after
 returns-then-not-stands-clause-after g c =

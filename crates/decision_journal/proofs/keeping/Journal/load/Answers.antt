@@ -1,6 +1,7 @@
-use Rattle.std.proofs.Common.{◌+◌, ◌∙◌, ℕ, None, ap, length, sym, subst, refl}
+use Rattle.std.proofs.Common.{◌+◌, ◌∙◌, ℕ, false, None, ap, length, sym, subst, refl}
 use Rattle.ots_outside.specs.Disk.{Tells}
 use Rattle.decision_journal.specs.Loading.{IsLoadFault, IsRefusedLoad, LoadIsSafe}
+use Rattle.decision_journal.proofs.Calls.{fine_then}
 use Rattle.decision_journal.proofs.Joined.{known_now}
 use Rattle.decision_journal.proofs.Starts.{load_done, load_safe}
 use Rattle.decision_journal.proofs.Refused.{life_fault, life_refused}
@@ -8,9 +9,10 @@ use Rattle.decision_journal.proofs.keeping.Journal.load.Goals as goal
 
 pub returns-in-Ok-append-clause-done : goal.returns-in-Ok-append-clause-done
 returns-in-Ok-append-clause-done g c =
-    let m = c.in-Ok-append.ensures.more.more in
-    let same = known_now m.octets c.in-Ok.start.octets.items m.found c.in-Ok.start.index None refl m.known in
-    load_done c.args.service c.in-Ok.start.octets.items c.in-Ok.start.index (c.life.result + 1) (ap (λ (n : ℕ). n + 1) c.life.ensures) _ (m.place_is ∙ ap length same.0) (g.D.Disk.told c.args.disk) (g.D.Disk.told c.start_within.new.disk) (g.D.Disk.told c.append.new.self.disk) c.in-Ok.ensures.started c.in-Ok.ensures.readied c.in-Ok-append.ensures.disk c.in-Ok-append.ensures.done
+    let m = c.in-Ok-append.ensures.more in
+    let same = known_now m.ready.octets c.in-Ok.start.octets.items m.ready.found c.in-Ok.start.index None refl m.is_ready.journal.known in
+    let disk = fine_then false refl (g.D.Disk.told c.start_within.new.disk) (g.D.Disk.told m.ready.disk) (g.D.Disk.told c.append.new.self.disk) _ m.is_ready.disk m.appended.disk in
+    load_done c.args.service c.in-Ok.start.octets.items c.in-Ok.start.index (c.life.result + 1) (ap (λ (n : ℕ). n + 1) c.life.ensures) _ (m.appended.journal.place_is ∙ ap length same.0) (g.D.Disk.told c.args.disk) (g.D.Disk.told c.start_within.new.disk) (g.D.Disk.told c.append.new.self.disk) c.in-Ok.ensures.started c.in-Ok.ensures.readied disk c.in-Ok-append.ensures.done
 
 pub returns-in-Err-append-clause-refused : goal.returns-in-Err-append-clause-refused
 returns-in-Err-append-clause-refused g c =

@@ -3,9 +3,9 @@ use Rattle.std.specs.Prelude.{IsTrue}
 use Rattle.decision_journal.specs.Layout.{record_octets}
 use Rattle.decision_journal.specs.State.{JournalState, used}
 use Rattle.decision_journal.specs.Journal.{can_follow, with_record}
-use Rattle.decision_journal.proofs.Kept.{body_kept, known, no_doubt, within_now}
+use Rattle.decision_journal.proofs.Kept.{body_kept, no_doubt, within_now}
 use Rattle.decision_journal.proofs.Below.{before_end}
-use Rattle.decision_journal.proofs.Writes.{write_safe, write_done, write_disk, write_records, write_unsure, write_sound, write_way}
+use Rattle.decision_journal.proofs.Writes.{write_safe, write_done, write_disk, write_records, write_unsure, write_sound, on_way}
 use Rattle.decision_journal.proofs.Calls.{current_of}
 use Rattle.decision_journal.proofs.keeping.Journal.write.Goals as goal
 
@@ -75,10 +75,7 @@ returns-clause-more g c =
     let octets = c.in_default-keep.ensures.octets ∙ ap (λ (l : List ℕ). c.self.inside.octets.items ++ l) (body_kept c.args.item c.args.behind.now (length c.args.behind.now - 1) c.requires.behind refl) in
     let records = write_records (g.D.Disk.told c.self.inside.disk) c.self.inside.area c.self.inside.service c.self.inside.octets.items c.self.inside.index c.self.inside.failed c.self.inside.doubted c.args.item c.self.invariant kept c.requires.fits follows within _ _ octets c.in_default-keep.ensures.found in
     rw (← c.self.view_is) (record {
-      octets = c.self.inside.octets.items;
-      found = c.self.inside.index;
       records = records.0;
-      known = known c.self.inside.octets.items c.self.inside.index c.self.inside.doubted;
       were = records.1.0;
       place_is = gate;
       area = refl;
@@ -101,7 +98,7 @@ returns-in-Err-clause-way g c =
     let follows = subst (λ (j : JournalState g.row.D.Denot). IsTrue (can_follow j.found c.args.item)) (sym c.self.view_is) c.requires.follows in
     let kept = ap (λ (j : JournalState g.row.D.Denot). j.failed) c.self.view_is ∙ c.requires.kept in
     let gate : c.len-gate.result ≡ length c.self.inside.octets.items = omega (arith, c.len-gate.ensures) in
-    rw (← c.self.view_is) (write_way (g.D.Disk.told c.self.inside.disk) c.self.inside.area c.self.inside.service c.self.inside.octets.items c.self.inside.index c.self.inside.failed c.self.inside.doubted c.args.item c.self.invariant kept c.requires.fits follows within (g.D.Disk.told c.append_at.new.disk) c.len-gate.result c.args.behind.now gate c.requires.behind _ refl c.append_at.ensures.way)
+    rw (← c.self.view_is) (on_way (g.D.Disk.told c.self.inside.disk) c.self.inside.area c.self.inside.service c.self.inside.octets.items c.self.inside.index c.self.inside.failed c.self.inside.doubted c.args.item c.self.invariant kept c.requires.fits follows within (g.D.Disk.told c.append_at.new.disk) c.len-gate.result c.args.behind.now gate c.requires.behind c.append_at.ensures.way)
 
 pub returns-in-Err-keep-clause-way : goal.returns-in-Err-keep-clause-way
 returns-in-Err-keep-clause-way g c =
@@ -109,7 +106,7 @@ returns-in-Err-keep-clause-way g c =
     let follows = subst (λ (j : JournalState g.row.D.Denot). IsTrue (can_follow j.found c.args.item)) (sym c.self.view_is) c.requires.follows in
     let kept = ap (λ (j : JournalState g.row.D.Denot). j.failed) c.self.view_is ∙ c.requires.kept in
     let gate : c.len-gate.result ≡ length c.self.inside.octets.items = omega (arith, c.len-gate.ensures) in
-    rw (← c.self.view_is) (write_way (g.D.Disk.told c.self.inside.disk) c.self.inside.area c.self.inside.service c.self.inside.octets.items c.self.inside.index c.self.inside.failed c.self.inside.doubted c.args.item c.self.invariant kept c.requires.fits follows within (g.D.Disk.told c.append_at.new.disk) c.len-gate.result c.args.behind.now gate c.requires.behind _ c.in-Err-keep.ensures.same_octets c.append_at.ensures.way)
+    rw (← c.self.view_is) (on_way (g.D.Disk.told c.self.inside.disk) c.self.inside.area c.self.inside.service c.self.inside.octets.items c.self.inside.index c.self.inside.failed c.self.inside.doubted c.args.item c.self.invariant kept c.requires.fits follows within (g.D.Disk.told c.append_at.new.disk) c.len-gate.result c.args.behind.now gate c.requires.behind c.append_at.ensures.way)
 
 pub returns-clause-disk : goal.returns-clause-disk
 returns-clause-disk g c =
