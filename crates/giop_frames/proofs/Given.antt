@@ -10,6 +10,14 @@ use Rattle.giop_frames.specs.Fault.{field}
 abbrev done : {A : Type 0} → A → Result A FrameFault
 done x = Ok x
 
+-- a result that failed
+abbrev pub failed : {F A : Type 0} → F → Result A F
+failed fault = Err fault
+
+-- results that fail alike have one fault
+pub err_is : {F A : Type 0} (d fault : F) → failed {A = A} d ≡ failed fault → d ≡ fault
+err_is d fault e = cc
+
 -- results that are equal hold equal values
 pub ok_is : {A : Type 0} (x y : A) → done x ≡ done y → x ≡ y
 ok_is x y e = cc

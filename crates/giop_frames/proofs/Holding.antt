@@ -15,23 +15,8 @@ use Rattle.giop_frames.specs.StreamInside.{IsInFront}
 use Rattle.giop_frames.specs.Fault.{Fails}
 use Rattle.giop_frames.specs.Held.{HasPart, Held, Holds}
 use Rattle.giop_frames.specs.HeldInside.{RefusesHeld, Takes, Took, remembering}
+use Rattle.giop_frames.proofs.Given.{bind_ok, err_is, guard_ok, ok_is}
 use Rattle.giop_frames.proofs.Headers.{header_found}
-
--- the value of a step that did not fail
-bind_ok : {A B : Type 0} (r : Result A FrameFault) (f : A → Result B FrameFault) (y : B) → (r >>= f) ≡ Ok y → (x : A) × (r ≡ Ok x) × (f x ≡ Ok y)
-bind_ok (Ok x) f y e = (x, refl, e)
-bind_ok (Err d) f y e = absurd cc
-
--- a test that did not fail
-guard_ok : {A : Type 0} (b : Bool) (d : FrameFault) (r : Result A FrameFault) (y : A) → cond b (Err d) r ≡ Ok y → (b ≡ false) × (r ≡ Ok y)
-guard_ok true d r y e = absurd cc
-guard_ok false d r y e = (refl, e)
-
-abbrev done : {A : Type 0} → A → Result A FrameFault
-done x = Ok x
-
-ok_is : {A : Type 0} (x y : A) → done x ≡ done y → x ≡ y
-ok_is x y e = cc
 
 -- the part that stands in front, and its octets
 pub record Front (versions : List Version) (p : Part) (octets rest : List ℕ) : Type 0 where
@@ -174,13 +159,6 @@ kept_by versions octets messages old new now faults.Short t is h = remembers_of 
 kept_by versions octets messages old new now faults.NotWritten t is h = remembers_of versions octets messages old new now faults.NotWritten t.0 is t.1 h
 kept_by versions octets messages old new now faults.Memory t is h = rw (is, t.0) h
 
--- refusals that are equal have one fault
-abbrev refusal : (X : Type 0) → FrameFault → Result X FrameFault
-refusal X fault = Err fault
-
-fault_is : (X : Type 0) (one other : FrameFault) → refusal X one ≡ refusal X other → one ≡ other
-fault_is X one other e = cc
-
 -- memory is wanted for a whole part
 pub part_of : (old new now : Held) (fault : FrameFault) → Takes old (Err fault) new → now ≡ remembering new fault → fault ≡ faults.Memory → HasPart now
 part_of old new now faults.BadMagic t is e = absurd cc
@@ -195,7 +173,7 @@ part_of old new now faults.Memory t is e = rw (is, t.0) t.1
 
 -- a call that answers want of memory has met it
 pub memory_is : {X : Type 0} (fault : FrameFault) (result : Result X FrameFault) → result ≡ Err fault → result ≡ Err faults.Memory → fault ≡ faults.Memory
-memory_is fault result e memory = fault_is _ fault faults.Memory (sym e ∙ memory)
+memory_is {X} fault result e memory = err_is {A = X} fault faults.Memory (sym e ∙ memory)
 
 -- less is left behind a part
 pub shorter : (old new : Held) (answer : Option Framed) → Took old answer new → length new.rest < length old.rest

@@ -5,6 +5,7 @@ use Rattle.cdr_values.specs.Reading.{◌>>=◌}
 use Rattle.giop_frames.specs.declared.fault.FrameFault.{FrameFault}
 use Rattle.giop_frames.specs.declared.fault.FrameFault.TheVariants as faults
 use Rattle.giop_frames.specs.Fault.{Fails}
+use Rattle.giop_frames.proofs.Given.{err_is, failed}
 
 -- a fault of a step is the fault of the whole
 pub fails_on : {X Y : Type 0} (fault : FrameFault) (step : Result X FrameFault) (whole : Result Y FrameFault) → (step ≡ Err fault → whole ≡ Err fault) → Fails fault step → Fails fault whole
@@ -32,28 +33,22 @@ fails_from faults.Memory read e = tt
 
 -- ---- a fault that reading finds is told
 
-abbrev failed : {X : Type 0} → FrameFault → Result X FrameFault
-failed fault = Err fault
-
-pub told_from : (X : Type 0) {Y : Type 0} (fault : FrameFault) (read : Result Y FrameFault) → read ≡ Err fault → IfErr read (λ found. failed {X = X} fault ≡ failed found)
+pub told_from : (X : Type 0) {Y : Type 0} (fault : FrameFault) (read : Result Y FrameFault) → read ≡ Err fault → IfErr read (λ found. failed {A = X} fault ≡ failed found)
 told_from X fault read e = rw e refl
 
 pub told_ok : {X Y : Type 0} (read : Result Y FrameFault) (y : Y) (result : Result X FrameFault) → read ≡ Ok y → IfErr read (λ found. result ≡ failed found)
 told_ok read y result e = rw e tt
 
-failed_is : {X : Type 0} (one other : FrameFault) → failed {X = X} one ≡ failed other → one ≡ other
-failed_is one other e = cc
-
-told_alike : (X Y : Type 0) {Z : Type 0} (fault : FrameFault) (read : Result Z FrameFault) → IfErr read (λ found. failed {X = X} fault ≡ failed found) → IfErr read (λ found. failed {X = Y} fault ≡ failed found)
+told_alike : (X Y : Type 0) {Z : Type 0} (fault : FrameFault) (read : Result Z FrameFault) → IfErr read (λ found. failed {A = X} fault ≡ failed found) → IfErr read (λ found. failed {A = Y} fault ≡ failed found)
 told_alike X Y fault (Ok z) told = tt
-told_alike X Y fault (Err found) told = ap (λ (d : FrameFault). Err d) (failed_is {X = X} fault found told)
+told_alike X Y fault (Err found) told = ap (λ (d : FrameFault). Err d) (err_is {A = X} fault found told)
 
 -- by a call, of what reading gives in other words
-pub told_on : (X Y : Type 0) {Z : Type 0} (fault : FrameFault) (step whole : Result Z FrameFault) → whole ≡ step → IfErr step (λ found. failed {X = X} fault ≡ failed found) → IfErr whole (λ found. failed {X = Y} fault ≡ failed found)
+pub told_on : (X Y : Type 0) {Z : Type 0} (fault : FrameFault) (step whole : Result Z FrameFault) → whole ≡ step → IfErr step (λ found. failed {A = X} fault ≡ failed found) → IfErr whole (λ found. failed {A = Y} fault ≡ failed found)
 told_on X Y fault step whole same told = rw same (told_alike X Y fault step told)
 
 -- by a call that makes something of what a step gave
-pub told_behind : (X Y : Type 0) {Z W : Type 0} (fault : FrameFault) (step : Result Z FrameFault) (make : Z → W) (whole : Result W FrameFault) → whole ≡ (step >>= λ z. Ok (make z)) → IfErr step (λ found. failed {X = X} fault ≡ failed found)
-    → IfErr whole (λ found. failed {X = Y} fault ≡ failed found)
+pub told_behind : (X Y : Type 0) {Z W : Type 0} (fault : FrameFault) (step : Result Z FrameFault) (make : Z → W) (whole : Result W FrameFault) → whole ≡ (step >>= λ z. Ok (make z)) → IfErr step (λ found. failed {A = X} fault ≡ failed found)
+    → IfErr whole (λ found. failed {A = Y} fault ≡ failed found)
 told_behind X Y fault (Ok z) make whole same told = rw same tt
-told_behind X Y fault (Err found) make whole same told = rw same (ap (λ (d : FrameFault). Err d) (failed_is {X = X} fault found told))
+told_behind X Y fault (Err found) make whole same told = rw same (ap (λ (d : FrameFault). Err d) (err_is {A = X} fault found told))

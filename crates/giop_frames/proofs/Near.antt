@@ -26,16 +26,10 @@ use Rattle.giop_frames.specs.Fault.{fault_of}
 use Rattle.giop_frames.specs.Layout.{blank, layout}
 use Rattle.giop_frames.specs.Content.{field_at, fields_at, fields_in, front_of, indexed_at, key_at, target_at}
 use Rattle.giop_frames.specs.Walk.{IsAsFar, IsDone, IsNear, IsWalked, MakesStep, ReadsTagged, fields_by, step_at}
+use Rattle.giop_frames.proofs.Given.{err_is, failed}
 use Rattle.giop_frames.proofs.Walking.{all_walked}
 
 -- ---- the fault of a value
-
--- results that fail alike have one fault
-abbrev failed : {F A : Type 0} → F → Result A F
-failed fault = Err fault
-
-err_is : {F A : Type 0} (d fault : F) → failed {A = A} d ≡ failed fault → d ≡ fault
-err_is d fault e = cc
 
 -- what holds of the faults of two steps holds of the fault of both
 of_bind : {A B : Type 0} (P : CdrFault → Type 0) (r : Result A CdrFault) (f : A → Result B CdrFault) → ((d : CdrFault) → r ≡ Err d → P d) → ((x : A) (d : CdrFault) → f x ≡ Err d → P d) → (fault : CdrFault) → (r >>= f) ≡ Err fault → P fault

@@ -1,9 +1,9 @@
-ghost use Rattle.std.specs.Prelude.{◌≡◌, ◌≤◌, ◌<◌, ◌^◌, length, map, Err, IfErr, IfOk};
+ghost use Rattle.std.specs.Prelude.{◌≡◌, ◌≤◌, ◌<◌, ◌^◌, length, map, Ok, Err, IfErr, IfOk};
 ghost use Rattle.giop_frames.specs.Limits.{size_limit};
 ghost use Rattle.giop_frames.specs.Fault.{Finds};
-ghost use Rattle.giop_frames.specs.Layout.{kept_tail, tail_gap, tail_start};
+ghost use Rattle.giop_frames.specs.Layout.{kept_tail, message_with, tail_gap, tail_start};
 ghost use Rattle.giop_frames.specs.Stream.{message_by, start_by};
-ghost use Rattle.giop_frames.specs.Walk.{IsAsFar, IsWalked, context_of, message_found, spanned, target_of};
+ghost use Rattle.giop_frames.specs.Walk.{IsAsFar, IsWalked, context_of, message_found, spanned, target_of, told_by};
 
 use crate::fault::FrameFault;
 use crate::found::{Found, FoundContext, FoundTarget, Span};
@@ -69,24 +69,9 @@ fn build(
     ensures message { Finds (λ m. m) result (message_found header content.now found.now tail.now) }
     ensures told { IfErr (message_found header content.now found.now tail.now) (λ fault. result ≡ Err fault) }
 {
-    let order = header.order;
     match header.kind {
-        Kind::Request => Ok(Message::Request(Request {
-            id: found.id,
-            flags: found.flags,
-            target: copy_target(alloc, content, found.target)?,
-            operation: copy(alloc, content, found.operation)?,
-            contexts: copy_contexts(alloc, content, found.contexts())?,
-            order,
-            body: Octets::new(alloc, tail)?,
-        })),
-        Kind::Reply => Ok(Message::Reply(Reply {
-            id: found.id,
-            status: found.status,
-            contexts: copy_contexts(alloc, content, found.contexts())?,
-            order,
-            body: Octets::new(alloc, tail)?,
-        })),
+        Kind::Request => Ok(Message::Request(build_request(alloc, header, content, found, tail)?)),
+        Kind::Reply => Ok(Message::Reply(build_reply(alloc, header, content, found, tail)?)),
         Kind::CancelRequest => Ok(Message::Cancel(found.id)),
         Kind::LocateRequest => Ok(Message::Locate(Locate {
             id: found.id,
@@ -101,6 +86,49 @@ fn build(
         Kind::MessageError => Ok(Message::Error),
         Kind::Fragment => Err(FrameFault::BadFragment),
     }
+}
+
+fn build_request(
+    alloc: Global,
+    header: Header,
+    content: &[u8],
+    found: &Found,
+    tail: &[u8],
+) -> Result<Request, AllocError>
+    ensures { IfOk result (λ request.
+        message_with header.order Kind.Request (told_by content.now found.now) tail.now ≡ Ok (Message.Request request)) }
+{
+    let target = copy_target(alloc, content, found.target)?;
+    let operation = copy(alloc, content, found.operation)?;
+    let contexts = copy_contexts(alloc, content, found.contexts())?;
+    Ok(Request {
+        id: found.id,
+        flags: found.flags,
+        target,
+        operation,
+        contexts,
+        order: header.order,
+        body: Octets::new(alloc, tail)?,
+    })
+}
+
+fn build_reply(
+    alloc: Global,
+    header: Header,
+    content: &[u8],
+    found: &Found,
+    tail: &[u8],
+) -> Result<Reply, AllocError>
+    ensures { IfOk result (λ reply.
+        message_with header.order Kind.Reply (told_by content.now found.now) tail.now ≡ Ok (Message.Reply reply)) }
+{
+    Ok(Reply {
+        id: found.id,
+        status: found.status,
+        contexts: copy_contexts(alloc, content, found.contexts())?,
+        order: header.order,
+        body: Octets::new(alloc, tail)?,
+    })
 }
 
 /// The octets that were found.
