@@ -2,7 +2,7 @@ ghost use Rattle.std.specs.Prelude.{◌≡◌, false};
 ghost use Rattle.ots_program.specs.Words.{IsShow};
 
 use crate::pieces::Pieces;
-use crate::{input, lines, trees, values};
+use crate::{input, lines, trees};
 use ots_outside::{Failure, MemSink, MemSource};
 use ots_program::{Devices, Word, run, run_plain};
 use std::alloc::Global;
@@ -14,9 +14,6 @@ use std::sync::Wait;
 #[derive(Clone, Copy)]
 enum Subject {
     Command,
-    Reference,
-    Context,
-    Request,
     Lines,
     Tree,
 }
@@ -24,9 +21,6 @@ enum Subject {
 impl Subject {
     fn of(words: &str) -> Subject {
         match words.trim() {
-            "ior" => Subject::Reference,
-            "context" => Subject::Context,
-            "request" => Subject::Request,
             "lines" => Subject::Lines,
             "tree" => Subject::Tree,
             _ => Subject::Command,
@@ -117,9 +111,6 @@ impl Case {
         let mut told = Vec::new(alloc);
         match self.subject {
             Subject::Command => return self.run(rt, alloc, input),
-            Subject::Reference => values::tell_text(alloc, &mut told, input)?,
-            Subject::Context => values::tell_octets(alloc, &mut told, input)?,
-            Subject::Request => values::tell_request(alloc, &mut told, input)?,
             Subject::Lines => lines::tell_lines(alloc, &mut told, input)?,
             Subject::Tree => trees::tell(alloc, &mut told, input)?,
         }

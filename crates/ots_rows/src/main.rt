@@ -3,9 +3,6 @@
 //! A case begins with a line `== WORDS | PART | PART ..`. The words are the command line, or one of these, which is no
 //! command:
 //!
-//! - `ior`: the input is a stringified reference. What it says is told, and how it is printed.
-//! - `context`: the input is a transaction context. What it says is told, and how it is written.
-//! - `request`: the input is a Request. The same is told of its transaction context.
 //! - `lines`: the input is lines of a script. What each of them means is told, and of a long one how much.
 //! - `tree`: the input is calls on a tree of transactions, by `trees`. What each answers is told.
 //!
@@ -38,7 +35,6 @@ mod input;
 mod lines;
 mod pieces;
 mod trees;
-mod values;
 
 fn main(rt: HostRuntime) -> io::Result<()> {
     let mut out = rt.stdout();
