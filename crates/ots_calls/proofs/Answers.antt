@@ -10,6 +10,7 @@ use Rattle.ior_refs.specs.Laws.{ReferencesAreReadExactly}
 use Rattle.ior_refs.specs.Reading.{short_reference_at}
 use Rattle.ots_model.specs.declared.completion.Vote.{Vote}
 use Rattle.ots_model.specs.declared.completion.Vote.TheVariants as votes
+use Rattle.ots_context.specs.Laws.{ContextsStandExactly}
 use Rattle.ots_context.specs.Reading.{context_at}
 use Rattle.ots_calls.specs.Answer.{IsAnswer, IsGiven, IsOf, Says, completed_number, gives_of, raises, status_number, vote_number}
 use Rattle.ots_calls.specs.Answering.{answer_at, answer_with, completed_of, found_value, garbled, given_at, raised_at, system_at, vote_of}
@@ -105,58 +106,58 @@ found_found laws r g e =
     is_found gives.Found r (given.Found (found_value a.0.0 b.0.0)) g d.0
     (refl, value_found a.0.0 b.0.0 r (record { behind = b.0.1; stand = (a.0.1, one, (b.0.1, two, refl)); few = d.1 }))
 
-given_found : ReferencesAreReadExactly → ReadingLaws → (such : Gives) (r : Reading) (g : Given) → given_at such r ≡ Ok g → IsFound such r g
+given_found : ReferencesAreReadExactly → ContextsStandExactly → ReadingLaws → (such : Gives) (r : Reading) (g : Given) → given_at such r ≡ Ok g → IsFound such r g
 unfolding given_at
-given_found refs laws gives.Nothing r g e =
+given_found refs contexts laws gives.Nothing r g e =
     let d = ended_found given.Nothing g r e in
     is_found gives.Nothing r given.Nothing g d.0 (refl, record { behind = r; stand = refl; few = d.1 })
-given_found refs laws gives.Flag r g e =
+given_found refs contexts laws gives.Flag r g e =
     let a = bind_ok (told_as fault_of (boolean_at r)) (λ b. ended (given.Flag b.0) b.1) g e in
     let d = ended_found (given.Flag a.0.0) g a.0.1 a.2 in
     let one = laws.boolean.found r a.0.0 a.0.1 (told_ok fault_of (boolean_at r) a.0 a.1) in
     is_found gives.Flag r (given.Flag a.0.0) g d.0 (refl, record { behind = a.0.1; stand = (a.0.1, one, refl); few = d.1 })
-given_found refs laws gives.Number r g e =
+given_found refs contexts laws gives.Number r g e =
     let a = bind_ok (told_as fault_of (ulong_at r)) (λ n. ended (given.Number n.0) n.1) g e in
     let d = ended_found (given.Number a.0.0) g a.0.1 a.2 in
     let one = laws.ulong.found r a.0.0 a.0.1 (told_ok fault_of (ulong_at r) a.0 a.1) in
     is_found gives.Number r (given.Number a.0.0) g d.0 (refl, record { behind = a.0.1; stand = (a.0.1, one, refl); few = d.1 })
-given_found refs laws gives.Reference r g e =
+given_found refs contexts laws gives.Reference r g e =
     let a = bind_ok (told_as fault_of_reference (short_reference_at r)) (λ x. ended (given.Reference x.0) x.1) g e in
     let d = ended_found (given.Reference a.0.0) g a.0.1 a.2 in
     let stands = refs.found r a.0.0 a.0.1 (told_ok fault_of_reference (short_reference_at r) a.0 a.1) in
     is_found gives.Reference r (given.Reference a.0.0) g d.0 (refl, (record { behind = a.0.1; stand = stands.0; few = d.1 }, stands.1))
-given_found refs laws gives.State r g e = state_found laws r g e
-given_found refs laws gives.Ballot r g e = ballot_found laws r g e
-given_found refs laws gives.Word r g e =
+given_found refs contexts laws gives.State r g e = state_found laws r g e
+given_found refs contexts laws gives.Ballot r g e = ballot_found laws r g e
+given_found refs contexts laws gives.Word r g e =
     let a = bind_ok (told_as fault_of (string_at r)) (λ t. ended (given.Word t.0) t.1) g e in
     let d = ended_found (given.Word a.0.0) g a.0.1 a.2 in
     let one = laws.string.found r a.0.0 a.0.1 (told_ok fault_of (string_at r) a.0 a.1) in
     is_found gives.Word r (given.Word a.0.0) g d.0 (refl, record { behind = a.0.1; stand = (a.0.1, one, refl); few = d.1 })
-given_found refs laws gives.Transaction r g e =
+given_found refs contexts laws gives.Transaction r g e =
     let a = bind_ok (told_as fault_of_context (context_at r)) (λ c. Ok (given.Transaction c)) g e in
-    is_found gives.Transaction r (given.Transaction a.0) g (ok_is {F = CallFault} (given.Transaction a.0) g a.2) (refl, told_ok fault_of_context (context_at r) a.0 a.1)
-given_found refs laws gives.Found r g e = found_found laws r g e
+    is_found gives.Transaction r (given.Transaction a.0) g (ok_is {F = CallFault} (given.Transaction a.0) g a.2) (refl, (contexts r a.0).0 (told_ok fault_of_context (context_at r) a.0 a.1))
+given_found refs contexts laws gives.Found r g e = found_found laws r g e
 
-given_only : ReferencesAreReadExactly → ReadingLaws → (g : Given) (r : Reading) → IsGiven g r → given_at (gives_of g) r ≡ Ok g
+given_only : ReferencesAreReadExactly → ContextsStandExactly → ReadingLaws → (g : Given) (r : Reading) → IsGiven g r → given_at (gives_of g) r ≡ Ok g
 unfolding given_at
-given_only refs laws given.Nothing r h = ended_only given.Nothing r (omega (arith, h.few, ap (λ (s : Reading). length s.rest) h.stand))
-given_only refs laws (given.Flag b) r h =
+given_only refs contexts laws given.Nothing r h = ended_only given.Nothing r (omega (arith, h.few, ap (λ (s : Reading). length s.rest) h.stand))
+given_only refs contexts laws (given.Flag b) r h =
     rw (laws.boolean.only r b h.stand.0 h.stand.1) (ended_only (given.Flag b) h.stand.0 (few_left r h.behind (Boolean b) h.stand h.few))
-given_only refs laws (given.Number n) r h =
+given_only refs contexts laws (given.Number n) r h =
     rw (laws.ulong.only r n h.stand.0 h.stand.1) (ended_only (given.Number n) h.stand.0 (few_left r h.behind (ULong n) h.stand h.few))
-given_only refs laws (given.Reference x) r h =
+given_only refs contexts laws (given.Reference x) r h =
     rw (refs.only r x h.0.behind h.0.stand h.1) (ended_only (given.Reference x) h.0.behind h.0.few)
-given_only refs laws (given.State s) r h =
+given_only refs contexts laws (given.State s) r h =
     rw (laws.ulong.only r (number_of_status s) h.stand.0 h.stand.1, status_only s) (ended_only (given.State s) h.stand.0 (few_left r h.behind (ULong (number_of_status s)) h.stand h.few))
-given_only refs laws (given.Ballot v) r h =
+given_only refs contexts laws (given.Ballot v) r h =
     rw (laws.ulong.only r (vote_number v) h.stand.0 h.stand.1, vote_only v) (ended_only (given.Ballot v) h.stand.0 (few_left r h.behind (ULong (vote_number v)) h.stand h.few))
-given_only refs laws (given.Word t) r h =
+given_only refs contexts laws (given.Word t) r h =
     rw (laws.string.only r t h.stand.0 h.stand.1) (ended_only (given.Word t) h.stand.0 (few_left r h.behind (Text t) h.stand h.few))
-given_only refs laws (given.Transaction c) r h = rw h refl
-given_only refs laws (given.Found (Some v)) r h =
+given_only refs contexts laws (given.Transaction c) r h = rw ((contexts r c).1 h) refl
+given_only refs contexts laws (given.Found (Some v)) r h =
     let s = h.stand in
     rw (laws.boolean.only r true s.0 s.1, laws.ulonglong.only s.0 v s.2.0 s.2.1) (ended_only (given.Found (Some v)) s.2.0 (few_left s.0 h.behind (ULongLong v) s.2 h.few))
-given_only refs laws (given.Found None) r h =
+given_only refs contexts laws (given.Found None) r h =
     let s = h.1.stand in
     rw (laws.boolean.only r false s.0 s.1, laws.ulonglong.only s.0 h.0 s.2.0 s.2.1) (ended_only (given.Found None) s.2.0 (few_left s.0 h.1.behind (ULongLong h.0) s.2 h.1.few))
 
@@ -209,10 +210,10 @@ system_at_found laws operation r answer e =
     is_said operation 2 r (answers.System b.0 c.0) answer d.0
     (tt, refl, (m.0.0, record { behind = n.0.1; stand = subst (λ (k : ℕ). ReadsAll r (Values (system_id b.0) m.0.0 k) n.0.1) number named; few = d.1 }))
 
-plain_found : ReferencesAreReadExactly → ReadingLaws → (operation : Operation) (r : Reading) (answer : Answer) → (given_at (row_of operation).gives r >>= (λ g. Ok (answers.Plain g))) ≡ Ok answer → IsSaid operation 0 r answer
-plain_found refs laws operation r answer e =
+plain_found : ReferencesAreReadExactly → ContextsStandExactly → ReadingLaws → (operation : Operation) (r : Reading) (answer : Answer) → (given_at (row_of operation).gives r >>= (λ g. Ok (answers.Plain g))) ≡ Ok answer → IsSaid operation 0 r answer
+plain_found refs contexts laws operation r answer e =
     let a = bind_ok (given_at (row_of operation).gives r) (λ g. Ok (answers.Plain g)) answer e in
-    let h = given_found refs laws (row_of operation).gives r a.0 a.1 in
+    let h = given_found refs contexts laws (row_of operation).gives r a.0 a.1 in
     is_said operation 0 r (answers.Plain a.0) answer (ok_is {F = CallFault} (answers.Plain a.0) answer a.2) (h.0, refl, h.1)
 
 -- the answer of a reply whose status is, or isn't, each of the three
@@ -220,42 +221,42 @@ abbrev by_status : Bool → Bool → Bool → Operation → Reading → Result A
 by_status none user system operation r =
     cond none (given_at (row_of operation).gives r >>= (λ g. Ok (answers.Plain g))) (cond user (raised_at operation r) (cond system (system_at r) (Err (Marshal r.place))))
 
-said_by : ReferencesAreReadExactly → ReadingLaws → (operation : Operation) (status : ℕ) (r : Reading) (answer : Answer) (none user system : Bool) → eqb status 0 ≡ none → eqb status 1 ≡ user → eqb status 2 ≡ system → by_status none user system operation r ≡ Ok answer → IsSaid operation status r answer
-said_by refs laws operation status r answer true user system e f g h =
-    subst (λ (n : ℕ). IsSaid operation n r answer) (sym (same_number status 0 e)) (plain_found refs laws operation r answer h)
-said_by refs laws operation status r answer false true system e f g h =
+said_by : ReferencesAreReadExactly → ContextsStandExactly → ReadingLaws → (operation : Operation) (status : ℕ) (r : Reading) (answer : Answer) (none user system : Bool) → eqb status 0 ≡ none → eqb status 1 ≡ user → eqb status 2 ≡ system → by_status none user system operation r ≡ Ok answer → IsSaid operation status r answer
+said_by refs contexts laws operation status r answer true user system e f g h =
+    subst (λ (n : ℕ). IsSaid operation n r answer) (sym (same_number status 0 e)) (plain_found refs contexts laws operation r answer h)
+said_by refs contexts laws operation status r answer false true system e f g h =
     subst (λ (n : ℕ). IsSaid operation n r answer) (sym (same_number status 1 f)) (raised_found laws operation r answer h)
-said_by refs laws operation status r answer false false true e f g h =
+said_by refs contexts laws operation status r answer false false true e f g h =
     subst (λ (n : ℕ). IsSaid operation n r answer) (sym (same_number status 2 g)) (system_at_found laws operation r answer h)
-said_by refs laws operation status r answer false false false e f g h = absurd cc
+said_by refs contexts laws operation status r answer false false false e f g h = absurd cc
 
-answer_found : ReferencesAreReadExactly → ReadingLaws → (operation : Operation) (status : ℕ) (r : Reading) (answer : Answer) → answer_at operation status r ≡ Ok answer → IsSaid operation status r answer
+answer_found : ReferencesAreReadExactly → ContextsStandExactly → ReadingLaws → (operation : Operation) (status : ℕ) (r : Reading) (answer : Answer) → answer_at operation status r ≡ Ok answer → IsSaid operation status r answer
 unfolding answer_at
-answer_found refs laws operation status r answer e = said_by refs laws operation status r answer (eqb status 0) (eqb status 1) (eqb status 2) refl refl refl e
+answer_found refs contexts laws operation status r answer e = said_by refs contexts laws operation status r answer (eqb status 0) (eqb status 1) (eqb status 2) refl refl refl e
 
-answer_only : ReferencesAreReadExactly → ReadingLaws → (operation : Operation) (answer : Answer) (r : Reading) → IsOf operation answer → Says answer r → answer_at operation (status_number answer) r ≡ Ok answer
+answer_only : ReferencesAreReadExactly → ContextsStandExactly → ReadingLaws → (operation : Operation) (answer : Answer) (r : Reading) → IsOf operation answer → Says answer r → answer_at operation (status_number answer) r ≡ Ok answer
 unfolding answer_at raised_at system_at
-answer_only refs laws operation (answers.Plain g) r is h =
+answer_only refs contexts laws operation (answers.Plain g) r is h =
     let such : (row_of operation).gives ≡ gives_of g = sym is in
-    rw (such, given_only refs laws g r h) refl
-answer_only refs laws operation (answers.User x) r is h =
+    rw (such, given_only refs contexts laws g r h) refl
+answer_only refs contexts laws operation (answers.User x) r is h =
     let raised : raises operation x ≡ true = is in
     rw (laws.string.only r (user_id x) h.stand.0 h.stand.1, user_only x, raised) (ended_only (answers.User x) h.stand.0 (few_left r h.behind (Text (user_id x)) h.stand h.few))
-answer_only refs laws operation (answers.System x c) r is h =
+answer_only refs contexts laws operation (answers.System x c) r is h =
     let s = h.1.stand in
     rw (laws.string.only r (system_id x) s.0 s.1, system_only x, laws.ulong.only s.0 h.0 s.2.0 s.2.1, laws.ulong.only s.2.0 (completed_number c) s.2.2.0 s.2.2.1, completed_only c) (ended_only (answers.System x c) s.2.2.0 (few_left s.2.0 h.1.behind (ULong (completed_number c)) s.2.2 h.1.few))
 
-with_found : ReferencesAreReadExactly → ReadingLaws → (call : Call) (answer : Answer) (reply : Reply) → answer_with call reply ≡ Ok answer → IsAnswer call answer reply
+with_found : ReferencesAreReadExactly → ContextsStandExactly → ReadingLaws → (call : Call) (answer : Answer) (reply : Reply) → answer_with call reply ≡ Ok answer → IsAnswer call answer reply
 unfolding answer_with
-with_found refs laws call answer reply e =
+with_found refs contexts laws call answer reply e =
     let body = standing reply.order 0 reply.body in
-    let h = answer_found refs laws (operation_of call) reply.status body answer (told_ok garbled (answer_at (operation_of call) reply.status body) answer e) in
+    let h = answer_found refs contexts laws (operation_of call) reply.status body answer (told_ok garbled (answer_at (operation_of call) reply.status body) answer e) in
     record { ours = h.0; status = h.1; says = h.2 }
 
-with_only : ReferencesAreReadExactly → ReadingLaws → (call : Call) (answer : Answer) (reply : Reply) → IsAnswer call answer reply → answer_with call reply ≡ Ok answer
+with_only : ReferencesAreReadExactly → ContextsStandExactly → ReadingLaws → (call : Call) (answer : Answer) (reply : Reply) → IsAnswer call answer reply → answer_with call reply ≡ Ok answer
 unfolding answer_with
-with_only refs laws call answer reply h =
-    rw (h.status, answer_only refs laws (operation_of call) answer (standing reply.order 0 reply.body) h.ours h.says) refl
+with_only refs contexts laws call answer reply h =
+    rw (h.status, answer_only refs contexts laws (operation_of call) answer (standing reply.order 0 reply.body) h.ours h.says) refl
 
-pub answers_exact : ReferencesAreReadExactly → ReadingLaws → AnswersAreReadExactly
-answers_exact refs laws call answer reply = (with_found refs laws call answer reply, with_only refs laws call answer reply)
+pub answers_exact : ReferencesAreReadExactly → ContextsStandExactly → ReadingLaws → AnswersAreReadExactly
+answers_exact refs contexts laws call answer reply = (with_found refs contexts laws call answer reply, with_only refs contexts laws call answer reply)

@@ -10,6 +10,7 @@ use Rattle.ior_refs.specs.Reading.{short_reference_at}
 use Rattle.ior_refs.specs.Reference.{Reference, Tagged, nil}
 use Rattle.ots_model.specs.declared.service.Status.{Status}
 use Rattle.ots_model.specs.declared.service.Status.TheVariants as status
+use Rattle.ots_context.specs.Laws.{ContextsStandExactly}
 use Rattle.ots_context.specs.Reading.{context_at}
 use Rattle.ots_calls.specs.Call.{IsBody, operation_of, status_number}
 use Rattle.ots_calls.specs.Fault.{fault_of, fault_of_context, fault_of_reference, told_as, or_refuse}
@@ -128,33 +129,33 @@ put_found laws r call e =
     is_found operations.Put r (calls.Put a.0.0 b.0.0) call d.0
     (refl, record { behind = b.0.1; stand = (a.0.1, one, (b.0.1, two, refl)); few = d.1 })
 
-pub body_found : ReferencesAreReadExactly → ReadingLaws → (operation : Operation) (r : Reading) (call : Call) → call_at operation r ≡ Ok call → IsFound operation r call
+pub body_found : ReferencesAreReadExactly → ContextsStandExactly → ReadingLaws → (operation : Operation) (r : Reading) (call : Call) → call_at operation r ≡ Ok call → IsFound operation r call
 unfolding call_at
-body_found refs laws (operations.Bare bare) r call e =
+body_found refs contexts laws (operations.Bare bare) r call e =
     let d = ended_found (calls.Bare bare) call r e in
     is_found (operations.Bare bare) r (calls.Bare bare) call d.0 (refl, record { behind = r; stand = refl; few = d.1 })
-body_found refs laws (operations.Handing handing) r call e = handing_found refs handing r call e
-body_found refs laws operations.Create r call e =
+body_found refs contexts laws (operations.Handing handing) r call e = handing_found refs handing r call e
+body_found refs contexts laws operations.Create r call e =
     let a = bind_ok (told_as fault_of (ulong_at r)) (λ n. ended (calls.Create n.0) n.1) call e in
     let d = ended_found (calls.Create a.0.0) call a.0.1 a.2 in
     let one = laws.ulong.found r a.0.0 a.0.1 (told_ok fault_of (ulong_at r) a.0 a.1) in
     is_found operations.Create r (calls.Create a.0.0) call d.0 (refl, record { behind = a.0.1; stand = (a.0.1, one, refl); few = d.1 })
-body_found refs laws operations.Recreate r call e =
+body_found refs contexts laws operations.Recreate r call e =
     let a = bind_ok (told_as fault_of_context (context_at r)) (λ c. Ok (calls.Recreate c)) call e in
-    is_found operations.Recreate r (calls.Recreate a.0) call (ok_is {F = CallFault} (calls.Recreate a.0) call a.2) (refl, told_ok fault_of_context (context_at r) a.0 a.1)
-body_found refs laws operations.CommitTransaction r call e =
+    is_found operations.Recreate r (calls.Recreate a.0) call (ok_is {F = CallFault} (calls.Recreate a.0) call a.2) (refl, (contexts r a.0).0 (told_ok fault_of_context (context_at r) a.0 a.1))
+body_found refs contexts laws operations.CommitTransaction r call e =
     let a = bind_ok (told_as fault_of (boolean_at r)) (λ b. ended (calls.CommitTransaction b.0) b.1) call e in
     let d = ended_found (calls.CommitTransaction a.0.0) call a.0.1 a.2 in
     let one = laws.boolean.found r a.0.0 a.0.1 (told_ok fault_of (boolean_at r) a.0 a.1) in
     is_found operations.CommitTransaction r (calls.CommitTransaction a.0.0) call d.0 (refl, record { behind = a.0.1; stand = (a.0.1, one, refl); few = d.1 })
-body_found refs laws operations.AfterCompletion r call e = after_found laws r call e
-body_found refs laws operations.Put r call e = put_found laws r call e
-body_found refs laws operations.Get r call e =
+body_found refs contexts laws operations.AfterCompletion r call e = after_found laws r call e
+body_found refs contexts laws operations.Put r call e = put_found laws r call e
+body_found refs contexts laws operations.Get r call e =
     let a = bind_ok (told_as fault_of (ulonglong_at r)) (λ n. ended (calls.Get n.0) n.1) call e in
     let d = ended_found (calls.Get a.0.0) call a.0.1 a.2 in
     let one = laws.ulonglong.found r a.0.0 a.0.1 (told_ok fault_of (ulonglong_at r) a.0 a.1) in
     is_found operations.Get r (calls.Get a.0.0) call d.0 (refl, record { behind = a.0.1; stand = (a.0.1, one, refl); few = d.1 })
-body_found refs laws operations.IsA r call e =
+body_found refs contexts laws operations.IsA r call e =
     let a = bind_ok (told_as fault_of (string_at r)) (λ t. ended (calls.IsA t.0) t.1) call e in
     let d = ended_found (calls.IsA a.0.0) call a.0.1 a.2 in
     let one = laws.string.found r a.0.0 a.0.1 (told_ok fault_of (string_at r) a.0 a.1) in
@@ -164,22 +165,22 @@ body_found refs laws operations.IsA r call e =
 pub few_left : (r behind : Reading) (value : Value) (h : ReadsAll r (value ∷ []) behind) → length behind.rest ≤ 7 → length h.0.rest ≤ 7
 few_left r behind value h few = omega (arith, few, ap (λ (s : Reading). length s.rest) h.2)
 
-pub body_only : ReferencesAreReadExactly → ReadingLaws → (call : Call) (r : Reading) → IsBody call r → call_at (operation_of call) r ≡ Ok call
+pub body_only : ReferencesAreReadExactly → ContextsStandExactly → ReadingLaws → (call : Call) (r : Reading) → IsBody call r → call_at (operation_of call) r ≡ Ok call
 unfolding call_at
-body_only refs laws (calls.Bare bare) r h = ended_only (calls.Bare bare) r (omega (arith, h.few, ap (λ (s : Reading). length s.rest) h.stand))
-body_only refs laws (calls.Handing handing x) r h =
+body_only refs contexts laws (calls.Bare bare) r h = ended_only (calls.Bare bare) r (omega (arith, h.few, ap (λ (s : Reading). length s.rest) h.stand))
+body_only refs contexts laws (calls.Handing handing x) r h =
     rw (refs.only r x h.0.behind h.0.stand h.1, ended_only (calls.Handing handing x) h.0.behind h.0.few) (object_only x (calls.Handing handing x) h.2)
-body_only refs laws (calls.Create n) r h =
+body_only refs contexts laws (calls.Create n) r h =
     rw (laws.ulong.only r n h.stand.0 h.stand.1) (ended_only (calls.Create n) h.stand.0 (few_left r h.behind (ULong n) h.stand h.few))
-body_only refs laws (calls.Recreate c) r h = rw h refl
-body_only refs laws (calls.CommitTransaction b) r h =
+body_only refs contexts laws (calls.Recreate c) r h = rw ((contexts r c).1 h) refl
+body_only refs contexts laws (calls.CommitTransaction b) r h =
     rw (laws.boolean.only r b h.stand.0 h.stand.1) (ended_only (calls.CommitTransaction b) h.stand.0 (few_left r h.behind (Boolean b) h.stand h.few))
-body_only refs laws (calls.AfterCompletion s) r h =
+body_only refs contexts laws (calls.AfterCompletion s) r h =
     rw (laws.ulong.only r (status_number s) h.stand.0 h.stand.1, status_only s) (ended_only (calls.AfterCompletion s) h.stand.0 (few_left r h.behind (ULong (status_number s)) h.stand h.few))
-body_only refs laws (calls.Put cell value) r h =
+body_only refs contexts laws (calls.Put cell value) r h =
     let s = h.stand in
     rw (laws.ulonglong.only r cell s.0 s.1, laws.ulonglong.only s.0 value s.2.0 s.2.1) (ended_only (calls.Put cell value) s.2.0 (few_left s.0 h.behind (ULongLong value) s.2 h.few))
-body_only refs laws (calls.Get n) r h =
+body_only refs contexts laws (calls.Get n) r h =
     rw (laws.ulonglong.only r n h.stand.0 h.stand.1) (ended_only (calls.Get n) h.stand.0 (few_left r h.behind (ULongLong n) h.stand h.few))
-body_only refs laws (calls.IsA t) r h =
+body_only refs contexts laws (calls.IsA t) r h =
     rw (laws.string.only r t h.stand.0 h.stand.1) (ended_only (calls.IsA t) h.stand.0 (few_left r h.behind (Text t) h.stand h.few))

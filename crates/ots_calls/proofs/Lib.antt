@@ -8,3 +8,4 @@ pub mod Exceptions
 pub mod Answers
 pub mod Sizes
 pub mod Shapes
+pub mod Frugal

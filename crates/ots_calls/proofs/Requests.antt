@@ -14,7 +14,7 @@ use Rattle.ior_refs.specs.declared.key.ObjectKey.{ObjectKey}
 use Rattle.ots_model.specs.declared.service.RetryKey.{RetryKey}
 use Rattle.ots_context.specs.Context.{IsContext}
 use Rattle.ots_context.specs.Finding.{context_in_first, first_context}
-use Rattle.ots_context.specs.Laws.{ContextsAreReadExactly}
+use Rattle.ots_context.specs.Laws.{ContextsAreReadExactly, ContextsStandExactly}
 use Rattle.ots_context.specs.Reading.{context_in}
 use Rattle.ots_context.specs.declared.context.Context.{Context}
 use Rattle.ots_calls.specs.Call.{operation_of, IsBody}
@@ -135,9 +135,9 @@ contexts_only exact None None h = refl
 abbrev called : ObjectKey → Call → Option RetryKey → Option Context → Called
 called key call retry context = record { key = key; call = call; retry = retry; context = context }
 
-requests_found : NamesTellOperations → ContextsAreReadExactly → ReferencesAreReadExactly → ReadingLaws → (c : Called) (r : Request) → IsFor c.key r.target → called_with c.key r ≡ Ok c → IsCall c r
+requests_found : NamesTellOperations → ContextsAreReadExactly → ContextsStandExactly → ReferencesAreReadExactly → ReadingLaws → (c : Called) (r : Request) → IsFor c.key r.target → called_with c.key r ≡ Ok c → IsCall c r
 unfolding called_with
-requests_found names contexts refs laws c r for e =
+requests_found names contexts stand refs laws c r for e =
     let body = standing r.order 0 r.body in
     let o = bind_ok (or_refuse BadOperation (operation_named c.key.kind r.operation)) (λ op. told_as fault_of_context (context_in_first (first_context r.contexts)) >>= (λ x. retry_in_first (first_retry r.contexts) >>= (λ k. call_at op body >>= (λ call. Ok (called c.key call k x))))) c e in
     let x = bind_ok (told_as fault_of_context (context_in_first (first_context r.contexts))) (λ x. retry_in_first (first_retry r.contexts) >>= (λ k. call_at o.0 body >>= (λ call. Ok (called c.key call k x)))) c o.2 in
@@ -145,7 +145,7 @@ requests_found names contexts refs laws c r for e =
     let b = bind_ok (call_at o.0 body) (λ call. Ok (called c.key call k.0 x.0)) c k.2 in
     let same : called c.key b.0 k.0 x.0 ≡ c = ok_is {F = CallFault} (called c.key b.0 k.0 x.0) c b.2 in
     let call : b.0 ≡ c.call = ap (λ (y : Called). y.call) same in
-    let found = body_found refs laws o.0 body b.0 b.1 in
+    let found = body_found refs stand laws o.0 body b.0 b.1 in
     let row : operation_of c.call ≡ o.0 = ap operation_of (sym call) ∙ found.0 in
     let named = (names c.key.kind r.operation o.0).0 (there_ok BadOperation (operation_named c.key.kind r.operation) o.0 o.1) in
     record {
@@ -157,11 +157,11 @@ requests_found names contexts refs laws c r for e =
       body = subst (λ (y : Call). IsBody y body) call found.1;
     }
 
-requests_only : NamesTellOperations → ContextsAreReadExactly → ReferencesAreReadExactly → ReadingLaws → (c : Called) (r : Request) → IsCall c r → called_with c.key r ≡ Ok c
+requests_only : NamesTellOperations → ContextsAreReadExactly → ContextsStandExactly → ReferencesAreReadExactly → ReadingLaws → (c : Called) (r : Request) → IsCall c r → called_with c.key r ≡ Ok c
 unfolding called_with
-requests_only names contexts refs laws c r h =
-    rw ((names c.key.kind r.operation (operation_of c.call)).1 (h.kind, h.word), contexts_only contexts c.context (first_context r.contexts) h.context, retries_only laws c.retry (first_retry r.contexts) h.retry, body_only refs laws c.call (standing r.order 0 r.body) h.body) refl
+requests_only names contexts stand refs laws c r h =
+    rw ((names c.key.kind r.operation (operation_of c.call)).1 (h.kind, h.word), contexts_only contexts c.context (first_context r.contexts) h.context, retries_only laws c.retry (first_retry r.contexts) h.retry, body_only refs stand laws c.call (standing r.order 0 r.body) h.body) refl
 
-pub requests_exact : NamesTellOperations → ContextsAreReadExactly → ReferencesAreReadExactly → ReadingLaws → RequestsAreReadExactly
-requests_exact names contexts refs laws c r for =
-    (requests_found names contexts refs laws c r for, requests_only names contexts refs laws c r)
+pub requests_exact : NamesTellOperations → ContextsAreReadExactly → ContextsStandExactly → ReferencesAreReadExactly → ReadingLaws → RequestsAreReadExactly
+requests_exact names contexts stand refs laws c r for =
+    (requests_found names contexts stand refs laws c r for, requests_only names contexts stand refs laws c r)

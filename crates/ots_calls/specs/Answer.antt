@@ -1,7 +1,7 @@
 -- Which reply is an answer to a call (Transaction Service 1.4, module CosTransactions; CORBA, General Inter-ORB Protocol,
 -- Reply Message and Reply Body): what the operation gives, one of its user exceptions, or a system exception. That some
 -- octets may be left is our profile.
-use Rattle.std.specs.Prelude.{◌≡◌, ℕ, true, false, List, [], ◌∷◌, Some, None, IsTrue, Ok, Bool}
+use Rattle.std.specs.Prelude.{◌≡◌, ℕ, true, false, List, [], ◌∷◌, Some, None, IsTrue, Bool}
 use Rattle.std.specs.List.{list_any}
 use Rattle.std.specs.Str.{bytes_eq}
 use Rattle.cdr_values.specs.Again.{standing}
@@ -12,7 +12,7 @@ use Rattle.giop_frames.specs.declared.message.Reply.{Reply}
 use Rattle.ior_refs.specs.Reference.{is_short}
 use Rattle.ots_model.specs.declared.completion.Vote.{Vote}
 use Rattle.ots_model.specs.declared.completion.Vote.TheVariants as votes
-use Rattle.ots_context.specs.Reading.{context_at}
+use Rattle.ots_context.specs.Context.{StandsAsContext}
 use Rattle.ots_calls.specs.Call.{AreLeft, operation_of, status_number as number_of_status}
 use Rattle.ots_calls.specs.Exception.{system_id, user_id}
 use Rattle.ots_calls.specs.Table.{row_of}
@@ -79,7 +79,7 @@ given_values (given.Found None) = Boolean false ∷ ULongLong 0 ∷ []
 -- what a reader has left was given. A value that isn't there may be any (our profile).
 abbrev pub IsGiven : Given → Reading → Type 0
 IsGiven (given.Reference reference) r = AreLeft (reference_values reference) r × IsTrue (is_short reference)
-IsGiven (given.Transaction context) r = context_at r ≡ Ok context
+IsGiven (given.Transaction context) r = StandsAsContext context r
 IsGiven (given.Found None) r = (value : ℕ) × AreLeft (Boolean false ∷ ULongLong value ∷ []) r
 IsGiven what r = AreLeft (given_values what) r
 

@@ -1,5 +1,5 @@
 -- Reading the answer to a call from the left, and the first fault (our profile).
-use Rattle.std.specs.Prelude.{ℕ, ◌==◌, Bool, not, [], ◌∷◌, Option, find, Some, None, Result, Ok, Err, if◌then◌else◌}
+use Rattle.std.specs.Prelude.{◌≡◌, ℕ, ◌==◌, Bool, not, [], ◌∷◌, Option, find, Some, None, Result, Ok, Err, if◌then◌else◌}
 use Rattle.cdr_values.specs.Again.{standing}
 use Rattle.cdr_values.specs.Reading.{Reading, ◌>>=◌, boolean_at, ulong_at, ulonglong_at, string_at}
 use Rattle.giop_frames.specs.declared.message.Reply.{Reply}
@@ -70,6 +70,13 @@ given_at gives.Found r = do
   value ← told_as fault_of (ulonglong_at is_there.1)
   ended (given.Found (found_value is_there.0 value.0)) value.1
 
+-- what is given is held in memory: a reference, a context, a text
+abbrev pub IsHeld : Gives → Type 0
+IsHeld gives.Reference = Unit {0}
+IsHeld gives.Word = Unit {0}
+IsHeld gives.Transaction = Unit {0}
+IsHeld such = ⊥
+
 -- a user exception that the operation raises
 unfoldable pub raised_at : Operation → Reading → Result Answer CallFault
 raised_at operation r = do
@@ -93,6 +100,10 @@ answer_at operation status r =
     if status == 0 then (given_at (row_of operation).gives r >>= λ what. Ok (answers.Plain what)) else
     if status == 1 then raised_at operation r else
     if status == 2 then system_at r else Err (Marshal r.place)
+
+-- an answer of this status is held in memory. For none else memory is wanted.
+abbrev pub WantsMemory : Operation → ℕ → Type 0
+WantsMemory operation status = (status ≡ 0) × IsHeld (row_of operation).gives
 
 -- a fault of a reply. The reply is garbled at that offset.
 abbrev pub garbled : CallFault → CallFault

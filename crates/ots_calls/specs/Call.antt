@@ -1,6 +1,6 @@
 -- Which octets are the body of a call (Transaction Service 1.4, module CosTransactions; CORBA, General Inter-ORB
 -- Protocol, Request Body): the values of the parameters in order. That some octets may be left is our profile.
-use Rattle.std.specs.Prelude.{◌≡◌, ◌≤◌, ℕ, List, [], ◌∷◌, length, IsTrue, Ok}
+use Rattle.std.specs.Prelude.{◌≡◌, ◌≤◌, ℕ, List, [], ◌∷◌, length, IsTrue}
 use Rattle.cdr_values.specs.Value.{Value, Boolean, ULong, ULongLong, Text}
 use Rattle.cdr_values.specs.Values.{ReadsAll}
 use Rattle.cdr_values.specs.Reading.{Reading}
@@ -8,7 +8,7 @@ use Rattle.cdr_values.specs.Tagged.{reference_values}
 use Rattle.ior_refs.specs.Reference.{is_short, nil}
 use Rattle.ots_model.specs.declared.service.Status.{Status}
 use Rattle.ots_model.specs.declared.service.Status.TheVariants as statuses
-use Rattle.ots_context.specs.Reading.{context_at}
+use Rattle.ots_context.specs.Context.{StandsAsContext}
 use Rattle.ots_calls.specs.Limits.{left_limit}
 use Rattle.ots_calls.specs.Table.{Shape, Void, Flag, Number, Reference, State, Word, Transaction, Cell, CellAndValue}
 use Rattle.ots_calls.specs.declared.operation.Operation.{Operation}
@@ -76,5 +76,5 @@ pub record AreLeft (values : List Value) (r : Reading) : Type 0 where
 abbrev pub IsBody : Call → Reading → Type 0
 IsBody (calls.Handing handing reference) r =
     AreLeft (reference_values reference) r × IsTrue (is_short reference) × ¬ (reference ≡ nil)
-IsBody (calls.Recreate context) r = context_at r ≡ Ok context
+IsBody (calls.Recreate context) r = StandsAsContext context r
 IsBody call r = AreLeft (arguments call) r

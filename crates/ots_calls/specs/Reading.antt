@@ -38,6 +38,13 @@ is_nil reference = (length reference.0 == 0) && (length reference.1 == 0)
 unfoldable pub with_object : Reference → Call → Result Call CallFault
 with_object reference call = if is_nil reference then Err BadParam else Ok call
 
+-- what the operation takes is held in memory: a reference, a context, a text
+abbrev pub IsHeld : Operation → Type 0
+IsHeld (operations.Handing handing) = Unit {0}
+IsHeld operations.Recreate = Unit {0}
+IsHeld operations.IsA = Unit {0}
+IsHeld operation = ⊥
+
 -- the call of an operation whose parameters a reader has left
 unfoldable pub call_at : Operation → Reading → Result Call CallFault
 call_at (operations.Bare bare) r = ended (calls.Bare bare) r

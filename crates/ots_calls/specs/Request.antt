@@ -14,11 +14,12 @@ use Rattle.ots_context.specs.Finding.{context_in_first, first_context}
 use Rattle.ots_calls.specs.Table.{operation_named, serves, word_of}
 use Rattle.ots_calls.specs.Call.{IsBody, operation_of}
 use Rattle.ots_calls.specs.Fault.{fault_of_context, told_as, or_refuse}
-use Rattle.ots_calls.specs.Reading.{call_at}
+use Rattle.ots_calls.specs.Reading.{IsHeld, call_at}
 use Rattle.ots_calls.specs.Retry.{IsRetry, first_retry, retry_in_first}
 use Rattle.ots_calls.specs.declared.fault.CallFault.{CallFault}
 use Rattle.ots_calls.specs.declared.fault.CallFault.TheVariants.{BadOperation, BadTarget, BadKey}
 use Rattle.ots_calls.specs.declared.call.Called.{Called}
+use Rattle.ots_calls.specs.declared.operation.Operation.{Operation}
 
 -- the target of a request is this key of ours
 pub record IsFor (key : ObjectKey) (target : Target) : Type 0 where
@@ -63,3 +64,9 @@ abbrev pub Refuses : CallFault → Request → Type 0
 Refuses fault r =
     ((fault ≡ BadTarget) × HasNoKey r.target) ⊎ (((fault ≡ BadKey) × HasForeignKey r.target)
     ⊎ ((key : ObjectKey) × IsFor key r.target × (called_with key r ≡ Err fault)))
+
+-- for a request for this key memory is wanted: it holds a transaction, or what its operation takes is held in memory
+abbrev pub WantsMemory : ObjectKey → Request → Type 0
+WantsMemory key r =
+    ¬ (first_context r.contexts ≡ None)
+    ⊎ ((operation : Operation) × (operation_named key.kind r.operation ≡ Some operation) × IsHeld operation)

@@ -1,6 +1,7 @@
-ghost use Rattle.std.specs.Prelude.{◌≡◌, ◌^◌, ◌<◌, IfOk, length};
+ghost use Rattle.std.specs.Prelude.{◌≡◌, ◌≢◌, Err, ◌^◌, ◌<◌, IfOk, length};
 ghost use Rattle.ots_calls.specs.Answer.{IsAnswer};
-ghost use Rattle.ots_calls.specs.Answering.{answer_at, answer_with, completed_of, garbled, given_at, raised_at, system_at, vote_of};
+ghost use Rattle.ots_calls.specs.Answering.{IsHeld, WantsMemory, answer_at, answer_with, completed_of, garbled, given_at, raised_at, system_at, vote_of};
+ghost use Rattle.ots_calls.specs.Call.{operation_of};
 ghost use Rattle.ots_calls.specs.Fault.{Finds};
 ghost use Rattle.ots_calls.specs.declared.gives.Gives.TheVariants as gives;
 
@@ -25,16 +26,18 @@ pub fn read_answer(alloc: Global, c: &Call, r: &Reply) -> Result<Answer, CallFau
     requires { length r.now.body < 2 ^ 31 }
     ensures exact { Finds (λ answer. answer) result (answer_with c.now r.now) }
     ensures answer { IfOk result (λ answer. IsAnswer c.now answer r.now) }
+    ensures memory { result ≡ Err CallFault.Memory → WantsMemory (operation_of c.now) r.now.status }
 {
     answers_are_read_exactly();
     read_with(alloc, c, r)
 }
 
 /// The answer to a call that a reply is.
-#[tactic(auto, unfolding(crate::specs::Answering::answer_with))]
+#[tactic(auto, using(crate::proofs::Frugal::garbled_memory), unfolding(crate::specs::Answering::answer_with))]
 fn read_with(alloc: Global, c: &Call, r: &Reply) -> Result<Answer, CallFault>
     requires { length r.now.body < 2 ^ 31 }
-    ensures { Finds (λ answer. answer) result (answer_with c.now r.now) }
+    ensures exact { Finds (λ answer. answer) result (answer_with c.now r.now) }
+    ensures memory { result ≡ Err CallFault.Memory → WantsMemory (operation_of c.now) r.now.status }
 {
     let mut reader = Reader::new(r.body.bytes(), r.order, 0);
     match read_status(alloc, c.operation(), r.status, &mut reader) {
@@ -62,7 +65,8 @@ fn read_status(
     status: u32,
     reader: &mut Reader,
 ) -> Result<Answer, CallFault>
-    ensures { Finds (λ answer. answer) result (answer_at operation status reader.old) }
+    ensures exact { Finds (λ answer. answer) result (answer_at operation status reader.old) }
+    ensures memory { result ≡ Err CallFault.Memory → WantsMemory operation status }
 {
     match status {
         0 => Ok(Answer::Plain(read_given(alloc, operation.gives(), reader)?)),
@@ -73,9 +77,10 @@ fn read_status(
 }
 
 /// What was given.
-#[tactic(auto, unfolding(crate::specs::Answering::given_at))]
+#[tactic(auto, using(crate::proofs::Frugal::boolean_frugal, crate::proofs::Frugal::ulong_frugal), unfolding(crate::specs::Answering::given_at))]
 fn read_given(alloc: Global, gives: Gives, reader: &mut Reader) -> Result<Given, CallFault>
-    ensures { Finds (λ given. given) result (given_at gives reader.old) }
+    ensures exact { Finds (λ given. given) result (given_at gives reader.old) }
+    ensures memory { result ≡ Err CallFault.Memory → IsHeld gives }
 {
     match gives {
         Gives::Nothing => ended(reader, Given::Nothing),
@@ -102,9 +107,10 @@ fn read_given(alloc: Global, gives: Gives, reader: &mut Reader) -> Result<Given,
     }
 }
 
-#[tactic(auto, unfolding(crate::specs::Answering::given_at))]
+#[tactic(auto, using(crate::proofs::Frugal::ulong_frugal), unfolding(crate::specs::Answering::given_at))]
 fn read_state(reader: &mut Reader) -> Result<Given, CallFault>
-    ensures { Finds (λ given. given) result (given_at gives.State reader.old) }
+    ensures exact { Finds (λ given. given) result (given_at gives.State reader.old) }
+    ensures memory { result ≢ Err CallFault.Memory }
 {
     let place = reader.place();
     let number = reader.ulong()?;
@@ -114,9 +120,10 @@ fn read_state(reader: &mut Reader) -> Result<Given, CallFault>
     }
 }
 
-#[tactic(auto, unfolding(crate::specs::Answering::given_at))]
+#[tactic(auto, using(crate::proofs::Frugal::ulong_frugal), unfolding(crate::specs::Answering::given_at))]
 fn read_ballot(reader: &mut Reader) -> Result<Given, CallFault>
-    ensures { Finds (λ given. given) result (given_at gives.Ballot reader.old) }
+    ensures exact { Finds (λ given. given) result (given_at gives.Ballot reader.old) }
+    ensures memory { result ≢ Err CallFault.Memory }
 {
     let place = reader.place();
     let number = reader.ulong()?;
@@ -126,9 +133,10 @@ fn read_ballot(reader: &mut Reader) -> Result<Given, CallFault>
     }
 }
 
-#[tactic(auto, unfolding(crate::specs::Answering::given_at))]
+#[tactic(auto, using(crate::proofs::Frugal::boolean_frugal, crate::proofs::Frugal::ulonglong_frugal), unfolding(crate::specs::Answering::given_at))]
 fn read_found(reader: &mut Reader) -> Result<Given, CallFault>
-    ensures { Finds (λ given. given) result (given_at gives.Found reader.old) }
+    ensures exact { Finds (λ given. given) result (given_at gives.Found reader.old) }
+    ensures memory { result ≢ Err CallFault.Memory }
 {
     let is_there = reader.boolean()?;
     let value = reader.ulonglong()?;
@@ -166,9 +174,10 @@ fn completed_of(number: u32) -> Option<Completed>
 }
 
 /// A user exception that the operation raises.
-#[tactic(auto, unfolding(crate::specs::Answering::raised_at))]
+#[tactic(auto, using(crate::proofs::Frugal::string_frugal), unfolding(crate::specs::Answering::raised_at))]
 fn read_raised(operation: Operation, reader: &mut Reader) -> Result<Answer, CallFault>
-    ensures { Finds (λ answer. answer) result (raised_at operation reader.old) }
+    ensures exact { Finds (λ answer. answer) result (raised_at operation reader.old) }
+    ensures memory { result ≢ Err CallFault.Memory }
 {
     let place = reader.place();
     let id = reader.string()?;
@@ -182,9 +191,10 @@ fn read_raised(operation: Operation, reader: &mut Reader) -> Result<Answer, Call
 }
 
 /// A system exception.
-#[tactic(auto, unfolding(crate::specs::Answering::system_at))]
+#[tactic(auto, using(crate::proofs::Frugal::string_frugal, crate::proofs::Frugal::ulong_frugal), unfolding(crate::specs::Answering::system_at))]
 fn read_system(reader: &mut Reader) -> Result<Answer, CallFault>
-    ensures { Finds (λ answer. answer) result (system_at reader.old) }
+    ensures exact { Finds (λ answer. answer) result (system_at reader.old) }
+    ensures memory { result ≢ Err CallFault.Memory }
 {
     let place = reader.place();
     let id = reader.string()?;

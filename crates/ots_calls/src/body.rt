@@ -7,6 +7,7 @@ ghost use Rattle.cdr_values.specs.Values.{with_values};
 ghost use Rattle.cdr_values.specs.Writing.{refusal};
 ghost use Rattle.cdr_values.specs.declared.order.Order.TheVariants.{Big};
 ghost use Rattle.ior_refs.specs.Reference.{is_short, nil};
+ghost use Rattle.ots_context.specs.Context.{StandsAsContext};
 ghost use Rattle.ots_context.specs.Reading.{context_at};
 ghost use Rattle.ots_context.specs.Writing.{kept_length, with_context};
 ghost use Rattle.ots_calls.specs.Call.{AreLeft, IsBody, status_number};
@@ -18,7 +19,10 @@ use crate::call::Call;
 use crate::fault::CallFault;
 use cdr_values::{Order, Writer, values_are_read_again};
 use ior_refs::ObjectRef;
-use ots_context::{Context, contexts_are_read_where_written, write_context, write_reference};
+use ots_context::{
+    Context, contexts_are_read_where_written, contexts_stand_exactly, write_context,
+    write_reference,
+};
 use ots_model::{Octets, Status};
 use std::alloc::Global;
 
@@ -154,6 +158,16 @@ pub(crate) fn reference_octets(alloc: Global, reference: &ObjectRef) -> Result<O
 }
 
 pub(crate) fn context_body(alloc: Global, context: &Context) -> Result<Octets, CallFault>
+    requires { kept_length context.now.tail < 2 ^ 31 }
+    ensures exact { Finds (λ octets. octets) result (told_as fault_of_context (with_context blank context.now)) }
+    ensures stands { IfOk result (λ octets. StandsAsContext context.now (standing Big 0 octets)) }
+    ensures short { IfOk result (λ octets. length octets ≤ output_limit) }
+{
+    contexts_stand_exactly();
+    context_octets(alloc, context)
+}
+
+fn context_octets(alloc: Global, context: &Context) -> Result<Octets, CallFault>
     requires { kept_length context.now.tail < 2 ^ 31 }
     ensures exact { Finds (λ octets. octets) result (told_as fault_of_context (with_context blank context.now)) }
     ensures read { IfOk result (λ octets. context_at (standing Big 0 octets) ≡ Ok context.now) }

@@ -11,6 +11,7 @@ pub fn requests_are_read_exactly()
 {
     names_tell_operations();
     ots_context::contexts_are_read_exactly();
+    ots_context::contexts_stand_exactly();
     ior_refs::references_are_read_exactly();
     cdr_values::reading_is_exact();
 }
@@ -19,6 +20,7 @@ pub fn requests_are_read_exactly()
 pub fn answers_are_read_exactly()
     ensures { AnswersAreReadExactly }
 {
+    ots_context::contexts_stand_exactly();
     ior_refs::references_are_read_exactly();
     cdr_values::reading_is_exact();
 }

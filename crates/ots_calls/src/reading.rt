@@ -1,6 +1,6 @@
-ghost use Rattle.std.specs.Prelude.{◌≡◌};
+ghost use Rattle.std.specs.Prelude.{◌≡◌, ◌≢◌, Err};
 ghost use Rattle.ots_calls.specs.Fault.{Finds};
-ghost use Rattle.ots_calls.specs.Reading.{call_at, ended, status_of};
+ghost use Rattle.ots_calls.specs.Reading.{IsHeld, call_at, ended, status_of};
 ghost use Rattle.ots_calls.specs.declared.operation.Operation.TheVariants as operations;
 
 use crate::call::Call;
@@ -16,13 +16,14 @@ use std::alloc::Global;
 const LEFT_LIMIT: usize = 7;
 
 /// Reads the parameters of an operation, which a reader has left.
-#[tactic(auto, unfolding(crate::specs::Reading::call_at))]
+#[tactic(auto, using(crate::proofs::Frugal::ulong_frugal, crate::proofs::Frugal::ulonglong_frugal, crate::proofs::Frugal::boolean_frugal), unfolding(crate::specs::Reading::call_at))]
 pub(crate) fn read_arguments(
     alloc: Global,
     operation: Operation,
     reader: &mut Reader,
 ) -> Result<Call, CallFault>
-    ensures { Finds (λ call. call) result (call_at operation reader.old) }
+    ensures exact { Finds (λ call. call) result (call_at operation reader.old) }
+    ensures memory { result ≡ Err CallFault.Memory → IsHeld operation }
 {
     match operation {
         Operation::Bare(bare) => ended(reader, Call::Bare(bare)),
@@ -66,9 +67,10 @@ fn read_handing(alloc: Global, handing: Handing, reader: &mut Reader) -> Result<
     Ok(call)
 }
 
-#[tactic(auto, unfolding(crate::specs::Reading::call_at))]
+#[tactic(auto, using(crate::proofs::Frugal::ulong_frugal), unfolding(crate::specs::Reading::call_at))]
 fn read_after_completion(reader: &mut Reader) -> Result<Call, CallFault>
-    ensures { Finds (λ call. call) result (call_at operations.AfterCompletion reader.old) }
+    ensures exact { Finds (λ call. call) result (call_at operations.AfterCompletion reader.old) }
+    ensures memory { result ≢ Err CallFault.Memory }
 {
     let place = reader.place();
     let number = reader.ulong()?;
@@ -101,7 +103,8 @@ pub(crate) fn status_of(number: u32) -> Option<Status>
 /// What was read, where few octets are left behind it.
 #[tactic(auto, unfolding(crate::specs::Reading::ended))]
 pub(crate) fn ended<T: Drop>(reader: &Reader, value: T) -> Result<T, CallFault>
-    ensures { Finds (λ x. x) result (ended value reader.now) }
+    ensures exact { Finds (λ x. x) result (ended value reader.now) }
+    ensures memory { result ≢ Err CallFault.Memory }
 {
     if reader.rest().len() > LEFT_LIMIT {
         return Err(CallFault::Marshal(reader.place()));

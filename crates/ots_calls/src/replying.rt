@@ -1,4 +1,4 @@
-ghost use Rattle.std.specs.Prelude.{◌≡◌, ◌⊎◌, ◌^◌, ◌<◌, ◌≤◌, [], ◌∷◌, IfErr, IfOk, Ok, length};
+ghost use Rattle.std.specs.Prelude.{◌≡◌, ◌⊎◌, ◌^◌, ◌<◌, ◌≤◌, [], ◌∷◌, IfErr, IfOk, Err, Ok, length};
 ghost use Rattle.std.specs.Bool.{OnFalse, OnTrue};
 ghost use Rattle.cdr_values.specs.Again.{standing};
 ghost use Rattle.cdr_values.specs.Limits.{output_limit};
@@ -41,6 +41,7 @@ pub fn write_answer(alloc: Global, id: u32, c: &Call, a: &Answer) -> Result<Repl
     ensures short { IfOk result (λ reply. octets_in (messages.Reply reply) < 2 ^ 31) }
     ensures framed { IfOk result (λ reply. OnlySizeRefuses (messages.Reply reply)) }
     ensures refused { IfErr result (λ fault. (fault ≡ Memory) ⊎ IsUnwritten fault id c.now a.now) }
+    ensures foreign { ¬ IsOf (operation_of c.now) a.now → result ≡ Err CallFault.BadParam }
 {
     answers_are_read_exactly();
     if !is_of(c.operation(), a) {

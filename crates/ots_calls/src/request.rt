@@ -1,7 +1,7 @@
-ghost use Rattle.std.specs.Prelude.{◌≡◌, ◌⊎◌, ◌^◌, ◌<◌, All, IfErr, IfOk, IfSome, Ok, length};
+ghost use Rattle.std.specs.Prelude.{◌≡◌, ◌≢◌, ◌⊎◌, ◌^◌, ◌<◌, All, IfErr, IfOk, IfSome, Err, Ok, length};
 ghost use Rattle.std.specs.Option.{option_copied};
 ghost use Rattle.ots_calls.specs.Fault.{Finds};
-ghost use Rattle.ots_calls.specs.Request.{IsFor, Refuses, called_with};
+ghost use Rattle.ots_calls.specs.Request.{IsFor, Refuses, WantsMemory, called_with};
 ghost use Rattle.ots_calls.specs.Retry.{first_retry, retry_in, retry_in_first};
 
 use crate::call::Called;
@@ -25,6 +25,7 @@ pub fn read_call(alloc: Global, r: &Request) -> Result<Called, CallFault>
     ensures key { IfOk result (λ c. IsFor c.key r.now.target) }
     ensures exact { IfOk result (λ c. called_with c.key r.now ≡ Ok c) }
     ensures refused { IfErr result (λ fault. (fault ≡ CallFault.Memory) ⊎ Refuses fault r.now) }
+    ensures memory { result ≡ Err CallFault.Memory → (key : ObjectKey) × IsFor key r.now.target × WantsMemory key r.now }
 {
     let Target::Key(octets) = &r.target else {
         return Err(CallFault::BadTarget);
@@ -42,6 +43,7 @@ fn read_for(alloc: Global, key: ObjectKey, r: &Request) -> Result<Called, CallFa
     requires contexts { All (λ context. length context.bytes < 2 ^ 31) r.now.contexts }
     ensures key { IfOk result (λ c. c.key ≡ key) }
     ensures exact { Finds (λ c. c) result (called_with key r.now) }
+    ensures memory { result ≡ Err CallFault.Memory → WantsMemory key r.now }
 {
     let Some(operation) = Operation::named(key.kind, r.operation.bytes()) else {
         return Err(CallFault::BadOperation);
@@ -61,7 +63,8 @@ fn read_for(alloc: Global, key: ObjectKey, r: &Request) -> Result<Called, CallFa
 /// The retry key of a request with these service contexts, or None where it has none.
 fn find_retry(contexts: &[ServiceContext]) -> Result<Option<RetryKey>, CallFault>
     requires { All (λ context. length context.bytes < 2 ^ 31) contexts.now }
-    ensures { Finds (λ key. key) result (retry_in_first (first_retry contexts.now)) }
+    ensures exact { Finds (λ key. key) result (retry_in_first (first_retry contexts.now)) }
+    ensures memory { result ≢ Err CallFault.Memory }
 {
     match first_retry(contexts) {
         None => Ok(None),
@@ -80,10 +83,11 @@ fn first_retry(contexts: &[ServiceContext]) -> Option<&[u8]>
 }
 
 /// The retry key in an encapsulation.
-#[tactic(auto, unfolding(crate::specs::Retry::retry_in))]
+#[tactic(auto, using(crate::proofs::Frugal::ulonglong_frugal, crate::proofs::Frugal::opened_frugal), unfolding(crate::specs::Retry::retry_in))]
 fn read_retry(octets: &[u8]) -> Result<RetryKey, CallFault>
     requires { length octets.now < 2 ^ 31 }
-    ensures { Finds (λ key. key) result (retry_in octets.now) }
+    ensures exact { Finds (λ key. key) result (retry_in octets.now) }
+    ensures memory { result ≢ Err CallFault.Memory }
 {
     let mut reader = Reader::encapsulation(octets)?;
     let client = reader.ulonglong()?;

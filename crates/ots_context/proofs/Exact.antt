@@ -27,8 +27,8 @@ use Rattle.ots_context.specs.Fault.{fault_of, of_reference, too_many}
 use Rattle.ots_context.specs.Identity.{Fields, otid_values, fields_values, has_lengths, allows_fields, otid_of, identity_of}
 use Rattle.ots_context.specs.Reading.{otid_at, identity_at, parents_at, context_at, context_in}
 use Rattle.ots_context.specs.Tail.{IsTail, tail_at}
-use Rattle.ots_context.specs.Context.{IsContext}
-use Rattle.ots_context.specs.Laws.{ContextsAreReadExactly}
+use Rattle.ots_context.specs.Context.{IsContext, StandsAsContext}
+use Rattle.ots_context.specs.Laws.{ContextsAreReadExactly, ContextsStandExactly}
 use Rattle.ots_context.proofs.Tails.{tail_found, tail_only}
 use Rattle.ots_context.proofs.Given.{ok_is, bind_ok, guard_ok, check_ok, reads_then, reads_apart}
 
@@ -230,16 +230,15 @@ opened_only octets r h =
 abbrev context : ℕ → Identity → List Identity → AnyTail → Context
 context timeout current parents tail = record { timeout = timeout; current = current; parents = parents; tail = tail }
 
-context_found : ReferencesAreReadExactly → ReadingLaws → (octets : List ℕ) (c : Context) → context_in octets ≡ Ok c → IsContext c octets
-unfolding context_in context_at
-context_found refs laws octets c e =
-    let a = bind_ok (fault_as fault_of (opened octets)) (λ reader. context_at reader) c e in
-    let t = bind_ok (fault_as fault_of (ulong_at a.0)) (λ timeout. identity_at timeout.1 >>= (λ current. parents_at current.1 >>= (λ parents. Ok (context timeout.0 current.0 parents.0 (tail_at parents.1))))) c a.2 in
+context_at_found : ReferencesAreReadExactly → ReadingLaws → (reader : Reading) (c : Context) → context_at reader ≡ Ok c → StandsAsContext c reader
+unfolding context_at
+context_at_found refs laws reader c e =
+    let t = bind_ok (fault_as fault_of (ulong_at reader)) (λ timeout. identity_at timeout.1 >>= (λ current. parents_at current.1 >>= (λ parents. Ok (context timeout.0 current.0 parents.0 (tail_at parents.1))))) c e in
     let i = bind_ok (identity_at t.0.1) (λ current. parents_at current.1 >>= (λ parents. Ok (context t.0.0 current.0 parents.0 (tail_at parents.1)))) c t.2 in
     let p = bind_ok (parents_at i.0.1) (λ parents. Ok (context t.0.0 i.0.0 parents.0 (tail_at parents.1))) c i.2 in
     let behind = p.0.1 in
     let same = ok_is {F = ContextFault} (context t.0.0 i.0.0 p.0.0 (tail_at behind)) c p.2 in
-    let timeout = laws.ulong.found a.0 t.0.0 t.0.1 (value_is (ulong_at a.0) t.0 t.1) in
+    let timeout = laws.ulong.found reader t.0.0 t.0.1 (value_is (ulong_at reader) t.0 t.1) in
     let current = identity_found refs laws t.0.1 i.0.0 i.0.1 i.1 in
     let parents = parents_found refs laws i.0.1 p.0.0 behind p.1 in
     let rest = reads_then (fields_values current.fields) (sequence_values fields_values parents.fields) t.0.1 i.0.1 behind current.stand parents.stand in
@@ -251,11 +250,19 @@ context_found refs laws octets c e =
       current_allowed = current.allowed;
       parents_allowed = parents.allowed;
       few = parents.few;
-      reader = a.0;
       behind = behind;
-      opened = opened_found octets a.0 (value_is (opened octets) a.0 a.1);
-      stand = subst (λ (n : ℕ). ReadsAll a.0 (ULong n ∷ (fields_values current.fields ++ sequence_values fields_values parents.fields)) behind) (ap (λ (x : Context). x.timeout) same) (t.0.1, timeout, rest);
+      stand = subst (λ (n : ℕ). ReadsAll reader (ULong n ∷ (fields_values current.fields ++ sequence_values fields_values parents.fields)) behind) (ap (λ (x : Context). x.timeout) same) (t.0.1, timeout, rest);
       tail = subst (λ (x : AnyTail). IsTail x behind) (ap (λ (x : Context). x.tail) same) (tail_found laws behind);
+    }
+
+context_found : ReferencesAreReadExactly → ReadingLaws → (octets : List ℕ) (c : Context) → context_in octets ≡ Ok c → IsContext c octets
+unfolding context_in
+context_found refs laws octets c e =
+    let a = bind_ok (fault_as fault_of (opened octets)) (λ reader. context_at reader) c e in
+    record {
+      reader = a.0;
+      opened = opened_found octets a.0 (value_is (opened octets) a.0 a.1);
+      stands = context_at_found refs laws a.0 c a.2;
     }
 
 -- a context stands there, which is all that is left
@@ -267,11 +274,17 @@ context_at_only refs laws c current parents reader behind is are allowed all few
     rw (laws.ulong.only reader c.timeout s.0 s.1, identity_only refs laws current s.0 p.0 p.1 allowed, parents_only refs laws parents p.0 behind p.2 all few, tail_only laws c.tail behind tail)
     (ap (λ (x : Identity). Ok (context c.timeout x (map identity_of parents) c.tail)) (sym is) ∙ ap (λ (xs : List Identity). Ok (context c.timeout c.current xs c.tail)) (sym are))
 
+context_stood : ReferencesAreReadExactly → ReadingLaws → (reader : Reading) (c : Context) → StandsAsContext c reader → context_at reader ≡ Ok c
+context_stood refs laws reader c h =
+    context_at_only refs laws c h.current h.parents reader h.behind h.is_current h.are_parents h.current_allowed h.parents_allowed h.few h.stand h.tail
+
+pub contexts_stand : ReferencesAreReadExactly → ReadingLaws → ContextsStandExactly
+contexts_stand refs laws reader c = (context_at_found refs laws reader c, context_stood refs laws reader c)
+
 pub context_only : ReferencesAreReadExactly → ReadingLaws → (octets : List ℕ) (c : Context) → IsContext c octets → context_in octets ≡ Ok c
 unfolding context_in
 context_only refs laws octets c h =
-    rw (opened_only octets h.reader h.opened)
-    (context_at_only refs laws c h.current h.parents h.reader h.behind h.is_current h.are_parents h.current_allowed h.parents_allowed h.few h.stand h.tail)
+    rw (opened_only octets h.reader h.opened) (context_stood refs laws h.reader c h.stands)
 
 pub contexts_exact : ReferencesAreReadExactly → ReadingLaws → ContextsAreReadExactly
 contexts_exact refs laws octets c = (context_found refs laws octets c, context_only refs laws octets c)

@@ -2,8 +2,9 @@
 use Rattle.std.specs.Prelude.{◌≡◌, ◌↔◌, ◌<◌, ◌^◌, ℕ, true, All, List, ◌++◌, Ok}
 use Rattle.cdr_values.specs.declared.order.Order.TheVariants.{Big}
 use Rattle.cdr_values.specs.Again.{standing}
+use Rattle.cdr_values.specs.Reading.{Reading}
 use Rattle.cdr_values.specs.Writing.{Writing, place_of}
-use Rattle.ots_context.specs.Context.{IsContext}
+use Rattle.ots_context.specs.Context.{IsContext, StandsAsContext}
 use Rattle.ots_context.specs.Identity.{IsIdentity}
 use Rattle.ots_context.specs.Writing.{with_context, written}
 use Rattle.ots_context.specs.Reading.{context_at, context_in}
@@ -14,6 +15,10 @@ use Rattle.ots_context.specs.declared.context.AnyTail.{AnyTail}
 -- octets are read as a context exactly where they are that context
 abbrev pub ContextsAreReadExactly : Type 0
 ContextsAreReadExactly = (octets : List ℕ) (c : Context) → (context_in octets ≡ Ok c) ↔ IsContext c octets
+
+-- what a reader has left is read as a context exactly where it is that context
+abbrev pub ContextsStandExactly : Type 0
+ContextsStandExactly = (r : Reading) (c : Context) → (context_at r ≡ Ok c) ↔ StandsAsContext c r
 
 -- a tail can stand at an offset exactly where its octets are read there as that tail again
 abbrev pub TailsStandWhereReadAgain : Type 0

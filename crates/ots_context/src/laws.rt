@@ -1,8 +1,16 @@
-ghost use Rattle.ots_context.specs.Laws.{ContextsAreReadExactly, ContextsAreReadWhereWritten, TailsStandWhereReadAgain, WrittenContextsAreReadAgain};
+ghost use Rattle.ots_context.specs.Laws.{ContextsAreReadExactly, ContextsAreReadWhereWritten, ContextsStandExactly, TailsStandWhereReadAgain, WrittenContextsAreReadAgain};
 
 /// A law: octets are read as a context exactly where they are that context.
 pub fn contexts_are_read_exactly()
     ensures { ContextsAreReadExactly }
+{
+    ior_refs::references_are_read_exactly();
+    cdr_values::reading_is_exact();
+}
+
+/// A law: what a reader has left is read as a context exactly where it is that context.
+pub fn contexts_stand_exactly()
+    ensures { ContextsStandExactly }
 {
     ior_refs::references_are_read_exactly();
     cdr_values::reading_is_exact();

@@ -7,8 +7,8 @@ pub use encoding::{PARENT_LIMIT, encode_context, write_context};
 pub use fault::ContextFault;
 pub use identity::write_reference;
 pub use laws::{
-    contexts_are_read_exactly, contexts_are_read_where_written, tails_stand_where_read_again,
-    written_contexts_are_read_again,
+    contexts_are_read_exactly, contexts_are_read_where_written, contexts_stand_exactly,
+    tails_stand_where_read_again, written_contexts_are_read_again,
 };
 
 mod context;
