@@ -1,7 +1,7 @@
 -- What stands is in the order of its places, and before the gate at the end.
-use Rattle.std.proofs.Common.{◌≡◌, ℕ, suc, ◌+◌, ◌-◌, ◌<◌, ◌≤◌, Bool, true, false, cond, ◌&&◌, List, [], ◌∷◌, ◌++◌, length, get_or, take, drop, Option, Some, None, refl, sym, ap, subst, ◌∙◌, arith, length-append}
+use Rattle.std.proofs.Common.{◌≡◌, ℕ, suc, ◌+◌, ◌-◌, ◌<◌, ◌≤◌, Bool, true, false, cond, ◌&&◌, List, [], ◌∷◌, ◌++◌, length, get_or, take, drop, Option, Some, None, sym, ap, subst, arith, length-append}
 use Rattle.std.specs.Prelude.{position, ◌==◌}
-use Rattle.std.specs.List.{All, count_by, flat_map, remove}
+use Rattle.std.specs.List.{count_by, flat_map, remove}
 use Rattle.std.proofs.lemmas.List.Elements.{All-append, All-drop, All-nil, All-push, All-take, All-weaker}
 use Rattle.std.proofs.lemmas.List.Quantifiers.{all_pairs_push, all_pairs_remove, position-Some}
 use Rattle.std.proofs.lemmas.List.Sums.{sum_by-append, sum_by-remove}
@@ -12,7 +12,7 @@ use Rattle.decision_journal.specs.declared.record.JournalRecord.TheVariants.{Lif
 use Rattle.decision_journal.specs.Layout.{record_octets}
 use Rattle.decision_journal.specs.Journal.{Found, IsFilled, first_gate, is_decision, is_decision_at, nothing_found, taken_away, with_record, with_records}
 use Rattle.decision_journal.specs.Index.{AreBefore, AreInOrder, IsIndexed}
-use Rattle.decision_journal.proofs.Scans.{IsScanning, gate_at, length_front}
+use Rattle.decision_journal.proofs.Scans.{length_front}
 use Rattle.decision_journal.proofs.Steps.{length_record}
 
 abbrev stands_decided : Standing → Bool
@@ -23,8 +23,11 @@ counted s = cond (stands_decided s) 1 0
 
 -- ---- before a place
 
-later : (place more : ℕ) (xs : List Standing) → place ≤ more → AreBefore place xs → AreBefore more xs
+pub later : (place more : ℕ) (xs : List Standing) → place ≤ more → AreBefore place xs → AreBefore more xs
 later place more xs le before = All-weaker (λ (s : Standing). s.place < place) (λ (s : Standing). s.place < more) (λ s lt. omega arith) xs before
+
+pub none_before : (place : ℕ) (found : Found) → found ≡ nothing_found → AreBefore place found.standing
+none_before place found none = subst (λ (f : Found). AreBefore place f.standing) (sym none) (All-nil (λ (s : Standing). s.place < place))
 
 pushed : (place more : ℕ) (item : JournalRecord) (xs : List Standing) → place < more → AreBefore place xs → AreBefore more (xs ++ record { place = place; item = item } ∷ [])
 pushed place more item xs lt before = All-push (λ (s : Standing). s.place < more) xs (record { place = place; item = item }) (later place more xs (omega arith) before) lt
@@ -60,11 +63,6 @@ before_end service octets found filled =
     let a = filled.1 in
     later (first_gate + length (flat_map record_octets filled.0)) (length octets) found.standing (omega (arith, ap length a.octets_are, length_front service filled.0))
     (subst (λ (f : Found). AreBefore (first_gate + length (flat_map record_octets filled.0)) f.standing) (sym a.found_is) (all_more nothing_found first_gate filled.0 (All-nil (λ (s : Standing). s.place < first_gate))))
-
--- and before a gate that is read
-pub before_gate : (service : ℕ) (octets : List ℕ) (found : Found) (rest : List ℕ) → IsScanning service octets found rest → AreBefore (length octets - length rest) found.standing
-before_gate service octets found rest scanning =
-    subst (λ (n : ℕ). AreBefore n found.standing) (sym (gate_at service octets found rest scanning)) (before_end service scanning.before found scanning.filled)
 
 -- ---- the index
 

@@ -25,3 +25,4 @@ pub mod Places
 pub mod Below
 pub mod Calls
 pub mod Refused
+pub mod Left

@@ -1,7 +1,7 @@
 -- What stands, found by its place.
-use Rattle.std.proofs.Common.{◌≡◌, ◌≢◌, inl, inr, ℕ, suc, ◌+◌, ◌<◌, ◌≤◌, Bool, true, false, cond, not, ltb, ltb-true, eqb, ◌&&◌, ◌||◌, List, [], ◌∷◌, ◌++◌, length, get_or, Option, Some, None, refl, sym, ap, subst, ◌∙◌, arith, length-append}
-use Rattle.std.specs.Prelude.{position, nat_lt, ◌==◌, is_some}
-use Rattle.std.specs.List.{All, AllWithin, position_or_len, list_any, flat_map, remove}
+use Rattle.std.proofs.Common.{◌≡◌, inl, inr, ℕ, ◌+◌, ◌<◌, ◌≤◌, Bool, true, false, cond, not, ltb, ltb-true, ◌&&◌, ◌||◌, List, [], ◌∷◌, length, get_or, Some, None, refl, ap, subst, ◌∙◌, arith}
+use Rattle.std.specs.Prelude.{position, ◌==◌}
+use Rattle.std.specs.List.{All, position_or_len, list_any}
 use Rattle.std.specs.List.Sorted.{IsNonDecreasingBy, IsPartitionPoint}
 use Rattle.std.proofs.lemmas.Bool.{cases_lt, le-ltb, ltb-false, lt-ltb}
 use Rattle.std.proofs.lemmas.Bool.Decides.{nat_tests}
@@ -24,7 +24,7 @@ next n m k e = by_test (ltb n m) refl
     by_test true t = let lt = ltb-true n m t in lt-ltb (1 + n) k (omega arith)
     by_test false t = let le = ltb-false n m t in le-ltb (1 + n) k (omega arith)
 
-any_place : (p : Standing → Bool) (xs : List Standing) → ltb (position_or_len p xs) (length xs) ≡ list_any p xs
+pub any_place : (p : Standing → Bool) (xs : List Standing) → ltb (position_or_len p xs) (length xs) ≡ list_any p xs
 any_place p [] = refl
 any_place p (x ∷ xs) = by_test (p x) (any_place p xs)
   where
@@ -37,7 +37,7 @@ none_passes p xs none =
     let no = list_any_none p xs none in
     (ap (λ (b : Bool). cond b (Some (position_or_len p xs)) None) (any_place p xs ∙ no), no)
 
-one_passes : (p : Standing → Bool) (xs : List Standing) (i : ℕ) (d : Standing) → i < length xs → p (get_or xs i d) ≡ true → ((k : ℕ) → k < i → p (get_or xs k d) ≡ false) → (position p xs ≡ Some i) × (list_any p xs ≡ true)
+pub one_passes : (p : Standing → Bool) (xs : List Standing) (i : ℕ) (d : Standing) → i < length xs → p (get_or xs i d) ≡ true → ((k : ℕ) → k < i → p (get_or xs k d) ≡ false) → (position p xs ≡ Some i) × (list_any p xs ≡ true)
 one_passes p xs i d within passes before =
     let at = position_or_len_is p xs i d (omega arith) before (λ lt. passes) in
     let yes = list_any_at p xs i d within passes in

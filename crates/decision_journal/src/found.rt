@@ -1,7 +1,7 @@
-ghost use Rattle.std.specs.Prelude.{◌≡◌, ◌+◌, ◌++◌, ◌∷◌, [], ◌==◌, is_some, position, OnOk, OnErr, IfErr};
+ghost use Rattle.std.specs.Prelude.{◌≡◌, ℕ, ◌+◌, ◌++◌, ◌∷◌, [], ◌==◌, is_some, position, OnOk, OnErr, IfErr};
 ghost use Rattle.std.specs.List.{list_any};
 ghost use Rattle.decision_journal.specs.Journal.{are_cells_at, can_follow, is_cells_prepared, is_decision, is_decision_at, nothing_found, taken_away, with_record};
-ghost use Rattle.decision_journal.specs.Index.{AreBefore, AreInOrder, IsIndexed};
+ghost use Rattle.decision_journal.specs.Index.{AreBefore, AreInOrder, IsIndexed, is_left, left};
 ghost use Rattle.decision_journal.specs.State.{decisions};
 
 use crate::journal::Standing;
@@ -121,6 +121,46 @@ impl Index {
         }
     }
 
+    /// Adds a record that was read, whose gate is at this place, behind all that stands. A Done stands in the stead of what
+    /// it names until all is read.
+    pub(crate) fn gather(&mut self, place: u32, item: JournalRecord) -> Result<(), JournalRecord>
+        requires behind { AreBefore place self.old.standing }
+        ensures ok { OnOk result (left self.new ≡ with_record (left self.old) place item) }
+        ensures before { OnOk result (AreBefore (place + 1) self.new.standing) }
+    {
+        match item {
+            JournalRecord::Done(named) => {
+                self.mark(named);
+                Ok(())
+            }
+            item => self.add(place, item),
+        }
+    }
+
+    /// Puts a Done in the stead of the decision or prepared record at this place, where one stands.
+    fn mark(&mut self, place: u32)
+        ensures marked { left self.new ≡ record (left self.old) {
+          standing = taken_away (position (is_decision_at place) (left self.old).standing) (left self.old).standing;
+        } }
+        ensures before { (n : ℕ) → AreBefore n self.old.standing → AreBefore n self.new.standing }
+    {
+        if let Some(index) = decision_at(&self.standing, place) {
+            self.standing[index] = Standing {
+                place,
+                item: JournalRecord::Done(place),
+            };
+            self.decisions -= 1;
+        }
+    }
+
+    /// Leaves what stands, once all is read, and gives back the room of what is done.
+    pub(crate) fn settle(&mut self)
+        ensures { self.new ≡ left self.old }
+    {
+        self.standing.retain(|standing| is_kept(standing));
+        self.standing.shrink_to_fit();
+    }
+
     /// Whether a decision or prepared record stands at this place.
     pub(crate) fn stands(&self, place: u32) -> bool
         ensures { result ≡ list_any (is_decision_at place) self.now.standing }
@@ -186,6 +226,13 @@ pub(crate) fn is_decided(item: &JournalRecord) -> bool
         item,
         JournalRecord::Decision(..) | JournalRecord::Prepared(..)
     )
+}
+
+/// Whether it stands for itself, and not in the stead of what is done.
+fn is_kept(standing: &Standing) -> bool
+    ensures { result ≡ is_left standing.now }
+{
+    !matches!(standing.item, JournalRecord::Done(..))
 }
 
 /// Whether it is a record of prepared cells.

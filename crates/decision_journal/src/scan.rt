@@ -1,8 +1,8 @@
-ghost use Rattle.std.specs.Prelude.{◌≡◌, ◌<◌, ◌≤◌, ◌^◌, ◌++◌, ◌↔◌, IsTrue, length, drop, IfOk, IfErr, IfSome, IfNone, OnOk, IsErrOf};
+ghost use Rattle.std.specs.Prelude.{◌≡◌, ◌<◌, ◌≤◌, ◌+◌, ◌^◌, ◌++◌, ◌↔◌, IsTrue, length, drop, IfOk, IfErr, IfSome, IfNone, OnOk, IsErrOf};
 ghost use Rattle.decision_journal.specs.declared.reading.ReadFault.TheVariants.{NoRecord};
 ghost use Rattle.decision_journal.specs.Limits.{area_limit};
 ghost use Rattle.decision_journal.specs.Laws.{behind_letter, is_letter_due};
-ghost use Rattle.decision_journal.specs.Index.{AreBefore};
+ghost use Rattle.decision_journal.specs.Index.{AreBefore, left};
 ghost use Rattle.decision_journal.specs.Journal.{HasNoScanFault, HasNoStep, IsFilled, IsFirstOther, IsFresh, IsOther, IsOtherHeader, IsScanFault, IsScanned, IsStep, IsWithin, StandsAt, header, nothing_found};
 
 use crate::found::Index;
@@ -12,7 +12,7 @@ use byteorder::{BigEndian, ByteOrder};
 use std::alloc::Global;
 
 /// How many octets an area has at most.
-pub const AREA_LIMIT: usize = 67_108_864;
+pub(crate) const AREA_LIMIT: usize = 67_108_864;
 
 /// Reads the record behind the open gate at this place, and gives what stands from the next gate on.
 fn step<'a>(
@@ -23,8 +23,9 @@ fn step<'a>(
 ) -> Result<&'a [u8], ReadFault>
     requires within { gate < area_limit }
     requires behind { AreBefore gate index.old.standing }
-    ensures next { IfOk result (λ rest. IsStep gate behind.now index.old index.new rest.now) }
-    ensures none { IsErrOf result NoRecord → HasNoStep gate behind.now index.old }
+    ensures next { IfOk result (λ rest. IsStep gate behind.now (left index.old) (left index.new) rest.now) }
+    ensures before { OnOk result (AreBefore (gate + 1) index.new.standing) }
+    ensures none { IsErrOf result NoRecord → HasNoStep gate behind.now (left index.old) }
 {
     let (item, rest) = body_of(alloc, behind)?;
     if !is_within(gate, behind, rest) {
@@ -33,7 +34,7 @@ fn step<'a>(
     if !index.takes(&item) {
         return Err(ReadFault::NoRecord);
     }
-    if index.add(gate as u32, item).is_err() {
+    if index.gather(gate as u32, item).is_err() {
         return Err(ReadFault::Memory);
     }
     Ok(rest)
@@ -63,7 +64,7 @@ fn scan<'a>(
     requires long { 16 < length octets.now }
     requires header { octets.now ≡ header service ++ drop 16 octets.now }
     requires new { index.old ≡ nothing_found }
-    ensures ok { IfOk result (λ rest. IsScanned service octets.now index.new rest.now) }
+    ensures ok { IfOk result (λ rest. IsScanned service octets.now (left index.new) rest.now) }
     ensures fault { IfErr result (IsScanFault service octets.now) }
 {
     let mut rest = &octets[HEADER_LENGTH..];
@@ -163,6 +164,7 @@ pub(crate) fn filled(
     let rest = scan(alloc, service, octets, &mut index)?;
     let gate = octets.len() - rest.len();
     octets.truncate(gate);
+    index.settle();
     Ok(index)
 }
 

@@ -1,4 +1,4 @@
-use Rattle.std.proofs.Common.{◌≡◌, ◌∙◌, ◌<◌, length, get_or, Option, Some, None, sym, ap, arith, rules}
+use Rattle.std.proofs.Common.{◌∙◌, sym, ap}
 use Rattle.std.proofs.lemmas.List.{get_or_default}
 use Rattle.decision_journal.specs.declared.journal.Standing.{Standing}
 use Rattle.decision_journal.specs.Journal.{is_decision}

@@ -1,4 +1,4 @@
-use Rattle.std.proofs.Common.{◌≡◌, ◌∙◌, ◌+◌, List, sym, subst}
+use Rattle.std.proofs.Common.{◌∙◌, ◌+◌, List, sym, subst}
 use Rattle.decision_journal.specs.declared.journal.Standing.{Standing}
 use Rattle.decision_journal.specs.Journal.{Found}
 use Rattle.decision_journal.specs.Index.{AreBefore, IsIndexed}
