@@ -121,6 +121,8 @@ def bench(kind, size):
         return [], [f"create {branch // 2}" if branch else "create 0" for branch in range(size - 1)]
     if kind == "register":
         return [], ["register 0"] * size
+    if kind == "vote":
+        return ["register 0"] * size, [f"vote {size} VoteCommit"] * 64
     if kind == "ancestry":
         return chain(size), [f"relation 0 {size - 1}"] * 64
     if kind == "participants":
@@ -132,7 +134,7 @@ def bench(kind, size):
         return chain(DEPTH) + [f"register {DEPTH - 1}"] * size, [f"commit {branch}" for branch in range(DEPTH - 1, 0, -1)]
     if kind == "completion":
         votes = ["hear VoteCommit"] * size + ["decided stands"]
-        return ["register 0"] * size, ["begin no no"] + votes + ["hear ok"] * size
+        return ["register 0"] * size + ["begin no no"], votes + ["hear ok"] * size
     sys.exit(f"no such kind: {kind}")
 
 

@@ -33,6 +33,8 @@ echo "create_sub, by the transactions of a tree:"
 row create 16 128 1024
 echo "register, by the registrations of a tree:"
 row register 2 16 64
+echo "vote and vote_of, by the registrations of a tree:"
+row vote 2 16 64
 echo "is_ancestor, is_related and is_same, by the depth of a branch:"
 row ancestry 2 4 16
 echo "end_sub and adopt, by the subtransactions that hand one registration each to the top:"
