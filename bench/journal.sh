@@ -1,8 +1,9 @@
 #!/usr/bin/env bash
 # Appends decisions to a journal in a real file, and makes the bare writes and syncs of as many octets; and loads journals of
-# 1, 8 and 64 MB, of decisions and their Dones. Prints the ratio of the times of the first two, and that of the times of the
-# loads per octet. Run it anywhere; it builds the program first. How many decisions are appended, and the folder of the
-# files, may be given as arguments. Each time is the least of five.
+# 1, 8 and 64 MB, of decisions and their Dones: each Done behind its decision, and each so far behind it that 8,000 stand.
+# Prints the ratio of the times of the first two, and those of the times of the loads per octet. What a load of an empty
+# journal takes, which is its syncs, is taken off. Run it anywhere; it builds the program first. How many decisions are
+# appended, and the folder of the files, may be given as arguments. Each time is the least of five.
 set -euo pipefail
 . "$(dirname "$0")/timing.sh"
 count=${1:-500}
@@ -23,11 +24,12 @@ for _ in 1 2 3 4 5; do
   done
 done
 
-# journal SIZE: a journal of so many octets, of decisions with two registrations, each followed by its Done.
+# journal SIZE STANDING: a journal of so many octets, of decisions with two registrations; once so many stand, each further
+# one is followed by the Done of the oldest.
 journal() {
-  python3 - "$1" <<'PY'
+  python3 - "$1" "$2" <<'PY'
 import struct, sys
-size = int(sys.argv[1])
+size, standing = map(int, sys.argv[1:])
 
 def record(payload):
     return b"\1" + struct.pack(">I", len(payload)) + payload
@@ -36,26 +38,40 @@ def registration(index):
     return struct.pack(">IH", index, 116) + bytes(116)
 
 tree = b"\2" + struct.pack(">IIQ", 1, 0, 1) + bytes(18) + struct.pack(">H", 2)
-decision = record(tree + registration(1) + registration(2))
+decision = record(tree + registration(1) + registration(2)) if standing == 0 else record(tree[:-2] + bytes(2))
 octets = bytearray(b"OTSJ" + struct.pack(">IQ", 1, 1) + record(b"\1" + struct.pack(">I", 1)))
+places, oldest = [], 0
 while len(octets) + len(decision) + 11 <= size:
-    octets += decision + record(b"\3" + struct.pack(">I", len(octets)))
+    places.append(len(octets))
+    octets += decision
+    if len(places) - oldest > standing:
+        octets += record(b"\3" + struct.pack(">I", places[oldest]))
+        oldest += 1
 sys.stdout.buffer.write(octets + b"\0")
 PY
 }
 
-for size in 1000000 8000000 64000000; do
-  journal "$size" >"$work/octets"
+# loads SIZE STANDING: the time of a load of such a journal.
+loads() {
+  journal "$1" "$2" >"$work/octets"
   for _ in 1 2 3 4 5; do
     cp "$work/octets" "$file"
     "$program" load "$file" 0
-  done | least >>"$work/loads"
+  done | least
+}
+
+for standing in 0 8000; do
+  for size in 100 1000000 8000000 64000000; do
+    loads "$size" "$standing" >>"$work/loads.$standing"
+  done
 done
 
-python3 - "$(least <"$work/appends")" "$(least <"$work/bare")" $(cat "$work/loads") <<'PY'
+python3 - "$(least <"$work/appends")" "$(least <"$work/bare")" $(cat "$work/loads.0") $(cat "$work/loads.8000") <<'PY'
 import sys
-appends, bare, one, eight, most = map(int, sys.argv[1:])
+appends, bare, *loads = map(int, sys.argv[1:])
 print(f"ratio of the time of appends to that of bare writes and syncs: {appends / bare:.2f}")
-print(f"ratio of the time of a load per octet, 8 MB to 1 MB: {eight / 8 / one:.2f}")
-print(f"ratio of the time of a load per octet, 64 MB to 1 MB: {most / 64 / one:.2f}")
+for what, times in ("each Done behind its decision", loads[:4]), ("8,000 decisions standing", loads[4:]):
+    one, eight, most = (max(1, time - times[0]) for time in times[1:])
+    print(f"ratio of the time of a load per octet, {what}, 8 MB to 1 MB: {eight / 8 / one:.2f}")
+    print(f"ratio of the time of a load per octet, {what}, 64 MB to 8 MB: {most / 8 / eight:.2f}")
 PY
