@@ -1,9 +1,6 @@
--- The limits of the registrations with a tree of transactions (our profile).
+-- The limits of the registrations with a tree of transactions (our profile). Registrations of both kinds count together.
 use Rattle.std.specs.Prelude.{ℕ}
-
--- how many registrations a tree has at most, of both kinds together
-abbrev pub registration_limit : ℕ
-registration_limit = 64
+pub use Rattle.ots_model.specs.Limits.{registration_limit}
 
 -- how many synchronizations a tree has at most
 abbrev pub synchronization_limit : ℕ

@@ -12,4 +12,5 @@ pub mod Overtaken
 pub mod Rests
 pub mod Stays
 pub mod OneWay
+pub mod Once
 pub mod Causes

@@ -35,13 +35,14 @@ use Rattle.two_phase.proofs.Overtaken.{overtaken_ends}
 use Rattle.two_phase.proofs.Stays.{Goes, goes, if_case, outcome_stays}
 
 -- the word that goes out is that of an errand
-record Sent (c : Course) (o : Outward) : Type 0 where
-  free : c.out ≡ None
-  task : Errand
-  next : errand c ≡ Some task
-  party : Party
-  there : slice_get c.parties task.place ≡ Some party
-  word : o.word ≡ word_of c task.stage
+pub record Sent (c : Course) (o : Outward) : Type 0 where
+  pub free : c.out ≡ None
+  pub task : Errand
+  pub next : errand c ≡ Some task
+  pub party : Party
+  pub there : slice_get c.parties task.place ≡ Some party
+  pub word : o.word ≡ word_of c task.stage
+  pub registration : o.registration ≡ party.index
 
 to_sent : (c : Course) (o : Outward) → c.out ≡ None → (e : Errand) → errand c ≡ Some e → (x : Option Party) → slice_get c.parties e.place ≡ x
     → option_map (outward c (word_of c e.stage)) x ≡ Some o → Sent c o
@@ -53,6 +54,7 @@ to_sent c o free e is (Some p) there h = record {
   party = p;
   there = there;
   word = ap (λ (q : Outward). q.word) (sym (same_Some (outward c (word_of c e.stage) p) o h));
+  registration = ap (λ (q : Outward). q.registration) (sym (same_Some (outward c (word_of c e.stage) p) o h));
 }
 
 errand_sent : (c : Course) (o : Outward) → c.out ≡ None → (x : Option Errand) → errand c ≡ x → option_and_then (outward_of c) x ≡ Some o → Sent c o
@@ -63,7 +65,7 @@ out_sent : (c : Course) (o : Outward) → (x : Option Errand) → c.out ≡ x �
 out_sent c o None is h = errand_sent c o is (errand c) refl h
 out_sent c o (Some e) is h = absurd (cc (h))
 
-sent : (c : Course) (o : Outward) → next_word c ≡ Some o → Sent c o
+pub sent : (c : Course) (o : Outward) → next_word c ≡ Some o → Sent c o
 unfolding next_word
 sent c o h = out_sent c o c.out refl h
 
@@ -103,7 +105,7 @@ record Keeps (c : Course) : Type 0 where
 decided_outcome : (c : Course) → Keeps c → (p : Party) (h : Heard) → slice_get c.parties 0 ≡ Some p → p.ballot ≡ Some h → outcome c ≡ Some (ends_by p.index h)
 decided_outcome c d p h at ballot = alone_is c d.free d.alone ∙ ap by_one at ∙ ap (option_map (ends_by p.index)) ballot
 
-same_next : (c : Course) (e : Errand) → c.out ≡ Some e → after_next c ≡ c
+pub same_next : (c : Course) (e : Errand) → c.out ≡ Some e → after_next c ≡ c
 same_next c e is = same_if c (record c { out = errand c }) c.out is
   where
     same_if : (x y : Course) (o : Option Errand) → o ≡ Some e → (if is_some o then x else y) ≡ x

@@ -208,7 +208,7 @@ told_rests c place p outcomes.Unknown is told untold there = absurd (cc (told))
 
 asked_rests : (c : Course) (place : ℕ) (p : Party) → MayBeAsked place p c → (b : Bool) → decides_alone c ≡ b → RestsOn (first_word b) place p c
 asked_rests c place p may true a = (may, a)
-asked_rests c place p may false a = may
+asked_rests c place p may false a = (may, a)
 
 rests : (c : Course) (place : ℕ) (p : Party) (stage : Stage) → Says c stage place p → slice_get c.parties place ≡ Some p → RestsOn (word_of c stage) place p c
 rests c place p stages.Asking says there = asked_rests c place p says (decides_alone c) refl

@@ -152,7 +152,7 @@ open_errand : (c : Course) (x : Option Errand) → errand c ≡ x → IsOpen c.p
 open_errand c None is = tt
 open_errand c (Some e) is = errand_open c e is
 
-undecided : (c : Course) (e : Errand) → errand c ≡ Some e → e.stage ≡ stages.Asking → outcome c ≡ None
+pub undecided : (c : Course) (e : Errand) → errand c ≡ Some e → e.stage ≡ stages.Asking → outcome c ≡ None
 undecided c e is asks =
     let o = opened c.parties e (slice_get c.parties e.place) refl (errand_open c e is) in
     (subst (λ stage. Says c stage e.place o.0) asks (errand_tells c e is o.0 o.1)).undecided
@@ -288,7 +288,7 @@ stays_reread c fixed found is = if_case (λ x. outcome x ≡ Some fixed) (is_dou
     valued (record c { reread = Some found }) ∙ reread_value c found
     ∙ stays_known c fixed (by_record c.stood (Some found)) (unknown_record c.stood c.reread doubts) is) is
 
-first_true : (a b d : Bool) → (a && b && d) ≡ true → a ≡ true
+pub first_true : (a b d : Bool) → (a && b && d) ≡ true → a ≡ true
 first_true true b d h = refl
 first_true false b d h = absurd (cc (h))
 

@@ -1,6 +1,6 @@
 -- What each word that goes out rests on, in every completion of a tree (Transaction Service, the operations of interface
 -- Resource).
-use Rattle.std.specs.Prelude.{◌≡◌, ℕ, true, Option, Some, None}
+use Rattle.std.specs.Prelude.{◌≡◌, ℕ, true, false, Option, Some, None}
 use Rattle.std.specs.List.{slice_get}
 use Rattle.ots_model.specs.declared.completion.Heard.TheVariants.{Voted}
 use Rattle.ots_model.specs.declared.completion.Vote.TheVariants.{VoteCommit}
@@ -14,7 +14,8 @@ use Rattle.two_phase.specs.Course.{Course, all_consent, decides_alone, outcome, 
 use Rattle.two_phase.specs.Parties.{has_raised, hears_rollback}
 use Rattle.two_phase.specs.declared.party.Party.{Party}
 
--- commit is told once: each participant has consented, this one by VoteCommit, a record stands, and the outcome is commit by it
+-- commit is told to a participant that hasn't answered a word that tells the outcome: each has consented, this one by
+-- VoteCommit, a record stands, and the outcome is commit by it
 pub record MayBeTold (p : Party) (c : Course) : Type 0 where
   pub consent : all_consent c ≡ true
   pub voted : p.ballot ≡ Some (Voted VoteCommit)
@@ -28,7 +29,7 @@ abbrev pub IsRollback : Option Outcome → Type 0
 IsRollback (Some (Rollback reason)) = Unit {0}
 IsRollback _ = ⊥
 
--- rollback is told once: the outcome is rollback, and this participant hears it
+-- so is rollback: the outcome is rollback, and this participant hears it
 pub record MayBeRolledBack (p : Party) (c : Course) : Type 0 where
   pub fixed : IsRollback (outcome c)
   pub hears : hears_rollback (decides_alone c) p.ballot ≡ true
@@ -40,7 +41,8 @@ pub record MayBeAsked (place : ℕ) (p : Party) (c : Course) : Type 0 where
   pub unanswered : p.ballot ≡ None
   pub first : next_asked c.parties ≡ Some place
 
--- forget is told once: to one that has raised a heuristic exception, where all were told the outcome and it lets forget go out
+-- forget is told to one that has raised a heuristic exception and hasn't answered a forget, where all have answered the word
+-- that told them the outcome, and it lets forget go out
 pub record MayForget (p : Party) (c : Course) : Type 0 where
   pub fixed : Outcome
   pub ends : outcome c ≡ Some fixed
@@ -51,7 +53,7 @@ pub record MayForget (p : Party) (c : Course) : Type 0 where
 
 -- what a word to the participant at this place rests on: no other word goes out
 abbrev pub RestsOn : Word → ℕ → Party → Course → Type 0
-RestsOn words.Prepare place p c = MayBeAsked place p c
+RestsOn words.Prepare place p c = MayBeAsked place p c × (decides_alone c ≡ false)
 RestsOn words.CommitOnePhase place p c = MayBeAsked place p c × (decides_alone c ≡ true)
 RestsOn words.Commit place p c = MayBeTold p c
 RestsOn words.Rollback place p c = MayBeRolledBack p c

@@ -1,6 +1,6 @@
--- An outcome that is fixed stays, and participants are told one way, in every completion of a tree that there is
+-- An outcome that is fixed stays, and participants are told one way and once, in every completion of a tree that there is
 -- (Transaction Service, the operations of interface Resource).
-use Rattle.std.specs.Prelude.{◌≡◌, ℕ, Bool, List, Option, Some}
+use Rattle.std.specs.Prelude.{◌≡◌, ℕ, ◌≤◌, Bool, List, map, Option, Some}
 use Rattle.ots_model.specs.declared.completion.CallNumber.{CallNumber}
 use Rattle.ots_model.specs.declared.completion.Heard.{Heard}
 use Rattle.ots_model.specs.declared.completion.Stood.{Stood}
@@ -10,7 +10,9 @@ use Rattle.ots_model.specs.declared.tree.Outward.{Outward}
 use Rattle.ots_model.specs.declared.tree.Word.{Word}
 use Rattle.ots_model.specs.declared.tree.Word.TheVariants as words
 use Rattle.resource_votes.specs.declared.registration.Registration.{Registration}
+use Rattle.resource_votes.specs.History.{times}
 use Rattle.two_phase.specs.Course.{Course, begun, begun_rollback, outcome, next_word, after_next, after_answer, after_decided, after_reread, after_rollback}
+use Rattle.two_phase.specs.declared.party.Party.{Party}
 
 -- what a completion becomes: a word goes out, an answer comes, the journal answers, a reread tells, or it is rolled back from
 -- outside
@@ -51,3 +53,12 @@ NoRollbackAfterCommit = (c later : Course) (first second : Outward) → IsReache
 abbrev pub NoCommitAfterRollback : Type 0
 NoCommitAfterRollback = (c later : Course) (first second : Outward) → IsReached c → next_word c ≡ Some first → first.word ≡ words.Rollback
     → TreeGoesOn (after_next c) later → next_word later ≡ Some second → IsCommitWord second.word → ⊥
+
+-- the numbers of the participants, in list order
+abbrev pub numbers : Course → List ℕ
+numbers c = map (λ (p : Party). p.index) c.parties
+
+-- where each participant has a number of its own, no word goes out to one of them twice
+abbrev pub NoWordTwice : Type 0
+NoWordTwice = (c later : Course) (first second : Outward) → IsReached c → ((i : ℕ) → times i (numbers c) ≤ 1) → next_word c ≡ Some first
+    → TreeGoesOn (after_next c) later → next_word later ≡ Some second → second.word ≡ first.word → second.registration ≡ first.registration → ⊥

@@ -1,3 +1,4 @@
+pub mod Limits
 pub mod Poll
 pub mod Progress
 pub mod Laws

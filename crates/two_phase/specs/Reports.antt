@@ -1,5 +1,5 @@
 -- What a completion reports: what became of the updates and what that makes together (exceptions HeuristicMixed and
--- HeuristicHazard of module CosTransactions), whether all have completed, and what is still to be told after a commit.
+-- HeuristicHazard of module CosTransactions), whether all have completed, and who is still to be told.
 use Rattle.std.specs.Prelude.{ℕ, Bool, true, false, not, ◌&&◌, ◌||◌, List, [], map, filter, Option, Some, None, if◌then◌else◌}
 use Rattle.std.specs.List.{flat_map, list_all, list_any}
 use Rattle.ots_model.specs.declared.line.Decision.{Decision}

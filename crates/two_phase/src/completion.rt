@@ -303,7 +303,8 @@ impl Completion {
     }
 
     /// Whether all have completed, and each that raised a heuristic exception has answered forget plainly or by
-    /// OBJECT_NOT_EXIST: the decision record may be named done.
+    /// OBJECT_NOT_EXIST: the decision record may be named done. A forget that waits for the superior's is sent by the
+    /// caller and isn't heard of here, so where one does this stays false.
     pub fn is_settled(&self) -> bool
         ensures settled { result ≡ stages.is_settled self.now }
     {

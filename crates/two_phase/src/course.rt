@@ -2,7 +2,7 @@
 ghost use Rattle.std.specs.Prelude.{◌≡◌, ℕ, ◌+◌, ◌^◌, ◌<◌, ◌≤◌, ◌++◌, length, None, Some, IfSome, IsOk, OnOk, OnErr, vec_len, vec_capacity};
 ghost use Rattle.std.specs.Option.{option_copied, option_map, option_to_list};
 ghost use Rattle.std.specs.List.{slice_get};
-ghost use Rattle.ots_model.specs.Limits.{registration_limit};
+ghost use Rattle.two_phase.specs.Limits.{disposition_limit, registration_limit};
 ghost use Rattle.two_phase.specs.Course as course;
 ghost use Rattle.two_phase.specs.Reports as reports;
 ghost use Rattle.two_phase.specs.CourseInside.{IsOpen};
@@ -541,7 +541,7 @@ fn gathered(told: Decision, parties: &[Party]) -> Dispositions
 
 /// Adds a disposition, where there is one.
 fn add(disposition: Option<Disposition>, list: &mut Dispositions)
-    requires { length list.old < 128 }
+    requires { length list.old < disposition_limit }
     ensures { list.new ≡ list.old ++ option_to_list disposition }
 {
     if let Some(disposition) = disposition {

@@ -1,28 +1,30 @@
 ghost use Rattle.std.specs.Prelude.{◌≡◌, ◌<◌, [], ◌∷◌, ◌++◌, length};
+ghost use Rattle.two_phase.specs.Limits.{disposition_limit};
 
 use ots_model::Disposition;
 use std::marker::Model;
 
 /// How many there are at most: each participant's answers to its first word and to the one that tells the outcome.
-const MOST: usize = 128;
+const DISPOSITION_LIMIT: usize = 128;
 
 /// What became of the updates of several participants, in list order. It has all its room in itself, so it takes no memory.
 /// Contracts see a list.
 #[derive(Drop)]
 pub struct Dispositions {
-    members: [Disposition; MOST],
+    members: [Disposition; DISPOSITION_LIMIT],
     count: usize,
 }
 
 impl Model for Dispositions {
     ghost use Rattle.std.specs.Prelude.{◌≤◌, List, take};
     ghost use Rattle.ots_model.specs.declared.completion.Disposition.{Disposition as Became};
+    ghost use Rattle.two_phase.specs.Limits.{disposition_limit};
 
     ghost Value = { List Became };
 
     ghost view = { λ d. take d.count d.members };
 
-    ghost invariant = { λ d. d.count ≤ 128 };
+    ghost invariant = { λ d. d.count ≤ disposition_limit };
 }
 
 impl Dispositions {
@@ -31,14 +33,14 @@ impl Dispositions {
         ensures { result ≡ [] }
     {
         Dispositions {
-            members: [Disposition::Unknown; MOST],
+            members: [Disposition::Unknown; DISPOSITION_LIMIT],
             count: 0,
         }
     }
 
     /// One more, behind the others.
     pub(crate) fn push(&mut self, disposition: Disposition)
-        requires { length self.old < 128 }
+        requires { length self.old < disposition_limit }
         ensures { self.new ≡ self.old ++ disposition ∷ [] }
     {
         self.members[self.count] = disposition;

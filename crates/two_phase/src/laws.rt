@@ -1,7 +1,7 @@
 // Laws of the definitions: these functions do nothing, and their contracts are the laws.
 ghost use Rattle.two_phase.specs.LawsOfCourses.{TreeWordsGoRightly};
 ghost use Rattle.two_phase.specs.LawsOfOutcomes.{OutcomesHaveCauses};
-ghost use Rattle.two_phase.specs.LawsOfReached.{NoCommitAfterRollback, NoRollbackAfterCommit, TreeOutcomeStays};
+ghost use Rattle.two_phase.specs.LawsOfReached.{NoCommitAfterRollback, NoRollbackAfterCommit, NoWordTwice, TreeOutcomeStays};
 ghost use Rattle.two_phase.specs.LawsOfPolls.{OutcomeAwaitsAll, OutcomeStays, WordsGoRightly};
 
 /// An outcome that is fixed stays, whatever goes out, is answered or is recorded.
@@ -38,6 +38,11 @@ pub fn a_tree_outcome_stays()
 pub fn a_tree_goes_one_way()
     ensures commits { NoRollbackAfterCommit }
     ensures rolls_back { NoCommitAfterRollback }
+{}
+
+/// In a completion of a tree whose participants have numbers of their own, no word goes out to one of them twice.
+pub fn a_tree_word_goes_out_once()
+    ensures { NoWordTwice }
 {}
 
 /// In a completion of a tree there stands behind each outcome what it names: the record and each consent, the answer of the
