@@ -1,6 +1,6 @@
 -- How what stands is found fast: it stands in the order of its places, and its decisions are counted. While a journal is
--- read, a Done stands in the stead of what it names, so that nothing has to be moved. No contract of a journal speaks of
--- this.
+-- read, a Done stands in the stead of what it names, so that nothing has to be moved. Of all this the contracts of a journal
+-- speak of the order alone.
 use Rattle.std.specs.Prelude.{◌≡◌, ℕ, ◌<◌, Bool, true, false, not, List}
 use Rattle.std.specs.List.{All, AllPairs, count_by, filter}
 use Rattle.decision_journal.specs.declared.journal.Standing.{Standing}

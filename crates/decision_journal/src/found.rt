@@ -46,7 +46,8 @@ impl Index {
     }
 
     pub(crate) fn standing(&self) -> &[Standing]
-        ensures { result.now ≡ self.now.standing }
+        ensures same { result.now ≡ self.now.standing }
+        ensures order { AreInOrder self.now.standing }
     {
         self.standing.as_slice()
     }

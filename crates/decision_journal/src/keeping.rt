@@ -6,6 +6,7 @@ ghost use Rattle.decision_journal.specs.Layout.{Fits, record_octets};
 ghost use Rattle.decision_journal.specs.Laws.{IsOnTheWay, appended, behind_gate};
 ghost use Rattle.decision_journal.specs.Limits.{area_limit};
 ghost use Rattle.decision_journal.specs.Journal.{can_follow, is_decision_at, with_record};
+ghost use Rattle.decision_journal.specs.Index.{AreInOrder};
 
 use crate::disk_calls::{append_at, read_whole};
 use crate::found::Index;
@@ -71,9 +72,10 @@ impl<D: Disk> Journal<D> {
         self.index.life()
     }
 
-    /// The records that stand, and all records of cells, in order.
+    /// The records that stand, and all records of cells, in the order of their places.
     pub fn standing(&self) -> &[Standing]
-        ensures { result.now ≡ self.now.found.standing }
+        ensures same { result.now ≡ self.now.found.standing }
+        ensures order { AreInOrder self.now.found.standing }
     {
         self.index.standing()
     }

@@ -31,7 +31,7 @@ use ots_model::{REFERENCE_LIMIT, RefBytes, RetryKey};
 use std::alloc::{AllocError, AllocFailed, Global};
 
 /// Why octets give no record.
-#[derive(Clone, Copy, Debug, PartialEq, Eq)]
+#[derive(Clone, Copy)]
 pub enum ReadFault {
     /// Memory ran out.
     Memory,

@@ -44,7 +44,7 @@ impl Registrations {
 }
 
 /// What a cell is set to.
-#[derive(Clone, Copy, Debug, PartialEq, Eq)]
+#[derive(Clone, Copy)]
 pub struct Put {
     /// The cell.
     pub cell: u64,
@@ -53,7 +53,7 @@ pub struct Put {
 }
 
 /// Some puts. Contracts see them as a list.
-#[derive(Debug, Drop)]
+#[derive(Drop)]
 pub struct Puts {
     items: Vec<Put>,
 }
@@ -84,7 +84,7 @@ impl Puts {
 }
 
 /// How prepared cells ended, or what was chosen for them.
-#[derive(Clone, Copy, Debug, PartialEq, Eq)]
+#[derive(Clone, Copy)]
 pub enum CellsEnd {
     /// The puts were applied.
     Applied,

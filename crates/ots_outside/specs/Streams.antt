@@ -1,5 +1,5 @@
 -- What contracts see of the adapters over std::io and std::fs (our profile).
-use Rattle.std.specs.Prelude.{ℕ}
+use Rattle.std.specs.Prelude.{ℕ, Bool, IsErr, IsTrue, Result}
 use Rattle.ots_outside.specs.declared.streams.StdSource.{StdSource}
 use Rattle.ots_outside.specs.declared.streams.StdSink.{StdSink}
 use Rattle.ots_outside.specs.declared.file_disk.FileDisk.{FileDisk}
@@ -23,3 +23,11 @@ sink_faults sink = sink.faults
 -- how many calls have failed
 abbrev pub file_disk_faults : FileDisk → ℕ
 file_disk_faults disk = disk.faults
+
+-- a sync has failed
+abbrev pub file_disk_lost : FileDisk → Bool
+file_disk_lost disk = disk.lost
+
+-- where a sync had failed, the call fails, and so will each later one
+abbrev pub StaysLost : {T E : Type 0} → Result T E → Bool → Bool → Type 0
+StaysLost result before after = IsTrue before → IsErr result × IsTrue after

@@ -39,6 +39,10 @@ pub trait Disk {
     /// What the disk reads, and its moments, where it tells them. A write and a sync are each a moment.
     ghost told: { Self → Option DiskState };
 
+    /// How often the disk has failed, as a number.
+    fn fault_count(&self) -> u64
+        ensures { result ≡ faults self.now };
+
     /// How many octets the disk reads.
     fn len(&mut self) -> Result<u64, DiskRefusal>
         ensures length { IfOk result (λ n. IfSome (told self.old) (λ disk. n ≡ length disk.reads)) }

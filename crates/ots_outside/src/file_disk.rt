@@ -1,4 +1,4 @@
-ghost use Rattle.std.specs.Prelude.{◌≡◌, ◌≤◌, IsErrOf, OnErr};
+ghost use Rattle.std.specs.Prelude.{◌≡◌, ◌≤◌, false, IsErrOf, IsTrue, OnErr, OnOk};
 ghost use Rattle.ots_outside.specs.declared.disk.DiskRefusal.TheVariants.{Failed as DiskFailed};
 ghost use Rattle.ots_outside.specs.Source.{CountsFault, HasRisen};
 
@@ -19,12 +19,13 @@ pub struct FileDisk {
 }
 
 impl FileDisk {
-    ghost use Rattle.ots_outside.specs.Streams.{file_disk_faults};
+    ghost use Rattle.ots_outside.specs.Streams.{StaysLost, file_disk_faults, file_disk_lost};
 
     /// A disk over this file, which is open for reading and writing, without faults. Where the file was just made, `folder`
     /// is what it was made in: the first sync that succeeds syncs it too.
     pub fn new(file: File, folder: Option<File>) -> FileDisk
         ensures faults { file_disk_faults result ≡ 0 }
+        ensures lost { file_disk_lost result ≡ false }
     {
         FileDisk {
             file,
@@ -46,6 +47,8 @@ impl FileDisk {
         ensures cause { OnErr result (HasRisen (file_disk_faults self.old) (file_disk_faults self.new)) }
         ensures later { file_disk_faults self.old ≤ file_disk_faults self.new }
         ensures faults { CountsFault result (file_disk_faults self.old) (file_disk_faults self.new) }
+        ensures lost { StaysLost result (file_disk_lost self.old) (file_disk_lost self.new) }
+        ensures sound { OnOk answer (OnErr result (IsTrue (file_disk_lost self.new))) }
     {
         match answer {
             Ok(value) if !self.lost => Ok(value),
@@ -59,11 +62,15 @@ impl FileDisk {
 
 impl Disk for FileDisk {
     ghost use Rattle.std.specs.Prelude.{None};
-    ghost use Rattle.ots_outside.specs.Streams.{file_disk_faults};
+    ghost use Rattle.ots_outside.specs.Streams.{StaysLost, file_disk_faults, file_disk_lost};
 
     ghost faults = { file_disk_faults };
 
     ghost told = { λ _. None };
+
+    fn fault_count(&self) -> u64 {
+        self.faults()
+    }
 
     fn len(&mut self) -> Result<u64, DiskRefusal>
         // What each disk promises.
@@ -72,6 +79,9 @@ impl Disk for FileDisk {
 
         // A refusal counts as one fault, and an Ok as none.
         ensures faults { CountsFault result (file_disk_faults self.old) (file_disk_faults self.new) }
+
+        // Once a sync has failed, each call fails.
+        ensures lost { StaysLost result (file_disk_lost self.old) (file_disk_lost self.new) }
     {
         let length = self.file.metadata().map(|data| data.len());
         self.counted(length)
@@ -84,6 +94,9 @@ impl Disk for FileDisk {
 
         // A refusal counts as one fault, and an Ok as none.
         ensures faults { CountsFault result (file_disk_faults self.old) (file_disk_faults self.new) }
+
+        // Once a sync has failed, each call fails.
+        ensures lost { StaysLost result (file_disk_lost self.old) (file_disk_lost self.new) }
     {
         let read = self.file.read_exact_at(into, place);
         self.counted(read)
@@ -96,6 +109,9 @@ impl Disk for FileDisk {
 
         // A refusal counts as one fault, and an Ok as none.
         ensures faults { CountsFault result (file_disk_faults self.old) (file_disk_faults self.new) }
+
+        // Once a sync has failed, each call fails.
+        ensures lost { StaysLost result (file_disk_lost self.old) (file_disk_lost self.new) }
     {
         let written = self.file.write_all_at(bytes, place);
         self.counted(written)
@@ -108,6 +124,10 @@ impl Disk for FileDisk {
 
         // A refusal counts as one fault, and an Ok as none.
         ensures faults { CountsFault result (file_disk_faults self.old) (file_disk_faults self.new) }
+
+        // Once it has failed, each call fails.
+        ensures lost { StaysLost result (file_disk_lost self.old) (file_disk_lost self.new) }
+        ensures fails { OnErr result (IsTrue (file_disk_lost self.new)) }
     {
         let synced = sync_both(&self.file, &self.folder);
         if synced.is_ok() {

@@ -10,7 +10,7 @@ use std::alloc::{AllocError, Global};
 use std::marker::Model;
 
 /// Something that a disk in memory was told to do.
-#[derive(Debug, Drop)]
+#[derive(Drop)]
 enum DiskEvent {
     /// Octets were written from a place on.
     Wrote(u64, Vec<u8>),
@@ -19,7 +19,7 @@ enum DiskEvent {
 }
 
 /// A disk in memory that never fails. It keeps each write and sync. Contracts see it as a `DiskState`.
-#[derive(Debug, Drop)]
+#[derive(Drop)]
 pub struct SureDisk {
     alloc: Global,
     start: Vec<u8>,
@@ -118,6 +118,10 @@ impl Disk for SureDisk {
 
     ghost told = { λ disk. Some disk };
 
+    fn fault_count(&self) -> u64 {
+        0
+    }
+
     fn len(&mut self) -> Result<u64, DiskRefusal>
         // What each disk promises.
         ensures length { IfOk result (λ n. n ≡ length self.old.reads) }
@@ -175,7 +179,7 @@ impl Disk for SureDisk {
 }
 
 /// A disk in memory, of which chosen calls fail and then do nothing. Contracts see it as a `MemDiskState`.
-#[derive(Debug, Drop)]
+#[derive(Drop)]
 pub struct MemDisk {
     disk: SureDisk,
     failing: Vec<u64>,
@@ -271,6 +275,10 @@ impl Disk for MemDisk {
     ghost faults = { λ disk. disk.faults };
 
     ghost told = { λ disk. Some disk.disk };
+
+    fn fault_count(&self) -> u64 {
+        self.faults()
+    }
 
     fn len(&mut self) -> Result<u64, DiskRefusal>
         // What each disk promises.

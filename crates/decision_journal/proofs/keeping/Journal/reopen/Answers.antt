@@ -1,8 +1,8 @@
-use Rattle.std.proofs.Common.{◌≡◌, ℕ, ap, sym, subst, arith, length}
+use Rattle.std.proofs.Common.{◌≡◌, ℕ, ap, sym, subst, arith, length, refl}
 use Rattle.decision_journal.specs.Index.{AreBefore}
 use Rattle.decision_journal.proofs.Below.{before_end}
 use Rattle.decision_journal.proofs.Kept.{within_now}
-use Rattle.decision_journal.proofs.Rereads.{read_safe, read_done, read_unread, read_known, read_doubted, doubted_small, known_small, sound_same, added_at, doubted_same}
+use Rattle.decision_journal.proofs.Rereads.{read_safe, read_done, read_unread, read_known, read_doubted, doubted_small, known_small, sound_same, added_at, doubted_same, may_known, may_doubted}
 use Rattle.decision_journal.proofs.Begins.{stands_same}
 use Rattle.decision_journal.proofs.Calls.{current_of, on_refusal}
 use Rattle.decision_journal.proofs.keeping.Journal.reopen.Goals as goal
@@ -91,3 +91,29 @@ returns-then-stands_at-clause-disk g c = rw (← c.self.view_is) c.in-Ok.ensures
 
 pub returns-clause-disk : goal.returns-clause-disk
 returns-clause-disk g c = rw (← c.self.view_is) c.in-Ok.ensures.settled
+
+pub returns-then-stands_at-clause-read : goal.returns-then-stands_at-clause-read
+returns-then-stands_at-clause-read g c =
+    rw (← c.self.view_is) (record {
+      area = refl;
+      service = refl;
+      known = may_known c.self.inside.octets.items c.self.inside.octets.items c.self.inside.index c.self.inside.index c.self.inside.doubted refl refl;
+      failed = refl;
+      doubted = c.drop_doubt.ensures;
+    })
+
+pub returns-clause-read : goal.returns-clause-read
+returns-clause-read g c =
+    let found = (rw c.in-Some.is at c.in_ok-found.ensures) in
+    let doubted = doubted_same _ _ c.self.inside.doubted _ _ c.in-Some.more.items c.deref-3.ensures.value c.deref-4.ensures.value found in
+    let gate : c.len.result ≡ length c.self.inside.octets.items = omega (arith, c.len.ensures) in
+    rw (← c.self.view_is) (record {
+      area = refl;
+      service = refl;
+      known = may_doubted _ _ _ _ _ _ doubted (added_at c.self.inside.doubted c.add_doubted.new.index c.self.inside.index _ _ gate c.in_ok-add_doubted.ensures.added);
+      failed = refl;
+      doubted = c.in_ok-add_doubted.ensures.none;
+    })
+
+pub returns-in-None-clause-safe : goal.returns-in-None-clause-safe
+returns-in-None-clause-safe g c = rw (← c.self.view_is) (read_safe (g.D.Disk.told c.self.inside.disk) c.self.inside.area c.self.inside.service c.self.inside.octets.items c.self.inside.index c.self.inside.failed c.self.inside.doubted c.self.invariant (g.D.Disk.told c.read_whole.new.disk) c.read_whole.ensures.image c.read_whole.ensures.way)
