@@ -41,16 +41,16 @@ fn read_iiop(alloc: Global, reader: &mut Reader) -> Result<Iiop, IorFault>
 {
     let major = reader.octet()?;
     let minor = reader.octet()?;
-    let host = Octets::new(alloc, reader.string()?)?;
+    let host = reader.string()?;
     let port = reader.ushort()?;
-    let key = Octets::new(alloc, reader.octets()?)?;
+    let key = reader.octets()?;
     skip_components(reader, has_components(major, minor))?;
     Ok(Iiop {
         major,
         minor,
-        host,
+        host: Octets::new(alloc, host)?,
         port,
-        key,
+        key: Octets::new(alloc, key)?,
     })
 }
 

@@ -4,7 +4,7 @@ ghost use Rattle.ior_refs.specs.Text.{TellsForm, agreeing, digits_in_front, enca
 
 use crate::fault::IorFault;
 use crate::reference::{ObjectRef, read_whole, write_ref};
-use cdr_values::{Order, Reader, Writer};
+use cdr_values::{CdrFault, Order, Reader, Writer};
 use ots_model::Octets;
 use std::alloc::{AllocError, Global};
 
@@ -27,7 +27,7 @@ pub fn parse_ior(alloc: Global, text: &[u8]) -> Result<ObjectRef, IorFault>
 pub fn print_ior(alloc: Global, o: &ObjectRef) -> Result<Octets, AllocError>
     ensures { IfOk result (λ text. text ≡ text_of o.now) }
 {
-    let octets = encapsulated(alloc, o)?;
+    let octets = encapsulated(alloc, o).map_err(|_| AllocError)?;
     let mut text = PREFIX.to_vec(alloc)?;
     let digits = hex::encode(alloc, octets.bytes())?;
     text.extend_from_slice(digits.as_bytes())?;
@@ -36,11 +36,11 @@ pub fn print_ior(alloc: Global, o: &ObjectRef) -> Result<Octets, AllocError>
 
 /// The octets of a reference as a big endian encapsulation.
 #[tactic(auto, unfolding(crate::specs::Text::encapsulated))]
-fn encapsulated(alloc: Global, o: &ObjectRef) -> Result<Octets, AllocError>
+fn encapsulated(alloc: Global, o: &ObjectRef) -> Result<Octets, CdrFault>
     ensures { IfOk result (λ octets. octets ≡ encapsulated o.now) }
 {
-    let mut writer = Writer::encapsulation(alloc, Order::Big).map_err(|_| AllocError)?;
-    write_ref(&mut writer, o).map_err(|_| AllocError)?;
+    let mut writer = Writer::encapsulation(alloc, Order::Big)?;
+    write_ref(&mut writer, o)?;
     Ok(writer.finish())
 }
 
