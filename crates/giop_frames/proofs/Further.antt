@@ -4,7 +4,7 @@ use Rattle.std.specs.Prelude.{◌≢◌, ◌||◌, slice_index, IfErr}
 use Rattle.std.specs.List.{starts_with}
 use Rattle.std.proofs.lemmas.Bool.{ltb-true, ltb-false, le-ltb, lt-ltb, cases_lt}
 use Rattle.std.proofs.lemmas.Bool.Decides.{Decides-eqb}
-use Rattle.std.proofs.lemmas.List.{take_at, drop_at, drop-append-le, take-append-le, get_or_append_left, get_or_past, length-append, length-take, length-drop}
+use Rattle.std.proofs.lemmas.List.{take_at, drop_at, drop-append-le, take-append-le, get_or_append_left, get_or_past, length-append, length-drop}
 use Rattle.std.proofs.lemmas.Slice.Eq.{starts_is}
 use Rattle.cdr_values.specs.Reading.{◌>>=◌}
 use Rattle.giop_frames.specs.declared.fault.FrameFault.{FrameFault}
@@ -17,7 +17,6 @@ use Rattle.giop_frames.specs.Fault.{Fails, Finds}
 use Rattle.giop_frames.specs.Header.{magic, version_at, version_octets, type_octet, is_fragment, header_at, header_of}
 use Rattle.giop_frames.specs.Decode.{IsRefusedForGood, decoded}
 use Rattle.giop_frames.specs.Stream.{Part, IsStreamPart, may_be_part, part_at, part_header_at}
-use Rattle.giop_frames.proofs.Given.{guard_ok}
 use Rattle.giop_frames.proofs.Headers.{header_long, header_only}
 use Rattle.giop_frames.proofs.Holding.{part_found}
 

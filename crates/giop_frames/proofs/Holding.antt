@@ -1,9 +1,8 @@
 -- What a stream holds back, as its parts come.
-use Rattle.std.proofs.Common.{Some, ◌≡◌, ℕ, ◌+◌, ◌-◌, ◌^◌, ◌<◌, ◌≤◌, min, Bool, true, false, cond, ltb, List, ◌∷◌, ◌++◌, length, take, drop, Option, None, Result, Ok, Err, refl, sym, ap, subst, ◌∙◌, ◌⊎◌, inl, inr, append_assoc, arith}
+use Rattle.std.proofs.Common.{Some, ◌≡◌, ℕ, ◌+◌, ◌-◌, ◌^◌, ◌<◌, ◌≤◌, min, true, cond, ltb, List, ◌∷◌, ◌++◌, length, take, drop, Option, None, Result, Ok, Err, refl, sym, ap, subst, ◌∙◌, ◌⊎◌, inl, inr, append_assoc, arith}
 use Rattle.std.specs.Prelude.{not}
 use Rattle.std.proofs.lemmas.Bool.{ltb-false, not-false}
 use Rattle.std.proofs.lemmas.List.{append-nil, length-append, take-append-drop}
-use Rattle.cdr_values.specs.Reading.{◌>>=◌}
 use Rattle.giop_frames.specs.declared.fault.FrameFault.{FrameFault}
 use Rattle.giop_frames.specs.declared.fault.FrameFault.TheVariants as faults
 use Rattle.giop_frames.specs.declared.framed.Framed.{Framed}
@@ -13,7 +12,7 @@ use Rattle.giop_frames.specs.Header.{header_at, magic, type_octet, version_octet
 use Rattle.giop_frames.specs.Stream.{Part, Unfinished, IsStreamPart, IsRefused, IsStream, Refuses, after, given, judged, may_be_part, part_at, part_header_at, says}
 use Rattle.giop_frames.specs.StreamInside.{IsInFront}
 use Rattle.giop_frames.specs.Fault.{Fails}
-use Rattle.giop_frames.specs.Held.{HasPart, Held, Holds}
+use Rattle.giop_frames.specs.Held.{Held, Holds, MayWantMemory, WantsMemory}
 use Rattle.giop_frames.specs.HeldInside.{RefusesHeld, Takes, Took, remembering}
 use Rattle.giop_frames.proofs.Given.{bind_ok, err_is, guard_ok, ok_is}
 use Rattle.giop_frames.proofs.Headers.{header_found}
@@ -102,26 +101,26 @@ took versions messages place rest refused kept header content answer new old vie
     subst (λ (h : Held). Took h answer new) view made
 
 -- or refuses it, or wants memory for it
-refuses_part : (old : Held) (p : Part) (behind : List ℕ) (fault : FrameFault) → part_at old.versions old.rest ≡ Ok (p, behind) → Fails fault (judged old.unfinished old.place p) → Takes old (Err fault) old
-refuses_part old p behind faults.BadMagic part fails = (refl, inr (p, behind, part, fails))
-refuses_part old p behind faults.BadVersion part fails = (refl, inr (p, behind, part, fails))
-refuses_part old p behind faults.BadType part fails = (refl, inr (p, behind, part, fails))
-refuses_part old p behind (faults.TooLarge n) part fails = (refl, inr (p, behind, part, fails))
-refuses_part old p behind faults.BadFragment part fails = (refl, inr (p, behind, part, fails))
-refuses_part old p behind (faults.Body at cdr) part fails = (refl, inr (p, behind, part, fails))
-refuses_part old p behind faults.Short part fails = (refl, inr (p, behind, part, fails))
-refuses_part old p behind faults.NotWritten part fails = (refl, inr (p, behind, part, fails))
-refuses_part old p behind faults.Memory part fails = (refl, (p, behind, part))
+refuses_part : (old : Held) (p : Part) (behind : List ℕ) (fault : FrameFault) → part_at old.versions old.rest ≡ Ok (p, behind) → Fails fault (judged old.unfinished old.place p) → (fault ≡ faults.Memory → MayWantMemory old.unfinished p) → Takes old (Err fault) old
+refuses_part old p behind faults.BadMagic part fails wants = (refl, inr (p, behind, part, fails))
+refuses_part old p behind faults.BadVersion part fails wants = (refl, inr (p, behind, part, fails))
+refuses_part old p behind faults.BadType part fails wants = (refl, inr (p, behind, part, fails))
+refuses_part old p behind (faults.TooLarge n) part fails wants = (refl, inr (p, behind, part, fails))
+refuses_part old p behind faults.BadFragment part fails wants = (refl, inr (p, behind, part, fails))
+refuses_part old p behind (faults.Body at cdr) part fails wants = (refl, inr (p, behind, part, fails))
+refuses_part old p behind faults.Short part fails wants = (refl, inr (p, behind, part, fails))
+refuses_part old p behind faults.NotWritten part fails wants = (refl, inr (p, behind, part, fails))
+refuses_part old p behind faults.Memory part fails wants = (refl, (p, behind, part, wants refl))
 
 pub refused_part : (versions : List Version) (messages : List Unfinished) (place : ℕ) (rest : List ℕ) (refused : Option FrameFault) (kept : ℕ) (header : Header) (content : List ℕ) (fault : FrameFault) (after : List Unfinished) (old : Held)
     → record { versions = versions; unfinished = messages; place = place; rest = rest; refused = refused; kept = kept } ≡ old → IsInFront versions header rest → content ≡ take header.size (drop 12 rest)
-    → Fails fault (judged messages place (record { header = header; content = content })) → after ≡ messages → Takes old (Err fault) (record { versions = versions; unfinished = after; place = place; rest = rest; refused = refused; kept = kept })
-refused_part versions messages place rest refused kept header content fault after old view front is fails same =
+    → Fails fault (judged messages place (record { header = header; content = content })) → (fault ≡ faults.Memory → MayWantMemory messages (record { header = header; content = content })) → after ≡ messages → Takes old (Err fault) (record { versions = versions; unfinished = after; place = place; rest = rest; refused = refused; kept = kept })
+refused_part versions messages place rest refused kept header content fault after old view front is fails wants same =
     let part : Part = record { header = header; content = content } in
     let behind : List ℕ = drop (12 + header.size) rest in
     let stands : part_at versions rest ≡ Ok (part, behind) = front.part ∙ ap (λ (x : List ℕ). Ok (record { header = header; content = x }, behind)) (sym is) in
     let held : List Unfinished → Held = λ unfinished. record { versions = versions; unfinished = unfinished; place = place; rest = rest; refused = refused; kept = kept } in
-    let made : Takes (held messages) (Err fault) (held messages) = refuses_part (held messages) part behind fault stands fails in
+    let made : Takes (held messages) (Err fault) (held messages) = refuses_part (held messages) part behind fault stands fails wants in
     subst (λ (h : Held). Takes h (Err fault) (held after)) view (subst (λ (m : List Unfinished). Takes (held messages) (Err fault) (held m)) (sym same) made)
 
 placed : (versions : List Version) → (octets : List ℕ) (messages : List Framed) (old new now : Held) (fault : FrameFault) → new ≡ old → now.place ≡ new.place → IsRefused versions messages old.place fault octets → IsRefused versions messages now.place fault octets
@@ -160,7 +159,7 @@ kept_by versions octets messages old new now faults.NotWritten t is h = remember
 kept_by versions octets messages old new now faults.Memory t is h = rw (is, t.0) h
 
 -- memory is wanted for a whole part
-pub part_of : (old new now : Held) (fault : FrameFault) → Takes old (Err fault) new → now ≡ remembering new fault → fault ≡ faults.Memory → HasPart now
+pub part_of : (old new now : Held) (fault : FrameFault) → Takes old (Err fault) new → now ≡ remembering new fault → fault ≡ faults.Memory → WantsMemory now
 part_of old new now faults.BadMagic t is e = absurd cc
 part_of old new now faults.BadVersion t is e = absurd cc
 part_of old new now faults.BadType t is e = absurd cc

@@ -1,5 +1,5 @@
 -- What a part says, case by case.
-use Rattle.std.proofs.Common.{◌≡◌, ℕ, ◌<◌, ◌≤◌, Bool, true, false, cond, ltb, List, [], ◌++◌, length, get_or, drop, set, Some, None, Result, Ok, Err, refl, sym, ap, ◌∙◌}
+use Rattle.std.proofs.Common.{◌≡◌, ℕ, ◌<◌, ◌≤◌, arith, Bool, true, false, cond, ltb, List, [], ◌∷◌, ◌++◌, length, length-append, get_or, drop, set, Some, None, Result, Ok, Err, refl, sym, ap, ◌∙◌}
 use Rattle.std.proofs.lemmas.Bool.{lt-ltb, le-ltb, lt-leb, ltb-true}
 use Rattle.cdr_values.specs.declared.order.Order.{Order}
 use Rattle.cdr_values.specs.declared.fault.CdrFault.{CdrFault}
@@ -7,13 +7,15 @@ use Rattle.cdr_values.specs.declared.fault.CdrFault.TheVariants as cdr
 use Rattle.cdr_values.specs.Value.{number_in}
 use Rattle.cdr_values.specs.Reading.{Reading, ◌>>=◌, number_at, sized_at}
 use Rattle.giop_frames.specs.Fault.{fault_of}
-use Rattle.std.specs.Prelude.{remove}
-use Rattle.giop_frames.specs.declared.fault.FrameFault.TheVariants.{BadFragment}
+use Rattle.std.specs.Prelude.{IfErr, remove}
+use Rattle.std.specs.List.{AllByRecursion}
+use Rattle.giop_frames.specs.declared.fault.FrameFault.TheVariants.{BadFragment, Memory}
 use Rattle.giop_frames.specs.Header.{is_fragment}
 use Rattle.giop_frames.specs.Content.{message_of}
-use Rattle.giop_frames.specs.Stream.{Part, Unfinished, after, id_of, joined, judged, numbered, opening, so_far, without_id}
+use Rattle.giop_frames.specs.Stream.{Part, Unfinished, after, begun_by, id_of, joined, judged, message_by, numbered, opening, so_far, whole_by, with_begun, without_id}
+use Rattle.giop_frames.specs.Held.{AreShort, MayWantMemory}
 use Rattle.giop_frames.specs.StreamInside.{IsAt}
-use Rattle.giop_frames.specs.Limits.{unfinished_limit}
+use Rattle.giop_frames.specs.Limits.{size_limit, unfinished_limit}
 use Rattle.giop_frames.proofs.Numbered.{numbered_at, extended_at, without_at}
 
 abbrev failing : {X E : Type 0} → E → Result X E
@@ -77,3 +79,61 @@ unfolding number_at sized_at
 id_fault r order content fault is e =
     let s = short_of (ltb (length content) 4) fault _ (λ octets. (number_in order 4 octets.0, octets.1)) (ap (number_at 4) (sym is) ∙ e) in
     (s.1, ltb-true _ _ s.0)
+
+-- ---- a part that is no Fragment
+
+pub judged_first : (messages : List Unfinished) (place : ℕ) (p : Part) → is_fragment p.header.kind ≡ false → p.header.more ≡ true → judged messages place p ≡ opening messages p
+unfolding judged
+judged_first messages place p f m = rw (f, m) refl
+
+pub judged_whole : (messages : List Unfinished) (place : ℕ) (p : Part) → is_fragment p.header.kind ≡ false → p.header.more ≡ false → judged messages place p ≡ whole_by place p.header p.content
+unfolding judged
+judged_whole messages place p f m = rw (f, m) refl
+
+pub after_first : (messages : List Unfinished) (place : ℕ) (p : Part) → is_fragment p.header.kind ≡ false → p.header.more ≡ true → after place p messages ≡ with_begun place p messages
+after_first messages place p f m = rw (f, m) refl
+
+pub after_whole : (messages : List Unfinished) (place : ℕ) (p : Part) → is_fragment p.header.kind ≡ false → p.header.more ≡ false → after place p messages ≡ messages
+after_whole messages place p f m = rw (f, m) refl
+
+abbrev AreWithin : List Unfinished → Type 0
+AreWithin messages = AllByRecursion (λ u. length u.content ≤ size_limit) messages
+
+all_within : (messages : List Unfinished) (u : Unfinished) → AreWithin messages → length u.content ≤ size_limit → AreWithin (messages ++ u ∷ [])
+all_within [] u before one = (one, tt)
+all_within (x ∷ xs) u before one = (before.0, all_within xs u before.1 one)
+
+-- one more message is begun, where there is room
+pub short_begun : (messages : List Unfinished) (place : ℕ) (p : Part) → AreShort messages → length messages < unfinished_limit → length p.content ≤ size_limit → AreShort (with_begun place p messages)
+short_begun messages place p short room few = record {
+  few = omega (arith, room, length-append messages (begun_by place p ∷ []));
+  short = all_within messages (begun_by place p) short.short few;
+}
+
+-- ---- where memory may be wanted
+
+pub wants_whole : (messages : List Unfinished) (p : Part) → is_fragment p.header.kind ≡ false → p.header.more ≡ false → IfErr (message_by p.header p.content) (λ fault. fault ≡ Memory) → MayWantMemory messages p
+wants_whole messages p other last sound = record {
+  whole = λ f m. sound;
+  room = λ f m. let both : true ≡ false = sym m ∙ last in absurd cc;
+  free = λ f m. let both : true ≡ false = sym m ∙ last in absurd cc;
+  goes_on = λ f none. let both : true ≡ false = sym f ∙ other in absurd cc;
+}
+
+pub wants_first : (messages : List Unfinished) (p : Part) → is_fragment p.header.kind ≡ false → p.header.more ≡ true → (numbered (id_of p) messages ≡ None) × (length messages < unfinished_limit) → MayWantMemory messages p
+wants_first messages p other more may = record {
+  whole = λ f m. let both : true ≡ false = sym more ∙ m in absurd cc;
+  room = λ f m. may.1;
+  free = λ f m. may.0;
+  goes_on = λ f none. let both : true ≡ false = sym f ∙ other in absurd cc;
+}
+
+pub wants_fragment : (messages : List Unfinished) (p : Part) (i : ℕ) → is_fragment p.header.kind ≡ true → IsAt (id_of p) messages i → MayWantMemory messages p
+wants_fragment messages p i fragment at =
+    let found = numbered_at (id_of p) messages i (record { id = 0; place = 0; header = p.header; content = [] }) at in
+    record {
+      whole = λ f m. let both : true ≡ false = sym fragment ∙ f in absurd cc;
+      room = λ f m. let both : true ≡ false = sym fragment ∙ f in absurd cc;
+      free = λ f m. let both : true ≡ false = sym fragment ∙ f in absurd cc;
+      goes_on = λ f none. let both = sym found ∙ none in absurd cc;
+    }

@@ -1,5 +1,6 @@
 -- Where octets are wanting, the value that wants them is near.
-use Rattle.std.proofs.Common.{◌≡◌, ℕ, ◌+◌, ◌<◌, arith, Bool, true, false, cond, ltb, List, [], ◌∷◌, length, take, drop, Result, Ok, Err, refl, sym, subst, ap, ◌∙◌}
+use Rattle.std.proofs.Common.{◌≡◌, ℕ, ◌+◌, ◌<◌, ◌⊎◌, inl, inr, arith, Bool, true, false, cond, ltb, List, [], ◌∷◌, length, take, drop, None, Result, Ok, Err, refl, sym, subst, ap, ◌∙◌}
+use Rattle.std.specs.Prelude.{IfErr, IfOk}
 use Rattle.std.proofs.lemmas.List.{length-append}
 use Rattle.cdr_values.specs.declared.order.Order.{Order}
 use Rattle.cdr_values.specs.declared.fault.CdrFault.{CdrFault}
@@ -23,8 +24,8 @@ use Rattle.giop_frames.specs.declared.found.Found.{Found}
 use Rattle.giop_frames.specs.declared.walk.Step.TheVariants as steps
 use Rattle.giop_frames.specs.declared.walk.Walk.{Walk}
 use Rattle.giop_frames.specs.Fault.{fault_of}
-use Rattle.giop_frames.specs.Layout.{blank, layout}
-use Rattle.giop_frames.specs.Content.{field_at, fields_at, fields_in, front_of, indexed_at, key_at, target_at}
+use Rattle.giop_frames.specs.Layout.{Fields, blank, layout}
+use Rattle.giop_frames.specs.Content.{field_at, fields_at, front_of, indexed_at, key_at, target_at}
 use Rattle.giop_frames.specs.Walk.{IsAsFar, IsDone, IsNear, IsWalked, MakesStep, ReadsTagged, fields_by, step_at}
 use Rattle.giop_frames.proofs.Given.{err_is, failed}
 use Rattle.giop_frames.proofs.Walking.{all_walked}
@@ -180,13 +181,11 @@ tagged_stop laws r a s tag fault e bad = (rw (e, bad) refl, near_behind laws r a
 
 -- it found the fault
 pub far_stuck : (header : Header) (content : List ℕ) (w : Walk) (fault : FrameFault) → fields_by header content ≡ Err fault → IsNear w.place fault → IsAsFar header content w
-far_stuck header content w fault e is other z = subst (IsNear w.place) (err_is {A = _} fault other (sym e ∙ z)) is
+far_stuck header content w fault e is = rw e (is, tt)
 
 -- it has no field left
 pub far_done : (header : Header) (content : List ℕ) (w : Walk) → IsWalked header content w → IsDone w → IsAsFar header content w
-far_done header content w walked done fault e =
-    let both = sym (all_walked header content w walked done) ∙ e in
-    absurd cc
+far_done header content w walked done = rw (all_walked header content w walked done) (tt, done)
 
 -- no octets have come
 front_short : (order : Order) → ulong_at (front_of order []) ≡ Err (cdr.Short 12)
@@ -197,22 +196,30 @@ front_fails : (order : Order) (others : List Field) → fields_at (fields.Id ∷
 unfolding field_at
 front_fails order others = rw (front_short order) refl
 
-front_near : (order : Order) (others : List Field) (fault : FrameFault) → fields_at (fields.Id ∷ others) blank (front_of order []) ≡ Err fault → IsNear 12 fault
-front_near order others fault e = subst (IsNear 12) (err_is {A = _} (Body 12 (cdr.Short 12)) fault (sym (front_fails order others) ∙ e)) (omega arith)
+front_far : (header : Header) (others : List Field) (w : Walk) → layout header.version header.kind ≡ fields.Id ∷ others → w.place ≡ 12 → IsAsFar header [] w
+front_far header others w first place =
+    far_stuck header [] w (Body 12 (cdr.Short 12)) (ap (λ (f : List Field). fields_at f blank (front_of header.order [])) first ∙ front_fails header.order others) (omega (arith, place))
 
--- the fields behind the request_id
-abbrev behind_id : Kind → List Field
-behind_id kind = drop 1 (layout V1_2 kind)
+-- and there is no field
+front_done : (header : Header) (w : Walk) → layout header.version header.kind ≡ [] → IsDone w → IsAsFar header [] w
+front_done header w none done =
+    let read : List Field → Result (Fields × Reading) FrameFault = λ f. fields_at f blank (front_of header.order []) in
+    subst (λ (f : List Field). IfErr (read f) (λ fault. IsNear w.place fault) × IfOk (read f) (λ found. IsDone w)) (sym none) (tt, done)
 
-kind_near : (version : Version) (order : Order) (kind : Kind) (fault : FrameFault) → fields_in version order kind [] ≡ Err fault → IsNear 12 fault
-kind_near V1_2 order kinds.Request fault e = front_near order (behind_id kinds.Request) fault e
-kind_near V1_2 order kinds.Reply fault e = front_near order (behind_id kinds.Reply) fault e
-kind_near V1_2 order kinds.CancelRequest fault e = front_near order (behind_id kinds.CancelRequest) fault e
-kind_near V1_2 order kinds.LocateRequest fault e = front_near order (behind_id kinds.LocateRequest) fault e
-kind_near V1_2 order kinds.LocateReply fault e = front_near order (behind_id kinds.LocateReply) fault e
-kind_near V1_2 order kinds.CloseConnection fault e = absurd cc
-kind_near V1_2 order kinds.MessageError fault e = absurd cc
-kind_near V1_2 order kinds.Fragment fault e = absurd cc
+-- a message has no fields, or its first one is the request_id
+first_field : (version : Version) (kind : Kind) → (layout version kind ≡ []) ⊎ ((others : List Field) × (layout version kind ≡ fields.Id ∷ others))
+first_field V1_2 kinds.Request = inr (drop 1 (layout V1_2 kinds.Request), refl)
+first_field V1_2 kinds.Reply = inr (drop 1 (layout V1_2 kinds.Reply), refl)
+first_field V1_2 kinds.CancelRequest = inr ([], refl)
+first_field V1_2 kinds.LocateRequest = inr (drop 1 (layout V1_2 kinds.LocateRequest), refl)
+first_field V1_2 kinds.LocateReply = inr (drop 1 (layout V1_2 kinds.LocateReply), refl)
+first_field V1_2 kinds.CloseConnection = inl refl
+first_field V1_2 kinds.MessageError = inl refl
+first_field V1_2 kinds.Fragment = inl refl
 
-pub far_at_front : (header : Header) (fault : FrameFault) → fields_by header [] ≡ Err fault → IsNear 12 fault
-far_at_front header fault e = kind_near header.version header.order header.kind fault e
+pub far_at_front : (header : Header) (w : Walk) → w.place ≡ 12 → w.step ≡ None → w.fields.now ≡ layout header.version header.kind → IsAsFar header [] w
+far_at_front header w place step fields =
+    elim (first_field header.version header.kind) [
+      | inl none ↦ front_done header w none (record { step = step; fields = fields ∙ none })
+      | inr first ↦ front_far header first.0 w first.1 place
+    ]

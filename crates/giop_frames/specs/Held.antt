@@ -1,5 +1,5 @@
 -- What a stream holds back between two calls, of a stream of messages (CORBA, GIOP Message Formats, Fragment Message).
-use Rattle.std.specs.Prelude.{◌≡◌, ◌≢◌, ◌⊎◌, ◌<◌, ◌≤◌, ◌+◌, ℕ, List, [], ◌∷◌, ◌++◌, length, Option, Some, None, IfSome, IsSome, Result, Ok, Err, IfOk, OnErr, OnOk}
+use Rattle.std.specs.Prelude.{◌≡◌, ◌≢◌, ◌⊎◌, ◌<◌, ◌≤◌, ◌+◌, ℕ, true, false, List, [], ◌∷◌, ◌++◌, length, Option, Some, None, IfSome, IsSome, Result, Ok, Err, IfErr, IfOk, OnErr, OnOk}
 use Rattle.std.specs.List.{AllByRecursion}
 use Rattle.giop_frames.specs.declared.fault.FrameFault.{FrameFault}
 use Rattle.giop_frames.specs.declared.fault.FrameFault.TheVariants.{Short, Memory}
@@ -8,7 +8,8 @@ use Rattle.giop_frames.specs.declared.layout.Version.{Version}
 use Rattle.giop_frames.specs.declared.message.Message.{Message}
 use Rattle.giop_frames.specs.Limits.{size_limit, unfinished_limit}
 use Rattle.giop_frames.specs.Fault.{IfRefused}
-use Rattle.giop_frames.specs.Stream.{Part, Unfinished, IsRefused, IsStream, Splits, Refuses, earliest, offset, part_at, unfinished}
+use Rattle.giop_frames.specs.Header.{is_fragment}
+use Rattle.giop_frames.specs.Stream.{Part, Unfinished, IsRefused, IsStream, Splits, Refuses, earliest, id_of, message_by, numbered, offset, part_at, unfinished}
 
 -- the versions that it admits, the unfinished messages, the octets of no whole part yet and their offset in the stream,
 -- the refusal that is answered for good, and how many octets its buffer has
@@ -97,19 +98,27 @@ IsRefusedAtPlace old new fault =
     (versions : List Version) (octets : List ℕ) (messages : List Framed) → Holds versions octets messages old
     → IsRefused versions messages new.place fault octets
 
--- a whole part stands at a stream's place
-abbrev pub HasPart : Held → Type 0
-HasPart h = (p : Part) × (behind : List ℕ) × (part_at h.versions h.rest ≡ Ok (p, behind))
+-- beside these unfinished messages memory may be wanted for this part: for a message in one part in which no fault is
+-- found, for a first part whose request_id is free and for whose message there is room, and for a Fragment of a message
+pub record MayWantMemory (messages : List Unfinished) (p : Part) : Type 0 where
+  pub whole : is_fragment p.header.kind ≡ false → p.header.more ≡ false → IfErr (message_by p.header p.content) (λ fault. fault ≡ Memory)
+  pub room : is_fragment p.header.kind ≡ false → p.header.more ≡ true → length messages < unfinished_limit
+  pub free : is_fragment p.header.kind ≡ false → p.header.more ≡ true → numbered (id_of p) messages ≡ None
+  pub goes_on : is_fragment p.header.kind ≡ true → numbered (id_of p) messages ≢ None
+
+-- memory may be wanted for the whole part at a stream's place
+abbrev pub WantsMemory : Held → Type 0
+WantsMemory h = (p : Part) × (behind : List ℕ) × (part_at h.versions h.rest ≡ Ok (p, behind)) × MayWantMemory h.unfinished p
 
 -- A call asked for the next message: it was given so, or there is none, or a part is refused. A refusal is answered for
--- good, and loses nothing. Memory is wanted for a whole part alone.
+-- good, and loses nothing. Want of memory is answered only where memory may be wanted.
 pub record GivesNext {X : Type 0} (Gave : X → Held → Held → Type 0) (result : Result (Option X) FrameFault)
     (old new : Held) : Type 0 where
   pub message : IfOk result (λ found. IfSome found (λ m. Gave m old new))
   pub nothing : result ≡ Ok None → HasGivenAll old new
   pub refused : IfRefused result (IsRefusedAtPlace old new)
   pub keeps : OnErr result (HasKept old new)
-  pub memory : old.refused ≡ None → result ≡ Err Memory → HasPart new
+  pub memory : old.refused ≡ None → result ≡ Err Memory → WantsMemory new
   pub remembered : IfRefused result (λ fault. new.refused ≡ Some fault)
   pub again : IfSome old.refused (λ fault. (result ≡ Err fault) × (new ≡ old))
   pub accepts : OnOk result (new.refused ≡ None)

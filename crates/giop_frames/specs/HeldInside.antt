@@ -7,7 +7,7 @@ use Rattle.giop_frames.specs.declared.stream.Taken.{Taken}
 use Rattle.giop_frames.specs.declared.stream.Taken.TheVariants.{Nothing, Piece, Whole}
 use Rattle.giop_frames.specs.Fault.{Fails}
 use Rattle.giop_frames.specs.Stream.{Part, Unfinished, RefusesFront, after, judged, part_at}
-use Rattle.giop_frames.specs.Held.{AreShort, HasPart, Held}
+use Rattle.giop_frames.specs.Held.{AreShort, Held, MayWantMemory, WantsMemory}
 
 -- a refusal is answered for good, and want of memory is not
 abbrev pub remembering : Held → FrameFault → Held
@@ -24,6 +24,7 @@ pub record Judges (place : ℕ) (p : Part) (result : Result (Option Framed) Fram
   pub says : IfOk result (λ answer. judged old place p ≡ Ok answer)
   pub after : OnOk result (new ≡ after place p old)
   pub refused : IfErr result (λ fault. Fails fault (judged old place p))
+  pub memory : IfErr result (λ fault. fault ≡ Memory → MayWantMemory old p)
   pub err : OnErr result (new ≡ old)
   pub short : AreShort new
 
@@ -45,5 +46,5 @@ abbrev pub Takes : Held → Result Taken FrameFault → Held → Type 0
 Takes old (Ok Nothing) new = (new ≡ old) × (part_at old.versions old.rest ≡ Err Short)
 Takes old (Ok Piece) new = Took old None new
 Takes old (Ok (Whole framed)) new = Took old (Some framed) new
-Takes old (Err Memory) new = (new ≡ old) × HasPart old
+Takes old (Err Memory) new = (new ≡ old) × WantsMemory old
 Takes old (Err fault) new = (new ≡ old) × RefusesHeld old fault

@@ -1,6 +1,6 @@
 -- Walking over the fields of a message whose octets are still coming: what it means that a walk goes on where it stood
 -- (our profile).
-use Rattle.std.specs.Prelude.{◌≡◌, ℕ, ◌+◌, ◌-◌, ◌*◌, ◌^◌, ◌<◌, ◌≤◌, Bool, true, false, List, [], ◌++◌, length, take, drop, map, Option, Some, None, Result, Ok, Err}
+use Rattle.std.specs.Prelude.{◌≡◌, ℕ, ◌+◌, ◌-◌, ◌*◌, ◌^◌, ◌<◌, ◌≤◌, Bool, true, false, List, [], ◌++◌, length, take, drop, map, Option, Some, None, Result, Ok, Err, IfErr, IfOk}
 use Rattle.cdr_values.specs.declared.order.Order.{Order}
 use Rattle.cdr_values.specs.declared.fault.CdrFault.{CdrFault}
 use Rattle.cdr_values.specs.declared.fault.CdrFault.TheVariants as cdr
@@ -193,15 +193,16 @@ pub record IsWalked (header : Header) (content : List ℕ) (w : Walk) : Type 0 w
       → fields_by header (content ++ more)
       ≡ left_at w.step w.fields.now (told_by (content ++ more) w.found) (standing header.order (content ++ more) w.place)
 
--- the walk has gone as far as it can: where octets are wanting, it stands at the value that wants them, or less than 8
--- octets in front of it
-abbrev pub IsAsFar : Header → List ℕ → Walk → Type 0
-IsAsFar header content w = (fault : FrameFault) → fields_by header content ≡ Err fault → IsNear w.place fault
-
 -- no field is left
 pub record IsDone (w : Walk) : Type 0 where
   pub step : w.step ≡ None
   pub fields : w.fields.now ≡ []
+
+-- the walk has gone as far as it can: where octets are wanting, it stands at the value that wants them, or less than 8
+-- octets in front of it; where all fields stand, none is left
+abbrev pub IsAsFar : Header → List ℕ → Walk → Type 0
+IsAsFar header content w =
+    IfErr (fields_by header content) (λ fault. IsNear w.place fault) × IfOk (fields_by header content) (λ found. IsDone w)
 
 -- so many steps of a walk are left at most
 abbrev pub walk_left : Option Step → List Field → ℕ

@@ -12,7 +12,7 @@ use crate::message::Message;
 use std::alloc::Global;
 
 /// A message, and how many octets spell it.
-#[derive(Debug, Drop)]
+#[derive(Drop)]
 pub struct Decoded {
     /// The message.
     pub message: Message,

@@ -8,7 +8,7 @@ use crate::message::Message;
 use cdr_values::Order;
 
 /// A message of a stream, and what the header of its first part says.
-#[derive(Debug, Drop)]
+#[derive(Drop)]
 pub struct Framed {
     /// The offset of the first part in the stream, at most 2^64 - 1.
     pub place: u64,

@@ -14,7 +14,7 @@ pub const HEADER_LENGTH: usize = 12;
 pub const MAGIC: [u8; 4] = *b"GIOP";
 
 /// The types of messages (GIOP 1.2, message_type).
-#[derive(Clone, Copy, Debug, PartialEq, Eq)]
+#[derive(Clone, Copy)]
 pub enum Kind {
     Request,
     Reply,
@@ -62,7 +62,7 @@ impl Kind {
 }
 
 /// What the header of a part says.
-#[derive(Clone, Copy, Debug, PartialEq, Eq)]
+#[derive(Clone, Copy)]
 pub struct Header {
     /// The version of its message.
     pub version: Version,
@@ -80,7 +80,14 @@ impl Header {
     pub fn is_fragmented(&self) -> bool
         ensures { result ≡ (self.now.more || is_fragment self.now.kind) }
     {
-        self.more || matches!(self.kind, Kind::Fragment)
+        self.more || self.is_fragment()
+    }
+
+    /// Whether the part goes on with a message.
+    pub fn is_fragment(&self) -> bool
+        ensures { result ≡ is_fragment self.now.kind }
+    {
+        matches!(self.kind, Kind::Fragment)
     }
 }
 

@@ -5,7 +5,7 @@ ghost use Rattle.giop_frames.specs.Layout.{body_alignment, layout};
 use crate::header::Kind;
 
 /// A version of GIOP whose messages are known.
-#[derive(Clone, Copy, Debug, PartialEq, Eq)]
+#[derive(Clone, Copy)]
 pub enum Version {
     /// GIOP 1.2.
     V1_2,

@@ -4,7 +4,7 @@ use std::marker::Model;
 
 /// A message (CORBA, GIOP Message Formats). A field that isn't here, as the reserved octets of a Request, is passed over
 /// when a message is read.
-#[derive(Debug, Drop)]
+#[derive(Drop)]
 pub enum Message {
     /// Request: an operation of an object is asked for.
     Request(Request),
@@ -23,7 +23,7 @@ pub enum Message {
 }
 
 /// A Request.
-#[derive(Debug, Drop)]
+#[derive(Drop)]
 pub struct Request {
     /// The request_id.
     pub id: u32,
@@ -40,7 +40,7 @@ pub struct Request {
 }
 
 /// A Reply.
-#[derive(Debug, Drop)]
+#[derive(Drop)]
 pub struct Reply {
     /// The request_id of the request that it answers.
     pub id: u32,
@@ -54,7 +54,7 @@ pub struct Reply {
 }
 
 /// A LocateRequest.
-#[derive(Debug, Drop)]
+#[derive(Drop)]
 pub struct Locate {
     /// The request_id.
     pub id: u32,
@@ -62,7 +62,7 @@ pub struct Locate {
 }
 
 /// A LocateReply.
-#[derive(Debug, Drop)]
+#[derive(Drop)]
 pub struct Located {
     /// The request_id of the request that it answers.
     pub id: u32,
@@ -74,7 +74,7 @@ pub struct Located {
 }
 
 /// What a request is for.
-#[derive(Debug, Drop)]
+#[derive(Drop)]
 pub enum Target {
     /// KeyAddr: an object key, of at most 256 octets (our profile).
     Key(Octets),
@@ -85,7 +85,7 @@ pub enum Target {
 }
 
 /// A service context (ServiceContext of IOP).
-#[derive(Debug, Drop)]
+#[derive(Drop)]
 pub struct ServiceContext {
     /// The context_id: which service it is for.
     pub id: u32,
@@ -94,7 +94,7 @@ pub struct ServiceContext {
 }
 
 /// The service contexts of a message, in order. Contracts see them as a list.
-#[derive(Debug, Drop)]
+#[derive(Drop)]
 pub struct Contexts {
     items: Vec<ServiceContext>,
 }

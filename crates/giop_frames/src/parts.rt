@@ -1,11 +1,11 @@
-ghost use Rattle.std.specs.Prelude.{◌≡◌, ℕ, false, ◌≢◌, ◌↔◌, ◌==◌, ◌<◌, ◌≤◌, ◌+◌, length, None, Err, IsTrue, IfNone, IfSome, Ok, IfErr, IfOk, OnErr, OnOk};
+ghost use Rattle.std.specs.Prelude.{◌≡◌, ℕ, true, false, ◌≢◌, ◌↔◌, ◌==◌, ◌<◌, ◌≤◌, ◌+◌, length, None, Err, IsTrue, IfNone, IfSome, Ok, IfErr, IfOk, OnErr, OnOk};
 ghost use Rattle.std.specs.List.{position as position_of};
 ghost use Rattle.giop_frames.specs.Limits.{size_limit, unfinished_limit};
 ghost use Rattle.giop_frames.specs.Fault.{Fails};
 ghost use Rattle.giop_frames.specs.Header.{content_behind, is_fragment};
 ghost use Rattle.giop_frames.specs.Held.{AreShort};
 ghost use Rattle.giop_frames.specs.HeldInside.{Judges};
-ghost use Rattle.giop_frames.specs.Stream.{may_be_fragmented, may_be_part, may_go_on, may_stand, opening, numbered, part_at, part_header_at, part_of, with_begun};
+ghost use Rattle.giop_frames.specs.Stream.{id_of, may_be_fragmented, may_be_part, may_go_on, may_stand, opening, numbered, part_at, part_header_at, part_of, with_begun};
 ghost use Rattle.giop_frames.specs.StreamInside.{FindsPart, IsAt, ReadsId};
 
 use crate::content::read_message;
@@ -111,7 +111,7 @@ pub fn judge(
     requires content { length content.now ≤ size_limit }
     ensures { Judges place (part_of header content.now) result unfinished.old.items unfinished.new.items }
 {
-    if matches!(header.kind, Kind::Fragment) {
+    if header.is_fragment() {
         return go_on(alloc, unfinished, header, content);
     }
     if header.more {
@@ -136,6 +136,9 @@ fn begin(
     ensures after { OnOk result
         (unfinished.new.items ≡ with_begun place (part_of header content.now) unfinished.old.items) }
     ensures room { OnOk result (length unfinished.old.items < unfinished_limit) }
+    ensures memory { IfErr result (λ fault. fault ≡ FrameFault.Memory
+        → (numbered (id_of (part_of header content.now)) unfinished.old.items ≡ None)
+        × (length unfinished.old.items < unfinished_limit)) }
     ensures refused { IfErr result
         (λ fault. Fails fault (opening unfinished.old.items (part_of header content.now))) }
     ensures err { OnErr result (unfinished.new.items ≡ unfinished.old.items) }
@@ -161,7 +164,7 @@ fn go_on(
 ) -> Result<Option<Framed>, FrameFault>
     requires unfinished { AreShort unfinished.old.items }
     requires content { length content.now ≤ size_limit }
-    requires fragment { header.kind ≡ Kind.Fragment }
+    requires fragment { is_fragment header.kind ≡ true }
     ensures { (place : ℕ) → Judges place (part_of header content.now)
         result unfinished.old.items unfinished.new.items }
 {

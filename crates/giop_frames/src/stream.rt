@@ -1,4 +1,4 @@
-ghost use Rattle.std.specs.Prelude.{◌≡◌, ◌↔◌, ◌+◌, ◌<◌, ◌≤◌, ◌^◌, [], length, drop, Option, None, Some, Ok, Err, IfSome, IsTrue, OnErr, OnOk};
+ghost use Rattle.std.specs.Prelude.{◌≡◌, ◌≢◌, ◌↔◌, ◌+◌, ◌<◌, ◌≤◌, ◌^◌, [], length, drop, Option, None, Some, Ok, Err, IfSome, IsTrue, OnErr, OnOk};
 ghost use Rattle.giop_frames.specs.Fault.{IfRefused};
 ghost use Rattle.giop_frames.specs.Held.{Held, Holds, GivesNext, nothing_of, HasCome, HasGiven, HasGivenFramed, IsBounded, IsUnfinished, place_of};
 ghost use Rattle.giop_frames.specs.Header.{profile_versions};
@@ -84,16 +84,20 @@ impl Stream {
         }
     }
 
-    /// These octets have come.
+    /// These octets have come. It needs no memory where there are none.
     pub fn feed(&mut self, piece: &[u8]) -> Result<(), FrameFault>
         ensures ok { OnOk result (HasCome piece.now self.old self.new) }
         ensures err { OnErr result (self.new ≡ self.old) }
         ensures refused { IfRefused result (λ fault. self.old.refused ≡ Some fault) }
         ensures again { IfSome self.old.refused (λ fault. result ≡ Err fault) }
         ensures accepts { OnOk result (self.new.refused ≡ None) }
+        ensures nothing { self.old.refused ≡ None → OnErr result (piece.now ≢ []) }
     {
         if let Some(fault) = self.refused {
             return Err(fault);
+        }
+        if piece.is_empty() {
+            return Ok(());
         }
         self.buffer.extend_from_slice(piece)?;
         Ok(())

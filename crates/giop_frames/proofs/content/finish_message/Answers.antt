@@ -52,3 +52,13 @@ returns-in_err-build-clause-told c =
 
 pub returns-clause-told : goal.returns-clause-told
 returns-clause-told c = told_ok _ _ _ (returns-clause-message c)
+
+pub returns-in_err-go_on-clause-start : goal.returns-in_err-go_on-clause-start
+returns-in_err-go_on-clause-start c =
+    let p = err_from_is_err_and c.from_residual.result c.from_residual.ensures.1 in
+    rw p.1 tt
+
+pub returns-in_err-build-clause-start : goal.returns-in_err-build-clause-start
+returns-in_err-build-clause-start c =
+    let p = err_from_is_err_and c.from_residual-in_err-build.result c.from_residual-in_err-build.ensures.1 in
+    rw p.1 tt

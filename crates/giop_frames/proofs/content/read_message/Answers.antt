@@ -17,3 +17,23 @@ returns-in_err-go_on-clause-told c =
     let p = err_from_is_err_and c.from_residual.result c.from_residual.ensures.1 in
     let fault = c.in_err-go_on.field-0.0 in
     rw (p.1, p.2) (told_from _ fault _ (message_fails c.args.header c.args.content.now fault c.in_err-go_on.ensures.fault))
+
+pub returns-in_err-go_on-clause-start : goal.returns-in_err-go_on-clause-start
+returns-in_err-go_on-clause-start c =
+    let p = err_from_is_err_and c.from_residual.result c.from_residual.ensures.1 in
+    rw p.1 tt
+
+pub finish_message-requires-clause-walked : goal.finish_message-requires-clause-walked
+finish_message-requires-clause-walked c = c.in_ok-go_on.ensures.walked
+
+pub finish_message-requires-clause-far : goal.finish_message-requires-clause-far
+finish_message-requires-clause-far c = c.in_ok-go_on.ensures.far
+
+pub returns-clause-message : goal.returns-clause-message
+returns-clause-message c = c.finish_message.ensures.message
+
+pub returns-clause-told : goal.returns-clause-told
+returns-clause-told c = c.finish_message.ensures.told
+
+pub returns-clause-start : goal.returns-clause-start
+returns-clause-start c = c.finish_message.ensures.start

@@ -38,4 +38,4 @@ returns-in_err-framed c =
     let content-is : c.content_of-content.result.now ≡ take size (drop 12 rest) = c.content_of-content.ensures ∙ ap (λ (x : List ℕ). take size (drop 12 x)) rest-is in
     let p = err_from_is_err_and c.from_residual-in_err-framed.result c.from_residual-in_err-framed.ensures.1 in
     rw (p.1, p.2)
-    (refused_part inside.versions.now inside.messages.items inside.place rest inside.refused (length inside.buffer.items) c.in-Some.header c.content_of-content.result.now c.in_err-framed.field-0.0 _ c.args.self.now c.self.view_is front content-is c.in_err-framed.ensures.refused c.in_err-framed.ensures.err)
+    (refused_part inside.versions.now inside.messages.items inside.place rest inside.refused (length inside.buffer.items) c.in-Some.header c.content_of-content.result.now c.in_err-framed.field-0.0 _ c.args.self.now c.self.view_is front content-is c.in_err-framed.ensures.refused c.in_err-framed.ensures.memory c.in_err-framed.ensures.err)

@@ -42,7 +42,7 @@ returns-in_err-self-clause-far c =
     let walked = walked_before c.args.header content c.fields.self w (Some c.in-Some.step) i.walked b in
     let stood : c.fields.reader ≡ standing c.args.header.order content w.place = i.stands ∙ ap (standing c.args.header.order content) (sym b.place) in
     let fails = step_fails c.args.header content w c.in-Some.step c.fields.reader fault walked b.step stood c.in_err-self.ensures.0 in
-    far_stuck c.args.header content w fault fails (subst (λ (n : ℕ). IsNear n fault) (ap (λ (x : Reading). x.place) stood) c.in_err-self.ensures.2)
+    far_stuck c.args.header content (record w { found = c.make_step.new.found }) fault fails (subst (λ (n : ℕ). IsNear n fault) (ap (λ (x : Reading). x.place) stood) c.in_err-self.ensures.2)
 
 pub returns-in_err-self-clause-forward : goal.returns-in_err-self-clause-forward
 returns-in_err-self-clause-forward c = omega (arith, c.fields.invariant.forward, c.in-Some.ensures.place)
