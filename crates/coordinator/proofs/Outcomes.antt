@@ -1,0 +1,166 @@
+-- What follows of the steps of a family by the laws of completions: an outcome stays, and commit goes out by a record.
+use Rattle.std.proofs.Common.{◌≡◌, refl, sym, subst, ◌∙◌, ℕ, inl, inr, Bool, true, false, not, ◌&&◌, if◌then◌else◌, List, [], ◌∷◌, length, Option, Some, None, is_some, is_none}
+use Rattle.std.specs.List.{AllByRecursion}
+use Rattle.std.specs.Option.{option_map}
+use Rattle.ots_model.specs.declared.completion.CallNumber.{CallNumber}
+use Rattle.ots_model.specs.declared.completion.Stood.{Stood}
+use Rattle.ots_model.specs.declared.tree.Heard.{Heard}
+use Rattle.ots_model.specs.declared.tree.Outcome.{Outcome}
+use Rattle.ots_model.specs.declared.tree.Outward.{Outward}
+use Rattle.ots_model.specs.declared.tree.Word.TheVariants as words
+use Rattle.decision_journal.specs.declared.record.JournalRecord.{JournalRecord}
+use Rattle.two_phase.specs.Course as course
+use Rattle.two_phase.specs.Course.{Course}
+use Rattle.two_phase.specs.LawsOfCourses.{TreeWordsGoRightly, GoesRightly, RestsOn}
+use Rattle.two_phase.specs.LawsOfReached.{TreeOutcomeStays}
+use Rattle.two_phase.specs.LawsOfReached.IsReached.{begins, rolls_back as reached_by_rollback, goes_on as reached_on}
+use Rattle.two_phase.specs.Stages as stages
+use Rattle.two_phase.specs.Stages.{Standing, Waiting, Going as UnderWay}
+use Rattle.coordinator.specs.declared.event.Act.{Act}
+use Rattle.coordinator.specs.declared.event.Act.TheVariants as acts
+use Rattle.coordinator.specs.declared.event.Event.{Event}
+use Rattle.coordinator.specs.declared.said.Said.{Said}
+use Rattle.coordinator.specs.declared.said.Said.TheVariants as said
+use Rattle.coordinator.specs.Family.{Family, waiting_for}
+use Rattle.coordinator.specs.Hearing.{decision_record, record_place}
+use Rattle.coordinator.specs.History.{kept_for}
+use Rattle.coordinator.specs.Step.{quiet, is_silent_act, entered, acted, step_by, family_step, Appends, WritesDone, wanted, wanted_act, wanted_by, hears}
+use Rattle.coordinator.specs.Laws.{Proceeds, still, asks, rolls_back, goes_on, further, IsOfSubtransaction, GoesOut, IsThere, FamilyOutcomesStay, IsByRecord, CommitGoesByRecord, FamiliesCommitByRecord, IsAgreed, AppendsRightly, FamiliesAppendByConsent, ChangesNothing, StaleAnswersChangeNothing}
+use Rattle.coordinator.proofs.Rightly.{steps_right}
+
+-- a completion that proceeds is there, and keeps its outcome
+record Stays (fixed : Outcome) (s later : Standing) : Type 0 where
+  there : IsThere later
+  same : stages.outcome s ≡ Some fixed → stages.outcome later ≡ Some fixed
+
+stays : TreeOutcomeStays → (fixed : Outcome) (s later : Standing) → Proceeds s later → IsThere s → Stays fixed s later
+stays law fixed _ _ (still s) there = record { there = there; same = λ e. e }
+stays law fixed _ _ (asks room some asked first one) there = record {
+  there = begins some asked first one;
+  same = λ e. absurd (cc (e));
+}
+stays law fixed _ _ (rolls_back room some asked first one reason) there = record {
+  there = reached_by_rollback some asked first one reason;
+  same = λ e. absurd (cc (e));
+}
+stays law fixed _ _ (goes_on c next b) there = record {
+  there = reached_on c next there b;
+  same = λ e. law c next fixed there b e;
+}
+stays law fixed _ _ (further s between later p q) there =
+    let first : Stays fixed s between = stays law fixed s between p there in
+    let second : Stays fixed between later = stays law fixed between later q first.there in
+    record { there = second.there; same = λ e. second.same (first.same e) }
+
+pub outcomes_stay : TreeOutcomeStays → FamilyOutcomesStay
+outcomes_stay law f e stood fixed there is =
+    (stays law fixed f.completion (family_step f e stood).family.completion (steps_right f e stood).proceeds there).same is
+
+-- a word of the completion that is commit rests on the record
+by_record : (s : Standing) (o w : Outward) (c : Course) → GoesRightly w c → w.word ≡ words.Commit → s ≡ UnderWay (course.after_next c)
+    → o.registration ≡ w.registration → o.to ≡ w.to → o.receipt ≡ w.receipt → IsByRecord s o
+by_record s o w c g is now registration reference receipt = record {
+  before = c;
+  now = now;
+  party = g.party;
+  registration = registration ∙ g.registration;
+  reference = reference ∙ g.reference;
+  receipt = receipt ∙ subst (λ x. w.receipt ≡ course.receipt_of x (course.record_place c.stood c.reread) g.party.index) is g.receipt;
+  may = subst (λ x. RestsOn x g.place g.party c) is g.rests;
+}
+
+commits : TreeWordsGoRightly → (s : Standing) (o : Outward) → GoesOut s o → CommitGoesByRecord s o
+commits law s o (inl k) is =
+    by_record s o k.word k.before (law k.before k.word k.next) (sym k.same_word ∙ is) k.now k.same_registration k.same_reference k.same_receipt
+commits law s o (inr other) is = absurd (subst IsOfSubtransaction is other.0)
+
+all_commit : TreeWordsGoRightly → (s : Standing) (some : List Outward) → AllByRecursion (GoesOut s) some → AllByRecursion (CommitGoesByRecord s) some
+all_commit law s [] all = tt
+all_commit law s (o ∷ others) all = (commits law s o all.0, all_commit law s others all.1)
+
+pub commit_by_record : TreeWordsGoRightly → FamiliesCommitByRecord
+commit_by_record law f e stood =
+    all_commit law (family_step f e stood).family.completion (family_step f e stood).words (steps_right f e stood).words
+
+-- a decision that is wanted has each consent
+both : (alone overtaken asked all some : Bool) → (not alone && overtaken && asked && all && some) ≡ true → (all ≡ true) × (some ≡ true)
+both false true true true true e = (refl, refl)
+both true overtaken asked all some e = absurd (cc (e))
+both false false asked all some e = absurd (cc (e))
+both false true false all some e = absurd (cc (e))
+both false true true false some e = absurd (cc (e))
+both false true true true false e = absurd (cc (e))
+
+agreed : (s : Standing) → stages.wants_decision s ≡ true → IsAgreed s
+agreed (Waiting room) e = absurd (cc (e))
+agreed (UnderWay c) e = both (course.decides_alone c) (is_none c.overtaken) (is_none c.stood) (course.all_consent c) (course.some_commit c) e
+
+no_done : (o : Option ℕ) (item : JournalRecord) → option_map WritesDone o ≡ Some (Appends item) → ⊥
+no_done None item e = absurd (cc (e))
+no_done (Some place) item e = absurd (cc (e))
+
+by_wanted : (f : Family) (wants closing : Bool) (item : JournalRecord)
+    → (if wants then Some (Appends (decision_record f)) else if closing then option_map WritesDone (record_place f.completion) else None) ≡ Some (Appends item)
+    → (wants ≡ true) × (item ≡ decision_record f)
+by_wanted f true closing item e = (refl, cc (e))
+by_wanted f false true item e = absurd (no_done (record_place f.completion) item e)
+by_wanted f false false item e = absurd (cc (e))
+
+-- an answer that nobody waits for
+stale_by : (o : Option Said) (f : Family) (e : Event) (stood : Option Stood) (n : CallNumber) (h : Heard)
+    → e.act ≡ acts.Answer n h → waiting_for f n ≡ None → ChangesNothing f (step_by o f e stood)
+stale_by (Some answer) f e stood n h is none = record { family = refl; words = refl; finished = refl; effects = refl }
+stale_by None f e stood n h is none =
+    subst (λ b. ChangesNothing f (if b then quiet said.Plain f else entered e stood (length f.entries) (acted e stood f))) (sym silent) (record { family = refl; words = refl; finished = refl; effects = refl })
+  where
+    silent : is_silent_act e.act e.now f ≡ true
+    silent = subst (λ a. is_silent_act a e.now f ≡ true) (sym is) (subst (λ o. is_none o ≡ true) (sym none) refl)
+
+pub stale : StaleAnswersChangeNothing
+unfolding family_step
+stale f e stood n h is none = stale_by (kept_for f.entries e.key) f e stood n h is none
+
+append_act : (act : Act) (f : Family) (item : JournalRecord) → wanted_act act f ≡ Some (Appends item) → AppendsRightly f item
+append_act acts.GetTerminator f item e = absurd (cc (e))
+append_act acts.GetCoordinator f item e = absurd (cc (e))
+append_act (acts.Commit asked) f item e = absurd (cc (e))
+append_act acts.Rollback f item e = absurd (cc (e))
+append_act acts.GetStatus f item e = absurd (cc (e))
+append_act acts.GetParentStatus f item e = absurd (cc (e))
+append_act acts.GetTopLevelStatus f item e = absurd (cc (e))
+append_act (acts.IsSameTransaction other) f item e = absurd (cc (e))
+append_act (acts.IsRelatedTransaction other) f item e = absurd (cc (e))
+append_act (acts.IsAncestorTransaction other) f item e = absurd (cc (e))
+append_act (acts.IsDescendantTransaction other) f item e = absurd (cc (e))
+append_act acts.IsTopLevelTransaction f item e = absurd (cc (e))
+append_act acts.HashTransaction f item e = absurd (cc (e))
+append_act acts.HashTopLevelTran f item e = absurd (cc (e))
+append_act (acts.RegisterResource to aware) f item e = absurd (cc (e))
+append_act (acts.RegisterSynchronization to) f item e = absurd (cc (e))
+append_act (acts.RegisterSubtranAware to) f item e = absurd (cc (e))
+append_act acts.RollbackOnly f item e = absurd (cc (e))
+append_act acts.GetTransactionName f item e = absurd (cc (e))
+append_act acts.CreateSubtransaction f item e = absurd (cc (e))
+append_act acts.GetTxcontext f item e = absurd (cc (e))
+append_act (acts.Replay g resource) f item e = absurd (cc (e))
+append_act (acts.Superior word) f item e = absurd (cc (e))
+append_act acts.Tick f item e = absurd (cc (e))
+append_act (acts.Reread stands) f item e = absurd (cc (e))
+append_act (acts.Opened deadline) f item e = absurd (cc (e))
+append_act (acts.Answer n h) f item e = by_waiting (is_some (waiting_for f n)) e
+  where
+    by_waiting : (b : Bool) → (if b then wanted_by (hears n h f).family else None) ≡ Some (Appends item) → AppendsRightly f item
+    by_waiting true e = record {
+      heard = (hears n h f).family;
+      is_record = (by_wanted (hears n h f).family _ _ item e).1;
+      agreed = agreed (hears n h f).family.completion (by_wanted (hears n h f).family _ _ item e).0;
+    }
+    by_waiting false e = absurd (cc (e))
+
+pub append_by_consent : FamiliesAppendByConsent
+unfolding wanted
+append_by_consent f e item is = by_kept (is_some (kept_for f.entries e.key)) is
+  where
+    by_kept : (b : Bool) → (if b then None else wanted_act e.act f) ≡ Some (Appends item) → AppendsRightly f item
+    by_kept true e = absurd (cc (e))
+    by_kept false is = append_act e.act f item is

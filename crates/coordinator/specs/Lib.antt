@@ -1,0 +1,13 @@
+pub mod Limits
+pub mod Family
+pub mod Moves
+pub mod Phases
+pub mod Closing
+pub mod Running
+pub mod Hearing
+pub mod Names
+pub mod Table
+pub mod History
+pub mod Step
+pub mod Plays
+pub mod Laws

@@ -1,0 +1,43 @@
+// Laws of the definitions: these functions do nothing, and their contracts are the laws.
+ghost use Rattle.coordinator.specs.Laws.{FamiliesAppendByConsent, FamiliesCommitByRecord, FamiliesStepRightly, FamilyOutcomesStay, StaleAnswersChangeNothing};
+ghost use Rattle.coordinator.specs.Plays.{FamiliesPlay};
+
+use two_phase::{a_tree_outcome_stays, tree_words_go_rightly};
+
+/// In short runs of a family each step shows what it must: what is said, which words go out, which calls are answered, and
+/// what happened.
+pub fn families_play()
+    ensures { FamiliesPlay }
+{}
+
+/// In each step of a family the completion begins once, or goes on as a completion does; and each word that goes out is the
+/// completion's next one, or else a word of a subtransaction's end or to a synchronization, which rests on no record.
+pub fn families_step_rightly()
+    ensures { FamiliesStepRightly }
+{}
+
+/// A decision is appended only where each participant has consented and one of them waits for the outcome. The record is that
+/// of the family once the last vote was heard.
+pub fn decisions_rest_on_consent()
+    ensures { FamiliesAppendByConsent }
+{}
+
+/// An answer that nobody waits for changes nothing: no entry is made, nothing is said to anybody, and nothing goes out.
+pub fn stale_answers_change_nothing()
+    ensures { StaleAnswersChangeNothing }
+{}
+
+/// An outcome of a family that is fixed stays, whatever happens.
+pub fn family_outcomes_stay()
+    ensures { FamilyOutcomesStay }
+{
+    a_tree_outcome_stays();
+}
+
+/// Each commit word that a step hands out goes to a participant that has voted commit and wasn't told before, when each has
+/// consented and the decision record stands; and it names the record's place.
+pub fn families_commit_by_record()
+    ensures { FamiliesCommitByRecord }
+{
+    tree_words_go_rightly();
+}

@@ -1,0 +1,17 @@
+//! A transaction and its subtransactions: what may happen to them, what each call is answered, and what goes out.
+#![tactic(auto)]
+
+pub use effect::{Effect, Effects};
+pub use event::{Act, Event};
+pub use laws::{
+    decisions_rest_on_consent, families_commit_by_record, families_play, families_step_rightly,
+    family_outcomes_stay, stale_answers_change_nothing,
+};
+pub use phase::Phase;
+pub use said::{Answers, Entry, Finished, Said, StepAnswer};
+
+mod effect;
+mod event;
+mod laws;
+mod phase;
+mod said;
