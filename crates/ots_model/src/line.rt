@@ -218,6 +218,3 @@ pub fn different_lines_differ()
 pub fn text_reads_back()
     ensures { TextReadsBack }
 {}
-
-#[cfg(test)]
-mod tests;

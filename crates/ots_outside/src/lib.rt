@@ -19,5 +19,3 @@ mod memory;
 mod sink;
 mod source;
 mod streams;
-#[cfg(test)]
-mod tests;

@@ -71,6 +71,7 @@ impl Source for MemSource {
         ensures count { CountsWithin result into.old }
         ensures octets { IfOk result (λ n. Gives self.old.left (length into.old) n into.new (Some self.new.left)) }
         ensures untouched { OnErr result (self.new.left ≡ self.old.left) }
+        ensures calm { OnOk result (self.new.faults ≡ self.old.faults) }
         ensures cause { OnErr result (HasRisen self.old.faults self.new.faults) }
         ensures later { self.old.faults ≤ self.new.faults }
 
@@ -182,6 +183,7 @@ impl Sink for MemSink {
         // What each sink promises.
         ensures whole { OnOk result (Takes (Some self.old.octets) bytes.now (Some self.new.octets)) }
         ensures part { OnErr result (TakesPart (Some self.old.octets) bytes.now (Some self.new.octets)) }
+        ensures calm { OnOk result (self.new.faults ≡ self.old.faults) }
         ensures cause { OnErr result (HasRisen self.old.faults self.new.faults) }
         ensures later { self.old.faults ≤ self.new.faults }
 

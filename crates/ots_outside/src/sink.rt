@@ -16,6 +16,7 @@ pub trait Sink {
     fn write(&mut self, bytes: &[u8]) -> Result<(), Failed>
         ensures whole { OnOk result (Takes (taken self.old) bytes.now (taken self.new)) }
         ensures part { OnErr result (TakesPart (taken self.old) bytes.now (taken self.new)) }
+        ensures calm { OnOk result (faults self.new ≡ faults self.old) }
         ensures cause { OnErr result (HasRisen (faults self.old) (faults self.new)) }
         ensures later { faults self.old ≤ faults self.new };
 }

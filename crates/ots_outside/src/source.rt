@@ -1,4 +1,4 @@
-ghost use Rattle.std.specs.Prelude.{◌≡◌, ℕ, ◌≤◌, List, Option, OnErr};
+ghost use Rattle.std.specs.Prelude.{◌≡◌, ℕ, ◌≤◌, List, Option, OnOk, OnErr};
 ghost use Rattle.ots_outside.specs.Source.{CountsWithin, GivesTo, HasRisen, raised};
 
 /// A call to the outside failed.
@@ -30,6 +30,7 @@ pub trait Source {
         ensures count { CountsWithin result into.old }
         ensures octets { GivesTo result into.old into.new (remaining self.old) (remaining self.new) }
         ensures untouched { OnErr result (remaining self.new ≡ remaining self.old) }
+        ensures calm { OnOk result (faults self.new ≡ faults self.old) }
         ensures cause { OnErr result (HasRisen (faults self.old) (faults self.new)) }
         ensures later { faults self.old ≤ faults self.new };
 }

@@ -45,6 +45,7 @@ impl<R: Read> Source for StdSource<R> {
     fn read(&mut self, into: &mut [u8]) -> Result<usize, Failed>
         // What each source promises.
         ensures count { CountsWithin result into.old }
+        ensures calm { OnOk result (source_faults self.new ≡ source_faults self.old) }
         ensures cause { OnErr result (HasRisen (source_faults self.old) (source_faults self.new)) }
         ensures later { source_faults self.old ≤ source_faults self.new }
 
@@ -101,6 +102,7 @@ impl<W: Write> Sink for StdSink<W> {
             (Takes (W.contents (sink_writer self.old)) bytes.now (W.contents (sink_writer self.new))) }
         ensures part { OnErr result
             (TakesPart (W.contents (sink_writer self.old)) bytes.now (W.contents (sink_writer self.new))) }
+        ensures calm { OnOk result (sink_faults self.new ≡ sink_faults self.old) }
         ensures cause { OnErr result (HasRisen (sink_faults self.old) (sink_faults self.new)) }
         ensures later { sink_faults self.old ≤ sink_faults self.new }
 

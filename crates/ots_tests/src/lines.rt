@@ -1,6 +1,9 @@
-use super::*;
-use crate::completion::Ground;
-use crate::response::Exception;
+//! Tests of how lines are spelled.
+
+use ots_model::{
+    Decision, Exception, Ground, Line, Name, Operation, Outcome, Reason, ResourceState, Response,
+    Vote, Word,
+};
 use std::test::Fail;
 
 /// Each line, and how it is spelled.

@@ -1,14 +1,20 @@
-use crate::{
-    Disk, DiskRefusal, Failed, Failure, FileDisk, MemDisk, MemSink, MemSource, Sink, Source,
-    StdSink, StdSource, SureDisk,
-};
-use std::fs::File;
+//! Tests of sources and sinks in memory, and over streams of `std::io`.
+
+use ots_outside::{Failed, Failure, MemSink, MemSource, Sink, Source, StdSink, StdSource};
+use std::io;
 use std::io::{ErrorKind, Read, Write};
 use std::test::Fail;
-use std::{env, fs, io};
 
-fn read_from<S: Source>(source: &mut S, into: &mut [u8]) -> Result<usize, Failed> {
-    source.read(into)
+/// What four reads of a source answer, and the piece that they fill.
+fn four_reads<S: Source>(source: &mut S) -> ([Result<usize, Failed>; 4], [u8; 4]) {
+    let mut piece = [0; 4];
+    let answers = [
+        source.read(&mut piece[..2]),
+        source.read(&mut piece[2..]),
+        source.read(&mut piece[2..]),
+        source.read(&mut piece[3..]),
+    ];
+    (answers, piece)
 }
 
 fn write_to<S: Sink>(sink: &mut S, bytes: &[u8]) -> Result<(), Failed> {
@@ -58,14 +64,8 @@ impl<S: Write> Write for Faulty<'_, S> {
 fn memory_fails_in_mid_stream_and_goes_on(rt: HostRuntime) -> Result<(), Fail> {
     let failing = vec![in rt.alloc(); 1]?;
     let mut source = MemSource::new(b"abc".to_vec(rt.alloc())?, failing);
-    let mut piece = [0; 4];
-    let counts = [
-        read_from(&mut source, &mut piece[..2]),
-        read_from(&mut source, &mut piece[2..]),
-        read_from(&mut source, &mut piece[2..]),
-        read_from(&mut source, &mut piece[3..]),
-    ];
-    assert_eq!(rt; counts, [Ok(2), Err(Failed), Ok(1), Ok(0)]);
+    let (answers, piece) = four_reads(&mut source);
+    assert_eq!(rt; answers, [Ok(2), Err(Failed), Ok(1), Ok(0)]);
     assert_eq!(rt; piece.as_slice(), b"abc\0".as_slice());
     assert_eq!(rt; source.faults(), 1);
     Ok(())
@@ -93,14 +93,8 @@ fn a_reader_gives_fails_and_ends(rt: HostRuntime) {
         failing: &[1],
         calls: 0,
     });
-    let mut piece = [0; 4];
-    let counts = [
-        read_from(&mut source, &mut piece[..2]),
-        read_from(&mut source, &mut piece[2..]),
-        read_from(&mut source, &mut piece[2..]),
-        read_from(&mut source, &mut piece[3..]),
-    ];
-    assert_eq!(rt; counts, [Ok(2), Err(Failed), Ok(1), Ok(0)]);
+    let (answers, piece) = four_reads(&mut source);
+    assert_eq!(rt; answers, [Ok(2), Err(Failed), Ok(1), Ok(0)]);
     assert_eq!(rt; piece.as_slice(), b"abc\0".as_slice());
     assert_eq!(rt; source.faults(), 1);
 }
@@ -133,57 +127,4 @@ fn a_writer_without_room_fails(rt: HostRuntime) {
     assert_eq!(rt; written, [Ok(()), Err(Failed)]);
     assert_eq!(rt; sink.faults(), 1);
     assert_eq!(rt; room.as_slice(), b"one t".as_slice());
-}
-
-/// Writes at the front of any disk, and syncs.
-fn keep<D: Disk>(disk: &mut D, bytes: &[u8]) -> Result<(), DiskRefusal> {
-    disk.write_at(0, bytes)?;
-    disk.sync()
-}
-
-#[test]
-fn a_disk_fails_where_it_is_listed(rt: HostRuntime) -> Result<(), Fail> {
-    let failing = vec![in rt.alloc(); 2]?;
-    let mut disk = MemDisk::new(rt.alloc(), b"abcd".to_vec(rt.alloc())?, failing)?;
-    assert_eq!(rt; keep(&mut disk, b"xy"), Ok(()));
-    assert_eq!(rt; keep(&mut disk, b"zz"), Err(DiskRefusal::Failed));
-    assert_eq!(rt; disk.octets(), b"xycd".as_slice());
-    assert_eq!(rt; keep(&mut disk, b"longer"), Ok(()));
-    assert_eq!(rt; disk.octets(), b"longer".as_slice());
-    assert_eq!(rt; disk.len(), Ok(6));
-    assert_eq!(rt; disk.faults(), 1);
-    Ok(())
-}
-
-#[test]
-fn a_sure_disk_keeps_all(rt: HostRuntime) -> Result<(), Fail> {
-    let mut disk = SureDisk::new(rt.alloc(), Vec::new(rt.alloc()))?;
-    assert_eq!(rt; keep(&mut disk, b"abcd"), Ok(()));
-    assert_eq!(rt; keep(&mut disk, b"xy"), Ok(()));
-    assert_eq!(rt; disk.len(), Ok(4));
-    assert_eq!(rt; disk.octets(), b"xycd".as_slice());
-    Ok(())
-}
-
-#[test]
-fn a_file_keeps_what_is_synced(rt: HostRuntime) -> Result<(), Fail> {
-    let folder = env::temp_dir(&rt)?;
-    let path = folder.join(rt.alloc(), "ots_outside_file_disk")?;
-    let file = File::options()
-        .read(true)
-        .write(true)
-        .create(true)
-        .truncate(true)
-        .open(&rt, &path)?;
-    let mut disk = FileDisk::new(file, Some(File::open(&rt, &folder)?));
-    assert_eq!(rt; keep(&mut disk, b"abcd"), Ok(()));
-    assert_eq!(rt; keep(&mut disk, b"xy"), Ok(()));
-    let mut back = [0; 3];
-    assert_eq!(rt; disk.read_at(1, &mut back), Ok(()));
-    assert_eq!(rt; back, *b"ycd");
-    assert_eq!(rt; disk.len(), Ok(4));
-    assert_eq!(rt; disk.read_at(2, &mut back), Err(DiskRefusal::Failed));
-    assert_eq!(rt; disk.faults(), 1);
-    fs::remove_file(&rt, &path)?;
-    Ok(())
 }

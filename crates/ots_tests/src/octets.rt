@@ -1,0 +1,15 @@
+//! Test of octets that are kept, and of the longest reference.
+
+use ots_model::{Octets, REFERENCE_LIMIT, RefBytes, RefFault};
+use std::test::Fail;
+
+#[test]
+fn copies_and_the_limit(rt: HostRuntime) -> Result<(), Fail> {
+    let plain = Octets::new(rt.alloc(), b"abc")?;
+    assert_eq!(rt; plain.bytes(), b"abc".as_slice());
+    let longest = RefBytes::new(rt.alloc(), &[7; REFERENCE_LIMIT])?;
+    assert_eq!(rt; longest.copy(rt.alloc())?.bytes().len(), 1024);
+    let too_long = RefBytes::new(rt.alloc(), &[7; REFERENCE_LIMIT + 1]).err();
+    assert_eq!(rt; too_long, Some(RefFault::TooLong(1025)));
+    Ok(())
+}
