@@ -7,11 +7,8 @@ use std::alloc::Global;
 use std::process::Abort;
 use std::test::Fail;
 
-mod reading;
-mod refused_messages;
 mod streaming;
-mod types;
-pub mod vectors;
+mod vectors;
 mod writing;
 
 /// The octets of hexadecimal words.

@@ -1,7 +1,6 @@
 ghost use Rattle.std.specs.Prelude.{◌≡◌, ◌<◌, ◌≤◌, length};
 
-use super::types::LOCATED;
-use super::vectors::REGISTER_RESOURCE;
+use super::vectors::{LOCATED, REGISTER_RESOURCE};
 use super::{Part, append, feed, next_framed, next_message, octets, standing, stream_of};
 use cdr_values::Order;
 use giop_frames::{Kind, Message, Stream, Version};
