@@ -1,0 +1,4 @@
+mod Ordered
+mod Loaded
+mod Pieces
+mod Lawful

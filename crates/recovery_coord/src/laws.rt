@@ -1,0 +1,16 @@
+ghost use Rattle.recovery_coord.specs.Laws.{CompletesOnce, OtherAnswersChangeNothing, WordsHaveRecords};
+
+/// A law: each word that is told again goes to a registration that a record names which stood in the journal.
+pub fn words_have_records()
+    ensures { WordsHaveRecords }
+{}
+
+/// A law: an answer whose number isn't outstanding changes nothing.
+pub fn other_answers_change_nothing()
+    ensures { OtherAnswersChangeNothing }
+{}
+
+/// A law: a record is named complete where the last of its registrations has completed, and once.
+pub fn completes_once()
+    ensures { CompletesOnce }
+{}

@@ -1,0 +1,15 @@
+//! Decisions that stand in the journal when their trees are gone: they are told again until each registration has completed.
+#![tactic(auto)]
+
+pub use held::{Due, Held, Kind, Parties, Party};
+pub use laws::{completes_once, other_answers_change_nothing, words_have_records};
+pub use outbox::Outbox;
+pub use recovered::{Recovered, ReplayFault};
+
+mod held;
+mod laws;
+mod outbox;
+mod parties;
+mod records;
+mod recovered;
+mod telling;

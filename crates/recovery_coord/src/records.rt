@@ -1,0 +1,90 @@
+// Held records in the order of their places.
+ghost use Rattle.std.specs.Prelude.{◌≡◌, ◌&&◌, map, find, not, Some, None, if◌then◌else◌, IfOk, IfErr, OnOk, OnErr};
+ghost use Rattle.std.specs.Option.{option_map};
+ghost use Rattle.recovery_coord.specs.Held as holding;
+ghost use Rattle.recovery_coord.specs.Hearing as hearing;
+ghost use Rattle.recovery_coord.specs.Telling as telling;
+ghost use Rattle.recovery_coord.specs.Order.{IsAt, IsGap, RiseFrom};
+
+use crate::held::Held;
+use ots_model::CallNumber;
+use ots_model::tree::Heard;
+use std::alloc::AllocError;
+
+/// The index of the record at this place, or that at which it would stand.
+pub(crate) fn search(records: &[Held], place: u64) -> Result<usize, usize>
+    requires order { RiseFrom 0 records.now }
+    ensures found { IfOk result (λ index. IsAt place index records.now) }
+    ensures none { IfErr result (λ index. IsGap place index records.now) }
+{
+    let index = records.partition_point(|r| u64::from(r.place) < place);
+    if index >= records.len() {
+        return Err(index);
+    }
+    if u64::from(records[index].place) != place {
+        return Err(index);
+    }
+    Ok(index)
+}
+
+/// The record at the place that the number of the call names hears an answer. The result is that place, where the record is
+/// complete now and wasn't.
+pub(crate) fn hear(records: &mut [Held], n: &CallNumber, h: &Heard) -> Option<u32>
+    requires order { RiseFrom 0 records.old }
+    ensures after { records.new ≡ map (hearing.record_after n.now h.now) records.old }
+    ensures complete { result ≡ option_map (λ r. r.place) (find (hearing.completes n.now h.now) records.old) }
+    ensures order { RiseFrom 0 records.new }
+{
+    let index = match search(records, n.generation) {
+        Ok(index) => index,
+        Err(_) => return None,
+    };
+    hear_one(&mut records[index], n.serial, h)
+}
+
+/// A record hears an answer. The result is its place, where it is complete now and wasn't.
+fn hear_one(held: &mut Held, serial: u32, h: &Heard) -> Option<u32>
+    ensures after { held.new ≡ hearing.held_after serial h.now held.old }
+    ensures complete { result ≡ (if not (holding.is_complete held.old) && holding.is_complete held.new then Some held.old.place else None) }
+{
+    if held.hear(serial, h) {
+        return Some(held.place);
+    }
+    None
+}
+
+/// Each record that is complete is told again.
+pub(crate) fn recall_all(records: &mut [Held])
+    ensures { records.new ≡ map telling.retold records.old }
+{
+    for held in records.iter_mut() {
+        held.recall();
+    }
+}
+
+/// Puts a record into its turn, where none is held at its place.
+pub(crate) fn take_in(records: &mut Vec<Held>, held: Held) -> Result<(), AllocError>
+    requires order { RiseFrom 0 records.old.items }
+    ensures ok { OnOk result (records.new.items ≡ holding.taken (Some held) records.old.items) }
+    ensures err { OnErr result (records.new.items ≡ records.old.items) }
+    ensures order { RiseFrom 0 records.new.items }
+{
+    match search(records, u64::from(held.place)) {
+        Ok(_) => Ok(()),
+        Err(index) => {
+            records.insert(index, held)?;
+            Ok(())
+        }
+    }
+}
+
+/// Lets the record at this place go, where one is held.
+pub(crate) fn let_go(records: &mut Vec<Held>, place: u32)
+    requires order { RiseFrom 0 records.old.items }
+    ensures without { records.new.items ≡ holding.without place records.old.items }
+    ensures order { RiseFrom 0 records.new.items }
+{
+    if let Ok(index) = search(records, u64::from(place)) {
+        records.remove(index);
+    }
+}

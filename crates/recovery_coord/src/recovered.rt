@@ -1,0 +1,231 @@
+ghost use Rattle.std.specs.Prelude.{◌≡◌, ◌≢◌, ◌==◌, ◌++◌, ◌≤◌, map, find, Some, IfOk, OnOk, OnErr, IsErrOf};
+ghost use Rattle.std.specs.List.{filter_map};
+ghost use Rattle.std.specs.Option.{option_copied, option_to_list};
+ghost use Rattle.ior_refs.specs.Reference.{canonical_octets, nil};
+ghost use Rattle.recovery_coord.specs.Held as holding;
+ghost use Rattle.recovery_coord.specs.Hearing as hearing;
+ghost use Rattle.recovery_coord.specs.Telling as telling;
+ghost use Rattle.recovery_coord.specs.Replay as replay;
+ghost use Rattle.recovery_coord.specs.Order.{RiseFrom};
+
+use crate::held::{Held, Party, held_of};
+use crate::outbox::Outbox;
+use crate::records::{hear, let_go, recall_all, take_in};
+use crate::telling::{RETOLD_SLOT, tell_all};
+use decision_journal::{Journal, JournalRecord, Standing};
+use ior_refs::{ObjectKey, ObjectRef};
+use ots_model::tree::Heard;
+use ots_model::{CallNumber, Status};
+use ots_outside::Disk;
+use std::alloc::{AllocError, Global};
+use std::marker::Model;
+
+/// The letter of a recovery coordinator's key.
+const RECOVERY_KIND: u8 = b'V';
+
+/// Why `replay_completion` is refused.
+#[derive(Clone, Copy, Debug, PartialEq, Eq)]
+pub enum ReplayFault {
+    /// The registration is that of another resource (NotPrepared).
+    NotPrepared,
+    /// No record names the registration (OBJECT_NOT_EXIST).
+    ObjectNotExist,
+    /// The resource is the reference to no object (BAD_PARAM).
+    BadParam,
+}
+
+/// The records that stand and whose trees are gone. Contracts see the service, the life in which they are told again, and the
+/// records in the order of their places.
+#[derive(Drop)]
+pub struct Recovered {
+    alloc: Global,
+    service: u64,
+    life: u32,
+    records: Vec<Held>,
+}
+
+impl Model for Recovered {
+    ghost use Rattle.recovery_coord.specs.Held.{Recoveries};
+    ghost use Rattle.recovery_coord.specs.Order.{RiseFrom};
+
+    ghost Value = { Recoveries };
+
+    ghost view = { λ r. record { service = r.service; life = r.life; records = r.records.items } };
+
+    ghost invariant = { λ r. RiseFrom 0 r.records.items };
+}
+
+impl Recovered {
+    /// The decisions and prepared records that stand in the journal of this service, as a load leaves them: of a decision the
+    /// commit word to each registration is to be told, of a prepared record none.
+    pub fn from<D: Disk>(
+        alloc: Global,
+        journal: &Journal<D>,
+        service: u64,
+    ) -> Result<Recovered, AllocError>
+        requires service { service ≡ journal.now.service }
+        ensures service { IfOk result (λ r. r.service ≡ journal.now.service) }
+        ensures life { IfOk result (λ r. r.life ≡ journal.now.found.life) }
+        ensures records { IfOk result (λ r. r.records ≡ filter_map holding.loaded journal.now.found.standing) }
+    {
+        let _disk = journal.disk();
+        let records = load_all(alloc, journal.standing())?;
+        Ok(Recovered {
+            alloc,
+            service,
+            life: journal.life(),
+            records,
+        })
+    }
+
+    /// The records that are held, in the order of their places.
+    pub fn records(&self) -> &[Held]
+        ensures { result.now ≡ self.now.records }
+    {
+        self.records.as_slice()
+    }
+
+    /// What a recovery coordinator answers by the records alone. It needs no memory.
+    pub fn replay_completion(
+        &self,
+        key: &ObjectKey,
+        resource: &ObjectRef,
+    ) -> Result<Status, ReplayFault>
+        ensures nil { resource.now ≡ nil → IsErrOf result ReplayFault.BadParam }
+        ensures answer { resource.now ≢ nil → replay.AnswersRecord key.now
+            (replay.record_named self.now.service key.now self.now.records) (canonical_octets resource.now) result }
+    {
+        if resource.is_nil() {
+            return Err(ReplayFault::BadParam);
+        }
+        match self.record_named(key) {
+            Some(held) => party_answer(held, key, resource.bytes()),
+            None => Err(ReplayFault::ObjectNotExist),
+        }
+    }
+
+    /// The record that a recovery coordinator's key names.
+    fn record_named(&self, key: &ObjectKey) -> Option<&Held>
+        ensures { option_copied result ≡ replay.record_named self.now.service key.now self.now.records }
+    {
+        let service = self.service;
+        self.records.iter().find(|r| key.kind == RECOVERY_KIND && is_of_tree(service, key, r))
+    }
+
+    /// Puts each word that is still to be told behind the others, in record order, and within a record in the order of its
+    /// registrations. A record that is complete and is held still, since its Done doesn't stand, is told again from the
+    /// beginning. Want of memory leaves the words as they were.
+    pub fn redrive(&mut self, out: &mut Outbox) -> Result<(), AllocError>
+        ensures records { self.new ≡ record self.old { records = map telling.retold self.old.records } }
+        ensures words { OnOk result (out.new.words ≡ out.old.words ++ telling.words self.new.life self.new.records) }
+        ensures err { OnErr result (out.new.words ≡ out.old.words) }
+        ensures room { out.new.room ≡ out.old.room }
+    {
+        recall_all(self.records.as_mut_slice());
+        let count = out.len();
+        match tell_all(self.alloc, self.life, self.records.as_slice(), out) {
+            Ok(()) => Ok(()),
+            Err(refused) => {
+                out.keep(count);
+                Err(refused)
+            }
+        }
+    }
+
+    /// Hears the answer to a word that was told again. The result is the place of the record that is complete now. It is held
+    /// on, and answers as before, until `done`.
+    pub fn heard(&mut self, n: &CallNumber, h: &Heard) -> Option<u32>
+        ensures records { self.new ≡ record self.old {
+          records = hearing.records_after self.old.life n.now h.now self.old.records;
+        } }
+        ensures complete { result ≡ hearing.completed self.old.life n.now h.now self.old.records }
+    {
+        if n.life != self.life || n.slot != RETOLD_SLOT {
+            return None;
+        }
+        hear(self.records.as_mut_slice(), n, h)
+    }
+
+    /// The standing record of a tree that is finished goes on here. The commit and forget words to these registrations are then to
+    /// be told; where both lists are empty, the record is as a load leaves it. A record that is held already stays as it is.
+    pub fn take_over(
+        &mut self,
+        place: u32,
+        item: &JournalRecord,
+        commits: &[u32],
+        forgets: &[u32],
+    ) -> Result<(), AllocError>
+        ensures ok { OnOk result (self.new ≡ record self.old {
+          records = holding.taken (holding.held_of place item.now commits.now forgets.now) self.old.records;
+        }) }
+        ensures err { OnErr result (self.new ≡ self.old) }
+    {
+        match held_of(self.alloc, place, item, commits, forgets)? {
+            Some(held) => take_in(&mut self.records, held),
+            None => Ok(()),
+        }
+    }
+
+    /// The Done of the record at this place stands: it is held no more.
+    pub fn done(&mut self, place: u32)
+        ensures { self.new ≡ record self.old { records = holding.without place self.old.records } }
+    {
+        let_go(&mut self.records, place);
+    }
+}
+
+/// Whether a record is that of the tree which a key of this service names.
+fn is_of_tree(service: u64, key: &ObjectKey, held: &Held) -> bool
+    ensures { result ≡ replay.is_of_tree service key.now held.now }
+{
+    key.service == service
+        && key.life == held.life
+        && key.slot == held.slot
+        && key.generation == held.generation
+}
+
+/// The answer by the record of a tree.
+fn party_answer(held: &Held, key: &ObjectKey, octets: &[u8]) -> Result<Status, ReplayFault>
+    ensures { replay.AnswersRecord key.now (Some held.now) octets.now result }
+{
+    match party_named(held.parties.items(), key.index) {
+        None => Err(ReplayFault::ObjectNotExist),
+        Some(party) => {
+            if party.to.bytes() == octets {
+                return Ok(held.status);
+            }
+            Err(ReplayFault::NotPrepared)
+        }
+    }
+}
+
+/// The registration with this number.
+fn party_named(parties: &[Party], index: u32) -> Option<&Party>
+    ensures { option_copied result ≡ find (λ p. p.index == index) parties.now }
+{
+    parties.iter().find(|party| party.index == index)
+}
+
+/// The decisions and prepared records among those that stand, as a load leaves them.
+fn load_all(alloc: Global, standing: &[Standing]) -> Result<Vec<Held>, AllocError>
+    ensures { IfOk result (λ records. records.items ≡ filter_map holding.loaded standing.now) }
+{
+    let mut records = Vec::new(alloc);
+    for each in standing {
+        load_one(alloc, each, &mut records)?;
+    }
+    Ok(records)
+}
+
+/// Puts what stands behind these records, as a load leaves it, where it is a decision or a prepared record.
+fn load_one(alloc: Global, each: &Standing, records: &mut Vec<Held>) -> Result<(), AllocError>
+    ensures { OnOk result (records.new.items ≡ records.old.items ++ option_to_list (holding.loaded each.now)) }
+{
+    match held_of(alloc, each.place, &each.item, &[], &[])? {
+        Some(held) => {
+            records.push(held)?;
+            Ok(())
+        }
+        None => Ok(()),
+    }
+}

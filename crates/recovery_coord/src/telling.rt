@@ -1,0 +1,114 @@
+// The words that are told again.
+ghost use Rattle.std.specs.Prelude.{◌≡◌, ◌++◌, IfOk, OnOk, OnErr};
+ghost use Rattle.std.specs.List.{filter_map};
+ghost use Rattle.std.specs.Option.{option_to_list};
+ghost use Rattle.recovery_coord.specs.Telling as telling;
+
+use crate::held::{Due, Held, Party};
+use crate::outbox::Outbox;
+use ots_model::tree::{Outward, Word};
+use ots_model::{CallNumber, Receipt};
+use std::alloc::{AllocError, Global};
+
+/// The slot in the number of a call that tells the word of a record again: that of no tree.
+pub(crate) const RETOLD_SLOT: u32 = u32::MAX;
+
+/// A record whose words are told again in this life.
+#[derive(Clone, Copy)]
+pub(crate) struct Teller {
+    pub life: u32,
+    pub place: u32,
+    pub decided: bool,
+}
+
+/// The words of all records, behind those of an outbox.
+pub(crate) fn tell_all(
+    alloc: Global,
+    life: u32,
+    records: &[Held],
+    out: &mut Outbox,
+) -> Result<(), AllocError>
+    ensures ok { OnOk result (out.new.words ≡ out.old.words ++ telling.words life records.now) }
+    ensures more { telling.IsMore out.old.words out.new.words }
+    ensures room { out.new.room ≡ out.old.room }
+{
+    for held in records {
+        let teller = Teller {
+            life,
+            place: held.place,
+            decided: held.kind.is_decided(),
+        };
+        teller.tell(alloc, held.parties.items(), out)?;
+    }
+    Ok(())
+}
+
+impl Teller {
+    /// The words of the record's registrations, behind those of an outbox.
+    fn tell(self, alloc: Global, parties: &[Party], out: &mut Outbox) -> Result<(), AllocError>
+        ensures ok { OnOk result (out.new.words ≡ out.old.words ++ filter_map (telling.word_to self.life self.place self.decided) parties.now) }
+        ensures more { telling.IsMore out.old.words out.new.words }
+        ensures room { out.new.room ≡ out.old.room }
+    {
+        for party in parties {
+            self.tell_one(alloc, party, out)?;
+        }
+        Ok(())
+    }
+
+    /// The word of a registration, behind those of an outbox.
+    fn tell_one(self, alloc: Global, party: &Party, out: &mut Outbox) -> Result<(), AllocError>
+        ensures ok { OnOk result (out.new.words ≡ out.old.words
+            ++ option_to_list (telling.word_to self.life self.place self.decided party.now)) }
+        ensures err { OnErr result (out.new.words ≡ out.old.words) }
+        ensures room { out.new.room ≡ out.old.room }
+    {
+        let word = match self.word_to(alloc, party)? {
+            Some(word) => word,
+            None => return Ok(()),
+        };
+        out.push(word)
+    }
+
+    /// The word that a registration is told again, where there is one.
+    fn word_to(self, alloc: Global, party: &Party) -> Result<Option<Outward>, AllocError>
+        ensures { IfOk result (λ word. word ≡ telling.word_to self.life self.place self.decided party.now) }
+    {
+        match party.due {
+            Due::Commit => {
+                let receipt = Receipt {
+                    place: self.place,
+                    registration: party.index,
+                };
+                Ok(Some(self.outward(alloc, party, Word::Commit, Some(receipt))?))
+            }
+            Due::Forget if self.decided => {
+                Ok(Some(self.outward(alloc, party, Word::Forget, None)?))
+            }
+            _ => Ok(None),
+        }
+    }
+
+    fn outward(
+        self,
+        alloc: Global,
+        party: &Party,
+        word: Word,
+        receipt: Option<Receipt>,
+    ) -> Result<Outward, AllocError>
+        ensures { IfOk result (λ out. out ≡ telling.outward self.life self.place party.now word receipt) }
+    {
+        Ok(Outward {
+            number: CallNumber {
+                life: self.life,
+                slot: RETOLD_SLOT,
+                generation: u64::from(self.place),
+                serial: party.index,
+            },
+            registration: party.index,
+            to: party.to.copy(alloc)?,
+            word,
+            receipt,
+        })
+    }
+}
