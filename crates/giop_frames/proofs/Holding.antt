@@ -33,17 +33,18 @@ part_found versions octets p rest e =
     let c = guard_ok (not (may_be_part b.0)) faults.BadFragment (Ok b.0) h b.2 in
     let same : b.0 ≡ h = ok_is b.0 h c.1 in
     let d = guard_ok (ltb (length octets) (12 + h.size)) faults.Short (Ok (record { header = h; content = take h.size (drop 12 octets) }, drop (12 + h.size) octets)) (p, rest) a.2 in
-    let is : (record { header = h; content = take h.size (drop 12 octets) }, drop (12 + h.size) octets) ≡ (p, rest) = ok_is _ (p, rest) d.1 in
+    let front : Part × List ℕ = (record { header = h; content = take h.size (drop 12 octets) }, drop (12 + h.size) octets) in
+    let is : front ≡ (p, rest) = ok_is front (p, rest) d.1 in
     let long : 12 + h.size ≤ length octets = ltb-false _ _ d.0 in
     let header : header_at versions octets ≡ Ok h = b.1 ∙ ap (λ (x : Header). Ok x) same in
     let may : may_be_part h ≡ true = not-false _ (ap (λ (x : Header). not (may_be_part x)) (sym same) ∙ c.0) in
     let found = header_found versions octets h header long in
-    let made : Front versions (record { header = h; content = take h.size (drop 12 octets) }) octets (drop (12 + h.size) octets) = record {
+    let made : Front versions front.0 octets front.1 = record {
       front = take (12 + h.size) octets;
       parts = sym (take-append-drop (12 + h.size) octets);
       is_part = record { part = found.1; admitted = found.0; may_be = may };
     } in
-    subst (λ (x : Part × List ℕ). Front versions x.0 octets x.1) is made
+    subst (λ (x : Part × List ℕ). Front versions x.0 octets x.1) {x = front} {y = (p, rest)} is made
 
 -- the octets that are held stand behind versions that the stream admits
 held_at : (versions : List Version) (octets : List ℕ) (messages : List Framed) (old : Held) → Holds versions octets messages old → part_at versions old.rest ≡ part_at old.versions old.rest

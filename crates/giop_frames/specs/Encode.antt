@@ -1,6 +1,6 @@
 -- The octets that are written for a message, field by field as the table of layouts lists them (CORBA, GIOP Message
 -- Formats), and what refuses it first (our profile).
-use Rattle.std.specs.Prelude.{ℕ, ◌+◌, nat_lt, List, [], ◌∷◌, ◌++◌, length, replicate, sum_by, Option, Some, None, if◌then◌else◌}
+use Rattle.std.specs.Prelude.{◌≡◌, ℕ, ◌+◌, nat_lt, List, [], ◌∷◌, ◌++◌, length, replicate, sum_by, Option, Some, None, IfSome, Result, Err, OnErr, OnOk, if◌then◌else◌}
 use Rattle.std.specs.List.{flat_map}
 use Rattle.cdr_values.specs.declared.order.Order.{Order}
 use Rattle.cdr_values.specs.declared.order.Order.TheVariants.{Big}
@@ -19,10 +19,10 @@ use Rattle.giop_frames.specs.declared.message.Target.{Target}
 use Rattle.giop_frames.specs.declared.message.Target.TheVariants.{Key, Profile, Reference}
 use Rattle.giop_frames.specs.declared.message.ServiceContext.{ServiceContext}
 use Rattle.giop_frames.specs.Limits.{context_limit, key_limit, size_limit}
-use Rattle.giop_frames.specs.Fault.{too_long}
+use Rattle.giop_frames.specs.Fault.{IfRefused, too_long}
 use Rattle.giop_frames.specs.Header.{header_octets}
 use Rattle.giop_frames.specs.Layout.{Fields, blank, body_alignment, contexts_values, key_addr, key_values, layout}
-use Rattle.giop_frames.specs.Message.{kind_of}
+use Rattle.giop_frames.specs.Message.{IsMessage, kind_of}
 use Rattle.giop_frames.specs.Sizes.{end_of}
 
 -- ---- fields
@@ -155,3 +155,15 @@ octets_in (messages.Reply r) = length r.contexts + octets_in_contexts r.contexts
 octets_in (messages.Locate l) = octets_in_target l.target
 octets_in (messages.LocateReply l) = length l.rest
 octets_in _ = 0
+
+-- ---- what a call does
+
+-- a call appended the spelling of this message, which is the message; or nothing, and answered why it is not written, or
+-- for want of memory. What refuses the message is told, never want of memory.
+pub record Encodes (version : Version) (m : Message) (result : Result (Unit {0}) FrameFault) (old new : List ℕ) : Type 0 where
+  pub ok : OnOk result (new ≡ old ++ spelling version m)
+  pub spelled : OnOk result (IsMessage (version ∷ []) m (spelling version m))
+  pub fits : OnOk result (refusal_of version m ≡ None)
+  pub refused : IfRefused result (λ fault. refusal_of version m ≡ Some fault)
+  pub told : IfSome (refusal_of version m) (λ fault. result ≡ Err fault)
+  pub err : OnErr result (new ≡ old)

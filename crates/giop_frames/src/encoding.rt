@@ -1,12 +1,10 @@
-ghost use Rattle.std.specs.Prelude.{◌≡◌, ◌+◌, ◌<◌, ◌≤◌, ◌^◌, [], ◌∷◌, ◌++◌, length, replicate, None, Some, Err, IfSome, OnErr, OnOk};
+ghost use Rattle.std.specs.Prelude.{◌≡◌, ◌+◌, ◌<◌, ◌≤◌, ◌^◌, length, replicate};
 ghost use Rattle.cdr_values.specs.Value.{octets_of};
 ghost use Rattle.cdr_values.specs.Appending.{Appends, AppendsSome};
-ghost use Rattle.giop_frames.specs.Fault.{IfRefused};
 ghost use Rattle.giop_frames.specs.declared.layout.Version.TheVariants.{V1_2};
-ghost use Rattle.giop_frames.specs.Header.{header_octets, flags_of, profile_versions};
+ghost use Rattle.giop_frames.specs.Header.{header_octets, flags_of};
 ghost use Rattle.giop_frames.specs.Layout.{body_alignment};
-ghost use Rattle.giop_frames.specs.Message.{IsMessage};
-ghost use Rattle.giop_frames.specs.Encode.{spelling, refusal_of, octets_in, content_of, fields_of, tail_of, padded_body};
+ghost use Rattle.giop_frames.specs.Encode.{Encodes, spelling, octets_in, content_of, fields_of, tail_of, padded_body};
 
 use crate::fault::FrameFault;
 use crate::fields::fields_octets;
@@ -28,12 +26,7 @@ const PADDING: [u8; 8] = [0; 8];
 /// refusal `into` is as it was.
 pub fn encode(alloc: Global, message: &Message, into: &mut Vec<u8>) -> Result<(), FrameFault>
     requires { octets_in message.now < 2 ^ 31 }
-    ensures ok { OnOk result (into.new.items ≡ into.old.items ++ spelling V1_2 message.now) }
-    ensures spelled { OnOk result (IsMessage profile_versions message.now (spelling V1_2 message.now)) }
-    ensures fits { OnOk result (refusal_of V1_2 message.now ≡ None) }
-    ensures refused { IfRefused result (λ fault. refusal_of V1_2 message.now ≡ Some fault) }
-    ensures told { IfSome (refusal_of V1_2 message.now) (λ fault. result ≡ Err fault) }
-    ensures err { OnErr result (into.new.items ≡ into.old.items) }
+    ensures { Encodes V1_2 message.now result into.old.items into.new.items }
 {
     encode_as(alloc, Version::V1_2, message, into)
 }
@@ -46,12 +39,7 @@ pub fn encode_as(
     into: &mut Vec<u8>,
 ) -> Result<(), FrameFault>
     requires { octets_in message.now < 2 ^ 31 }
-    ensures ok { OnOk result (into.new.items ≡ into.old.items ++ spelling version message.now) }
-    ensures spelled { OnOk result (IsMessage (version ∷ []) message.now (spelling version message.now)) }
-    ensures fits { OnOk result (refusal_of version message.now ≡ None) }
-    ensures refused { IfRefused result (λ fault. refusal_of version message.now ≡ Some fault) }
-    ensures told { IfSome (refusal_of version message.now) (λ fault. result ≡ Err fault) }
-    ensures err { OnErr result (into.new.items ≡ into.old.items) }
+    ensures { Encodes version message.now result into.old.items into.new.items }
 {
     cdr_values::canonical_octets_spell();
     let size = content_size(version, message)?;

@@ -50,7 +50,7 @@ fn field_end(message: &Message, at: usize, field: Field) -> Result<usize, FrameF
         (λ end. (at ≤ end) × (end ≤ at + octets_in_field (told_of message.now) field + 256)) }
 {
     match field {
-        Field::Id | Field::Status => Ok(number_end(at)),
+        Field::Id | Field::Status => Ok(octets_end(at, 0)),
         Field::Flags | Field::Reserved => Ok(at + 1),
         Field::Target => match key_of(message) {
             Some(key) => key_end(at + gap_before(2, at) + 2, key),
@@ -98,7 +98,7 @@ fn contexts_end(at: usize, contexts: &[ServiceContext]) -> Result<usize, FrameFa
     if contexts.len() > CONTEXT_LIMIT as usize {
         return Err(too_long(at as u32, contexts.len() as u32));
     }
-    Ok(each_context_end(number_end(at), contexts))
+    Ok(each_context_end(octets_end(at, 0), contexts))
 }
 
 fn each_context_end(at: usize, contexts: &[ServiceContext]) -> usize
@@ -110,18 +110,9 @@ fn each_context_end(at: usize, contexts: &[ServiceContext]) -> usize
 {
     let mut end = at;
     for context in contexts {
-        end = octets_end(number_end(end), context.bytes.bytes().len());
+        end = octets_end(octets_end(end, 0), context.bytes.bytes().len());
     }
     end
-}
-
-/// The offset behind a number of four octets.
-fn number_end(at: usize) -> usize
-    requires { at < 2 ^ 60 }
-    ensures end { result ≡ at + gap 4 at + 4 }
-    ensures within { (at ≤ result) × (result ≤ at + 7) }
-{
-    at + gap_before(4, at) + 4
 }
 
 /// The offset behind a count and so many octets.
@@ -130,7 +121,7 @@ fn octets_end(at: usize, length: usize) -> usize
     ensures end { result ≡ at + gap 4 at + (4 + length) }
     ensures within { (at ≤ result) × (result ≤ at + length + 7) }
 {
-    number_end(at) + length
+    at + gap_before(4, at) + 4 + length
 }
 
 /// How many octets stand behind fields that end at an offset.

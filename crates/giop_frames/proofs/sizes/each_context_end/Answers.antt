@@ -14,7 +14,7 @@ loop-context-preserved c =
     let size = ap (λ (x : ServiceContext). length x.bytes) c.context-item.is in
     let same = ap length c.bytes.ensures.same in
     record {
-      end_is = end_of-context c.loop-context.end c.number_end.result c.octets_end-end.result _ one c.loop-context.invariant.end_is c.number_end.ensures.end (rw c.bytes.ensures.same at c.octets_end-end.ensures.end) ∙ sym more;
+      end_is = end_of-context c.loop-context.end c.octets_end.result c.octets_end-end.result _ one c.loop-context.invariant.end_is c.octets_end.ensures.end (rw c.bytes.ensures.same at c.octets_end-end.ensures.end) ∙ sym more;
       least = omega arith;
       most = omega (arith, sum, size, same);
     }
