@@ -1,3 +1,4 @@
 mod Played
+mod Phased
 mod Rightly
 mod Outcomes

@@ -5,7 +5,6 @@ use Rattle.std.specs.Option.{option_map}
 use Rattle.ots_model.specs.declared.completion.CallNumber.{CallNumber}
 use Rattle.ots_model.specs.declared.completion.Stood.{Stood}
 use Rattle.ots_model.specs.declared.tree.Heard.{Heard}
-use Rattle.ots_model.specs.declared.tree.Outcome.{Outcome}
 use Rattle.ots_model.specs.declared.tree.Outward.{Outward}
 use Rattle.ots_model.specs.declared.tree.Word.TheVariants as words
 use Rattle.decision_journal.specs.declared.record.JournalRecord.{JournalRecord}
@@ -13,7 +12,6 @@ use Rattle.two_phase.specs.Course as course
 use Rattle.two_phase.specs.Course.{Course}
 use Rattle.two_phase.specs.LawsOfCourses.{TreeWordsGoRightly, GoesRightly, RestsOn}
 use Rattle.two_phase.specs.LawsOfReached.{TreeOutcomeStays}
-use Rattle.two_phase.specs.LawsOfReached.IsReached.{begins, rolls_back as reached_by_rollback, goes_on as reached_on}
 use Rattle.two_phase.specs.Stages as stages
 use Rattle.two_phase.specs.Stages.{Standing, Waiting, Going as UnderWay}
 use Rattle.coordinator.specs.declared.event.Act.{Act}
@@ -25,32 +23,8 @@ use Rattle.coordinator.specs.Family.{Family, waiting_for}
 use Rattle.coordinator.specs.Hearing.{decision_record, record_place}
 use Rattle.coordinator.specs.History.{kept_for}
 use Rattle.coordinator.specs.Step.{quiet, is_silent_act, entered, acted, step_by, family_step, Appends, WritesDone, wanted, wanted_act, wanted_by, hears}
-use Rattle.coordinator.specs.Laws.{Proceeds, still, asks, rolls_back, goes_on, further, IsOfSubtransaction, GoesOut, IsThere, FamilyOutcomesStay, IsByRecord, CommitGoesByRecord, FamiliesCommitByRecord, IsAgreed, AppendsRightly, FamiliesAppendByConsent, ChangesNothing, StaleAnswersChangeNothing}
-use Rattle.coordinator.proofs.Rightly.{steps_right}
-
--- a completion that proceeds is there, and keeps its outcome
-record Stays (fixed : Outcome) (s later : Standing) : Type 0 where
-  there : IsThere later
-  same : stages.outcome s ≡ Some fixed → stages.outcome later ≡ Some fixed
-
-stays : TreeOutcomeStays → (fixed : Outcome) (s later : Standing) → Proceeds s later → IsThere s → Stays fixed s later
-stays law fixed _ _ (still s) there = record { there = there; same = λ e. e }
-stays law fixed _ _ (asks room some asked first one) there = record {
-  there = begins some asked first one;
-  same = λ e. absurd (cc (e));
-}
-stays law fixed _ _ (rolls_back room some asked first one reason) there = record {
-  there = reached_by_rollback some asked first one reason;
-  same = λ e. absurd (cc (e));
-}
-stays law fixed _ _ (goes_on c next b) there = record {
-  there = reached_on c next there b;
-  same = λ e. law c next fixed there b e;
-}
-stays law fixed _ _ (further s between later p q) there =
-    let first : Stays fixed s between = stays law fixed s between p there in
-    let second : Stays fixed between later = stays law fixed between later q first.there in
-    record { there = second.there; same = λ e. second.same (first.same e) }
+use Rattle.coordinator.specs.Laws.{IsOfSubtransaction, GoesOut, FamilyOutcomesStay, IsByRecord, CommitGoesByRecord, FamiliesCommitByRecord, IsAgreed, AppendsRightly, FamiliesAppendByConsent, ChangesNothing, StaleAnswersChangeNothing}
+use Rattle.coordinator.proofs.Rightly.{steps_right, stays}
 
 pub outcomes_stay : TreeOutcomeStays → FamilyOutcomesStay
 outcomes_stay law f e stood fixed there is =

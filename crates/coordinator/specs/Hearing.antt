@@ -37,13 +37,15 @@ use Rattle.coordinator.specs.declared.said.Said.{Said}
 use Rattle.coordinator.specs.declared.said.Said.TheVariants as said
 use Rattle.coordinator.specs.Family.{Family, Call, Aim, Commits, RollsBack, Leg, Below, Own, Before, Deciding, After, call_at, with_call}
 use Rattle.coordinator.specs.Moves.{Moved, only, ◌▹◌, shows, answers as answers_call, completes_as}
-use Rattle.coordinator.specs.Phases.{Column, IsActive, IsFinishing, column, is_marked, has_parent_ended}
+use Rattle.coordinator.specs.declared.phase.Column.{Column}
+use Rattle.coordinator.specs.declared.phase.Column.TheVariants as columns
+use Rattle.coordinator.specs.Phases.{column, is_marked, has_parent_ended}
 use Rattle.coordinator.specs.Closing.{gives_up}
 
 -- a transaction may be marked: it is going on, or it is to commit and isn't marked yet
 abbrev pub is_markable_in : Column → Bool → Bool
-is_markable_in IsActive already = true
-is_markable_in IsFinishing already = not already
+is_markable_in columns.Active already = true
+is_markable_in columns.Finishing already = not already
 is_markable_in _ already = false
 
 unfoldable pub is_markable : Family → ℕ → Bool

@@ -21,6 +21,8 @@ use Rattle.decision_journal.specs.declared.record.JournalRecord.{JournalRecord}
 use Rattle.coordinator.specs.Hearing.{decision_record}
 use Rattle.two_phase.specs.Stages as stages
 use Rattle.two_phase.specs.Stages.{Standing, Waiting, Going as UnderWay}
+use Rattle.coordinator.specs.declared.effect.Effect.{Effect}
+use Rattle.coordinator.specs.declared.effect.Effect.TheVariants as effects
 use Rattle.coordinator.specs.declared.event.Act.TheVariants as acts
 use Rattle.coordinator.specs.declared.event.Event.{Event}
 use Rattle.coordinator.specs.Family.{Family, waiting_for}
@@ -79,6 +81,15 @@ abbrev pub FamilyOutcomesStay : Type 0
 FamilyOutcomesStay = (f : Family) (e : Event) (stood : Option Stood) (fixed : Outcome)
     → IsThere f.completion → stages.outcome f.completion ≡ Some fixed
     → stages.outcome (family_step f e stood).family.completion ≡ Some fixed
+
+-- an outcome that a step tells is new: it wasn't fixed before, and is from then on. So a family tells one outcome at most
+abbrev pub IsNewOutcome : Standing → Standing → Effect → Type 0
+IsNewOutcome s later (effects.Decided fixed) = (stages.outcome s ≡ None) × (stages.outcome later ≡ Some fixed)
+IsNewOutcome s later _ = Unit {0}
+
+abbrev pub FamiliesDecideOnce : Type 0
+FamiliesDecideOnce = (f : Family) (e : Event) (stood : Option Stood) → IsThere f.completion
+    → AllByRecursion (IsNewOutcome f.completion (family_step f e stood).family.completion) (family_step f e stood).effects
 
 -- A commit word goes out by a record that stands: just before, each participant has consented, this one by VoteCommit, the
 -- journal has told where the record stands, and it was not told before.

@@ -10,4 +10,5 @@ pub mod Table
 pub mod History
 pub mod Step
 pub mod Plays
+pub mod AnswersByPhase
 pub mod Laws

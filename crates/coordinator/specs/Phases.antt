@@ -13,6 +13,8 @@ use Rattle.txn_tree.specs.declared.row.State.TheVariants as states
 use Rattle.two_phase.specs.Course as course
 use Rattle.two_phase.specs.Stages as stages
 use Rattle.two_phase.specs.Stages.{Standing, Waiting, Going as UnderWay}
+use Rattle.coordinator.specs.declared.phase.Column.{Column}
+use Rattle.coordinator.specs.declared.phase.Column.TheVariants as columns
 use Rattle.coordinator.specs.declared.phase.Phase.{Phase}
 use Rattle.coordinator.specs.declared.phase.Phase.TheVariants as phases
 use Rattle.coordinator.specs.Family.{Family, Stage, Going, Finishing, Completing, Over, call_at}
@@ -96,41 +98,29 @@ abbrev pub parent_status_of : Family → ℕ → Option Status
 parent_status_of f b = status_of f (option_map_or (λ p. p) (parent f.rows b) b)
 
 -- how a transaction stands for a client's calls
-pub data Column : Type 0 where
-  -- it is going on
-  IsActive : Column
-  -- it can only be rolled back
-  IsMarked : Column
-  -- it is to commit, and nobody was asked
-  IsFinishing : Column
-  -- it is rolling back, or was rolled back
-  IsRolledBack : Column
-  -- it has gone farther in any other way
-  IsPast : Column
-
 abbrev pub top_column : Phase → Column
-top_column phases.Active = IsActive
-top_column phases.Marked = IsMarked
-top_column phases.Finishing = IsFinishing
-top_column phases.RollingBack = IsRolledBack
-top_column (phases.Ended (outcomes.Rollback reason)) = IsRolledBack
-top_column _ = IsPast
+top_column phases.Active = columns.Active
+top_column phases.Marked = columns.Marked
+top_column phases.Finishing = columns.Finishing
+top_column phases.RollingBack = columns.RolledBack
+top_column (phases.Ended (outcomes.Rollback reason)) = columns.RolledBack
+top_column _ = columns.Past
 
 abbrev pub sub_column : Bool → Option State → Column
-sub_column true s = IsPast
-sub_column false (Some states.Active) = IsActive
-sub_column false (Some states.Marked) = IsMarked
-sub_column false (Some states.RolledBack) = IsRolledBack
-sub_column false _ = IsPast
+sub_column true s = columns.Past
+sub_column false (Some states.Active) = columns.Active
+sub_column false (Some states.Marked) = columns.Marked
+sub_column false (Some states.RolledBack) = columns.RolledBack
+sub_column false _ = columns.Past
 
 unfoldable pub column : Family → ℕ → Column
 column f b = if b == 0 then top_column (phase f) else sub_column (is_ending f b) (state f.rows b)
 
 -- what may still be registered with a transaction is for its tree to say
 abbrev pub is_open : Column → Bool
-is_open IsActive = true
-is_open IsMarked = true
-is_open IsFinishing = true
+is_open columns.Active = true
+is_open columns.Marked = true
+is_open columns.Finishing = true
 is_open _ = false
 
 -- nobody was asked yet for the outcome of the top-level transaction

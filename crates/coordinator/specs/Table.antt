@@ -18,7 +18,9 @@ use Rattle.coordinator.specs.declared.said.Said.{Said}
 use Rattle.coordinator.specs.declared.said.Said.TheVariants as said
 use Rattle.coordinator.specs.Family.{Family, Call, Aim, Commits, RollsBack, Finishing, Below}
 use Rattle.coordinator.specs.Moves.{Moved, only, ◌▹◌, shows}
-use Rattle.coordinator.specs.Phases.{Column, IsActive, IsMarked, IsFinishing, IsRolledBack, IsPast, column, is_open, phase, top_status, has_parent_ended}
+use Rattle.coordinator.specs.declared.phase.Column.{Column}
+use Rattle.coordinator.specs.declared.phase.Column.TheVariants as columns
+use Rattle.coordinator.specs.Phases.{column, is_open, phase, top_status, has_parent_ended}
 use Rattle.coordinator.specs.Closing.{begins, rolling_back}
 use Rattle.coordinator.specs.Running.{runs}
 use Rattle.coordinator.specs.Hearing.{marks}
@@ -110,8 +112,8 @@ creates_by None b f = does (said.Made (length f.rows)) (only (with_sub b f))
 creates_by (Some fault) b f = says (tree_refusal fault) f
 
 abbrev pub creates_in : Column → ℕ → Family → Acted
-creates_in IsActive b f = creates_by (creating f.rows b) b f
-creates_in IsMarked b f = says said.TransactionRolledBack f
+creates_in columns.Active b f = creates_by (creating f.rows b) b f
+creates_in columns.Marked b f = says said.TransactionRolledBack f
 creates_in _ b f = says said.Inactive f
 
 -- create_subtransaction
@@ -150,23 +152,23 @@ abbrev pub unless_orphan : ℕ → Family → Moved → Acted
 unless_orphan b f moved = if has_parent_ended f b then says said.TransactionRolledBack f else does said.Later moved
 
 abbrev pub commits_in : Column → ℕ → ℕ → Bool → Family → Acted
-commits_in IsActive b position asked f = unless_orphan b f (begins_commit b position asked f)
-commits_in IsMarked b position asked f =
+commits_in columns.Active b position asked f = unless_orphan b f (begins_commit b position asked f)
+commits_in columns.Marked b position asked f =
     unless_orphan b f (rolls_back b reasons.Marked (Some position) said.TransactionRolledBack f)
-commits_in IsFinishing b position asked f = says said.InvalidTransaction f
-commits_in IsRolledBack b position asked f = says said.TransactionRolledBack f
-commits_in IsPast b position asked f = says said.InvalidTransaction f
+commits_in columns.Finishing b position asked f = says said.InvalidTransaction f
+commits_in columns.RolledBack b position asked f = says said.TransactionRolledBack f
+commits_in columns.Past b position asked f = says said.InvalidTransaction f
 
 -- commit of Terminator
 unfoldable pub commits : ℕ → ℕ → Bool → Family → Acted
 commits b position asked f = commits_in (column f b) b position asked f
 
 abbrev pub rolls_back_in : Column → ℕ → ℕ → Family → Acted
-rolls_back_in IsActive b position f = does said.Later (rolls_back b reasons.Asked (Some position) said.Plain f)
-rolls_back_in IsMarked b position f = does said.Later (rolls_back b reasons.Asked (Some position) said.Plain f)
-rolls_back_in IsFinishing b position f = says said.InvalidTransaction f
-rolls_back_in IsRolledBack b position f = says said.Plain f
-rolls_back_in IsPast b position f = says said.InvalidTransaction f
+rolls_back_in columns.Active b position f = does said.Later (rolls_back b reasons.Asked (Some position) said.Plain f)
+rolls_back_in columns.Marked b position f = does said.Later (rolls_back b reasons.Asked (Some position) said.Plain f)
+rolls_back_in columns.Finishing b position f = says said.InvalidTransaction f
+rolls_back_in columns.RolledBack b position f = says said.Plain f
+rolls_back_in columns.Past b position f = says said.InvalidTransaction f
 
 -- rollback of Terminator
 unfoldable pub rolls_back_asked : ℕ → ℕ → Family → Acted

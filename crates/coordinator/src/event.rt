@@ -1,6 +1,14 @@
+ghost use Rattle.std.specs.Prelude.{◌≡◌};
+
 use ior_refs::ObjectKey;
 use ots_model::tree::{Heard, Word};
 use ots_model::{CallNumber, RefBytes, RetryKey};
+
+/// How many entries a family's history has at most (our profile).
+pub const HISTORY_LIMIT: u32 = 16384;
+
+/// How many it has at most before a call from outside (our profile).
+pub const CALL_LIMIT: u32 = 12288;
 
 /// What happens to a family.
 #[derive(Drop)]
@@ -74,4 +82,29 @@ pub enum Act {
     Reread(bool),
     /// The history begins, with the moment at which the family's time is over.
     Opened(Option<u64>),
+}
+
+impl Act {
+    ghost use Rattle.coordinator.specs.History.{is_own_act, limit_of};
+
+    /// Whether the service itself brings it. All else comes from outside.
+    pub fn is_own(&self) -> bool
+        ensures { result ≡ is_own_act self.now }
+    {
+        matches!(
+            self,
+            Act::Answer(_, _) | Act::Tick | Act::Reread(_) | Act::Opened(_)
+        )
+    }
+
+    /// How many entries a history may have before it.
+    pub fn history_limit(&self) -> u32
+        ensures { result ≡ limit_of self.now }
+    {
+        if self.is_own() {
+            HISTORY_LIMIT
+        } else {
+            CALL_LIMIT
+        }
+    }
 }

@@ -1,5 +1,6 @@
 // Laws of the definitions: these functions do nothing, and their contracts are the laws.
-ghost use Rattle.coordinator.specs.Laws.{FamiliesAppendByConsent, FamiliesCommitByRecord, FamiliesStepRightly, FamilyOutcomesStay, StaleAnswersChangeNothing};
+ghost use Rattle.coordinator.specs.AnswersByPhase.{AnswersByPhase};
+ghost use Rattle.coordinator.specs.Laws.{FamiliesAppendByConsent, FamiliesCommitByRecord, FamiliesDecideOnce, FamiliesStepRightly, FamilyOutcomesStay, StaleAnswersChangeNothing};
 ghost use Rattle.coordinator.specs.Plays.{FamiliesPlay};
 
 use two_phase::{a_tree_outcome_stays, tree_words_go_rightly};
@@ -8,6 +9,11 @@ use two_phase::{a_tree_outcome_stays, tree_words_go_rightly};
 /// what happened.
 pub fn families_play()
     ensures { FamiliesPlay }
+{}
+
+/// In each phase each call is answered as it must be.
+pub fn answers_follow_phases()
+    ensures { AnswersByPhase }
 {}
 
 /// In each step of a family the completion begins once, or goes on as a completion does; and each word that goes out is the
@@ -30,6 +36,13 @@ pub fn stale_answers_change_nothing()
 /// An outcome of a family that is fixed stays, whatever happens.
 pub fn family_outcomes_stay()
     ensures { FamilyOutcomesStay }
+{
+    a_tree_outcome_stays();
+}
+
+/// An outcome that a step tells wasn't fixed before, and is from then on. As it stays, a family tells one at most.
+pub fn families_decide_once()
+    ensures { FamiliesDecideOnce }
 {
     a_tree_outcome_stays();
 }

@@ -2,12 +2,13 @@
 #![tactic(auto)]
 
 pub use effect::{Effect, Effects};
-pub use event::{Act, Event};
+pub use event::{Act, CALL_LIMIT, Event, HISTORY_LIMIT};
 pub use laws::{
-    decisions_rest_on_consent, families_commit_by_record, families_play, families_step_rightly,
-    family_outcomes_stay, stale_answers_change_nothing,
+    answers_follow_phases, decisions_rest_on_consent, families_commit_by_record,
+    families_decide_once, families_play, families_step_rightly, family_outcomes_stay,
+    stale_answers_change_nothing,
 };
-pub use phase::Phase;
+pub use phase::{Column, Phase};
 pub use said::{Answers, Entry, Finished, Said, StepAnswer};
 
 mod effect;

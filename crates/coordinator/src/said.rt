@@ -1,7 +1,16 @@
+ghost use Rattle.std.specs.Prelude.{◌≡◌};
+ghost use Rattle.coordinator.specs.History as history;
+ghost use Rattle.coordinator.specs.Closing.{plain_answer, reported};
+ghost use Rattle.coordinator.specs.Hearing.{doubt_answer};
+ghost use Rattle.coordinator.specs.Table.{tree_refusal, vote_refusal};
+
 use crate::effect::Effects;
 use crate::event::Event;
-use ots_model::{Octets, Status, Stood, Vote};
+use ots_model::tree::Outcome;
+use ots_model::{Doubted, Join, Octets, Status, Stood, Vote};
+use resource_votes::VoteFault;
 use std::marker::Model;
+use txn_tree::TreeFault;
 
 /// What a call is answered.
 #[derive(Drop)]
@@ -60,6 +69,73 @@ pub enum Said {
     ObjectNotExist,
     /// NO_IMPLEMENT: that is another service's coordinator.
     NoImplement,
+}
+
+impl Said {
+    /// Whether the answer is still to come.
+    pub fn is_later(&self) -> bool
+        ensures { result ≡ history.is_later self.now }
+    {
+        matches!(self, Said::Later)
+    }
+
+    /// What a commit is answered by its outcome alone, where nothing is reported.
+    pub fn of_outcome(outcome: Outcome) -> Said
+        ensures { result ≡ plain_answer outcome }
+    {
+        match outcome {
+            Outcome::Commit(_) => Said::Plain,
+            Outcome::Rollback(_) => Said::TransactionRolledBack,
+            Outcome::Unknown => Said::CommFailure,
+        }
+    }
+
+    /// The exception that reports at a root what became of the updates together, where there is something to report.
+    pub fn of_join(join: Join) -> Option<Said>
+        ensures { result ≡ reported join }
+    {
+        match join {
+            Join::Mixed => Some(Said::HeuristicMixed),
+            Join::Hazard => Some(Said::HeuristicHazard),
+            Join::Nothing | Join::Opposite => None,
+        }
+    }
+
+    /// What a commit is answered where nobody knows whether its record stands.
+    pub fn of_doubt(why: Doubted) -> Said
+        ensures { result ≡ doubt_answer why }
+    {
+        match why {
+            Doubted::Starved => Said::NoMemory,
+            Doubted::Counted(_, _) | Doubted::Damaged(_) => Said::PersistStore,
+        }
+    }
+
+    /// Why nothing was registered.
+    pub fn of_vote_fault(fault: VoteFault) -> Said
+        ensures { result ≡ vote_refusal fault }
+    {
+        match fault {
+            VoteFault::Inactive => Said::Inactive,
+            VoteFault::MarkedAlready => Said::TransactionRolledBack,
+            VoteFault::NotSubtransaction => Said::NotSubtransaction,
+            VoteFault::SynchronizationUnavailable => Said::SynchronizationUnavailable,
+            VoteFault::NoResources => Said::NoResources,
+            VoteFault::Memory => Said::NoMemory,
+        }
+    }
+
+    /// Why no subtransaction was made.
+    pub fn of_tree_fault(fault: TreeFault) -> Said
+        ensures { result ≡ tree_refusal fault }
+    {
+        match fault {
+            TreeFault::Inactive => Said::Inactive,
+            TreeFault::MarkedAlready => Said::TransactionRolledBack,
+            TreeFault::SubtransactionsUnavailable => Said::SubtransactionsUnavailable,
+            TreeFault::Memory => Said::NoMemory,
+        }
+    }
 }
 
 /// The answer to a call that was said `Later`.
