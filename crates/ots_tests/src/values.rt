@@ -52,3 +52,22 @@ fn each_type_is_written_and_read(rt: HostRuntime) -> Result<(), Fail> {
     }
     Ok(())
 }
+
+fn too_long(place: u32, length: u32) -> Result<(), CdrFault> {
+    Err(CdrFault::TooLong { place, length })
+}
+
+#[test]
+fn a_writer_ends_at_65_536_octets_and_refuses_a_nul(rt: HostRuntime) -> Result<(), Fail> {
+    let items = vec![in rt.alloc(); 7; 65_533]?;
+    let mut writer = Writer::new(rt.alloc(), Order::Big, 4);
+    assert_eq!(rt; writer.string(b"h\0i"), Err(CdrFault::BadString(4)));
+    assert_eq!(rt; writer.octets(&items), too_long(4, 65_537));
+    assert_eq!(rt; writer.octets(&items[1..]), Ok(()));
+    assert_eq!(rt; writer.octet(1), too_long(65_540, 65_537));
+    assert_eq!(rt; writer.string(b""), too_long(65_540, 65_541));
+    assert_eq!(rt; writer.string(b"\0"), Err(CdrFault::BadString(65_540)));
+    assert_eq!(rt; writer.raw(b""), Ok(()));
+    assert_eq!(rt; writer.finish().bytes().len(), 65_536);
+    Ok(())
+}
