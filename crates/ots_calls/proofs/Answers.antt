@@ -1,5 +1,5 @@
 -- Replies are read exactly where they are answers.
-use Rattle.std.proofs.Common.{◌≡◌, ℕ, Bool, true, false, cond, eqb, not, List, [], ◌∷◌, length, Some, None, Result, Ok, Err, refl, sym, ap, subst, arith}
+use Rattle.std.proofs.Common.{◌≡◌, ℕ, ◌<◌, Bool, true, false, cond, eqb, not, List, [], ◌∷◌, length, Some, None, Result, Ok, Err, refl, sym, ap, subst, arith}
 use Rattle.cdr_values.specs.Again.{standing}
 use Rattle.cdr_values.specs.Laws.{ReadingLaws}
 use Rattle.cdr_values.specs.Reading.{Reading, ◌>>=◌, boolean_at, ulong_at, ulonglong_at, string_at}
@@ -28,7 +28,7 @@ use Rattle.ots_calls.specs.declared.answer.Given.{Given}
 use Rattle.ots_calls.specs.declared.answer.Given.TheVariants as given
 use Rattle.ots_calls.specs.declared.call.Call.{Call}
 use Rattle.ots_calls.specs.declared.fault.CallFault.{CallFault}
-use Rattle.ots_calls.specs.declared.fault.CallFault.TheVariants.{Marshal}
+use Rattle.ots_calls.specs.declared.fault.CallFault.TheVariants.{Marshal, Garbled}
 use Rattle.ots_calls.specs.declared.gives.Gives.{Gives}
 use Rattle.ots_calls.specs.declared.gives.Gives.TheVariants as gives
 use Rattle.ots_calls.specs.declared.operation.Operation.{Operation}
@@ -260,3 +260,12 @@ with_only refs contexts laws call answer reply h =
 
 pub answers_exact : ReferencesAreReadExactly → ContextsStandExactly → ReadingLaws → AnswersAreReadExactly
 answers_exact refs contexts laws call answer reply = (with_found refs contexts laws call answer reply, with_only refs contexts laws call answer reply)
+
+-- a status that is none of the three: the reply is no answer
+pub other_status : (call : Call) (reply : Reply) → 2 < reply.status → answer_with call reply ≡ Err (Garbled 0)
+unfolding answer_with answer_at
+other_status call reply h =
+    let none : eqb reply.status 0 ≡ false = grind arith in
+    let user : eqb reply.status 1 ≡ false = grind arith in
+    let system : eqb reply.status 2 ≡ false = grind arith in
+    rw (none, user, system) refl

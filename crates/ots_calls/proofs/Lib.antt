@@ -9,3 +9,4 @@ pub mod Answers
 pub mod Sizes
 pub mod Shapes
 pub mod Frugal
+pub mod Replies

@@ -4,11 +4,12 @@ use Rattle.std.specs.List.{list_any}
 use Rattle.std.specs.Str.{bytes_eq}
 use Rattle.std.proofs.lemmas.Bool.{and_parts}
 use Rattle.std.proofs.lemmas.Slice.Eq.{bytes_eq-Decides}
+use Rattle.ots_calls.specs.declared.interface.Interface.TheVariants as interfaces
 use Rattle.ots_calls.specs.declared.operation.Bare.TheVariants.{GetTerminator, GetCoordinator, RollbackTransaction, GetStatus, GetParentStatus, GetTopLevelStatus, IsTopLevelTransaction, HashTransaction, HashTopLevelTran, RollbackOnly, GetTransactionName, CreateSubtransaction, GetTxcontext, Prepare, Rollback, Commit, CommitOnePhase, Forget, BeforeCompletion, RollbackSubtransaction, NonExistent}
 use Rattle.ots_calls.specs.declared.operation.Handing.TheVariants.{IsSameTransaction, IsRelatedTransaction, IsAncestorTransaction, IsDescendantTransaction, RegisterResource, RegisterSynchronization, RegisterSubtranAware, ReplayCompletion, CommitSubtransaction}
 use Rattle.ots_calls.specs.declared.operation.Operation.{Operation}
 use Rattle.ots_calls.specs.declared.operation.Operation.TheVariants.{Bare, Handing, Create, Recreate, CommitTransaction, AfterCompletion, Put, Get, IsA}
-use Rattle.ots_calls.specs.Table.{aware_resource, cells, control, coordinator, any_object, factory, operation_named, operations, recovery_coordinator, resource, serves, synchronization, terminator, word_of}
+use Rattle.ots_calls.specs.Table.{kinds_of, operation_named, operations, serves, word_of}
 use Rattle.ots_calls.specs.TableInside.{of_length}
 use Rattle.ots_calls.specs.Laws.{NamesTellOperations}
 use Rattle.ots_calls.proofs.Steps.{found}
@@ -41,43 +42,43 @@ Finds operation kind = (operation_named kind (word_of operation) ≡ Some operat
 
 named : (operation : Operation) (kind : ℕ) → serves kind operation ≡ true → Finds operation kind
 unfolding operation_named
-named Create kind h = at_each factory (Finds Create) ((refl, refl), tt) kind h
-named Recreate kind h = at_each factory (Finds Recreate) ((refl, refl), tt) kind h
-named (Bare GetTerminator) kind h = at_each control (Finds (Bare GetTerminator)) ((refl, refl), tt) kind h
-named (Bare GetCoordinator) kind h = at_each control (Finds (Bare GetCoordinator)) ((refl, refl), tt) kind h
-named CommitTransaction kind h = at_each terminator (Finds CommitTransaction) ((refl, refl), tt) kind h
-named (Bare RollbackTransaction) kind h = at_each terminator (Finds (Bare RollbackTransaction)) ((refl, refl), tt) kind h
-named (Bare GetStatus) kind h = at_each coordinator (Finds (Bare GetStatus)) ((refl, refl), tt) kind h
-named (Bare GetParentStatus) kind h = at_each coordinator (Finds (Bare GetParentStatus)) ((refl, refl), tt) kind h
-named (Bare GetTopLevelStatus) kind h = at_each coordinator (Finds (Bare GetTopLevelStatus)) ((refl, refl), tt) kind h
-named (Handing IsSameTransaction) kind h = at_each coordinator (Finds (Handing IsSameTransaction)) ((refl, refl), tt) kind h
-named (Handing IsRelatedTransaction) kind h = at_each coordinator (Finds (Handing IsRelatedTransaction)) ((refl, refl), tt) kind h
-named (Handing IsAncestorTransaction) kind h = at_each coordinator (Finds (Handing IsAncestorTransaction)) ((refl, refl), tt) kind h
-named (Handing IsDescendantTransaction) kind h = at_each coordinator (Finds (Handing IsDescendantTransaction)) ((refl, refl), tt) kind h
-named (Bare IsTopLevelTransaction) kind h = at_each coordinator (Finds (Bare IsTopLevelTransaction)) ((refl, refl), tt) kind h
-named (Bare HashTransaction) kind h = at_each coordinator (Finds (Bare HashTransaction)) ((refl, refl), tt) kind h
-named (Bare HashTopLevelTran) kind h = at_each coordinator (Finds (Bare HashTopLevelTran)) ((refl, refl), tt) kind h
-named (Handing RegisterResource) kind h = at_each coordinator (Finds (Handing RegisterResource)) ((refl, refl), tt) kind h
-named (Handing RegisterSynchronization) kind h = at_each coordinator (Finds (Handing RegisterSynchronization)) ((refl, refl), tt) kind h
-named (Handing RegisterSubtranAware) kind h = at_each coordinator (Finds (Handing RegisterSubtranAware)) ((refl, refl), tt) kind h
-named (Bare RollbackOnly) kind h = at_each coordinator (Finds (Bare RollbackOnly)) ((refl, refl), tt) kind h
-named (Bare GetTransactionName) kind h = at_each coordinator (Finds (Bare GetTransactionName)) ((refl, refl), tt) kind h
-named (Bare CreateSubtransaction) kind h = at_each coordinator (Finds (Bare CreateSubtransaction)) ((refl, refl), tt) kind h
-named (Bare GetTxcontext) kind h = at_each coordinator (Finds (Bare GetTxcontext)) ((refl, refl), tt) kind h
-named (Handing ReplayCompletion) kind h = at_each recovery_coordinator (Finds (Handing ReplayCompletion)) ((refl, refl), tt) kind h
-named (Bare Prepare) kind h = at_each resource (Finds (Bare Prepare)) ((refl, refl), ((refl, refl), ((refl, refl), tt))) kind h
-named (Bare Rollback) kind h = at_each resource (Finds (Bare Rollback)) ((refl, refl), ((refl, refl), ((refl, refl), tt))) kind h
-named (Bare Commit) kind h = at_each resource (Finds (Bare Commit)) ((refl, refl), ((refl, refl), ((refl, refl), tt))) kind h
-named (Bare CommitOnePhase) kind h = at_each resource (Finds (Bare CommitOnePhase)) ((refl, refl), ((refl, refl), ((refl, refl), tt))) kind h
-named (Bare Forget) kind h = at_each resource (Finds (Bare Forget)) ((refl, refl), ((refl, refl), ((refl, refl), tt))) kind h
-named (Bare BeforeCompletion) kind h = at_each synchronization (Finds (Bare BeforeCompletion)) ((refl, refl), tt) kind h
-named AfterCompletion kind h = at_each synchronization (Finds AfterCompletion) ((refl, refl), tt) kind h
-named (Handing CommitSubtransaction) kind h = at_each aware_resource (Finds (Handing CommitSubtransaction)) ((refl, refl), tt) kind h
-named (Bare RollbackSubtransaction) kind h = at_each aware_resource (Finds (Bare RollbackSubtransaction)) ((refl, refl), tt) kind h
-named Put kind h = at_each cells (Finds Put) ((refl, refl), tt) kind h
-named Get kind h = at_each cells (Finds Get) ((refl, refl), tt) kind h
-named IsA kind h = at_each any_object (Finds IsA) ((refl, refl), ((refl, refl), ((refl, refl), ((refl, refl), ((refl, refl), ((refl, refl), ((refl, refl), ((refl, refl), ((refl, refl), ((refl, refl), tt)))))))))) kind h
-named (Bare NonExistent) kind h = at_each any_object (Finds (Bare NonExistent)) ((refl, refl), ((refl, refl), ((refl, refl), ((refl, refl), ((refl, refl), ((refl, refl), ((refl, refl), ((refl, refl), ((refl, refl), ((refl, refl), tt)))))))))) kind h
+named Create kind h = at_each (kinds_of interfaces.TransactionFactory) (Finds Create) ((refl, refl), tt) kind h
+named Recreate kind h = at_each (kinds_of interfaces.TransactionFactory) (Finds Recreate) ((refl, refl), tt) kind h
+named (Bare GetTerminator) kind h = at_each (kinds_of interfaces.Control) (Finds (Bare GetTerminator)) ((refl, refl), tt) kind h
+named (Bare GetCoordinator) kind h = at_each (kinds_of interfaces.Control) (Finds (Bare GetCoordinator)) ((refl, refl), tt) kind h
+named CommitTransaction kind h = at_each (kinds_of interfaces.Terminator) (Finds CommitTransaction) ((refl, refl), tt) kind h
+named (Bare RollbackTransaction) kind h = at_each (kinds_of interfaces.Terminator) (Finds (Bare RollbackTransaction)) ((refl, refl), tt) kind h
+named (Bare GetStatus) kind h = at_each (kinds_of interfaces.Coordinator) (Finds (Bare GetStatus)) ((refl, refl), tt) kind h
+named (Bare GetParentStatus) kind h = at_each (kinds_of interfaces.Coordinator) (Finds (Bare GetParentStatus)) ((refl, refl), tt) kind h
+named (Bare GetTopLevelStatus) kind h = at_each (kinds_of interfaces.Coordinator) (Finds (Bare GetTopLevelStatus)) ((refl, refl), tt) kind h
+named (Handing IsSameTransaction) kind h = at_each (kinds_of interfaces.Coordinator) (Finds (Handing IsSameTransaction)) ((refl, refl), tt) kind h
+named (Handing IsRelatedTransaction) kind h = at_each (kinds_of interfaces.Coordinator) (Finds (Handing IsRelatedTransaction)) ((refl, refl), tt) kind h
+named (Handing IsAncestorTransaction) kind h = at_each (kinds_of interfaces.Coordinator) (Finds (Handing IsAncestorTransaction)) ((refl, refl), tt) kind h
+named (Handing IsDescendantTransaction) kind h = at_each (kinds_of interfaces.Coordinator) (Finds (Handing IsDescendantTransaction)) ((refl, refl), tt) kind h
+named (Bare IsTopLevelTransaction) kind h = at_each (kinds_of interfaces.Coordinator) (Finds (Bare IsTopLevelTransaction)) ((refl, refl), tt) kind h
+named (Bare HashTransaction) kind h = at_each (kinds_of interfaces.Coordinator) (Finds (Bare HashTransaction)) ((refl, refl), tt) kind h
+named (Bare HashTopLevelTran) kind h = at_each (kinds_of interfaces.Coordinator) (Finds (Bare HashTopLevelTran)) ((refl, refl), tt) kind h
+named (Handing RegisterResource) kind h = at_each (kinds_of interfaces.Coordinator) (Finds (Handing RegisterResource)) ((refl, refl), tt) kind h
+named (Handing RegisterSynchronization) kind h = at_each (kinds_of interfaces.Coordinator) (Finds (Handing RegisterSynchronization)) ((refl, refl), tt) kind h
+named (Handing RegisterSubtranAware) kind h = at_each (kinds_of interfaces.Coordinator) (Finds (Handing RegisterSubtranAware)) ((refl, refl), tt) kind h
+named (Bare RollbackOnly) kind h = at_each (kinds_of interfaces.Coordinator) (Finds (Bare RollbackOnly)) ((refl, refl), tt) kind h
+named (Bare GetTransactionName) kind h = at_each (kinds_of interfaces.Coordinator) (Finds (Bare GetTransactionName)) ((refl, refl), tt) kind h
+named (Bare CreateSubtransaction) kind h = at_each (kinds_of interfaces.Coordinator) (Finds (Bare CreateSubtransaction)) ((refl, refl), tt) kind h
+named (Bare GetTxcontext) kind h = at_each (kinds_of interfaces.Coordinator) (Finds (Bare GetTxcontext)) ((refl, refl), tt) kind h
+named (Handing ReplayCompletion) kind h = at_each (kinds_of interfaces.RecoveryCoordinator) (Finds (Handing ReplayCompletion)) ((refl, refl), tt) kind h
+named (Bare Prepare) kind h = at_each (kinds_of interfaces.Resource) (Finds (Bare Prepare)) ((refl, refl), ((refl, refl), ((refl, refl), tt))) kind h
+named (Bare Rollback) kind h = at_each (kinds_of interfaces.Resource) (Finds (Bare Rollback)) ((refl, refl), ((refl, refl), ((refl, refl), tt))) kind h
+named (Bare Commit) kind h = at_each (kinds_of interfaces.Resource) (Finds (Bare Commit)) ((refl, refl), ((refl, refl), ((refl, refl), tt))) kind h
+named (Bare CommitOnePhase) kind h = at_each (kinds_of interfaces.Resource) (Finds (Bare CommitOnePhase)) ((refl, refl), ((refl, refl), ((refl, refl), tt))) kind h
+named (Bare Forget) kind h = at_each (kinds_of interfaces.Resource) (Finds (Bare Forget)) ((refl, refl), ((refl, refl), ((refl, refl), tt))) kind h
+named (Bare BeforeCompletion) kind h = at_each (kinds_of interfaces.Synchronization) (Finds (Bare BeforeCompletion)) ((refl, refl), tt) kind h
+named AfterCompletion kind h = at_each (kinds_of interfaces.Synchronization) (Finds AfterCompletion) ((refl, refl), tt) kind h
+named (Handing CommitSubtransaction) kind h = at_each (kinds_of interfaces.SubtransactionAwareResource) (Finds (Handing CommitSubtransaction)) ((refl, refl), tt) kind h
+named (Bare RollbackSubtransaction) kind h = at_each (kinds_of interfaces.SubtransactionAwareResource) (Finds (Bare RollbackSubtransaction)) ((refl, refl), tt) kind h
+named Put kind h = at_each (kinds_of interfaces.Cells) (Finds Put) ((refl, refl), tt) kind h
+named Get kind h = at_each (kinds_of interfaces.Cells) (Finds Get) ((refl, refl), tt) kind h
+named IsA kind h = at_each (kinds_of interfaces.Object) (Finds IsA) ((refl, refl), ((refl, refl), ((refl, refl), ((refl, refl), ((refl, refl), ((refl, refl), ((refl, refl), ((refl, refl), ((refl, refl), ((refl, refl), tt)))))))))) kind h
+named (Bare NonExistent) kind h = at_each (kinds_of interfaces.Object) (Finds (Bare NonExistent)) ((refl, refl), ((refl, refl), ((refl, refl), ((refl, refl), ((refl, refl), ((refl, refl), ((refl, refl), ((refl, refl), ((refl, refl), ((refl, refl), tt)))))))))) kind h
 
 pub names_tell : NamesTellOperations
 unfolding operation_named

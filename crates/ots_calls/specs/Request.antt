@@ -1,7 +1,7 @@
 -- Which request is a call (CORBA, General Inter-ORB Protocol, Request Message; Transaction Service 1.4, module
 -- CosTransactions), and in which order a request is refused (our profile): by its target, the key's spelling, the
 -- operation, the transaction's context, the retry key, and then its body.
-use Rattle.std.specs.Prelude.{◌≡◌, ◌⊎◌, ℕ, List, Option, Some, None, IsTrue, Result, Ok, Err}
+use Rattle.std.specs.Prelude.{◌≡◌, ◌⊎◌, ℕ, List, Option, Some, None, IsOk, IsTrue, Result, Ok, Err}
 use Rattle.cdr_values.specs.Again.{standing}
 use Rattle.cdr_values.specs.Reading.{◌>>=◌}
 use Rattle.giop_frames.specs.declared.message.Request.{Request}
@@ -65,8 +65,13 @@ Refuses fault r =
     ((fault ≡ BadTarget) × HasNoKey r.target) ⊎ (((fault ≡ BadKey) × HasForeignKey r.target)
     ⊎ ((key : ObjectKey) × IsFor key r.target × (called_with key r ≡ Err fault)))
 
--- for a request for this key memory is wanted: it holds a transaction, or what its operation takes is held in memory
-abbrev pub WantsMemory : ObjectKey → Request → Type 0
-WantsMemory key r =
-    ¬ (first_context r.contexts ≡ None)
-    ⊎ ((operation : Operation) × (operation_named key.kind r.operation ≡ Some operation) × IsHeld operation)
+-- for a request for this key memory is wanted: the key has the operation, and the request holds a transaction, or its retry
+-- key stands and what the operation takes is held in memory
+abbrev pub WantsMemoryFor : ObjectKey → Request → Type 0
+WantsMemoryFor key r = (operation : Operation)
+    × (operation_named key.kind r.operation ≡ Some operation)
+    × (¬ (first_context r.contexts ≡ None) ⊎ (IsHeld operation × IsOk (retry_in_first (first_retry r.contexts))))
+
+-- for a request memory is wanted. A target and a key are always judged.
+abbrev pub WantsMemory : Request → Type 0
+WantsMemory r = (key : ObjectKey) × IsFor key r.target × WantsMemoryFor key r

@@ -1,5 +1,5 @@
 -- The request of a call, and why there is none (our profile). It is big endian, with padding 0, and a reply is wanted.
-use Rattle.std.specs.Prelude.{◌≡◌, ℕ, ◌+◌, Bool, not, List, [], ◌∷◌, ◌++◌, length, Option, Some, None, Result, Ok, Err, if◌then◌else◌}
+use Rattle.std.specs.Prelude.{◌≡◌, ℕ, ◌+◌, Bool, true, false, not, List, [], ◌∷◌, ◌++◌, length, Option, Some, None, Result, Ok, Err, if◌then◌else◌}
 use Rattle.cdr_values.specs.declared.fault.CdrFault.{CdrFault}
 use Rattle.cdr_values.specs.declared.order.Order.TheVariants.{Big}
 use Rattle.cdr_values.specs.Encapsulation.{begun}
@@ -90,6 +90,10 @@ request_with id c contexts body = record {
   order = Big;
   body = body;
 }
+
+-- there are objects with keys of that kind, but they don't have the operation
+abbrev pub LacksOperation : Called → Type 0
+LacksOperation c = (is_kind c.key.kind ≡ true) × (serves c.key.kind (operation_of c.call) ≡ false)
 
 -- the request of a call
 unfoldable pub request_of : ℕ → Called → Result Request CallFault

@@ -32,7 +32,7 @@ pub enum Given {
 }
 
 /// Whether an operation was done that raised a system exception (completion_status).
-#[derive(Clone, Copy, Debug, PartialEq, Eq)]
+#[derive(Clone, Copy, Debug)]
 pub enum Completed {
     /// COMPLETED_YES.
     Yes,

@@ -22,11 +22,13 @@ use ots_model::{Octets, Vote};
 use std::alloc::Global;
 
 /// The answer to a call that a reply is.
+#[tactic(auto, using(crate::proofs::Answers::other_status))]
 pub fn read_answer(alloc: Global, c: &Call, r: &Reply) -> Result<Answer, CallFault>
     requires { length r.now.body < 2 ^ 31 }
     ensures exact { Finds (λ answer. answer) result (answer_with c.now r.now) }
     ensures answer { IfOk result (λ answer. IsAnswer c.now answer r.now) }
     ensures memory { result ≡ Err CallFault.Memory → WantsMemory (operation_of c.now) r.now.status }
+    ensures status { 2 < r.now.status → result ≡ Err (CallFault.Garbled 0) }
 {
     answers_are_read_exactly();
     read_with(alloc, c, r)

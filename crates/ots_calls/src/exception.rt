@@ -4,7 +4,7 @@ ghost use Rattle.std.specs.Str.{bytes_eq};
 ghost use Rattle.ots_calls.specs.Exception.{user_id, user_named};
 
 /// A user exception of module CosTransactions.
-#[derive(Clone, Copy, Debug, PartialEq, Eq)]
+#[derive(Clone, Copy, Debug)]
 pub enum UserException {
     /// HeuristicRollback: the updates were rolled back.
     HeuristicRollback,

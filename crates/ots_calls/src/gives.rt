@@ -1,5 +1,5 @@
 /// What an operation gives where it raises no exception.
-#[derive(Clone, Copy, Debug, PartialEq, Eq)]
+#[derive(Clone, Copy, PartialEq, Eq)]
 pub enum Gives {
     /// Nothing.
     Nothing,

@@ -1,9 +1,16 @@
-ghost use Rattle.std.specs.Prelude.{◌≡◌, IfOk, IsErr};
-ghost use Rattle.ots_calls.specs.Heard.{HoldsReference, heard_in, heard_of_given, heard_of_system, heard_of_user};
+ghost use Rattle.std.specs.Prelude.{◌≡◌, ◌≢◌, ◌⊎◌, ◌^◌, ◌<◌, IfOk, IsErr, length};
+ghost use Rattle.ots_calls.specs.Answering.{WantsMemory};
+ghost use Rattle.ots_calls.specs.Call.{operation_of};
+ghost use Rattle.ots_calls.specs.Heard.{GivesReference, IsAnswered, heard_in, heard_in_reply, heard_of_given, heard_of_system, heard_of_user};
+ghost use Rattle.ots_calls.specs.declared.answer.Answer.TheVariants as answers;
 
 use crate::answer::{Answer, Given};
+use crate::answering::read_answer;
+use crate::call::Call;
 use crate::exception::UserException;
+use crate::fault::CallFault;
 use crate::system::SystemException;
+use giop_frames::Reply;
 use ots_model::Disposition;
 use ots_model::tree::Heard;
 use std::alloc::{AllocError, Global};
@@ -11,7 +18,8 @@ use std::alloc::{AllocError, Global};
 /// What the caller of an outward call hears in its answer.
 pub fn heard(alloc: Global, a: &Answer) -> Result<Heard, AllocError>
     ensures heard { IfOk result (λ heard. heard ≡ heard_in a.now) }
-    ensures memory { IsErr result → HoldsReference (heard_in a.now) }
+    ensures answered { IfOk result IsAnswered }
+    ensures memory { IsErr result → GivesReference a.now }
 {
     match a {
         Answer::Plain(given) => heard_of_given(alloc, given),
@@ -20,10 +28,30 @@ pub fn heard(alloc: Global, a: &Answer) -> Result<Heard, AllocError>
     }
 }
 
+/// What the caller of an outward call hears in the reply to it. A reply that is no answer is heard as Other, and want of
+/// memory as Starved. Where no reply came the caller has to say Lost itself.
+#[tactic(auto, using(crate::proofs::Replies::reference_held, crate::proofs::Replies::not_starved, crate::proofs::Replies::not_lost))]
+pub fn heard_in_reply(alloc: Global, c: &Call, r: &Reply) -> Heard
+    requires { length r.now.body < 2 ^ 31 }
+    ensures heard { (result ≡ Heard.Starved) ⊎ (result ≡ heard_in_reply c.now r.now) }
+    ensures memory { result ≡ Heard.Starved → WantsMemory (operation_of c.now) r.now.status }
+    ensures came { result ≢ Heard.Lost }
+{
+    match read_answer(alloc, c, r) {
+        Ok(answer) => match heard(alloc, &answer) {
+            Ok(heard) => heard,
+            Err(_) => Heard::Starved,
+        },
+        Err(CallFault::Memory) => Heard::Starved,
+        Err(_) => Heard::Other,
+    }
+}
+
 /// What is heard where this was given.
 fn heard_of_given(alloc: Global, given: &Given) -> Result<Heard, AllocError>
     ensures heard { IfOk result (λ heard. heard ≡ heard_of_given given.now) }
-    ensures memory { IsErr result → HoldsReference (heard_of_given given.now) }
+    ensures answered { IfOk result IsAnswered }
+    ensures memory { IsErr result → GivesReference (answers.Plain given.now) }
 {
     match given {
         Given::Nothing => Ok(Heard::Done),
@@ -40,7 +68,8 @@ fn heard_of_given(alloc: Global, given: &Given) -> Result<Heard, AllocError>
 
 /// What is heard in a user exception.
 fn heard_of_user(exception: UserException) -> Heard
-    ensures { result ≡ heard_of_user exception }
+    ensures heard { result ≡ heard_of_user exception }
+    ensures answered { IsAnswered result }
 {
     match exception {
         UserException::HeuristicRollback => Heard::Heuristic(Disposition::RolledBack),
@@ -58,7 +87,8 @@ fn heard_of_user(exception: UserException) -> Heard
 
 /// What is heard in a system exception.
 fn heard_of_system(exception: SystemException) -> Heard
-    ensures { result ≡ heard_of_system exception }
+    ensures heard { result ≡ heard_of_system exception }
+    ensures answered { IsAnswered result }
 {
     match exception {
         SystemException::TransactionRolledBack => Heard::RolledBack,

@@ -1,5 +1,5 @@
 /// An operation that takes nothing.
-#[derive(Clone, Copy, Debug, PartialEq, Eq)]
+#[derive(Clone, Copy)]
 pub enum Bare {
     /// Control::get_terminator.
     GetTerminator,
@@ -46,7 +46,7 @@ pub enum Bare {
 }
 
 /// An operation that takes a reference.
-#[derive(Clone, Copy, Debug, PartialEq, Eq)]
+#[derive(Clone, Copy)]
 pub enum Handing {
     /// Coordinator::is_same_transaction.
     IsSameTransaction,
@@ -69,7 +69,7 @@ pub enum Handing {
 }
 
 /// An operation of an interface of module CosTransactions, of the cells, or of every object: a row of the table.
-#[derive(Clone, Copy, Debug, PartialEq, Eq)]
+#[derive(Clone, Copy)]
 pub enum Operation {
     /// One that takes nothing.
     Bare(Bare),

@@ -1,7 +1,7 @@
 ghost use Rattle.std.specs.Prelude.{◌≡◌, ◌≢◌, ◌⊎◌, ◌^◌, ◌<◌, All, IfErr, IfOk, IfSome, Err, Ok, length};
 ghost use Rattle.std.specs.Option.{option_copied};
 ghost use Rattle.ots_calls.specs.Fault.{Finds};
-ghost use Rattle.ots_calls.specs.Request.{IsFor, Refuses, WantsMemory, called_with};
+ghost use Rattle.ots_calls.specs.Request.{IsFor, Refuses, WantsMemory, WantsMemoryFor, called_with};
 ghost use Rattle.ots_calls.specs.Retry.{first_retry, retry_in, retry_in_first};
 
 use crate::call::Called;
@@ -25,7 +25,7 @@ pub fn read_call(alloc: Global, r: &Request) -> Result<Called, CallFault>
     ensures key { IfOk result (λ c. IsFor c.key r.now.target) }
     ensures exact { IfOk result (λ c. called_with c.key r.now ≡ Ok c) }
     ensures refused { IfErr result (λ fault. (fault ≡ CallFault.Memory) ⊎ Refuses fault r.now) }
-    ensures memory { result ≡ Err CallFault.Memory → (key : ObjectKey) × IsFor key r.now.target × WantsMemory key r.now }
+    ensures memory { result ≡ Err CallFault.Memory → WantsMemory r.now }
 {
     let Target::Key(octets) = &r.target else {
         return Err(CallFault::BadTarget);
@@ -43,7 +43,7 @@ fn read_for(alloc: Global, key: ObjectKey, r: &Request) -> Result<Called, CallFa
     requires contexts { All (λ context. length context.bytes < 2 ^ 31) r.now.contexts }
     ensures key { IfOk result (λ c. c.key ≡ key) }
     ensures exact { Finds (λ c. c) result (called_with key r.now) }
-    ensures memory { result ≡ Err CallFault.Memory → WantsMemory key r.now }
+    ensures memory { result ≡ Err CallFault.Memory → WantsMemoryFor key r.now }
 {
     let Some(operation) = Operation::named(key.kind, r.operation.bytes()) else {
         return Err(CallFault::BadOperation);

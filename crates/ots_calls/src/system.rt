@@ -4,7 +4,7 @@ ghost use Rattle.std.specs.Str.{bytes_eq};
 ghost use Rattle.ots_calls.specs.Exception.{system_id, system_named};
 
 /// A system exception of CORBA.
-#[derive(Clone, Copy, Debug, PartialEq, Eq)]
+#[derive(Clone, Copy, Debug)]
 pub enum SystemException {
     /// UNKNOWN.
     Unknown,

@@ -6,6 +6,7 @@ ghost use Rattle.ots_calls.specs.declared.operation.Operation.TheVariants as ope
 ghost use Rattle.ots_calls.specs.Table.{operation_named, row_of, serves, word_of};
 ghost use Rattle.ots_calls.specs.TableInside.{of_length, of_long_name, of_middle_name, of_short_name};
 
+use crate::interface::Interface;
 use crate::operation::{Bare, Handing, Operation};
 
 impl Operation {
@@ -36,18 +37,18 @@ impl Operation {
         }
     }
 
-    /// The kinds of keys whose objects have it.
-    pub fn kinds(self) -> &'static [u8]
-        ensures { result.now ≡ (row_of self).kinds }
+    /// Its interface.
+    pub fn interface(self) -> Interface
+        ensures { result ≡ (row_of self).interface }
     {
         match self {
-            Operation::Bare(bare) => bare_kinds(bare),
-            Operation::Handing(handing) => handing_kinds(handing),
-            Operation::Create | Operation::Recreate => b"F",
-            Operation::CommitTransaction => b"T",
-            Operation::AfterCompletion => b"Y",
-            Operation::Put | Operation::Get => b"D",
-            Operation::IsA => b"FCTKVRUYAD",
+            Operation::Bare(bare) => bare_interface(bare),
+            Operation::Handing(handing) => handing_interface(handing),
+            Operation::Create | Operation::Recreate => Interface::TransactionFactory,
+            Operation::CommitTransaction => Interface::Terminator,
+            Operation::AfterCompletion => Interface::Synchronization,
+            Operation::Put | Operation::Get => Interface::Cells,
+            Operation::IsA => Interface::Object,
         }
     }
 
@@ -55,7 +56,7 @@ impl Operation {
     pub fn serves(self, kind: u8) -> bool
         ensures { result ≡ serves kind self }
     {
-        self.kinds().contains(&kind)
+        self.interface().kinds().contains(&kind)
     }
 
     /// Whether objects have it by this name whose keys are of this kind.
@@ -66,12 +67,12 @@ impl Operation {
     }
 }
 
-fn bare_kinds(bare: Bare) -> &'static [u8]
-    ensures { result.now ≡ (row_of (operations.Bare bare)).kinds }
+fn bare_interface(bare: Bare) -> Interface
+    ensures { result ≡ (row_of (operations.Bare bare)).interface }
 {
     match bare {
-        Bare::GetTerminator | Bare::GetCoordinator => b"C",
-        Bare::RollbackTransaction => b"T",
+        Bare::GetTerminator | Bare::GetCoordinator => Interface::Control,
+        Bare::RollbackTransaction => Interface::Terminator,
         Bare::GetStatus
         | Bare::GetParentStatus
         | Bare::GetTopLevelStatus
@@ -81,17 +82,18 @@ fn bare_kinds(bare: Bare) -> &'static [u8]
         | Bare::RollbackOnly
         | Bare::GetTransactionName
         | Bare::CreateSubtransaction
-        | Bare::GetTxcontext => b"K",
-        Bare::Prepare | Bare::Rollback | Bare::Commit | Bare::CommitOnePhase | Bare::Forget =>
-            b"RUA",
-        Bare::BeforeCompletion => b"Y",
-        Bare::RollbackSubtransaction => b"A",
-        Bare::NonExistent => b"FCTKVRUYAD",
+        | Bare::GetTxcontext => Interface::Coordinator,
+        Bare::Prepare | Bare::Rollback | Bare::Commit | Bare::CommitOnePhase | Bare::Forget => {
+            Interface::Resource
+        }
+        Bare::BeforeCompletion => Interface::Synchronization,
+        Bare::RollbackSubtransaction => Interface::SubtransactionAwareResource,
+        Bare::NonExistent => Interface::Object,
     }
 }
 
-fn handing_kinds(handing: Handing) -> &'static [u8]
-    ensures { result.now ≡ (row_of (operations.Handing handing)).kinds }
+fn handing_interface(handing: Handing) -> Interface
+    ensures { result ≡ (row_of (operations.Handing handing)).interface }
 {
     match handing {
         Handing::IsSameTransaction
@@ -100,9 +102,9 @@ fn handing_kinds(handing: Handing) -> &'static [u8]
         | Handing::IsDescendantTransaction
         | Handing::RegisterResource
         | Handing::RegisterSynchronization
-        | Handing::RegisterSubtranAware => b"K",
-        Handing::ReplayCompletion => b"V",
-        Handing::CommitSubtransaction => b"A",
+        | Handing::RegisterSubtranAware => Interface::Coordinator,
+        Handing::ReplayCompletion => Interface::RecoveryCoordinator,
+        Handing::CommitSubtransaction => Interface::SubtransactionAwareResource,
     }
 }
 

@@ -1,4 +1,4 @@
-ghost use Rattle.std.specs.Prelude.{◌≡◌, ◌+◌, ◌*◌, ◌^◌, ◌<◌, ◌≤◌, ◌++◌, [], ◌∷◌, IfOk, OnOk, None, Err, Ok, true, false, length};
+ghost use Rattle.std.specs.Prelude.{◌≡◌, ◌+◌, ◌*◌, ◌^◌, ◌<◌, ◌≤◌, ◌++◌, [], ◌∷◌, IfOk, OnOk, None, Err, Ok, false, length};
 ghost use Rattle.cdr_values.specs.Limits.{output_limit};
 ghost use Rattle.cdr_values.specs.declared.order.Order.TheVariants.{Big};
 ghost use Rattle.giop_frames.specs.Encode.{octets_in};
@@ -7,12 +7,10 @@ ghost use Rattle.ior_refs.specs.Key.{is_kind};
 ghost use Rattle.ots_context.specs.Context.{IsContext};
 ghost use Rattle.ots_context.specs.Finding.{first_context};
 ghost use Rattle.ots_context.specs.Writing.{kept_length};
-ghost use Rattle.ots_calls.specs.Call.{operation_of};
 ghost use Rattle.ots_calls.specs.Fault.{Finds};
 ghost use Rattle.ots_calls.specs.Request.{AreBoth, IsCall, called_with};
 ghost use Rattle.ots_calls.specs.Retry.{IsRetry, first_retry};
-ghost use Rattle.ots_calls.specs.Table.{serves};
-ghost use Rattle.ots_calls.specs.Writing.{OnlySizeRefuses, carried_length, contexts_of, handed_length, request_of, retry_octets, size_of_contexts, with_retry, with_transaction};
+ghost use Rattle.ots_calls.specs.Writing.{LacksOperation, OnlySizeRefuses, carried_length, contexts_of, handed_length, request_of, retry_octets, size_of_contexts, with_retry, with_transaction};
 
 use crate::body::body_of;
 use crate::call::Called;
@@ -44,7 +42,7 @@ pub fn write_call(alloc: Global, id: u32, c: &Called) -> Result<Request, CallFau
     ensures short { IfOk result (λ request. octets_in (messages.Request request) < 2 ^ 31) }
     ensures framed { IfOk result (λ request. OnlySizeRefuses (messages.Request request)) }
     ensures kind { is_kind c.now.key.kind ≡ false → result ≡ Err CallFault.BadKey }
-    ensures served { is_kind c.now.key.kind ≡ true → serves c.now.key.kind (operation_of c.now.call) ≡ false → result ≡ Err CallFault.BadOperation }
+    ensures served { LacksOperation c.now → result ≡ Err CallFault.BadOperation }
 {
     requests_are_read_exactly();
     let operation = c.call.operation();
