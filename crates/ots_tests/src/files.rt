@@ -1,75 +1,93 @@
-//! Tests of a disk over a long file, and of a journal in a file.
+//! Tests of a disk over a file, and of a journal in a file. Each has a file of its own in the folder that it runs in.
 
-use decision_journal::{Journal, JournalRecord, Registrations};
+use decision_journal::{Journal, JournalFault, JournalRecord, Registrations};
 use ots_outside::{Disk, DiskRefusal, FileDisk};
+use std::alloc::Global;
 use std::fs::File;
-use std::path::PathBuf;
-use std::test::Fail;
-use std::{env, fs, io};
+use std::io::ErrorKind;
+use std::{fs, io};
 
-/// A place for a file, where there is none yet.
-fn free_path(rt: &HostRuntime, name: &str) -> io::Result<PathBuf> {
-    let path = env::temp_dir(rt)?.join(rt.alloc(), name)?;
-    // What an earlier run has left.
-    let _ = fs::remove_file(rt, &path);
-    Ok(path)
+/// A disk over the file of this name, which is made where there is none. A fresh one has no octets.
+fn file_disk(rt: &HostRuntime, name: &str, fresh: bool) -> io::Result<FileDisk> {
+    let mut options = File::options();
+    options.read(true).write(true).create(true).truncate(fresh);
+    let folder = File::open(rt, ".")?;
+    Ok(FileDisk::new(options.open(rt, name)?, Some(folder)))
 }
 
-/// The disk over the file at a path, which is made where there is none.
-fn file_disk(rt: &HostRuntime, path: &PathBuf) -> io::Result<FileDisk> {
-    let mut options = File::options();
-    options.read(true).write(true).create(true);
-    let folder = File::open(rt, env::temp_dir(rt)?)?;
-    Ok(FileDisk::new(options.open(rt, path)?, Some(folder)))
+/// Writes from a place on, and syncs.
+fn keep(disk: &mut FileDisk, place: u64, bytes: &[u8]) -> Result<(), DiskRefusal> {
+    disk.write_at(place, bytes)?;
+    disk.sync()
 }
 
 #[test]
-fn a_long_file_keeps_what_is_synced(rt: HostRuntime) -> Result<(), Fail> {
-    let path = free_path(&rt, "ots_file_disk")?;
-    let mut disk = file_disk(&rt, &path)?;
-    assert_eq!(rt; disk.write_at(0, &[1; 150]), Ok(()));
-    assert_eq!(rt; disk.sync(), Ok(()));
+fn a_file_keeps_what_is_synced(rt: HostRuntime) -> io::Result<()> {
     let long = vec![in rt.alloc(); 2; 70_000]?;
-    assert_eq!(rt; disk.write_at(120, &long), Ok(()));
-    assert_eq!(rt; disk.sync(), Ok(()));
-    let mut disk = file_disk(&rt, &path)?;
+    let mut disk = file_disk(&rt, "ots_file_disk", true)?;
+    assert_eq!(rt; keep(&mut disk, 0, &[1; 150]), Ok(()));
+    assert_eq!(rt; keep(&mut disk, 0, b"xy"), Ok(()));
+    assert_eq!(rt; keep(&mut disk, 120, &long), Ok(()));
+    let mut disk = file_disk(&rt, "ots_file_disk", false)?;
     assert_eq!(rt; disk.len(), Ok(70_120));
-    let mut front = [0; 4];
-    assert_eq!(rt; disk.read_at(118, &mut front), Ok(()));
-    assert_eq!(rt; front, [1, 1, 2, 2]);
+    let mut seam = [0; 4];
+    assert_eq!(rt; disk.read_at(118, &mut seam), Ok(()));
+    assert_eq!(rt; seam, [1, 1, 2, 2]);
     let mut back = vec![in rt.alloc(); 0; 70_000]?;
     assert_eq!(rt; disk.read_at(120, &mut back), Ok(()));
     assert!(rt; back == long);
-    assert_eq!(rt; disk.faults(), 0);
-    assert_eq!(rt; disk.read_at(70_118, &mut front), Err(DiskRefusal::Failed));
-    assert_eq!(rt; disk.faults(), 1);
-    fs::remove_file(&rt, &path)?;
-    Ok(())
-}
-
-/// The next life of the journal in a file.
-fn next_life(rt: &HostRuntime, path: &PathBuf) -> Result<Journal<FileDisk>, Fail> {
-    let disk = file_disk(rt, path)?;
-    Ok(
-        Journal::load(rt.alloc(), disk, 400, 1)
-            .ok()
-            .ok_or("the file holds a journal")?,
-    )
+    fs::remove_file(&rt, "ots_file_disk")
 }
 
 #[test]
-fn a_file_keeps_a_journal(rt: HostRuntime) -> Result<(), Fail> {
-    let path = free_path(&rt, "ots_file_journal")?;
-    let mut journal = next_life(&rt, &path)?;
-    let items = Registrations::from_vec(Vec::new(rt.alloc()));
-    let decision = JournalRecord::Decision(1, 0, 1, None, false, items);
-    assert_eq!(rt; journal.append(decision), Ok(26));
-    let mut journal = next_life(&rt, &path)?;
-    assert_eq!(rt; (journal.life(), journal.standing().len()), (2, 1));
-    assert_eq!(rt; journal.done(26), Ok(()));
-    let journal = next_life(&rt, &path)?;
-    assert_eq!(rt; (journal.life(), journal.standing().len()), (3, 0));
-    assert_eq!(rt; journal.disk().faults(), 0);
-    fs::remove_file(&rt, &path)?;
-    Ok(())
+fn a_file_is_read_within_its_octets(rt: HostRuntime) -> io::Result<()> {
+    let mut disk = file_disk(&rt, "ots_file_reads", true)?;
+    assert_eq!(rt; keep(&mut disk, 0, b"abcd"), Ok(()));
+    assert_eq!(rt; keep(&mut disk, 0, b"xy"), Ok(()));
+    let mut piece = [0; 3];
+    assert_eq!(rt; disk.read_at(1, &mut piece), Ok(()));
+    assert_eq!(rt; piece, *b"ycd");
+    assert_eq!(rt; disk.faults(), 0);
+    assert_eq!(rt; disk.read_at(2, &mut piece), Err(DiskRefusal::Failed));
+    assert_eq!(rt; disk.faults(), 1);
+    fs::remove_file(&rt, "ots_file_reads")
+}
+
+/// The next life of the journal in the file of this name.
+fn next_life(rt: &HostRuntime, name: &str, fresh: bool) -> io::Result<Journal<FileDisk>> {
+    let disk = file_disk(rt, name, fresh)?;
+    match Journal::load(rt.alloc(), disk, 400, 1) {
+        Ok(journal) => Ok(journal),
+        Err(_) => Err(ErrorKind::InvalidData.into()),
+    }
+}
+
+// The calls of a journal, each without what its contract says: no test needs it.
+
+/// Appends a decision that names no registration.
+fn decide(alloc: Global, journal: &mut Journal<FileDisk>) -> Result<u32, JournalFault> {
+    let items = Registrations::from_vec(Vec::new(alloc));
+    journal.append(JournalRecord::Decision(1, 0, 1, None, false, items))
+}
+
+fn done(journal: &mut Journal<FileDisk>, place: u32) -> Result<(), JournalFault> {
+    journal.done(place)
+}
+
+/// The journal's life, how many records stand in it, and how often its disk has failed.
+fn counts(journal: &Journal<FileDisk>) -> (u32, usize, u64) {
+    let standing = journal.standing().len();
+    (journal.life(), standing, journal.disk().faults())
+}
+
+#[test]
+fn a_file_keeps_a_journal(rt: HostRuntime) -> io::Result<()> {
+    let mut journal = next_life(&rt, "ots_file_journal", true)?;
+    assert_eq!(rt; decide(rt.alloc(), &mut journal), Ok(26));
+    let mut journal = next_life(&rt, "ots_file_journal", false)?;
+    assert_eq!(rt; counts(&journal), (2, 1, 0));
+    assert_eq!(rt; done(&mut journal, 26), Ok(()));
+    let journal = next_life(&rt, "ots_file_journal", false)?;
+    assert_eq!(rt; counts(&journal), (3, 0, 0));
+    fs::remove_file(&rt, "ots_file_journal")
 }
