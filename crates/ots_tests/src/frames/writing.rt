@@ -130,7 +130,7 @@ fn contexts_are_made_of_a_vector_and_give_it_back(rt: HostRuntime) -> Result<(),
     let contexts = Contexts::from_vec(vec![in rt.alloc(); context]?);
     match contexts.into_vec().as_slice() {
         [only] => assert_eq!(rt; (only.id, only.bytes.bytes()), (1, b"ab".as_slice())),
-        other => panic!(rt; "{other:?}"),
+        _ => panic!(rt; "other contexts"),
     }
     Ok(())
 }
