@@ -1,5 +1,5 @@
 -- What follows of the steps of a family by the laws of completions: an outcome stays, and commit goes out by a record.
-use Rattle.std.proofs.Common.{◌≡◌, refl, sym, subst, ◌∙◌, ℕ, inl, inr, Bool, true, false, not, ◌&&◌, if◌then◌else◌, List, [], ◌∷◌, length, Option, Some, None, is_some, is_none}
+use Rattle.std.proofs.Common.{◌≡◌, ◌⊎◌, refl, sym, subst, ◌∙◌, ℕ, inl, inr, Bool, true, false, not, ◌&&◌, if◌then◌else◌, List, [], ◌∷◌, Option, Some, None, is_some, is_none}
 use Rattle.std.specs.List.{AllByRecursion}
 use Rattle.std.specs.Option.{option_map}
 use Rattle.ots_model.specs.declared.completion.CallNumber.{CallNumber}
@@ -21,9 +21,9 @@ use Rattle.coordinator.specs.declared.said.Said.{Said}
 use Rattle.coordinator.specs.declared.said.Said.TheVariants as said
 use Rattle.coordinator.specs.Family.{Family, waiting_for}
 use Rattle.coordinator.specs.Hearing.{decision_record, record_place}
-use Rattle.coordinator.specs.History.{kept_for}
+use Rattle.coordinator.specs.History.{kept_for, repeated}
 use Rattle.coordinator.specs.Step.{quiet, is_silent_act, entered, acted, step_by, family_step, Appends, WritesDone, wanted, wanted_act, wanted_by, hears}
-use Rattle.coordinator.specs.Laws.{IsOfSubtransaction, GoesOut, FamilyOutcomesStay, IsByRecord, CommitGoesByRecord, FamiliesCommitByRecord, IsAgreed, AppendsRightly, FamiliesAppendByConsent, ChangesNothing, StaleAnswersChangeNothing}
+use Rattle.coordinator.specs.Laws.{entry_made, HistoriesGrowByEntries, RepeatsChangeNothing, IsOfSubtransaction, GoesOut, FamilyOutcomesStay, IsByRecord, CommitGoesByRecord, FamiliesCommitByRecord, IsAgreed, AppendsRightly, FamiliesAppendByConsent, ChangesNothing, StaleAnswersChangeNothing}
 use Rattle.coordinator.proofs.Rightly.{steps_right, stays}
 
 pub outcomes_stay : TreeOutcomeStays → FamilyOutcomesStay
@@ -85,7 +85,7 @@ stale_by : (o : Option Said) (f : Family) (e : Event) (stood : Option Stood) (n 
     → e.act ≡ acts.Answer n h → waiting_for f n ≡ None → ChangesNothing f (step_by o f e stood)
 stale_by (Some answer) f e stood n h is none = record { family = refl; words = refl; finished = refl; effects = refl }
 stale_by None f e stood n h is none =
-    subst (λ b. ChangesNothing f (if b then quiet said.Plain f else entered e stood (length f.entries) (acted e stood f))) (sym silent) (record { family = refl; words = refl; finished = refl; effects = refl })
+    subst (λ b. ChangesNothing f (if b then quiet said.Plain f else entered f e stood (acted e stood f))) (sym silent) (record { family = refl; words = refl; finished = refl; effects = refl })
   where
     silent : is_silent_act e.act e.now f ≡ true
     silent = subst (λ a. is_silent_act a e.now f ≡ true) (sym is) (subst (λ o. is_none o ≡ true) (sym none) refl)
@@ -138,3 +138,25 @@ append_by_consent f e item is = by_kept (is_some (kept_for f.entries e.key)) is
     by_kept : (b : Bool) → (if b then None else wanted_act e.act f) ≡ Some (Appends item) → AppendsRightly f item
     by_kept true e = absurd (cc (e))
     by_kept false is = append_act e.act f item is
+
+-- what a step makes of the history
+grows_by : (o : Option Said) (f : Family) (e : Event) (stood : Option Stood)
+    → ((step_by o f e stood).family ≡ f) ⊎ ((step_by o f e stood).family.entries ≡ entry_made f e stood (step_by o f e stood))
+unfolding entered
+grows_by (Some answer) f e stood = inl refl
+grows_by None f e stood = by_silence (is_silent_act e.act e.now f)
+  where
+    by_silence : (b : Bool) → ((if b then quiet said.Plain f else entered f e stood (acted e stood f)).family ≡ f)
+        ⊎ ((if b then quiet said.Plain f else entered f e stood (acted e stood f)).family.entries
+        ≡ entry_made f e stood (if b then quiet said.Plain f else entered f e stood (acted e stood f)))
+    by_silence true = inl refl
+    by_silence false = inr refl
+
+pub histories_grow : HistoriesGrowByEntries
+unfolding family_step
+histories_grow f e stood = grows_by (kept_for f.entries e.key) f e stood
+
+pub repeats : RepeatsChangeNothing
+unfolding family_step
+repeats f e stood answer is = subst (λ o. ChangesNothing f (step_by o f e stood) × ((step_by o f e stood).said ≡ repeated answer)) (sym is)
+    (record { family = refl; words = refl; finished = refl; effects = refl }, refl)

@@ -611,15 +611,15 @@ either_steps : (f : Family) (b : Bool) (x y : Stepped) → Steps f x → Steps f
 either_steps f true x y r t = r
 either_steps f false x y r t = t
 
-entered_steps : (e : Event) (stood : Option Stood) (position : ℕ) (f : Family) (a : Acted) → Does f a → Steps f (entered e stood position a)
+entered_steps : (e : Event) (stood : Option Stood) (f : Family) (a : Acted) → Does f a → Steps f (entered f e stood a)
 unfolding entered
-entered_steps e stood position f a r = record { proceeds = r.proceeds; words = r.words; told = r.told }
+entered_steps e stood f a r = record { proceeds = r.proceeds; words = r.words; told = r.told }
 
 step_by_right : (o : Option Said) (f : Family) (e : Event) (stood : Option Stood) → Steps f (step_by o f e stood)
 unfolding acted
 step_by_right (Some answer) f e stood = quiet_steps (repeated answer) f
 step_by_right None f e stood = either_steps f (is_silent e f) _ _ (quiet_steps said.Plain f)
-    (entered_steps e stood (length f.entries) f (acted e stood f) (by_act e.act e.branch e.now stood f))
+    (entered_steps e stood f (acted e stood f) (by_act e.act e.branch e.now stood f))
 
 pub steps : (f : Family) (e : Event) (stood : Option Stood) → Steps f (family_step f e stood)
 unfolding family_step

@@ -1,7 +1,7 @@
 -- What holds of every step of every family: what each word that goes out rests on, that an outcome stays and is told once,
 -- that a decision is recorded by consent alone, and what changes nothing (Transaction Service, nested transactions and the
 -- operations of interface Resource).
-use Rattle.std.specs.Prelude.{◌≡◌, ℕ, ◌⊎◌, Bool, true, List, [], Option, Some, None}
+use Rattle.std.specs.Prelude.{◌≡◌, ℕ, ◌⊎◌, Bool, true, List, [], ◌∷◌, ◌++◌, Option, Some, None}
 use Rattle.std.specs.List.{AllByRecursion}
 use Rattle.ots_model.specs.declared.completion.CallNumber.{CallNumber}
 use Rattle.ots_model.specs.declared.completion.Stood.{Stood}
@@ -26,7 +26,10 @@ use Rattle.coordinator.specs.declared.effect.Effect.TheVariants as effects
 use Rattle.coordinator.specs.declared.event.Act.TheVariants as acts
 use Rattle.coordinator.specs.declared.event.Event.{Event}
 use Rattle.coordinator.specs.Family.{Family, waiting_for}
-use Rattle.coordinator.specs.Step.{Stepped, family_step, Appends, wanted}
+use Rattle.coordinator.specs.declared.said.Entry.{Entry}
+use Rattle.coordinator.specs.declared.said.Said.{Said}
+use Rattle.coordinator.specs.History.{kept_for, repeated}
+use Rattle.coordinator.specs.Step.{entry_of, Stepped, family_step, Appends, wanted}
 
 -- what the completion of a family becomes by any number of steps: it begins once, by asking or by rolling back, and goes on
 pub data Proceeds : Standing → Standing → Type 0 where
@@ -70,6 +73,16 @@ pub record StepsRightly (s : Standing) (later : Standing) (some : List Outward) 
 abbrev pub FamiliesStepRightly : Type 0
 FamiliesStepRightly = (f : Family) (e : Event) (stood : Option Stood)
     → StepsRightly f.completion (family_step f e stood).family.completion (family_step f e stood).words
+
+-- a step that makes an entry makes this one, with what the step says and whom it answers
+abbrev pub entry_made : Family → Event → Option Stood → Stepped → List Entry
+entry_made f e stood s = f.entries ++ entry_of e stood s.said s.finished ∷ []
+
+-- a step makes one entry or none
+abbrev pub HistoriesGrowByEntries : Type 0
+HistoriesGrowByEntries = (f : Family) (e : Event) (stood : Option Stood)
+    → ((family_step f e stood).family ≡ f)
+    ⊎ ((family_step f e stood).family.entries ≡ entry_made f e stood (family_step f e stood))
 
 -- a completion that there is
 abbrev pub IsThere : Standing → Type 0
@@ -130,6 +143,11 @@ pub record ChangesNothing (f : Family) (s : Stepped) : Type 0 where
   pub words : s.words ≡ []
   pub finished : s.finished ≡ []
   pub effects : s.effects ≡ []
+
+-- a call that comes again under its key changes nothing, and is answered as it was, or told to try again
+abbrev pub RepeatsChangeNothing : Type 0
+RepeatsChangeNothing = (f : Family) (e : Event) (stood : Option Stood) (answer : Said) → kept_for f.entries e.key ≡ Some answer
+    → ChangesNothing f (family_step f e stood) × ((family_step f e stood).said ≡ repeated answer)
 
 abbrev pub StaleAnswersChangeNothing : Type 0
 StaleAnswersChangeNothing = (f : Family) (e : Event) (stood : Option Stood) (n : CallNumber) (h : Heard)

@@ -148,21 +148,22 @@ quiet answer f = record { family = f; said = answer; words = []; finished = []; 
 abbrev pub entry_of : Event → Option Stood → Said → List Finished → Entry
 entry_of e stood answer finished = record { event = e; stood = stood; said = answer; finished = finished }
 
--- the entry is made
-unfoldable pub entered : Event → Option Stood → ℕ → Acted → Stepped
-entered e stood position a = record {
-  family = record a.moved.family {
-    entries = a.moved.family.entries
-        ++ entry_of e stood (said_now position a.moved.finished a.said) (said_later position a.moved.finished) ∷ [];
-  };
-  said = said_now position a.moved.finished a.said;
-  words = a.moved.words;
-  finished = said_later position a.moved.finished;
-  effects = a.moved.effects;
-}
+-- the history gets its entry
+unfoldable pub entered : Family → Event → Option Stood → Acted → Stepped
+entered f e stood a =
+    let position : ℕ = length f.entries in
+    let answer : Said = said_now position a.moved.finished a.said in
+    let others : List Finished = said_later position a.moved.finished in
+    record {
+      family = record a.moved.family { entries = f.entries ++ entry_of e stood answer others ∷ [] };
+      said = answer;
+      words = a.moved.words;
+      finished = others;
+      effects = a.moved.effects;
+    }
 
 abbrev pub new_step : Family → Event → Option Stood → Stepped
-new_step f e stood = if is_silent e f then quiet said.Plain f else entered e stood (length f.entries) (acted e stood f)
+new_step f e stood = if is_silent e f then quiet said.Plain f else entered f e stood (acted e stood f)
 
 abbrev pub step_by : Option Said → Family → Event → Option Stood → Stepped
 step_by (Some answer) f e stood = quiet (repeated answer) f

@@ -1,6 +1,6 @@
 // Laws of the definitions: these functions do nothing, and their contracts are the laws.
 ghost use Rattle.coordinator.specs.AnswersByPhase.{AnswersByPhase};
-ghost use Rattle.coordinator.specs.Laws.{FamiliesAppendByConsent, FamiliesCommitByRecord, FamiliesDecideOnce, FamiliesStepRightly, FamilyOutcomesStay, StaleAnswersChangeNothing};
+ghost use Rattle.coordinator.specs.Laws.{FamiliesAppendByConsent, FamiliesCommitByRecord, FamiliesDecideOnce, FamiliesStepRightly, FamilyOutcomesStay, HistoriesGrowByEntries, RepeatsChangeNothing, StaleAnswersChangeNothing};
 ghost use Rattle.coordinator.specs.Plays.{FamiliesPlay};
 
 use two_phase::{a_tree_outcome_stays, tree_words_go_rightly};
@@ -54,3 +54,14 @@ pub fn families_commit_by_record()
 {
     tree_words_go_rightly();
 }
+
+/// A step makes one entry of the history, with what it says and whom it answers, or it changes nothing.
+pub fn histories_grow_by_entries()
+    ensures { HistoriesGrowByEntries }
+{}
+
+/// A call that comes again under its key changes nothing. It is answered as before, or told to try again while it has no
+/// answer.
+pub fn repeats_change_nothing()
+    ensures { RepeatsChangeNothing }
+{}
