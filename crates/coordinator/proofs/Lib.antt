@@ -1,3 +1,4 @@
+mod Named
 mod Played
 mod Phased
 mod Rightly

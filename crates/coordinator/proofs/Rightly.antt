@@ -36,7 +36,7 @@ use Rattle.coordinator.specs.Hearing.{is_markable, marks, marks_parent, is_plain
 use Rattle.coordinator.specs.declared.event.Act.{Act}
 use Rattle.coordinator.specs.declared.event.Act.TheVariants as acts
 use Rattle.coordinator.specs.declared.event.Event.{Event}
-use Rattle.coordinator.specs.Table.{Acted, new_call, says, on_branch, has_branch, gets_terminator, registers, with_sub, creates_by, creates_in, creates_subtransaction, marks_only, rolls_back_top, rolls_back_sub, rolls_back, begins_commit, unless_orphan, commits_in, commits, rolls_back_in, rolls_back_asked, registers_resource, registers_synchronization, registers_aware, replays}
+use Rattle.coordinator.specs.Table.{Acted, new_call, says, on_branch, on_terminator, has_terminator, has_branch, gets_terminator, registers, with_sub, creates_by, creates_in, creates_subtransaction, marks_only, rolls_back_top, rolls_back_sub, rolls_back, begins_commit, unless_orphan, commits_in, commits, rolls_back_in, rolls_back_asked, registers_resource, registers_synchronization, registers_aware, replays}
 use Rattle.coordinator.specs.History.{kept_for, repeated}
 use Rattle.coordinator.specs.Step.{hears_call, hears_for, hears, goes_on_at, answered, has_timed_out, times_out, ticks, found_at, rereads, acts_on, acted, is_silent, Stepped, quiet, entered, step_by, family_step}
 use Rattle.txn_tree.specs.Calls.{creating, ended}
@@ -532,6 +532,9 @@ either_acted f false x y r t = t
 on_branch_right : (b : ℕ) (f : Family) (a : Acted) → Does f a → Does f (on_branch b f a)
 on_branch_right b f a r = either_acted f (has_branch f b) a _ r (only_right f)
 
+on_terminator_right : (b : ℕ) (f : Family) (a : Acted) → Does f a → Does f (on_terminator b f a)
+on_terminator_right b f a r = either_acted f (has_terminator f b) a _ r (only_right f)
+
 registers_right : (fault : Option VoteFault) (answer : Said) (later : Ballots) (f : Family) → Does f (registers fault answer later f)
 registers_right None answer later f = only_right (record f { ballots = later })
 registers_right (Some fault) answer later f = only_right f
@@ -572,8 +575,8 @@ by_act : (act : Act) (b now : ℕ) (stood : Option Stood) (f : Family) → Does 
 unfolding gets_terminator commits rolls_back_asked registers_resource registers_synchronization registers_aware creates_subtransaction replays
 by_act acts.GetTerminator b now stood f = on_branch_right b f _ (only_right f)
 by_act acts.GetCoordinator b now stood f = on_branch_right b f _ (only_right f)
-by_act (acts.Commit asked) b now stood f = on_branch_right b f _ (commits_in_right (column f b) b _ asked f)
-by_act acts.Rollback b now stood f = on_branch_right b f _ (rolls_back_in_right (column f b) b _ f)
+by_act (acts.Commit asked) b now stood f = on_terminator_right b f _ (commits_in_right (column f b) b _ asked f)
+by_act acts.Rollback b now stood f = on_terminator_right b f _ (rolls_back_in_right (column f b) b _ f)
 by_act acts.GetStatus b now stood f = only_right f
 by_act acts.GetParentStatus b now stood f = only_right f
 by_act acts.GetTopLevelStatus b now stood f = on_branch_right b f _ (only_right f)

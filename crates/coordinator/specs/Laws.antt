@@ -1,8 +1,8 @@
 -- What holds of every step of every family: what each word that goes out rests on, that an outcome stays and is told once,
 -- that a decision is recorded by consent alone, and what changes nothing (Transaction Service, nested transactions and the
 -- operations of interface Resource).
-use Rattle.std.specs.Prelude.{◌≡◌, ℕ, ◌⊎◌, Bool, true, List, [], ◌∷◌, ◌++◌, Option, Some, None}
-use Rattle.std.specs.List.{AllByRecursion}
+use Rattle.std.specs.Prelude.{◌≡◌, ◌==◌, ℕ, ◌⊎◌, Bool, true, List, [], ◌∷◌, ◌++◌, Option, Some, None}
+use Rattle.std.specs.List.{AllByRecursion, list_any}
 use Rattle.ots_model.specs.declared.completion.CallNumber.{CallNumber}
 use Rattle.ots_model.specs.declared.completion.Stood.{Stood}
 use Rattle.ots_model.specs.declared.tree.Heard.{Heard}
@@ -18,7 +18,8 @@ use Rattle.two_phase.specs.LawsOfCourses.{MayBeTold}
 use Rattle.two_phase.specs.LawsOfReached.{TreeBecomes, IsReached}
 use Rattle.two_phase.specs.declared.party.Party.{Party}
 use Rattle.decision_journal.specs.declared.record.JournalRecord.{JournalRecord}
-use Rattle.coordinator.specs.Hearing.{decision_record}
+use Rattle.decision_journal.specs.declared.record.Registration.{Registration as Recorded}
+use Rattle.coordinator.specs.Hearing.{decision_record, named}
 use Rattle.two_phase.specs.Stages as stages
 use Rattle.two_phase.specs.Stages.{Standing, Waiting, Going as UnderWay}
 use Rattle.coordinator.specs.declared.effect.Effect.{Effect}
@@ -133,6 +134,10 @@ pub record AppendsRightly (f : Family) (item : JournalRecord) : Type 0 where
   pub heard : Family
   pub is_record : item ≡ decision_record heard
   pub agreed : IsAgreed heard.completion
+
+-- a decision record names exactly the registrations that take part and have voted commit
+abbrev pub RecordsNameVoters : Type 0
+RecordsNameVoters = (s : Standing) (g : ℕ) → list_any (λ (r : Recorded). r.index == g) (named s) ≡ stages.is_named s g
 
 abbrev pub FamiliesAppendByConsent : Type 0
 FamiliesAppendByConsent = (f : Family) (e : Event) (item : JournalRecord) → wanted f e ≡ Some (Appends item) → AppendsRightly f item

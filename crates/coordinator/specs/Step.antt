@@ -29,7 +29,7 @@ use Rattle.coordinator.specs.Running.{goes_on}
 use Rattle.coordinator.specs.Hearing.{hears_at, settles, record_place, wants_done, decision_record, marks}
 use Rattle.coordinator.specs.History.{kept_for, repeated, is_for}
 use Rattle.coordinator.specs.Table as table
-use Rattle.coordinator.specs.Table.{Acted, says, does, on_branch, status_said}
+use Rattle.coordinator.specs.Table.{Acted, says, does, on_branch, on_terminator, status_said}
 
 -- an answer to a word that is out: it is heard, the journal is asked where that is wanted, and the call goes on
 abbrev pub hears_call : Option Call → ℕ → CallNumber → Heard → Family → Moved
@@ -87,8 +87,8 @@ from_superior f = says said.ObjectNotExist f
 abbrev pub acts_on : Act → ℕ → ℕ → Option Stood → Family → Acted
 acts_on acts.GetTerminator b now stood f = on_branch b f (table.gets_terminator b f)
 acts_on acts.GetCoordinator b now stood f = on_branch b f (says said.Plain f)
-acts_on (acts.Commit asked) b now stood f = on_branch b f (table.commits b (length f.entries) asked f)
-acts_on acts.Rollback b now stood f = on_branch b f (table.rolls_back_asked b (length f.entries) f)
+acts_on (acts.Commit asked) b now stood f = on_terminator b f (table.commits b (length f.entries) asked f)
+acts_on acts.Rollback b now stood f = on_terminator b f (table.rolls_back_asked b (length f.entries) f)
 acts_on acts.GetStatus b now stood f = says (status_said (status_of f b)) f
 acts_on acts.GetParentStatus b now stood f = says (status_said (parent_status_of f b)) f
 acts_on acts.GetTopLevelStatus b now stood f = on_branch b f (says (said.State (top_status f)) f)

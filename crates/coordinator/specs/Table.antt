@@ -50,6 +50,10 @@ on_branch b f acted = if has_branch f b then acted else says said.ObjectNotExist
 abbrev pub has_terminator : Family → ℕ → Bool
 has_terminator f b = has_branch f b && (is_none f.superior || nat_lt 0 b)
 
+-- a call is made on a terminator that there is
+abbrev pub on_terminator : ℕ → Family → Acted → Acted
+on_terminator b f acted = if has_terminator f b then acted else says said.ObjectNotExist f
+
 -- get_terminator
 unfoldable pub gets_terminator : ℕ → Family → Acted
 gets_terminator b f = says (if has_terminator f b then said.Plain else said.Unavailable) f

@@ -1,6 +1,6 @@
 // Laws of the definitions: these functions do nothing, and their contracts are the laws.
 ghost use Rattle.coordinator.specs.AnswersByPhase.{AnswersByPhase};
-ghost use Rattle.coordinator.specs.Laws.{FamiliesAppendByConsent, FamiliesCommitByRecord, FamiliesDecideOnce, FamiliesStepRightly, FamilyOutcomesStay, HistoriesGrowByEntries, RepeatsChangeNothing, StaleAnswersChangeNothing};
+ghost use Rattle.coordinator.specs.Laws.{FamiliesAppendByConsent, FamiliesCommitByRecord, FamiliesDecideOnce, FamiliesStepRightly, FamilyOutcomesStay, HistoriesGrowByEntries, RecordsNameVoters, RepeatsChangeNothing, StaleAnswersChangeNothing};
 ghost use Rattle.coordinator.specs.Plays.{FamiliesPlay};
 
 use two_phase::{a_tree_outcome_stays, tree_words_go_rightly};
@@ -64,4 +64,9 @@ pub fn histories_grow_by_entries()
 /// answer.
 pub fn repeats_change_nothing()
     ensures { RepeatsChangeNothing }
+{}
+
+/// A decision record names exactly the registrations that take part and have voted commit.
+pub fn records_name_voters()
+    ensures { RecordsNameVoters }
 {}
