@@ -245,8 +245,8 @@ module _ (stood : List Standing) where
 
   word_backed : (life place : ℕ) (decided : Bool) (p : Party) (w : Due) (os : List Outward) → IsNamed stood place p.index p.to → AreBacked os
       → AreBacked (cons_option (word_by life place decided p w) os)
-  word_backed life place decided p due.Commit os name backed = (name, backed)
-  word_backed life place true p due.Forget os name backed = (name, backed)
+  word_backed life place decided p due.Commit os name backed = (record { named = name; receipt = refl }, backed)
+  word_backed life place true p due.Forget os name backed = (record { named = name; receipt = refl }, backed)
   word_backed life place false p due.Forget os name backed = backed
   word_backed life place decided p due.Nothing os name backed = backed
 

@@ -1,10 +1,13 @@
 -- Laws of records that are told again (Transaction Service, the operations of interfaces Resource and RecoveryCoordinator): what a
 -- commit word rests on, which answers count, and when a record is complete.
-use Rattle.std.specs.Prelude.{◌≡◌, ℕ, ◌==◌, Bool, true, false, not, ◌&&◌, List, [], map, Some, None}
+use Rattle.std.specs.Prelude.{◌≡◌, ℕ, ◌==◌, Bool, true, false, not, ◌&&◌, List, [], map, Option, Some, None}
 use Rattle.std.specs.List.{AllByRecursion, Any, Contains, filter_map, list_any}
 use Rattle.ots_model.specs.declared.completion.CallNumber.{CallNumber}
+use Rattle.ots_model.specs.declared.completion.Receipt.{Receipt}
 use Rattle.ots_model.specs.declared.tree.Heard.{Heard}
 use Rattle.ots_model.specs.declared.tree.Outward.{Outward}
+use Rattle.ots_model.specs.declared.tree.Word.{Word}
+use Rattle.ots_model.specs.declared.tree.Word.TheVariants as word
 use Rattle.decision_journal.specs.declared.record.Registration.{Registration}
 use Rattle.decision_journal.specs.declared.record.JournalRecord.{JournalRecord}
 use Rattle.decision_journal.specs.declared.record.JournalRecord.TheVariants.{Life, Decision, Done, Prepared, CellsPrepared, CellsOutcome, CellsOnePhase}
@@ -64,9 +67,15 @@ abbrev pub IsNamed : List Standing → ℕ → ℕ → List ℕ → Type 0
 IsNamed stood place index to =
     Any (λ s. (s.place ≡ place) × Any (λ r. (r.index ≡ index) × (r.reference ≡ to)) (registrations_of s.item)) stood
 
+-- a commit word has the record behind it as its receipt, and no other word has one
+abbrev pub IsReceipted : Word → ℕ → ℕ → Option Receipt → Type 0
+IsReceipted word.Commit place index receipt = receipt ≡ Some (record { place = place; registration = index })
+IsReceipted _ place index receipt = receipt ≡ None
+
 -- a word goes to a registration that a record names, whose place stands in the number of the call
-abbrev pub IsBacked : List Standing → Outward → Type 0
-IsBacked stood o = IsNamed stood o.number.generation o.registration o.to
+pub record IsBacked (stood : List Standing) (o : Outward) : Type 0 where
+  pub named : IsNamed stood o.number.generation o.registration o.to
+  pub receipt : IsReceipted o.word o.number.generation o.registration o.receipt
 
 -- each word that is told again goes to a registration that a record names which stood
 abbrev pub WordsHaveRecords : Type 0
