@@ -191,7 +191,8 @@ fn parties_of(
     commits: &[u32],
     forgets: &[u32],
 ) -> Result<Parties, AllocError>
-    ensures { IfOk result (λ parties. parties ≡ map (holding.party_of first commits.now forgets.now) registrations.now) }
+    ensures { IfOk result (λ parties. parties
+        ≡ map (holding.party_of first commits.now forgets.now) registrations.now) }
 {
     Ok(Parties {
         items: copy_parties(alloc, registrations, first, commits, forgets)?,

@@ -75,7 +75,8 @@ pub(crate) fn copy_parties(
     commits: &[u32],
     forgets: &[u32],
 ) -> Result<Vec<Party>, AllocError>
-    ensures { IfOk result (λ parties. parties.items ≡ map (holding.party_of first commits.now forgets.now) registrations.now) }
+    ensures { IfOk result (λ parties. parties.items
+        ≡ map (holding.party_of first commits.now forgets.now) registrations.now) }
 {
     let mut parties = Vec::with_capacity(alloc, registrations.len())?;
     for registration in registrations {

@@ -45,7 +45,8 @@ pub(crate) fn hear(records: &mut [Held], n: &CallNumber, h: &Heard) -> Option<u3
 /// A record hears an answer. The result is its place, where it is complete now and wasn't.
 fn hear_one(held: &mut Held, serial: u32, h: &Heard) -> Option<u32>
     ensures after { held.new ≡ hearing.held_after serial h.now held.old }
-    ensures complete { result ≡ (if not (holding.is_complete held.old) && holding.is_complete held.new then Some held.old.place else None) }
+    ensures complete { result
+        ≡ (if not (holding.is_complete held.old) && holding.is_complete held.new then Some held.old.place else None) }
 {
     if held.hear(serial, h) {
         return Some(held.place);

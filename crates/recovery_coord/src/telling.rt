@@ -46,7 +46,8 @@ pub(crate) fn tell_all(
 impl Teller {
     /// The words of the record's registrations, behind those of an outbox.
     fn tell(self, alloc: Global, parties: &[Party], out: &mut Outbox) -> Result<(), AllocError>
-        ensures ok { OnOk result (out.new.words ≡ out.old.words ++ filter_map (telling.word_to self.life self.place self.decided) parties.now) }
+        ensures ok { OnOk result (out.new.words ≡ out.old.words
+            ++ filter_map (telling.word_to self.life self.place self.decided) parties.now) }
         ensures more { telling.IsMore out.old.words out.new.words }
         ensures room { out.new.room ≡ out.old.room }
     {
