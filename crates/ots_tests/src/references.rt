@@ -1,7 +1,9 @@
 //! Tests of references to this service's own objects, of the names of transactions, and of their contexts.
 ghost use Rattle.std.specs.Prelude.{◌^◌, ◌<◌, IfOk, length};
+ghost use Rattle.ots_context.specs.Writing.{kept_length};
 
-use ior_refs::{ObjectKey, ObjectRef, iiop, key_of, make_ref};
+use cdr_values::{CdrFault, Order};
+use ior_refs::{IorFault, ObjectKey, ObjectRef, iiop, key_of, make_ref};
 use otid_names::{Otid, OwnNumbers, global_part, hash_of, name_of};
 use ots_context::{
     AnyTail, Context, ContextFault, Identities, Identity, decode_context, encode_context,
@@ -26,11 +28,11 @@ fn key() -> ObjectKey {
     }
 }
 
-fn our_own(alloc: Global) -> Result<ObjectRef, Fail> {
-    let host = Octets::new(alloc, b"e1")?;
+/// The reference to that resource with this type_id, at port 1 of this host, or why it isn't made.
+fn made(alloc: Global, type_id: &[u8], host: &[u8]) -> Result<Result<ObjectRef, IorFault>, Fail> {
+    let host = Octets::new(alloc, host)?;
     let at = Endpoint { host, port: 1 };
-    let type_id = b"IDL:omg.org/CosTransactions/Resource:1.0";
-    Ok(make_ref(alloc, type_id, &at, &key())?)
+    Ok(make_ref(alloc, type_id, &at, &key()))
 }
 
 /// The key of the object to which these octets refer.
@@ -42,10 +44,29 @@ fn key_within(alloc: Global, octets: &RefBytes) -> Result<Option<ObjectKey>, Fai
 
 #[test]
 fn our_own_reference_has_its_octets(rt: HostRuntime) -> Result<(), Fail> {
-    let octets = our_own(rt.alloc())?.to_bytes(rt.alloc())?;
+    let made = made(
+        rt.alloc(),
+        b"IDL:omg.org/CosTransactions/Resource:1.0",
+        b"e1",
+    )??;
+    let octets = made.to_bytes(rt.alloc())?;
     let digits = hex::encode(rt.alloc(), octets.bytes())?;
     assert_eq!(rt; digits.as_str(), resource());
     assert_eq!(rt; key_within(rt.alloc(), &octets)?, Some(key()));
+    Ok(())
+}
+
+/// Behind a type_id of 955 octets and its NUL there are 64 octets, where the host has one.
+#[test]
+fn references_that_are_not_made(rt: HostRuntime) -> Result<(), Fail> {
+    let nul = made(rt.alloc(), b"a\0", b"e\0")?.err();
+    assert_eq!(rt; nul, Some(IorFault::Cdr(CdrFault::BadString(0))));
+    let nul = made(rt.alloc(), b"", b"e\0")?.err();
+    assert_eq!(rt; nul, Some(IorFault::Cdr(CdrFault::BadString(3))));
+    let type_id = vec![in rt.alloc(); b'x'; 956]?;
+    assert!(rt; made(rt.alloc(), &type_id[..955], b"e")?.is_ok());
+    let long = made(rt.alloc(), &type_id, b"e")?.err();
+    assert_eq!(rt; long, Some(IorFault::TooLong(0)));
     Ok(())
 }
 
@@ -96,32 +117,84 @@ fn identity(alloc: Global, branch: u32) -> Result<Identity, Fail> {
     })
 }
 
-/// The octets of a context with so many parents, or why it isn't written.
-fn written(alloc: Global, parents: u32) -> Result<Result<Octets, ContextFault>, Fail>
-    ensures { IfOk result (λ written. IfOk written (λ octets. length octets < 2 ^ 31)) }
-{
+/// The identities of so many branches from 1 on.
+fn branches(alloc: Global, count: u32) -> Result<Identities, Fail> {
     let mut all = Vec::new(alloc);
-    for branch in 1..=parents {
+    for branch in 1..=count {
         all.push(identity(alloc, branch)?)?;
     }
+    Ok(Identities::from_vec(all))
+}
+
+/// The octets of a context with so many parents and this tail, or why it isn't written.
+fn written(alloc: Global, parents: u32, tail: AnyTail) -> Result<Result<Octets, ContextFault>, Fail>
+    requires { kept_length tail < 2 ^ 31 }
+    ensures { IfOk result (λ written. IfOk written (λ octets. length octets < 2 ^ 31)) }
+{
     let context = Context {
         timeout: 7,
         current: identity(alloc, 0)?,
-        parents: Identities::from_vec(all),
-        tail: AnyTail::Null,
+        parents: branches(alloc, parents)?,
+        tail,
     };
     Ok(encode_context(alloc, &context))
 }
 
 #[test]
 fn sixteen_parents_are_written(rt: HostRuntime) -> Result<(), Fail> {
-    let octets = written(rt.alloc(), 16)??;
+    let octets = written(rt.alloc(), 16, AnyTail::Null)??;
     let parents = decode_context(rt.alloc(), octets.bytes())?
         .parents
         .into_vec();
     assert_eq!(rt; parents.len(), 16);
     assert_eq!(rt; parents[15].otid.own_numbers(), Some(numbers(1, 16)));
-    let refused = written(rt.alloc(), 17)?.err();
+    let refused = written(rt.alloc(), 17, AnyTail::Null)?.err();
     assert_eq!(rt; refused, Some(ContextFault::TooMany(68)));
+    Ok(())
+}
+
+/// Why a context with this tail isn't written, of which 72 octets stand in front of the tail.
+fn refusal(
+    alloc: Global,
+    order: Order,
+    modulo: u8,
+    octets: &[u8],
+) -> Result<Option<ContextFault>, Fail>
+    requires { length octets.now < 2 ^ 31 }
+{
+    let octets = Octets::new(alloc, octets)?;
+    let tail = AnyTail::Kept {
+        order,
+        modulo,
+        octets,
+    };
+    Ok(written(alloc, 0, tail)?.err())
+}
+
+#[test]
+fn a_kept_tail_is_written_where_it_stood(rt: HostRuntime) -> Result<(), Fail> {
+    let alloc = rt.alloc();
+    let misplaced = Some(ContextFault::TailPlace);
+    let null = b"\0\0\0\0";
+    let long = b"\0\0\0\x0b\0\0\0\0";
+    assert_eq!(rt; refusal(alloc, Order::Big, 0, long)?, None);
+    assert_eq!(rt; refusal(alloc, Order::Big, 0, b"")?, None);
+    assert_eq!(rt; refusal(alloc, Order::Big, 4, long)?, misplaced);
+    assert_eq!(rt; refusal(alloc, Order::Little, 0, long)?, misplaced);
+    assert_eq!(rt; refusal(alloc, Order::Big, 0, null)?, misplaced);
+    Ok(())
+}
+
+#[test]
+fn a_kept_tail_has_its_limit(rt: HostRuntime) -> Result<(), Fail> {
+    let tail = vec![in rt.alloc(); 1; 65_465]?;
+    let most = refusal(rt.alloc(), Order::Big, 0, &tail[..65_464])?;
+    assert_eq!(rt; most, None);
+    let more = refusal(rt.alloc(), Order::Big, 4, &tail)?;
+    let full = CdrFault::TooLong {
+        place: 72,
+        length: 65_537,
+    };
+    assert_eq!(rt; more, Some(ContextFault::Cdr(full)));
     Ok(())
 }
