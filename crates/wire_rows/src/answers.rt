@@ -6,7 +6,7 @@ use crate::calls::{call_in, tell_operation, tell_text};
 use crate::messages::{front, tell_encoded};
 use crate::values::{MOST, digits, is_short, short, tell_fields, tell_reference};
 use giop_frames::{Message, Reply, decode};
-use ots_calls::{Answer, Call, CallFault, Given, heard, read_answer, write_answer};
+use ots_calls::{Answer, Call, Given, heard, heard_in_reply, read_answer, write_answer};
 use ots_model::Disposition;
 use ots_model::tree::Heard;
 use std::alloc::Global;
@@ -36,33 +36,31 @@ fn reply_behind(alloc: Global, octets: &[u8]) -> io::Result<Reply> {
 fn tell_reply(alloc: Global, told: &mut Vec<u8>, call: &Call, reply: &Reply) -> io::Result<()> {
     tell_operation(told, "answer to", call)?;
     writeln!(told)?;
-    match read_reply(alloc, call, reply)? {
-        Ok(answer) => {
-            tell_answer(alloc, told, &answer)?;
-            tell_written(alloc, told, reply.id, call, &answer)
-        }
-        Err(fault) => writeln!(told, "{fault:?}"),
-    }
-}
-
-/// The answer that a Reply is.
-fn read_reply(alloc: Global, call: &Call, reply: &Reply) -> io::Result<Result<Answer, CallFault>> {
     if reply.body.bytes().len() > MOST {
         return Err(ErrorKind::InvalidInput.into());
     }
-    Ok(read_answer(alloc, call, reply))
-}
-
-/// Tells an answer, and what is heard in it.
-fn tell_answer(alloc: Global, told: &mut Vec<u8>, answer: &Answer) -> io::Result<()> {
-    match answer {
-        Answer::Plain(given) => tell_given(alloc, told, given)?,
-        Answer::User(exception) => writeln!(told, "raises {exception:?}")?,
-        Answer::System(exception, completed) => {
-            writeln!(told, "raises {exception:?}, completed {completed:?}")?
+    match read_answer(alloc, call, reply) {
+        Ok(answer) => {
+            tell_answer(alloc, told, &answer)?;
+            tell_heard(alloc, told, &heard(alloc, &answer)?)?;
+            tell_written(alloc, told, reply.id, call, &answer)
+        }
+        Err(fault) => {
+            writeln!(told, "{fault:?}")?;
+            tell_heard(alloc, told, &heard_in_reply(alloc, call, reply))
         }
     }
-    tell_heard(alloc, told, &heard(alloc, answer)?)
+}
+
+/// Tells an answer.
+fn tell_answer(alloc: Global, told: &mut Vec<u8>, answer: &Answer) -> io::Result<()> {
+    match answer {
+        Answer::Plain(given) => tell_given(alloc, told, given),
+        Answer::User(exception) => writeln!(told, "raises {exception:?}"),
+        Answer::System(exception, completed) => {
+            writeln!(told, "raises {exception:?}, completed {completed:?}")
+        }
+    }
 }
 
 /// Tells how an answer to a call is written, with this request_id.
