@@ -3,11 +3,14 @@
 //! - `appends FILE COUNT`: so many decisions are appended to the journal in a file.
 //! - `bare FILE COUNT`: as many octets are written and synced so often, with no journal.
 //! - `load FILE COUNT`: the journal in a file is loaded.
+//! - `retells FILE COUNT`: the same, and the decisions that stand are told again, with so many words, each of which is done.
 ghost use Rattle.std.specs.Prelude.{◌<◌, ◌^◌};
 
 use crate::records::{number, record_of};
 use decision_journal::Journal;
+use ots_model::tree::Heard;
 use ots_outside::{Disk, DiskRefusal, FileDisk};
+use recovery_coord::{Outbox, Recovered};
 use std::fs::File;
 use std::io;
 use std::io::{ErrorKind, Write};
@@ -36,6 +39,7 @@ pub fn run(rt: &HostRuntime, kind: &str, path: &str, count: &str) -> io::Result<
     match kind {
         "appends" => appends(rt, disk, count)?,
         "load" => appends(rt, disk, 0)?,
+        "retells" => retells(rt, disk, count)?,
         _ => bare(disk, count)?,
     }
     let took = start.elapsed(rt)?.as_nanos();
@@ -52,6 +56,25 @@ fn appends(rt: &HostRuntime, disk: FileDisk, count: u32) -> io::Result<()> {
         if journal.append(item).is_err() {
             return Err(ErrorKind::Other.into());
         }
+    }
+    Ok(())
+}
+
+/// Loads a journal, and tells again what stands in it, with so many words, each of which is done.
+fn retells(rt: &HostRuntime, disk: FileDisk, count: u32) -> io::Result<()> {
+    let Ok(journal) = Journal::load(rt.alloc(), disk, AREA, 1) else {
+        return Err(ErrorKind::InvalidData.into());
+    };
+    let mut recovered = Recovered::from(rt.alloc(), &journal, 1)?;
+    let mut out = Outbox::new(rt.alloc());
+    recovered.redrive(&mut out)?;
+    for _ in 0..count {
+        if let Some(word) = out.take() {
+            recovered.heard(&word.number, &Heard::Done);
+        }
+    }
+    if !recovered.records().iter().all(|held| held.is_complete()) {
+        return Err(ErrorKind::InvalidData.into());
     }
     Ok(())
 }
