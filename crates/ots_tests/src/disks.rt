@@ -9,6 +9,11 @@ fn keep<D: Disk>(disk: &mut D, bytes: &[u8]) -> Result<(), DiskRefusal> {
     disk.sync()
 }
 
+/// How often any disk has failed.
+fn faults<D: Disk>(disk: &D) -> u64 {
+    disk.fault_count()
+}
+
 #[test]
 fn a_disk_fails_where_it_is_listed(rt: HostRuntime) -> Result<(), Fail> {
     let failing = vec![in rt.alloc(); 2]?;
@@ -19,7 +24,7 @@ fn a_disk_fails_where_it_is_listed(rt: HostRuntime) -> Result<(), Fail> {
     assert_eq!(rt; keep(&mut disk, b"longer"), Ok(()));
     assert_eq!(rt; disk.octets(), b"longer".as_slice());
     assert_eq!(rt; disk.len(), Ok(6));
-    assert_eq!(rt; disk.faults(), 1);
+    assert_eq!(rt; faults(&disk), 1);
     Ok(())
 }
 

@@ -1,9 +1,10 @@
-//! Tests of messages that aren't written, which no octets can show, and of contexts as a vector.
+//! Tests of messages that aren't written, which no octets can show, of what stands before and behind one, and of contexts
+//! as a vector.
 ghost use Rattle.std.specs.Prelude.{◌<◌, ◌≤◌, ◌^◌, ◌+◌, ◌≡◌, [], IfOk, length};
 ghost use Rattle.giop_frames.specs.Encode.{octets_in, octets_in_contexts};
 
 use cdr_values::{CdrFault, Order};
-use giop_frames::{Contexts, FrameFault, Message, Reply, Request, ServiceContext, Target, encode};
+use giop_frames::{Contexts, FrameFault, Message, Reply, Request, ServiceContext, Target, decode, encode};
 use ots_model::Octets;
 use std::alloc::{AllocError, Global};
 use std::process::Abort;
@@ -132,5 +133,18 @@ fn contexts_are_made_of_a_vector_and_give_it_back(rt: HostRuntime) -> Result<(),
         [only] => assert_eq!(rt; (only.id, only.bytes.bytes()), (1, b"ab".as_slice())),
         _ => panic!(rt; "other contexts"),
     }
+    Ok(())
+}
+
+/// A message is written behind what stands there, and read without what follows it.
+#[test]
+fn a_message_has_its_own_octets(rt: HostRuntime) -> Result<(), Fail> {
+    let mut into = b"before".to_vec(rt.alloc())?;
+    encode(rt.alloc(), &Message::Close, &mut into)?;
+    into.push(7)?;
+    let (before, behind) = into.split_at(6);
+    assert_eq!(rt; before, b"before".as_slice());
+    assert_eq!(rt; behind.len(), 13);
+    assert_eq!(rt; decode(rt.alloc(), behind)?.used, 12);
     Ok(())
 }
