@@ -68,7 +68,6 @@ impl Recovered {
         ensures life { IfOk result (λ r. r.life ≡ journal.now.found.life) }
         ensures records { IfOk result (λ r. r.records ≡ filter_map holding.loaded journal.now.found.standing) }
     {
-        let _disk = journal.disk();
         let records = load_all(alloc, journal.standing())?;
         Ok(Recovered {
             alloc,
