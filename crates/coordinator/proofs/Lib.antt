@@ -3,3 +3,4 @@ mod Played
 mod Phased
 mod Rightly
 mod Outcomes
+mod NodesPlayed

@@ -12,3 +12,9 @@ pub mod Step
 pub mod Plays
 pub mod AnswersByPhase
 pub mod Laws
+pub mod Node
+pub mod NodeSlots
+pub mod NodeRecords
+pub mod NodeCalls
+pub mod NodeTick
+pub mod NodePlays

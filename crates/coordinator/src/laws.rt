@@ -1,6 +1,7 @@
 // Laws of the definitions: these functions do nothing, and their contracts are the laws.
 ghost use Rattle.coordinator.specs.AnswersByPhase.{AnswersByPhase};
 ghost use Rattle.coordinator.specs.Laws.{FamiliesAppendByConsent, FamiliesCommitByRecord, FamiliesDecideOnce, FamiliesStepRightly, FamilyOutcomesStay, HistoriesGrowByEntries, RecordsNameVoters, RepeatsChangeNothing, StaleAnswersChangeNothing};
+ghost use Rattle.coordinator.specs.NodePlays.{NodesPlay};
 ghost use Rattle.coordinator.specs.Plays.{FamiliesPlay};
 
 use two_phase::{a_tree_outcome_stays, tree_words_go_rightly};
@@ -69,4 +70,9 @@ pub fn repeats_change_nothing()
 /// A decision record names exactly the registrations that take part and have voted commit.
 pub fn records_name_voters()
     ensures { RecordsNameVoters }
+{}
+
+/// In short runs of a node, over crashes and loads, each call shows what it must.
+pub fn nodes_play()
+    ensures { NodesPlay }
 {}
