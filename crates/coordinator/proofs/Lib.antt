@@ -4,3 +4,4 @@ mod Phased
 mod Rightly
 mod Outcomes
 mod NodesPlayed
+mod Numbers

@@ -18,3 +18,4 @@ pub mod NodeRecords
 pub mod NodeCalls
 pub mod NodeTick
 pub mod NodePlays
+pub mod NodeLaws

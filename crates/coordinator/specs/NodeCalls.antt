@@ -106,23 +106,26 @@ unfoldable pub hears_record : CallNumber → Heard → Option Stood → Node →
 hears_record n h stood node =
     if is_held n.generation node.recovered then records_hear n h stood node else refuses faults.ObjectNotExist node
 
--- a call that is for no family
-abbrev pub for_records : ObjectKey → Event → Act → Option Stood → Node → Applied
-for_records k e (acts.Answer n h) stood node =
-    if n.slot == retold_slot then hears_record n h stood node else by_record k e node
-for_records k e _ stood node = by_record k e node
+-- an answer to a word that was told again
+pub record RetoldAnswer : Type 0 where
+  pub number : CallNumber
+  pub heard : Heard
+
+abbrev pub retold_answer : Act → Option RetoldAnswer
+retold_answer (acts.Answer n h) = if n.slot == retold_slot then Some (record { number = n; heard = h }) else None
+retold_answer _ = None
 
 -- what is answered by the records alone
-unfoldable pub answers_recovered : ObjectKey → Event → Option Stood → Node → Applied
-answers_recovered k e stood n = for_records k e e.act stood n
+abbrev pub by_records : Option RetoldAnswer → ObjectKey → Event → Option Stood → Node → Applied
+by_records (Some a) k e stood n = hears_record a.number a.heard stood n
+by_records None k e stood n = by_record k e n
 
-abbrev pub is_retold_answer : Act → Bool
-is_retold_answer (acts.Answer n h) = n.slot == retold_slot
-is_retold_answer _ = false
+unfoldable pub answers_recovered : ObjectKey → Event → Option Stood → Node → Applied
+answers_recovered k e stood n = by_records (retold_answer e.act) k e stood n
 
 -- the family that an event is for
 abbrev pub family_for : ObjectKey → Event → Node → Option Family
-family_for k e n = if is_retold_answer e.act then None else family_of k n
+family_for k e n = if is_some (retold_answer e.act) then None else family_of k n
 
 abbrev pub applied_by : Option Family → ObjectKey → Event → Option Stood → Node → Applied
 applied_by (Some f) k e stood n = by_family f e stood n
@@ -136,13 +139,13 @@ applies k e stood n = applied_by (family_for k e n) k e stood n
 abbrev pub family_wants : Family → Event → Option Wanted
 family_wants f e = if has_room f e then wanted f e else None
 
-abbrev pub records_want : Act → Node → Option Wanted
-records_want (acts.Answer n h) node = done_wanted n h node
-records_want _ node = None
+abbrev pub records_want : Option RetoldAnswer → Node → Option Wanted
+records_want (Some a) n = done_wanted a.number a.heard n
+records_want None n = None
 
 abbrev pub wanted_by : Option Family → Event → Node → Option Wanted
 wanted_by (Some f) e n = family_wants f e
-wanted_by None e n = records_want e.act n
+wanted_by None e n = records_want (retold_answer e.act) n
 
 unfoldable pub call_wants : ObjectKey → Event → Node → Option Wanted
 call_wants k e n = wanted_by (family_for k e n) e n

@@ -1,6 +1,7 @@
 // Laws of the definitions: these functions do nothing, and their contracts are the laws.
 ghost use Rattle.coordinator.specs.AnswersByPhase.{AnswersByPhase};
 ghost use Rattle.coordinator.specs.Laws.{FamiliesAppendByConsent, FamiliesCommitByRecord, FamiliesDecideOnce, FamiliesStepRightly, FamilyOutcomesStay, HistoriesGrowByEntries, RecordsNameVoters, RepeatsChangeNothing, StaleAnswersChangeNothing};
+ghost use Rattle.coordinator.specs.NodeLaws.{KeysAreNew, LivesRise, NodesKeepNumbers};
 ghost use Rattle.coordinator.specs.NodePlays.{NodesPlay};
 ghost use Rattle.coordinator.specs.Plays.{FamiliesPlay};
 
@@ -75,4 +76,20 @@ pub fn records_name_voters()
 /// In short runs of a node, over crashes and loads, each call shows what it must.
 pub fn nodes_play()
     ensures { NodesPlay }
+{}
+
+/// In one life of a node no call changes the life, and the number of families never falls.
+pub fn nodes_keep_numbers()
+    ensures { NodesKeepNumbers }
+{}
+
+/// A family that is made has a greater number than each one that was made before it in the same life. So no two have the same
+/// key.
+pub fn keys_are_new()
+    ensures { KeysAreNew }
+{}
+
+/// A load begins the life behind the last one that its records tell. So no life is used twice.
+pub fn lives_rise()
+    ensures { LivesRise }
 {}
