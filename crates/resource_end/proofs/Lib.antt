@@ -1,0 +1,4 @@
+mod Tabled
+mod Played
+mod Stored
+mod Held

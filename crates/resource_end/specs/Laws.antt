@@ -1,0 +1,54 @@
+-- Laws of a resource end: what its cells have, who holds them, and what stays (our profile).
+use Rattle.std.specs.Prelude.{◌≡◌, ℕ, ◌⊎◌, Bool, true, false, List, Option, Some, None, is_some}
+use Rattle.std.specs.List.{Contains}
+use Rattle.std.specs.Option.{option_or}
+use Rattle.ots_model.specs.declared.tree.Heard.{Heard}
+use Rattle.decision_journal.specs.declared.record.Put.{Put}
+use Rattle.resource_end.specs.declared.state.State.{State}
+use Rattle.resource_end.specs.declared.state.State.TheVariants as states
+use Rattle.resource_end.specs.declared.state.Word.{Word}
+use Rattle.resource_end.specs.declared.state.Word.TheVariants as words
+use Rattle.resource_end.specs.States.{holds, learnt, stores}
+use Rattle.resource_end.specs.Table.{row}
+use Rattle.resource_end.specs.Cells.{value_at, with_puts}
+use Rattle.resource_end.specs.End.{End, Resource, changes, is_numbered, other_holder, stored}
+
+-- a cell that puts name has what they say; each other cell has what it had
+abbrev pub PutsAreStored : Type 0
+PutsAreStored = (cell : ℕ) (puts cells : List Put) → value_at cell (with_puts puts cells) ≡ option_or (value_at cell puts) (value_at cell cells)
+
+-- A change that stores its resource's puts leaves in each cell what was put last there, if anything was; each other change leaves
+-- each cell as it is
+abbrev pub stored_by : Bool → ℕ → Resource → End → Option ℕ
+stored_by true cell r e = option_or (value_at cell r.puts) (stored cell e)
+stored_by false cell r e = stored cell e
+
+abbrev pub ChangesStoreOnce : Type 0
+ChangesStoreOnce = (s : State) (r : Resource) (e : End) (cell : ℕ) → stored cell (changes s r e) ≡ stored_by (stores r.state s) cell r e
+
+-- what becomes of a resource by a word, where it becomes anything
+abbrev pub next : Word → State → Option State
+next w s = (row w s).next
+
+-- a state that a word or an answer leads to
+abbrev pub Leads : State → State → Type 0
+Leads before after = ((w : Word) × (next w before ≡ Some after)) ⊎ ((h : Heard) × (learnt before h ≡ Some after))
+
+-- a resource whose puts were stored or dropped never stores puts again
+abbrev pub StoresOnce : Type 0
+StoresOnce = (before after : State) → Leads before after → holds before ≡ false → holds after ≡ false
+
+-- A choice stays whatever is heard, and by each word but forget and the one that says the same
+pub record ChoicesStay : Type 0 where
+  pub commit_by_rollback : next words.Rollback states.ChoseCommit ≡ None
+  pub commit_by_prepare : next words.Prepare states.ChoseCommit ≡ None
+  pub commit_by_answers : (h : Heard) → learnt states.ChoseCommit h ≡ None
+  pub rollback_by_commit : next words.Commit states.ChoseRollback ≡ None
+  pub rollback_by_one_phase : next words.CommitOnePhase states.ChoseRollback ≡ None
+  pub rollback_by_prepare : next words.Prepare states.ChoseRollback ≡ None
+  pub rollback_by_answers : (h : Heard) → learnt states.ChoseRollback h ≡ None
+
+-- a cell that a resource holds is held from each other resource
+abbrev pub HeldCellsAreHeld : Type 0
+HeldCellsAreHeld = (e : End) (r holder : Resource) (cell : ℕ) → Contains e.resources holder → is_numbered r.life r.number holder ≡ false
+    → holds holder.state ≡ true → is_some (value_at cell holder.puts) ≡ true → is_some (other_holder r cell e) ≡ true

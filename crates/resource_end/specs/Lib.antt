@@ -1,0 +1,10 @@
+pub mod Limits
+pub mod States
+pub mod Table
+pub mod Cells
+pub mod End
+pub mod Recall
+pub mod Calls
+pub mod TableByState
+pub mod Plays
+pub mod Laws

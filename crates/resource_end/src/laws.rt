@@ -1,0 +1,40 @@
+// Laws of the definitions: these functions do nothing, and their contracts are the laws.
+ghost use Rattle.resource_end.specs.Laws.{ChangesStoreOnce, ChoicesStay, HeldCellsAreHeld, PutsAreStored, StoresOnce};
+ghost use Rattle.resource_end.specs.Plays.{EndsPlay};
+ghost use Rattle.resource_end.specs.TableByState.{TableByState};
+
+/// Each word, in each state, has the answer that it must have, writes that record, and leaves that state and that cell.
+pub fn words_follow_states()
+    ensures { TableByState }
+{}
+
+/// In short runs of an end each call shows what it must: a crash of a prepared resource, a choice, two resources and one
+/// cell, a journal that fails.
+pub fn ends_play()
+    ensures { EndsPlay }
+{}
+
+/// A cell that is put has the value that was put; each other cell has what it had.
+pub fn puts_are_stored()
+    ensures { PutsAreStored }
+{}
+
+/// A change stores the puts of its resource, or changes no cell.
+pub fn changes_store_once()
+    ensures { ChangesStoreOnce }
+{}
+
+/// A resource whose puts were stored or dropped comes into no state again out of which puts are stored.
+pub fn resources_store_once()
+    ensures { StoresOnce }
+{}
+
+/// A resource's own choice stays until it is forgotten or told that very outcome.
+pub fn choices_stay()
+    ensures { ChoicesStay }
+{}
+
+/// A cell that a resource holds is held from each other resource.
+pub fn held_cells_are_held()
+    ensures { HeldCellsAreHeld }
+{}

@@ -1,0 +1,13 @@
+//! Resources with cells that outlive a crash: how each stands, what it answers, and what each call makes of them.
+#![tactic(auto)]
+
+pub use fault::EndFault;
+pub use laws::{
+    changes_store_once, choices_stay, ends_play, held_cells_are_held, puts_are_stored,
+    resources_store_once, words_follow_states,
+};
+pub use state::{Row, State, Word};
+
+mod fault;
+mod laws;
+mod state;
