@@ -2,3 +2,4 @@ mod Tabled
 mod Played
 mod Stored
 mod Held
+mod Recalled

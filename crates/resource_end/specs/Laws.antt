@@ -1,5 +1,5 @@
 -- Laws of a resource end: what its cells have, who holds them, and what stays (our profile).
-use Rattle.std.specs.Prelude.{◌≡◌, ℕ, ◌⊎◌, Bool, true, false, List, Option, Some, None, is_some}
+use Rattle.std.specs.Prelude.{◌≡◌, ℕ, ◌⊎◌, Bool, true, false, List, Option, Some, None, IfSome, find, is_some}
 use Rattle.std.specs.List.{Contains}
 use Rattle.std.specs.Option.{option_or}
 use Rattle.ots_model.specs.declared.tree.Heard.{Heard}
@@ -11,7 +11,9 @@ use Rattle.resource_end.specs.declared.state.Word.TheVariants as words
 use Rattle.resource_end.specs.States.{holds, learnt, stores}
 use Rattle.resource_end.specs.Table.{row}
 use Rattle.resource_end.specs.Cells.{value_at, with_puts}
-use Rattle.resource_end.specs.End.{End, Resource, changes, is_numbered, other_holder, stored}
+use Rattle.decision_journal.specs.declared.record.JournalRecord.{JournalRecord}
+use Rattle.resource_end.specs.Recall.{is_recorded_at, recalls}
+use Rattle.resource_end.specs.End.{record_for, with_place, End, Resource, changes, is_numbered, other_holder, stored}
 
 -- a cell that puts name has what they say; each other cell has what it had
 abbrev pub PutsAreStored : Type 0
@@ -52,3 +54,15 @@ pub record ChoicesStay : Type 0 where
 abbrev pub HeldCellsAreHeld : Type 0
 HeldCellsAreHeld = (e : End) (r holder : Resource) (cell : ℕ) → Contains e.resources holder → is_numbered r.life r.number holder ≡ false
     → holds holder.state ≡ true → is_some (value_at cell holder.puts) ≡ true → is_some (other_holder r cell e) ≡ true
+
+-- ---- what is recorded
+
+-- the resource is one of the end, found by its number and by the place of its record
+pub record IsOf (e : End) (r : Resource) : Type 0 where
+  pub numbered : find (is_numbered r.life r.number) e.resources ≡ Some r
+  pub recorded : IfSome r.record_place (λ place. find (is_recorded_at place) e.resources ≡ Some r)
+
+-- a record that a change writes tells, where it is read again, that very change
+abbrev pub RecordsTellChanges : Type 0
+RecordsTellChanges = (s : State) (r : Resource) (e : End) (place : ℕ) (item : JournalRecord) → IsOf e r
+    → record_for s r ≡ Some item → recalls (record { place = place; item = item }) e ≡ changes s (with_place s place r) e

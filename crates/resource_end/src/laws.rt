@@ -1,5 +1,5 @@
 // Laws of the definitions: these functions do nothing, and their contracts are the laws.
-ghost use Rattle.resource_end.specs.Laws.{ChangesStoreOnce, ChoicesStay, HeldCellsAreHeld, PutsAreStored, StoresOnce};
+ghost use Rattle.resource_end.specs.Laws.{ChangesStoreOnce, ChoicesStay, HeldCellsAreHeld, PutsAreStored, RecordsTellChanges, StoresOnce};
 ghost use Rattle.resource_end.specs.Plays.{EndsPlay};
 ghost use Rattle.resource_end.specs.TableByState.{TableByState};
 
@@ -37,4 +37,9 @@ pub fn choices_stay()
 /// A cell that a resource holds is held from each other resource.
 pub fn held_cells_are_held()
     ensures { HeldCellsAreHeld }
+{}
+
+/// A record that a change writes tells that very change where it is read again: what a load or a reread finds is what was done.
+pub fn records_tell_changes()
+    ensures { RecordsTellChanges }
 {}

@@ -4,7 +4,7 @@
 pub use fault::EndFault;
 pub use laws::{
     changes_store_once, choices_stay, ends_play, held_cells_are_held, puts_are_stored,
-    resources_store_once, words_follow_states,
+    records_tell_changes, resources_store_once, words_follow_states,
 };
 pub use state::{Row, State, Word};
 
