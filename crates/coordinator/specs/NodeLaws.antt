@@ -1,12 +1,11 @@
 -- What holds of every node: its life and its numbers are never used twice, and what is told again stands (our profile).
-use Rattle.std.specs.Prelude.{◌≡◌, ℕ, ◌+◌, ◌<◌, ◌≤◌, List, Option, Ok, IsTrue}
-use Rattle.std.specs.List.{AllByRecursion, list_any}
+use Rattle.std.specs.Prelude.{◌≡◌, ℕ, ◌+◌, ◌<◌, ◌≤◌, List, Option, Ok}
+use Rattle.std.specs.List.{AllByRecursion}
 use Rattle.ior_refs.specs.declared.key.ObjectKey.{ObjectKey}
 use Rattle.ots_model.specs.declared.completion.Stood.{Stood}
-use Rattle.ots_model.specs.declared.tree.Outward.{Outward}
-use Rattle.decision_journal.specs.Journal.{Found, found_in, is_decision_at}
+use Rattle.decision_journal.specs.Journal.{found_in}
 use Rattle.decision_journal.specs.declared.record.JournalRecord.{JournalRecord}
-use Rattle.recovery_coord.specs.declared.held.Held.{Held}
+use Rattle.recovery_coord.specs.Laws.{Comes, IsBacked}
 use Rattle.coordinator.specs.declared.event.Event.{Event}
 use Rattle.coordinator.specs.Family.{Family}
 use Rattle.coordinator.specs.Node.{Node, load, life}
@@ -46,3 +45,15 @@ KeysAreNew = (make other : ObjectKey → Family) (n later : Node) (first second 
 -- a load begins the life behind the last one of the records that it reads
 abbrev pub LivesRise : Type 0
 LivesRise = (service : ℕ) (records : List JournalRecord) → life (load service records) ≡ (found_in records).life + 1
+
+-- what a node holds of its records comes of those that stand
+abbrev pub HoldsStanding : Node → Type 0
+HoldsStanding n = Comes n.found.standing n.recovered
+
+-- so it is after a load, and while families are made and time passes. Then each word that is told again at a tick goes to a
+-- registration that a record names which stands.
+pub record TicksTellStanding : Type 0 where
+  pub loaded : (service : ℕ) (records : List JournalRecord) → HoldsStanding (load service records)
+  pub made : (make : ObjectKey → Family) (n : Node) → HoldsStanding n → HoldsStanding (makes make n).node
+  pub ticked : (now : ℕ) (n : Node) → HoldsStanding n → HoldsStanding (ticks now n).node
+  pub told : (now : ℕ) (n : Node) → HoldsStanding n → AllByRecursion (IsBacked n.found.standing) (ticks now n).words

@@ -1,10 +1,11 @@
 // Laws of the definitions: these functions do nothing, and their contracts are the laws.
 ghost use Rattle.coordinator.specs.AnswersByPhase.{AnswersByPhase};
 ghost use Rattle.coordinator.specs.Laws.{FamiliesAppendByConsent, FamiliesCommitByRecord, FamiliesDecideOnce, FamiliesStepRightly, FamilyOutcomesStay, HistoriesGrowByEntries, RecordsNameVoters, RepeatsChangeNothing, StaleAnswersChangeNothing};
-ghost use Rattle.coordinator.specs.NodeLaws.{KeysAreNew, LivesRise, NodesKeepNumbers};
+ghost use Rattle.coordinator.specs.NodeLaws.{KeysAreNew, LivesRise, NodesKeepNumbers, TicksTellStanding};
 ghost use Rattle.coordinator.specs.NodePlays.{NodesPlay};
 ghost use Rattle.coordinator.specs.Plays.{FamiliesPlay};
 
+use recovery_coord::words_have_records;
 use two_phase::{a_tree_outcome_stays, tree_words_go_rightly};
 
 /// In short runs of a family each step shows what it must: what is said, which words go out, which calls are answered, and
@@ -93,3 +94,11 @@ pub fn keys_are_new()
 pub fn lives_rise()
     ensures { LivesRise }
 {}
+
+/// Each word that is told again at a tick goes to a registration that a record names which stands, where what the node holds
+/// comes of such records. So it is after a load, and stays while families are made and time passes.
+pub fn ticks_tell_standing()
+    ensures { TicksTellStanding }
+{
+    words_have_records();
+}
