@@ -6,3 +6,4 @@ mod Outcomes
 mod NodesPlayed
 mod Numbers
 mod Telling
+mod Decided

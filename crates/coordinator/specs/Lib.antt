@@ -17,5 +17,6 @@ pub mod NodeSlots
 pub mod NodeRecords
 pub mod NodeCalls
 pub mod NodeTick
+pub mod NodeParts
 pub mod NodePlays
 pub mod NodeLaws

@@ -3,11 +3,15 @@ use Rattle.std.specs.Prelude.{◌≡◌, ℕ, ◌+◌, ◌<◌, ◌≤◌, List,
 use Rattle.std.specs.List.{AllByRecursion}
 use Rattle.ior_refs.specs.declared.key.ObjectKey.{ObjectKey}
 use Rattle.ots_model.specs.declared.completion.Stood.{Stood}
+use Rattle.ots_model.specs.declared.tree.Outward.{Outward}
+use Rattle.ots_model.specs.declared.tree.Word.TheVariants as words
+use Rattle.two_phase.specs.Stages.{Standing}
 use Rattle.decision_journal.specs.Journal.{found_in}
 use Rattle.decision_journal.specs.declared.record.JournalRecord.{JournalRecord}
 use Rattle.recovery_coord.specs.Laws.{Comes, IsBacked}
 use Rattle.coordinator.specs.declared.event.Event.{Event}
 use Rattle.coordinator.specs.Family.{Family}
+use Rattle.coordinator.specs.Laws.{IsByRecord}
 use Rattle.coordinator.specs.Node.{Node, load, life}
 use Rattle.coordinator.specs.NodeSlots.{makes}
 use Rattle.coordinator.specs.NodeCalls.{applies}
@@ -57,3 +61,16 @@ pub record TicksTellStanding : Type 0 where
   pub made : (make : ObjectKey → Family) (n : Node) → HoldsStanding n → HoldsStanding (makes make n).node
   pub ticked : (now : ℕ) (n : Node) → HoldsStanding n → HoldsStanding (ticks now n).node
   pub told : (now : ℕ) (n : Node) → HoldsStanding n → AllByRecursion (IsBacked n.found.standing) (ticks now n).words
+
+-- a commit word goes out by the completion of a family whose decision record stands
+pub record IsDecided (o : Outward) : Type 0 where
+  pub completion : Standing
+  pub by_record : IsByRecord completion o
+
+abbrev pub GoesDecided : Outward → Type 0
+GoesDecided o = o.word ≡ words.Commit → IsDecided o
+
+-- so does each commit word of a call, and each one of a tick that isn't told again
+pub record NodesCommitByRecord : Type 0 where
+  pub called : (k : ObjectKey) (e : Event) (stood : Option Stood) (n : Node) → AllByRecursion GoesDecided (applies k e stood n).words
+  pub ticked : (now : ℕ) (n : Node) → AllByRecursion (λ h. AllByRecursion GoesDecided h.words) (ticks now n).happened

@@ -1,7 +1,7 @@
 // Laws of the definitions: these functions do nothing, and their contracts are the laws.
 ghost use Rattle.coordinator.specs.AnswersByPhase.{AnswersByPhase};
 ghost use Rattle.coordinator.specs.Laws.{FamiliesAppendByConsent, FamiliesCommitByRecord, FamiliesDecideOnce, FamiliesStepRightly, FamilyOutcomesStay, HistoriesGrowByEntries, RecordsNameVoters, RepeatsChangeNothing, StaleAnswersChangeNothing};
-ghost use Rattle.coordinator.specs.NodeLaws.{KeysAreNew, LivesRise, NodesKeepNumbers, TicksTellStanding};
+ghost use Rattle.coordinator.specs.NodeLaws.{KeysAreNew, LivesRise, NodesCommitByRecord, NodesKeepNumbers, TicksTellStanding};
 ghost use Rattle.coordinator.specs.NodePlays.{NodesPlay};
 ghost use Rattle.coordinator.specs.Plays.{FamiliesPlay};
 
@@ -101,4 +101,12 @@ pub fn ticks_tell_standing()
     ensures { TicksTellStanding }
 {
     words_have_records();
+}
+
+/// Each commit word that a node hands out goes by the decision of a family whose record stands, as
+/// `families_commit_by_record` says, unless a tick tells it again.
+pub fn nodes_commit_by_record()
+    ensures { NodesCommitByRecord }
+{
+    families_commit_by_record();
 }
