@@ -1,6 +1,6 @@
 -- The life of a node stays, its numbers rise, and a load begins the next life.
-use Rattle.std.proofs.Common.{◌≡◌, ◌∙◌, refl, sym, ap, subst, ℕ, ◌+◌, ◌<◌, ◌≤◌, Bool, true, false, List, [], ◌∷◌, ◌++◌, length, Option, Some, None, Ok, arith, if◌then◌else◌}
-use Rattle.std.specs.Prelude.{nat_lt, is_some}
+use Rattle.std.proofs.Common.{◌≡◌, ◌∙◌, refl, sym, ap, subst, ℕ, ◌+◌, Bool, true, false, List, [], ◌∷◌, ◌++◌, length, Option, Some, None, Ok, arith, if◌then◌else◌}
+use Rattle.std.specs.Prelude.{nat_lt}
 use Rattle.std.specs.Option.{option_and_then, option_map}
 use Rattle.ior_refs.specs.declared.key.ObjectKey.{ObjectKey}
 use Rattle.ots_model.specs.declared.completion.CallNumber.{CallNumber}
@@ -25,7 +25,7 @@ use Rattle.coordinator.specs.NodeSlots.{makes, makes_in, makes_no_family, with_n
 use Rattle.coordinator.specs.NodeRecords.{record_of, record_says}
 use Rattle.coordinator.specs.NodeCalls.{RetoldAnswer, retold_answer, journaled, has_room, steps_to, refuses, replies, records_hear, hears_record, by_records, answers_recovered, family_for, applied_by, applies}
 use Rattle.coordinator.specs.NodeTick.{ticks}
-use Rattle.coordinator.specs.NodeLaws.{NodeBecomes, by_making, by_call, by_tick, NodeGoesOn, still, further, KeepsNumbers, NodesKeepNumbers, IsLater, KeysAreNew, LivesRise}
+use Rattle.coordinator.specs.NodeLaws.{NodeBecomes, by_making, by_call, by_tick, NodeGoesOn, still, further, KeepsNumbers, NodesKeepNumbers, KeysAreNew, LivesRise}
 use Rattle.coordinator.proofs.Outcomes.{append_by_consent}
 
 -- ---- lives

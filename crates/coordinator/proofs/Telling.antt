@@ -15,7 +15,7 @@ use Rattle.coordinator.specs.Family.{Family}
 use Rattle.coordinator.specs.Hearing.{record_place}
 use Rattle.coordinator.specs.Limits.{generation_limit}
 use Rattle.coordinator.specs.Step.{is_finished}
-use Rattle.coordinator.specs.Node.{Node, load, life, family_in}
+use Rattle.coordinator.specs.Node.{Node, life, family_in}
 use Rattle.coordinator.specs.NodeSlots.{makes, makes_in, makes_no_family, with_new, next_key, free_slot, left_record, held_for, takes_over}
 use Rattle.coordinator.specs.NodeTick.{ticks, ticked, takes_all_over}
 use Rattle.coordinator.specs.NodeLaws.{HoldsStanding, TicksTellStanding}

@@ -1,7 +1,7 @@
 -- A node: the families that one service runs in one life, and the records of its journal that are told again (that the families
 -- have slots, that a load begins a life, and what a load leaves, are our profile).
-use Rattle.std.specs.Prelude.{ℕ, ◌+◌, ◌==◌, ◌&&◌, Bool, true, List, [], ◌∷◌, ◌++◌, replicate, slice_get, slice_set, filter_map, Option, Some, None, if◌then◌else◌}
-use Rattle.std.specs.Option.{option_map_or, option_and_then}
+use Rattle.std.specs.Prelude.{ℕ, ◌+◌, ◌==◌, ◌&&◌, Bool, List, [], ◌∷◌, ◌++◌, replicate, slice_get, slice_set, filter_map, Option, Some, None, if◌then◌else◌}
+use Rattle.std.specs.Option.{option_and_then}
 use Rattle.ior_refs.specs.declared.key.ObjectKey.{ObjectKey}
 use Rattle.decision_journal.specs.Journal.{Found, found_in}
 use Rattle.decision_journal.specs.declared.record.JournalRecord.{JournalRecord}

@@ -1,7 +1,7 @@
 -- A call to a node: it is a step of the family that its key names, or is answered by a record; and what it asks of the journal
 -- (our profile).
-use Rattle.std.specs.Prelude.{ℕ, ◌==◌, ◌||◌, Bool, true, false, not, List, [], ◌∷◌, length, Option, Some, None, is_some, Result, Ok, Err, if◌then◌else◌}
-use Rattle.std.specs.Option.{option_map, option_map_or, option_and_then}
+use Rattle.std.specs.Prelude.{ℕ, ◌==◌, ◌||◌, Bool, not, List, [], ◌∷◌, length, Option, Some, None, is_some, Result, Ok, Err, if◌then◌else◌}
+use Rattle.std.specs.Option.{option_map, option_and_then}
 use Rattle.ior_refs.specs.declared.key.ObjectKey.{ObjectKey}
 use Rattle.ots_model.specs.declared.completion.CallNumber.{CallNumber}
 use Rattle.ots_model.specs.declared.completion.Stood.{Stood}
@@ -26,7 +26,7 @@ use Rattle.coordinator.specs.declared.said.Said.TheVariants as said
 use Rattle.coordinator.specs.declared.said.StepAnswer.{StepAnswer}
 use Rattle.coordinator.specs.Family.{Family}
 use Rattle.coordinator.specs.History.{kept_for, is_full}
-use Rattle.coordinator.specs.Step.{Stepped, family_step, Wanted, Appends, WritesDone, Rereads, wanted}
+use Rattle.coordinator.specs.Step.{Stepped, family_step, Wanted, Appends, WritesDone, wanted}
 use Rattle.coordinator.specs.Node.{Node, life, with_family, family_of}
 use Rattle.coordinator.specs.NodeRecords.{record_of, record_says}
 

@@ -1,10 +1,8 @@
 -- Short runs of a node: families are made and work, the node crashes and is loaded, and records are told again (our profile
 -- where the standard leaves it open).
-use Rattle.std.specs.Prelude.{◌≡◌, ℕ, Bool, true, false, List, [], ◌∷◌, map, Option, Some, None, Result, Ok, Err}
+use Rattle.std.specs.Prelude.{◌≡◌, ℕ, false, List, [], ◌∷◌, map, Some, Result, Ok, Err}
 use Rattle.ior_refs.specs.declared.key.ObjectKey.{ObjectKey}
 use Rattle.ots_model.specs.declared.completion.CallNumber.{CallNumber}
-use Rattle.ots_model.specs.declared.completion.Stood.{Stood}
-use Rattle.ots_model.specs.declared.completion.Stood.TheVariants as answers
 use Rattle.ots_model.specs.declared.completion.Vote.TheVariants.{VoteCommit}
 use Rattle.ots_model.specs.declared.service.Status.TheVariants as status
 use Rattle.ots_model.specs.declared.tree.Heard.{Heard}
@@ -28,7 +26,7 @@ use Rattle.coordinator.specs.Plays.{Turn, first_key, on, keyed, heard, stands, r
 use Rattle.coordinator.specs.Node.{Node, load, life}
 use Rattle.coordinator.specs.NodeSlots.{creates}
 use Rattle.coordinator.specs.NodeCalls.{Applied, applies}
-use Rattle.coordinator.specs.NodeTick.{Ticked, ticks}
+use Rattle.coordinator.specs.NodeTick.{ticks}
 
 -- a word that goes out: its number, and what it is
 pub record NodeSent : Type 0 where

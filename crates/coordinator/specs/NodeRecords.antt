@@ -1,8 +1,7 @@
 -- What is answered for a family that is gone, by its record alone (Transaction Service, interfaces Terminator,
 -- RecoveryCoordinator and Resource; that a record answers for its family, and that the key of its commit tells a repeat, are
 -- our profile).
-use Rattle.std.specs.Prelude.{ℕ, ◌==◌, ◌&&◌, Bool, true, false, List, find, bytes_eq, Option, Some, None, if◌then◌else◌}
-use Rattle.std.specs.Option.{option_map_or}
+use Rattle.std.specs.Prelude.{ℕ, ◌==◌, ◌&&◌, Bool, false, List, find, bytes_eq, Option, Some, None, if◌then◌else◌}
 use Rattle.ior_refs.specs.declared.key.ObjectKey.{ObjectKey}
 use Rattle.ots_model.specs.declared.completion.Vote.TheVariants.{VoteCommit}
 use Rattle.ots_model.specs.declared.service.RetryKey.{RetryKey}

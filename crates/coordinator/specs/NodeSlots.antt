@@ -1,6 +1,6 @@
 -- How a node makes a family: in which slot, with which key, and what becomes of the record of the family that was there
 -- (Transaction Service, interface TransactionFactory; slots and numbers are our profile).
-use Rattle.std.specs.Prelude.{ℕ, ◌+◌, ◌==◌, min, Bool, true, nat_lt, List, [], ◌∷◌, take, drop, find, position, slice_set, Option, Some, None, Result, Ok, Err, if◌then◌else◌}
+use Rattle.std.specs.Prelude.{ℕ, ◌+◌, ◌==◌, min, Bool, true, nat_lt, List, take, drop, find, position, slice_set, Option, Some, None, Result, Ok, Err, if◌then◌else◌}
 use Rattle.std.specs.Option.{option_map, option_map_or, option_and_then, option_or}
 use Rattle.ior_refs.specs.declared.key.ObjectKey.{ObjectKey}
 use Rattle.decision_journal.specs.Journal.{Found, is_decision_at}
