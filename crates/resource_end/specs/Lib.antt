@@ -5,6 +5,7 @@ pub mod Cells
 pub mod End
 pub mod Recall
 pub mod Calls
+pub mod Faults
 pub mod TableByState
 pub mod Plays
 pub mod Laws

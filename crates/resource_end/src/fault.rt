@@ -1,3 +1,6 @@
+ghost use Rattle.std.specs.Prelude.{◌≡◌};
+ghost use Rattle.resource_end.specs.Faults.{load_fault, write_fault};
+
 use decision_journal::JournalFault;
 
 /// Why a call of a resource end was refused.
@@ -17,4 +20,30 @@ pub enum EndFault {
     Start(JournalFault),
     /// Memory ran out.
     Memory,
+}
+
+impl EndFault {
+    /// What a fault of the journal is to a call that writes a record or reads the journal again.
+    pub fn of_write(fault: JournalFault) -> EndFault
+        ensures { result ≡ write_fault fault }
+    {
+        match fault {
+            JournalFault::Full { used: _, need: _ } => EndFault::NoResources,
+            JournalFault::Memory => EndFault::Memory,
+            JournalFault::DiskFault
+            | JournalFault::BadHeader(_)
+            | JournalFault::BadRecord(_)
+            | JournalFault::LivesSpent => EndFault::PersistStore,
+        }
+    }
+
+    /// What a fault of the journal is to a load.
+    pub fn of_load(fault: JournalFault) -> EndFault
+        ensures { result ≡ load_fault fault }
+    {
+        match fault {
+            JournalFault::Memory => EndFault::Memory,
+            other => EndFault::Start(other),
+        }
+    }
 }

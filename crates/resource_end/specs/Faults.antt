@@ -1,0 +1,35 @@
+-- What a fault of the journal is to the callers of its end, and what writing a record comes to (our profile).
+use Rattle.std.specs.Prelude.{ℕ, Bool, true, false, Result, Ok, Err}
+use Rattle.decision_journal.specs.declared.journal.JournalFault.{JournalFault}
+use Rattle.decision_journal.specs.declared.journal.JournalFault.TheVariants.{DiskFault, Full, BadHeader, BadRecord, LivesSpent, Memory}
+use Rattle.resource_end.specs.declared.fault.EndFault.{EndFault}
+use Rattle.resource_end.specs.declared.fault.EndFault.TheVariants as faults
+use Rattle.resource_end.specs.Calls.{Written, StandsAt, Unwritten, InDoubt}
+
+-- of a journal that is loaded; that no life is left is told there alone
+abbrev pub write_fault : JournalFault → EndFault
+write_fault DiskFault = faults.PersistStore
+write_fault (Full used need) = faults.NoResources
+write_fault (BadHeader place) = faults.PersistStore
+write_fault (BadRecord place) = faults.PersistStore
+write_fault LivesSpent = faults.PersistStore
+write_fault Memory = faults.Memory
+
+-- of a load
+abbrev pub load_fault : JournalFault → EndFault
+load_fault DiskFault = faults.Start DiskFault
+load_fault (Full used need) = faults.Start (Full used need)
+load_fault (BadHeader place) = faults.Start (BadHeader place)
+load_fault (BadRecord place) = faults.Start (BadRecord place)
+load_fault LivesSpent = faults.Start LivesSpent
+load_fault Memory = faults.Memory
+
+-- an append was refused, and left a journal that has to be read again, or one that is ready
+abbrev pub refused_write : Bool → JournalFault → Written
+refused_write true fault = InDoubt (write_fault fault)
+refused_write false fault = Unwritten (write_fault fault)
+
+-- what an append answered, and whether its journal has to be read again
+abbrev pub written_by : Result ℕ JournalFault → Bool → Written
+written_by (Ok place) failed = StandsAt place
+written_by (Err fault) failed = refused_write failed fault
