@@ -1,4 +1,4 @@
--- What holds of every step of every family: what each word that goes out rests on, that an outcome stays and is told once,
+-- What holds of every step of every family: what each word that goes out rests on, that an outcome stays and is new where it is told,
 -- that a decision is recorded by consent alone, and what changes nothing (Transaction Service, nested transactions and the
 -- operations of interface Resource).
 use Rattle.std.specs.Prelude.{◌≡◌, ◌==◌, ℕ, ◌⊎◌, Bool, true, List, [], ◌∷◌, ◌++◌, Option, Some, None}
@@ -79,7 +79,7 @@ FamiliesStepRightly = (f : Family) (e : Event) (stood : Option Stood)
 abbrev pub entry_made : Family → Event → Option Stood → Stepped → List Entry
 entry_made f e stood s = f.entries ++ entry_of e stood s.said s.finished ∷ []
 
--- a step makes one entry or none
+-- a step makes one entry, or leaves the family as it was
 abbrev pub HistoriesGrowByEntries : Type 0
 HistoriesGrowByEntries = (f : Family) (e : Event) (stood : Option Stood)
     → ((family_step f e stood).family ≡ f)
@@ -96,7 +96,7 @@ FamilyOutcomesStay = (f : Family) (e : Event) (stood : Option Stood) (fixed : Ou
     → IsThere f.completion → stages.outcome f.completion ≡ Some fixed
     → stages.outcome (family_step f e stood).family.completion ≡ Some fixed
 
--- an outcome that a step tells is new: it wasn't fixed before, and is from then on. So a family tells one outcome at most
+-- an outcome that a step tells is new: it wasn't fixed before, and is from then on
 abbrev pub IsNewOutcome : Standing → Standing → Effect → Type 0
 IsNewOutcome s later (effects.Decided fixed) = (stages.outcome s ≡ None) × (stages.outcome later ≡ Some fixed)
 IsNewOutcome s later _ = Unit {0}
@@ -129,7 +129,7 @@ abbrev pub IsAgreed : Standing → Type 0
 IsAgreed (Waiting room) = ⊥
 IsAgreed (UnderWay c) = (course.all_consent c ≡ true) × (course.some_commit c ≡ true)
 
--- a decision is appended only then: it is that of the family once the event was heard
+-- a decision is appended only then: it is that of a family whose participants agree
 pub record AppendsRightly (f : Family) (item : JournalRecord) : Type 0 where
   pub heard : Family
   pub is_record : item ≡ decision_record heard

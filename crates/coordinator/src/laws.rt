@@ -14,19 +14,20 @@ pub fn families_play()
     ensures { FamiliesPlay }
 {}
 
-/// In each phase each call is answered as it must be.
+/// In each phase of a family without a superior, eight calls are answered as they must be.
 pub fn answers_follow_phases()
     ensures { AnswersByPhase }
 {}
 
 /// In each step of a family the completion begins once, or goes on as a completion does; and each word that goes out is the
-/// completion's next one, or else a word of a subtransaction's end or to a synchronization, which rests on no record.
+/// completion's next one, or else a word to a subtransaction's or a synchronization's object, or a rollback, which names no
+/// record.
 pub fn families_step_rightly()
     ensures { FamiliesStepRightly }
 {}
 
-/// A decision is appended only where each participant has consented and one of them waits for the outcome. The record is that
-/// of the family once the last vote was heard.
+/// A decision record is appended only of a family in which each participant has consented and one of them waits for the
+/// outcome.
 pub fn decisions_rest_on_consent()
     ensures { FamiliesAppendByConsent }
 {}
@@ -36,14 +37,14 @@ pub fn stale_answers_change_nothing()
     ensures { StaleAnswersChangeNothing }
 {}
 
-/// An outcome of a family that is fixed stays, whatever happens.
+/// An outcome of a family that is fixed stays, where its completion is one that can be reached.
 pub fn family_outcomes_stay()
     ensures { FamilyOutcomesStay }
 {
     a_tree_outcome_stays();
 }
 
-/// An outcome that a step tells wasn't fixed before, and is from then on. As it stays, a family tells one at most.
+/// An outcome that a step tells wasn't fixed before, and is from then on, where the completion is one that can be reached.
 pub fn families_decide_once()
     ensures { FamiliesDecideOnce }
 {
@@ -58,7 +59,7 @@ pub fn families_commit_by_record()
     tree_words_go_rightly();
 }
 
-/// A step makes one entry of the history, with what it says and whom it answers, or it changes nothing.
+/// A step makes one entry of the history, with what it says and whom it answers, or it leaves the family as it was.
 pub fn histories_grow_by_entries()
     ensures { HistoriesGrowByEntries }
 {}

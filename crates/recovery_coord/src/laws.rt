@@ -10,7 +10,7 @@ pub fn other_answers_change_nothing()
     ensures { OtherAnswersChangeNothing }
 {}
 
-/// A law: a record is named complete where the last of its registrations has completed, and once.
+/// A law: a record that an answer completes wasn't complete before, and with it each of its registrations has completed.
 pub fn completes_once()
     ensures { CompletesOnce }
 {}
