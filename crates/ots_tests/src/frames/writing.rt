@@ -4,7 +4,9 @@ ghost use Rattle.std.specs.Prelude.{◌<◌, ◌≤◌, ◌^◌, ◌+◌, ◌≡
 ghost use Rattle.giop_frames.specs.Encode.{octets_in, octets_in_contexts};
 
 use cdr_values::{CdrFault, Order};
-use giop_frames::{Contexts, FrameFault, Message, Reply, Request, ServiceContext, Target, decode, encode};
+use giop_frames::{
+    Contexts, FrameFault, Message, Reply, Request, ServiceContext, Target, decode, encode,
+};
 use ots_model::Octets;
 use std::alloc::{AllocError, Global};
 use std::process::Abort;
