@@ -41,7 +41,7 @@ taken : (place : ℕ) (o : Option ℕ) (xs : List Standing) → AreBefore place 
 taken place None xs before = before
 taken place (Some i) xs before = removed place i xs before
 
-one_more : (found : Found) (place more : ℕ) (r : JournalRecord) → place < more → AreBefore place found.standing → AreBefore more (with_record found place r).standing
+pub one_more : (found : Found) (place more : ℕ) (r : JournalRecord) → place < more → AreBefore place found.standing → AreBefore more (with_record found place r).standing
 one_more found place more (Life life) lt before = later place more found.standing (omega arith) before
 one_more found place more (Decision life slot generation k asked regs) lt before = pushed place more (Decision life slot generation k asked regs) found.standing lt before
 one_more found place more (Done named) lt before = later place more _ (omega arith) (taken place (position (is_decision_at named) found.standing) found.standing before)

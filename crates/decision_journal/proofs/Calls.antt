@@ -57,21 +57,21 @@ module _ {D : Type 0} (told : D → Option DiskState) (before : JournalState D) 
     unready : IsUnready told before after
     unready = record { journal = unread; disk = unwritten; was = was }
 
-    pub refused_unready : (r : JournalRecord) (now : Option DiskState) (n m : ℕ) (fault : JournalFault) → IsReadFault now n m fault → IsRefusedAppend told before r after fault
-    refused_unready r now n m DiskFault f = inl unready
-    refused_unready r now n m (Full u k) f = absurd f
-    refused_unready r now n m (BadHeader place) f = unready
-    refused_unready r now n m (BadRecord place) f = unready
-    refused_unready r now n m LivesSpent f = absurd f
-    refused_unready r now n m Memory f = inl unready
+    pub refused_unready : (r : JournalRecord) (wants : Bool) (now : Option DiskState) (n m : ℕ) (fault : JournalFault) → IsReadFault wants now n m fault → IsRefusedAppend told before r after fault
+    refused_unready r wants now n m DiskFault f = inl unready
+    refused_unready r wants now n m (Full u k) f = absurd f
+    refused_unready r wants now n m (BadHeader place) f = unready
+    refused_unready r wants now n m (BadRecord place) f = unready
+    refused_unready r wants now n m LivesSpent f = absurd f
+    refused_unready r wants now n m Memory f = inl unready
 
-    pub unready_reading : (now : Option DiskState) (n m : ℕ) (fault : JournalFault) → IsReadFault now n m fault → IsRefusedReading told before after fault
-    unready_reading now n m DiskFault f = unready
-    unready_reading now n m (Full u k) f = absurd f
-    unready_reading now n m (BadHeader place) f = unready
-    unready_reading now n m (BadRecord place) f = unready
-    unready_reading now n m LivesSpent f = absurd f
-    unready_reading now n m Memory f = inl unready
+    pub unready_reading : (wants : Bool) (now : Option DiskState) (n m : ℕ) (fault : JournalFault) → IsReadFault wants now n m fault → IsRefusedReading told before after fault
+    unready_reading wants now n m DiskFault f = unready
+    unready_reading wants now n m (Full u k) f = absurd f
+    unready_reading wants now n m (BadHeader place) f = unready
+    unready_reading wants now n m (BadRecord place) f = unready
+    unready_reading wants now n m LivesSpent f = absurd f
+    unready_reading wants now n m Memory f = inl unready
 
   module _ (mid : JournalState D) (read : HasReread before mid) (disk : Tells (told before.disk) (told mid.disk) (λ s t. t ≡ reread before.failed s)) (current : IsCurrent told mid) where
     pub ready_of : IsReady told before mid
@@ -84,25 +84,25 @@ module _ {D : Type 0} (told : D → Option DiskState) (before : JournalState D) 
       refused_ready (BadHeader place) f = absurd f
       refused_ready (BadRecord place) f = absurd f
       refused_ready LivesSpent f = absurd f
-      refused_ready Memory f = inr (inl ready_of)
+      refused_ready Memory f = absurd f
 
       module _ (after : JournalState D) (unsure : IsUnsure mid r after) (way : Tells (told mid.disk) (told after.disk) (λ s t. IsOnTheWay s (appended (length mid.octets) (behind_gate r) s) t)) where
         doubt : HasDoubt told before r after
         doubt = record { ready = mid; is_ready = ready_of; doubt = record { journal = unsure; disk = way } }
 
-        pub refused_doubt : (n m : ℕ) (fault : JournalFault) → IsDiskFault n m fault → IsRefusedAppend told before r after fault
-        refused_doubt n m DiskFault f = inr doubt
-        refused_doubt n m (Full u k) f = absurd f
-        refused_doubt n m (BadHeader place) f = absurd f
-        refused_doubt n m (BadRecord place) f = absurd f
-        refused_doubt n m LivesSpent f = absurd f
-        refused_doubt n m Memory f = inr (inr doubt)
+        pub refused_doubt : (wants : Bool) (n m : ℕ) (fault : JournalFault) → IsDiskFault wants n m fault → IsRefusedAppend told before r after fault
+        refused_doubt wants n m DiskFault f = inr doubt
+        refused_doubt wants n m (Full u k) f = absurd f
+        refused_doubt wants n m (BadHeader place) f = absurd f
+        refused_doubt wants n m (BadRecord place) f = absurd f
+        refused_doubt wants n m LivesSpent f = absurd f
+        refused_doubt wants n m Memory f = inr doubt
 
       -- of what a write answers
-      pub refused_write : {T : Type 0} (result : Result T JournalFault) (after : JournalState D) (n m : ℕ) → IfErr result (IsDiskFault n m) → OnErr result (IsUnsure mid r after)
+      pub refused_write : {T : Type 0} (result : Result T JournalFault) (after : JournalState D) (wants : Bool) (n m : ℕ) → IfErr result (IsDiskFault wants n m) → OnErr result (IsUnsure mid r after)
           → OnErr result (Tells (told mid.disk) (told after.disk) (λ s t. IsOnTheWay s (appended (length mid.octets) (behind_gate r) s) t)) → IfErr result (IsRefusedAppend told before r after)
-      refused_write (Ok x) after n m f unsure way = tt
-      refused_write (Err fault) after n m f unsure way = refused_doubt after unsure way n m fault f
+      refused_write (Ok x) after wants n m f unsure way = tt
+      refused_write (Err fault) after wants n m f unsure way = refused_doubt after unsure way wants n m fault f
 
       pub appended_write : (result : Result ℕ JournalFault) (after : JournalState D) → IfOk result (HasMore mid after r) → IfOk result (λ place. Tells (told mid.disk) (told after.disk) (λ s t. t ≡ appended place (behind_gate r) s))
           → used mid.octets mid.found + need mid.area mid.found r ≤ mid.area → IfOk result (HasAppended told before r after)
@@ -111,27 +111,27 @@ module _ {D : Type 0} (told : D → Option DiskState) (before : JournalState D) 
 
 -- ---- causes
 
-module _ (told : Option DiskState) (before mid after : ℕ) (first : before ≤ mid) (second : mid ≤ after) where
-  pub append_fault_then : (fault : JournalFault) → IsDiskFault mid after fault → IsAppendFault told before after fault
+module _ (wants : Bool) (told : Option DiskState) (before mid after : ℕ) (first : before ≤ mid) (second : mid ≤ after) where
+  pub append_fault_then : (fault : JournalFault) → IsDiskFault wants mid after fault → IsAppendFault wants told before after fault
   append_fault_then DiskFault f = risen_later before mid after first second f
   append_fault_then (Full u n) f = absurd f
   append_fault_then (BadHeader place) f = absurd f
   append_fault_then (BadRecord place) f = absurd f
   append_fault_then LivesSpent f = absurd f
-  append_fault_then Memory f = tt
+  append_fault_then Memory f = f
 
-  pub done_fault_then : (fault : JournalFault) → IsDiskFault mid after fault → IsReadFault told before after fault
+  pub done_fault_then : (fault : JournalFault) → IsDiskFault wants mid after fault → IsReadFault wants told before after fault
   done_fault_then DiskFault f = risen_later before mid after first second f
   done_fault_then (Full u n) f = absurd f
   done_fault_then (BadHeader place) f = absurd f
   done_fault_then (BadRecord place) f = absurd f
   done_fault_then LivesSpent f = absurd f
-  done_fault_then Memory f = tt
+  done_fault_then Memory f = f
 
-pub room_append_fault : (area : ℕ) (octets : List ℕ) (found : Found) (r : JournalRecord) (told : Option DiskState) (before after : ℕ) (fault : JournalFault) → IsRoomFault area octets found r fault → IsAppendFault told before after fault
-room_append_fault area octets found r told before after DiskFault f = absurd f
-room_append_fault area octets found r told before after (Full u n) f = tt
-room_append_fault area octets found r told before after (BadHeader place) f = absurd f
-room_append_fault area octets found r told before after (BadRecord place) f = absurd f
-room_append_fault area octets found r told before after LivesSpent f = absurd f
-room_append_fault area octets found r told before after Memory f = tt
+pub room_append_fault : (area : ℕ) (octets : List ℕ) (found : Found) (r : JournalRecord) (wants : Bool) (told : Option DiskState) (before after : ℕ) (fault : JournalFault) → IsRoomFault area octets found r fault → IsAppendFault wants told before after fault
+room_append_fault area octets found r wants told before after DiskFault f = absurd f
+room_append_fault area octets found r wants told before after (Full u n) f = tt
+room_append_fault area octets found r wants told before after (BadHeader place) f = absurd f
+room_append_fault area octets found r wants told before after (BadRecord place) f = absurd f
+room_append_fault area octets found r wants told before after LivesSpent f = absurd f
+room_append_fault area octets found r wants told before after Memory f = absurd f

@@ -1,5 +1,5 @@
 -- A reading of a disk, and then a write of a record.
-use Rattle.std.proofs.Common.{◌≡◌, inl, inr, ℕ, ◌≤◌, List, Option, Some, None, Result, Ok, Err, subst, arith}
+use Rattle.std.proofs.Common.{◌≡◌, inl, inr, ℕ, ◌≤◌, Bool, List, Option, Some, None, Result, Ok, Err, subst, arith}
 use Rattle.std.specs.Prelude.{IfErr}
 use Rattle.std.proofs.lemmas.Bool.{cases_lt}
 use Rattle.ots_outside.specs.Disk.{DiskState, Tells}
@@ -79,10 +79,10 @@ pub risen_later : (before mid after : ℕ) → before ≤ mid → mid ≤ after 
 risen_later before mid after first second (inl rose) = inl (omega arith)
 risen_later before mid after first second (inr at_end) = elim (cases_lt before mid) [ inl less ↦ inl (omega arith) | inr same ↦ inr (omega (arith, first, same, at_end)) ]
 
-pub append_fault : (told : Option DiskState) (before after : ℕ) (fault : JournalFault) → IsReadFault told before after fault → IsAppendFault told before after fault
-append_fault told before after DiskFault h = h
-append_fault told before after (Full u n) h = absurd h
-append_fault told before after (BadHeader place) h = h
-append_fault told before after (BadRecord place) h = h
-append_fault told before after LivesSpent h = absurd h
-append_fault told before after Memory h = tt
+pub append_fault : (wants : Bool) (told : Option DiskState) (before after : ℕ) (fault : JournalFault) → IsReadFault wants told before after fault → IsAppendFault wants told before after fault
+append_fault wants told before after DiskFault h = h
+append_fault wants told before after (Full u n) h = absurd h
+append_fault wants told before after (BadHeader place) h = h
+append_fault wants told before after (BadRecord place) h = h
+append_fault wants told before after LivesSpent h = absurd h
+append_fault wants told before after Memory h = h

@@ -1,5 +1,5 @@
 -- What an append leaves of a journal that is kept.
-use Rattle.std.proofs.Common.{◌≡◌, inl, inr, ℕ, ◌+◌, ◌<◌, ◌≤◌, Bool, true, false, ◌-◌, List, [], ◌∷◌, ◌++◌, length, take, Option, Some, None, refl, sym, ap, subst, ◌∙◌, arith, length-append}
+use Rattle.std.proofs.Common.{◌≡◌, inl, inr, ℕ, ◌+◌, ◌<◌, ◌≤◌, Bool, true, false, ◌-◌, List, [], ◌∷◌, ◌++◌, length, take, drop, Option, Some, None, refl, sym, ap, subst, ◌∙◌, arith, append_assoc, length-append, length-drop}
 use Rattle.std.specs.Prelude.{IsTrue, IfSome}
 use Rattle.ots_outside.specs.Disk.{DiskState, LeavesOnly, LeavesOnlySince, Tells}
 use Rattle.decision_journal.specs.declared.record.JournalRecord.{JournalRecord}
@@ -7,7 +7,7 @@ use Rattle.decision_journal.specs.Limits.{area_limit}
 use Rattle.decision_journal.specs.Layout.{Fits, record_octets}
 use Rattle.decision_journal.specs.Journal.{Found, can_follow, with_record, front, AreRecords, IsFilled, StandsAt, StandsFor, StandsForEither}
 use Rattle.decision_journal.specs.Laws.{CanAppend, IsOnTheWay, IsSettled, appended, behind_gate}
-use Rattle.std.proofs.lemmas.List.{take_at}
+use Rattle.std.proofs.lemmas.List.{drop_at, take_all, take_at}
 use Rattle.decision_journal.specs.State.{LeavesFound, used, AppendIsDone, AppendIsSafe, BeginsWithEither, IsAtRest, IsKept, IsOldOrMore, IsSound, IsWithinArea, MayFind, MayHold}
 use Rattle.decision_journal.proofs.Append.{append_safe, body, front_more}
 use Rattle.decision_journal.proofs.Scans.{more_records}
@@ -152,11 +152,25 @@ pub retold : (told after : Option DiskState) (R : ℕ → List ℕ → DiskState
 retold told after R g h b d gate behind t =
     subst (λ (d : List ℕ). Tells told after (R h d)) behind (subst (λ (h : ℕ). Tells told after (R h b)) gate t)
 
--- the octets of a record, from those that were written behind its gate
-pub body_kept : (item : JournalRecord) (b : List ℕ) (n : ℕ) → b ≡ behind_gate item → n ≡ length b - 1 → 1 ∷ take n b ≡ record_octets item
-body_kept item b n is n_is =
-    let size : length (body item) ≡ n = omega (arith, n_is, ap length is, length-append (body item) (0 ∷ [])) in
-    ap (λ (l : List ℕ). 1 ∷ take n l) is ∙ ap (λ (l : List ℕ). 1 ∷ l) (take_at (body item) (0 ∷ []) n size)
+-- octets behind which a record and a closed gate were put
+module _ (octets new : List ℕ) (item : JournalRecord) (n : ℕ) (new_is : new ≡ octets ++ (record_octets item ++ 0 ∷ [])) (n_is : n ≡ length octets) where
+  -- what is written behind the gate
+  laid_behind : drop (n + 1) new ≡ behind_gate item
+  laid_behind =
+      ap (drop (n + 1)) (new_is ∙ sym (append_assoc octets (1 ∷ []) (body item ++ 0 ∷ [])))
+      ∙ drop_at (octets ++ 1 ∷ []) (body item ++ 0 ∷ []) (n + 1) (omega (arith, n_is, length-append octets (1 ∷ [])))
+
+  pub laid_slice : (d : List ℕ) → d ≡ new → take (length d - (n + 1)) (drop (n + 1) d) ≡ behind_gate item
+  laid_slice d d_is = take_all (length d - (n + 1)) (drop (n + 1) d) (omega (arith, length-drop (n + 1) d)) ∙ ap (drop (n + 1)) d_is ∙ laid_behind
+
+  -- without the closed gate, and without the record
+  pub laid_record : (m : ℕ) → m ≡ length new - 1 → take m new ≡ octets ++ record_octets item
+  laid_record m m_is =
+      let size : length (octets ++ record_octets item) ≡ m = omega (arith, m_is, ap length new_is, length-append octets (record_octets item ++ 0 ∷ []), length-append (record_octets item) (0 ∷ []), length-append octets (record_octets item)) in
+      ap (take m) (new_is ∙ sym (append_assoc octets (record_octets item) (0 ∷ []))) ∙ take_at (octets ++ record_octets item) (0 ∷ []) m size
+
+  pub laid_front : take n new ≡ octets
+  laid_front = ap (take n) new_is ∙ take_at octets (record_octets item ++ 0 ∷ []) n (sym n_is)
 
 -- what is known, before a closed gate
 pub leaves_found : (service : ℕ) (octets : List ℕ) (found : Found) → IsFilled service octets found → LeavesFound service (octets ++ 0 ∷ []) found

@@ -1,9 +1,10 @@
 -- What is left of what stands, where a Done stands in the stead of what is done.
-use Rattle.std.proofs.Common.{◌≡◌, ℕ, zero, suc, ◌-◌, ◌<◌, Bool, true, false, cond, not, ◌&&◌, List, [], ◌∷◌, length, get_or, set, Option, Some, None, refl, sym, ap, subst, ◌∙◌, arith}
+use Rattle.std.proofs.Common.{◌≡◌, ℕ, zero, suc, ◌-◌, ◌<◌, Bool, true, false, cond, not, ◌&&◌, List, [], ◌∷◌, ◌++◌, length, get_or, set, Option, Some, None, refl, sym, ap, subst, ◌∙◌, arith}
 use Rattle.std.specs.Prelude.{position, ◌==◌}
 use Rattle.std.specs.List.{count_by, filter, list_any, position_or_len, remove}
 use Rattle.std.proofs.lemmas.Bool.Decides.{nat_tests}
 use Rattle.std.proofs.lemmas.List.{length-set}
+use Rattle.std.proofs.lemmas.List.Elements.{filter-append}
 use Rattle.std.proofs.lemmas.List.Kept.{AllPairs-filter}
 use Rattle.std.proofs.lemmas.List.Quantifiers.{position-Some}
 use Rattle.std.proofs.lemmas.List.Sums.{sum_by-cons, sum_by-set}
@@ -57,6 +58,33 @@ follow_left found (Prepared life slot generation recovery regs) = refl
 follow_left found (CellsPrepared life number recovery ps) = refl
 follow_left found (CellsOutcome place end) = any-filter_same (are_cells_at place) is_left true (only_cells place) found.standing
 follow_left found (CellsOnePhase life number ps) = refl
+
+pushed_left : (xs : List Standing) (s : Standing) → is_left s ≡ true → filter is_left (xs ++ s ∷ []) ≡ filter is_left xs ++ s ∷ []
+pushed_left xs s e = filter-append is_left xs (s ∷ []) ∙ ap (λ (b : Bool). filter is_left xs ++ cond b (s ∷ []) []) e
+
+-- with one more that stands for itself
+pub add_left : (found : Found) (place : ℕ) (r : JournalRecord) → is_done r ≡ false → left (with_record found place r) ≡ with_record (left found) place r
+add_left found place (Life life) e = refl
+add_left found place (Decision life slot generation k asked regs) e =
+    ap (λ (xs : List Standing). record { life = found.life; standing = xs }) (pushed_left found.standing (record { place = place; item = Decision life slot generation k asked regs }) refl)
+add_left found place (Done named) e = absurd cc
+add_left found place (Prepared life slot generation recovery regs) e =
+    ap (λ (xs : List Standing). record { life = found.life; standing = xs }) (pushed_left found.standing (record { place = place; item = Prepared life slot generation recovery regs }) refl)
+add_left found place (CellsPrepared life number recovery ps) e =
+    ap (λ (xs : List Standing). record { life = found.life; standing = xs }) (pushed_left found.standing (record { place = place; item = CellsPrepared life number recovery ps }) refl)
+add_left found place (CellsOutcome named end) e =
+    ap (λ (xs : List Standing). record { life = found.life; standing = xs }) (pushed_left found.standing (record { place = place; item = CellsOutcome named end }) refl)
+add_left found place (CellsOnePhase life number ps) e =
+    ap (λ (xs : List Standing). record { life = found.life; standing = xs }) (pushed_left found.standing (record { place = place; item = CellsOnePhase life number ps }) refl)
+
+pub not_done : (r : JournalRecord) → ((named : ℕ) → r ≡ Done named → ⊥) → is_done r ≡ false
+not_done (Life life) other = refl
+not_done (Decision life slot generation k asked regs) other = refl
+not_done (Done named) other = absurd (other named refl)
+not_done (Prepared life slot generation recovery regs) other = refl
+not_done (CellsPrepared life number recovery ps) other = refl
+not_done (CellsOutcome named end) other = refl
+not_done (CellsOnePhase life number ps) other = refl
 
 -- ---- a Done in the stead of a decision
 

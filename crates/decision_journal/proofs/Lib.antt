@@ -13,6 +13,9 @@ pub mod Few
 pub mod Kept
 pub mod Since
 pub mod Begins
+pub mod Along
+pub mod Lengths
+pub mod Roomy
 pub mod Using
 pub mod Writes
 pub mod Rereads

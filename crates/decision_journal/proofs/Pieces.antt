@@ -10,7 +10,7 @@ take_nil : (n : ℕ) → take {A = ℕ} n [] ≡ []
 take_nil zero = refl
 take_nil (suc n) = refl
 
-take_more : (reads : List ℕ) (a k : ℕ) → take a reads ++ take k (drop a reads) ≡ take (a + k) reads
+pub take_more : (reads : List ℕ) (a k : ℕ) → take a reads ++ take k (drop a reads) ≡ take (a + k) reads
 take_more reads zero k = let e : k ≡ 0 + k = omega arith in ap (λ (n : ℕ). take n reads) e
 take_more [] (suc a) k = take_nil k ∙ sym (take_nil (suc a + k))
 take_more (x ∷ reads) (suc a) k =

@@ -87,13 +87,13 @@ refused_begun service a b h (BadRecord place) f = absurd f
 refused_begun service a b h LivesSpent f = absurd f
 refused_begun service a b h Memory f = h
 
-pub of_disk : (n m : ℕ) (fault : JournalFault) → IsDiskFault n m fault → IsOfDisk fault
-of_disk n m DiskFault f = tt
-of_disk n m (Full u k) f = absurd f
-of_disk n m (BadHeader place) f = absurd f
-of_disk n m (BadRecord place) f = absurd f
-of_disk n m LivesSpent f = absurd f
-of_disk n m Memory f = tt
+pub of_disk : (wants : Bool) (n m : ℕ) (fault : JournalFault) → IsDiskFault wants n m fault → IsOfDisk fault
+of_disk wants n m DiskFault f = tt
+of_disk wants n m (Full u k) f = absurd f
+of_disk wants n m (BadHeader place) f = absurd f
+of_disk wants n m (BadRecord place) f = absurd f
+of_disk wants n m LivesSpent f = absurd f
+of_disk wants n m Memory f = tt
 
 pub refused_scan : (service : ℕ) (a b : Option DiskState) (octets : List ℕ) → Tells a b (λ s t. t ≡ synced s) → Tells a b IsUnwritten → (fault : JournalFault) → IsScanFault service octets fault → Tells a b (IsRefusedLoad service fault)
 refused_scan service a b octets read way DiskFault f = absurd f
@@ -123,9 +123,17 @@ never_both : (b : Bool) → b ≡ false → b ≡ true → ⊥
 never_both true e h = absurd cc
 never_both false e h = absurd cc
 
-way_none : (failed : Bool) → failed ≡ false → (g : ℕ) (b : List ℕ) (s t : DiskState) → t ≡ reread failed s → IsOnTheWay s (appended g b s) t
-way_none true e g b s t is = absurd cc
-way_none false e g b s t is = record { left = 4; within = omega arith; moments_are = ap moments is }
+tells_self : (a b : Option DiskState) (P R : DiskState → DiskState → Type 0) → Tells a b P → ((s : DiskState) → R s s) → Tells b b R
+tells_self None None P R h f = tt
+tells_self None (Some t) P R h f = absurd h
+tells_self (Some s) None P R h f = absurd h
+tells_self (Some s) (Some t) P R h f = f t
+
+-- a journal that was read or made, to which nothing was written
+pub idle_begun : (service : ℕ) (octets : List ℕ) (found : Found) (a b : Option DiskState) → Tells a b (IsStarted service octets found) → Tells a b (λ s t. t ≡ readied service (synced s)) → Tells a b (HasBegunLoad service)
+idle_begun service octets found a b started made =
+    load_begun service octets found (found.life + 1) refl (length octets) refl a b b started made
+    (tells_self a b (IsStarted service octets found) _ started (λ s. record { left = 4; within = omega arith; moments_are = refl }))
 
 module _ {D : Type 0} (told : D → Option DiskState) (journal after : JournalState D) (area service l : ℕ) (l_is : l ≡ journal.found.life + 1) (failed : journal.failed ≡ false) (doubted : journal.doubted ≡ None) where
   never : IsUnready told journal after → ⊥
@@ -138,13 +146,13 @@ module _ {D : Type 0} (told : D → Option DiskState) (journal after : JournalSt
         let u_is : u ≡ used journal.octets journal.found = full.0 ∙ ap (λ (o : List ℕ). used o after.found) same.0 ∙ ap (λ (f : Found). used journal.octets f) same.1 in
         omega (arith, room, u_is, full.1, full.2, ready.journal.area, life_length l)
 
-    pub life_fault : (a : Option DiskState) (before mid end : ℕ) → before ≤ mid → mid ≤ end → (fault : JournalFault) → IsRefusedAppend told journal (Life l) after fault → IsAppendFault (told after.disk) mid end fault → IsLoadFault area service a before end fault
-    life_fault a before mid end x y DiskFault h f = risen_later before mid end x y f
-    life_fault a before mid end x y (Full u n) h f = absurd (no_room u n h.0 h.1)
-    life_fault a before mid end x y (BadHeader place) h f = absurd (never h)
-    life_fault a before mid end x y (BadRecord place) h f = absurd (never h)
-    life_fault a before mid end x y LivesSpent h f = absurd f
-    life_fault a before mid end x y Memory h f = tt
+    pub life_fault : (wants : Bool) (a : Option DiskState) (before mid end : ℕ) → before ≤ mid → mid ≤ end → (fault : JournalFault) → IsRefusedAppend told journal (Life l) after fault → IsAppendFault wants (told after.disk) mid end fault → IsLoadFault area service a before end fault
+    life_fault wants a before mid end x y DiskFault h f = risen_later before mid end x y f
+    life_fault wants a before mid end x y (Full u n) h f = absurd (no_room u n h.0 h.1)
+    life_fault wants a before mid end x y (BadHeader place) h f = absurd (never h)
+    life_fault wants a before mid end x y (BadRecord place) h f = absurd (never h)
+    life_fault wants a before mid end x y LivesSpent h f = absurd f
+    life_fault wants a before mid end x y Memory h f = tt
 
     module _ (a : Option DiskState) (started : Tells a (told journal.disk) (IsStarted service journal.octets journal.found)) (made : Tells a (told journal.disk) (λ s t. t ≡ readied service (synced s))) where
       doubt : HasDoubt told journal (Life l) after → Tells a (told after.disk) (HasBegunLoad service)
@@ -152,11 +160,6 @@ module _ {D : Type 0} (told : D → Option DiskState) (journal after : JournalSt
           let same = known_now d.ready.octets journal.octets d.ready.found journal.found journal.doubted doubted d.is_ready.journal.known in
           load_begun service journal.octets journal.found l l_is (length d.ready.octets) (ap length same.0) a (told journal.disk) (told after.disk) started made
           (fine_then journal.failed failed (told journal.disk) (told d.ready.disk) (told after.disk) _ d.is_ready.disk d.doubt.disk)
-
-      idle : IsReady told journal after → Tells a (told after.disk) (HasBegunLoad service)
-      idle ready =
-          load_begun service journal.octets journal.found l l_is (length journal.octets) refl a (told journal.disk) (told after.disk) started made
-          (tells_weaker (told journal.disk) (told after.disk) (λ s t. t ≡ reread journal.failed s) _ (way_none journal.failed failed (length journal.octets) (behind_gate (Life l))) ready.disk)
 
       pub life_refused : (fault : JournalFault) → IsRefusedAppend told journal (Life l) after fault → Tells a (told after.disk) (IsRefusedLoad service fault)
       life_refused DiskFault (inl unready) = absurd (never unready)
@@ -166,5 +169,4 @@ module _ {D : Type 0} (told : D → Option DiskState) (journal after : JournalSt
       life_refused (BadRecord place) h = absurd (never h)
       life_refused LivesSpent h = absurd h
       life_refused Memory (inl unready) = absurd (never unready)
-      life_refused Memory (inr (inl ready)) = idle ready
-      life_refused Memory (inr (inr d)) = doubt d
+      life_refused Memory (inr d) = doubt d

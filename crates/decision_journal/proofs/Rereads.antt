@@ -1,14 +1,17 @@
 -- What reading a disk again leaves of a journal.
-use Rattle.std.proofs.Common.{◌≡◌, inl, inr, ℕ, ◌<◌, ◌^◌, arith, length-append, Bool, true, false, List, [], ◌++◌, length, Option, Some, None, refl, sym, ap, subst, ◌∙◌}
-use Rattle.std.specs.Prelude.{IfSome}
+use Rattle.std.proofs.Common.{◌≡◌, ◌⊎◌, inl, inr, ℕ, ◌+◌, ◌<◌, ◌≤◌, arith, length-append, Bool, true, false, List, [], ◌++◌, length, take, Option, Some, None, refl, sym, ap, subst, ◌∙◌}
+use Rattle.std.specs.Prelude.{IfSome, IsTrue}
+use Rattle.std.proofs.lemmas.List.{take_at}
 use Rattle.ots_outside.specs.Disk.{DiskState, IsImage, IsAfterRefusal, LeavesOnly, ReadsImage, Tells, synced}
 use Rattle.decision_journal.specs.declared.record.JournalRecord.{JournalRecord}
 use Rattle.decision_journal.specs.declared.journal.JournalFault.{JournalFault}
 use Rattle.decision_journal.specs.declared.journal.JournalFault.TheVariants.{DiskFault, Full, BadHeader, BadRecord, LivesSpent, Memory}
 use Rattle.decision_journal.specs.Limits.{area_limit}
 use Rattle.decision_journal.specs.Layout.{Fits, record_octets}
-use Rattle.decision_journal.specs.Journal.{Found, IsFilled, IsOther, IsScanFault, StandsAt, with_record}
-use Rattle.decision_journal.specs.State.{BeginsWithEither, IsAtRest, IsDoubted, IsKept, IsNotDoubted, IsOld, IsReadFault, IsSound, IsWithinArea, MayFind, ReadIsDone, ReadIsSafe}
+use Rattle.decision_journal.specs.Journal.{Found, IsAlong, IsFilled, IsOther, IsScanFault, StandsAt, with_record}
+use Rattle.decision_journal.specs.State.{BeginsWithEither, IsAtRest, IsKept, IsOld, doubted_octets, IsReadFault, IsSound, IsWithinArea, MayFind, ReadIsDone, ReadIsSafe}
+use Rattle.decision_journal.proofs.Along.{along_neither, along_stands}
+use Rattle.decision_journal.proofs.Joined.{risen_later}
 use Rattle.decision_journal.proofs.Kept.{at_rest, each_of, stands_from, within_now}
 use Rattle.decision_journal.proofs.Since.{image_of, leaves_now, leaves_settled, since_refused, since_start}
 
@@ -30,20 +33,7 @@ begins_old area service octets found (Some r) each s c image (inl at) = old_at s
 begins_old area service octets found (Some r) each s c image (inr at) =
     old_at service s (octets ++ record_octets r) (with_record found (length octets) r) c image (each (octets ++ record_octets r) (with_record found (length octets) r) (inr ((refl, refl)))).filled at
 
-not_either : (octets : List ℕ) (doubted : Option JournalRecord) (c : List ℕ) → (StandsAt octets c → ⊥) → IsNotDoubted octets doubted c → BeginsWithEither octets doubted c → ⊥
-not_either octets None c differs none at = differs at
-not_either octets (Some r) c differs none (inl at) = differs at
-not_either octets (Some r) c differs none (inr at) = none at
-
 module _ (service : ℕ) (known read : List ℕ) where
-  pub other_fault : (told : Option DiskState) (before after : ℕ) (fault : JournalFault) → IsOther service known read fault → told ≡ None → IsReadFault told before after fault
-  other_fault told before after DiskFault other none = absurd other
-  other_fault told before after (Full u n) other none = absurd other
-  other_fault told before after (BadHeader place) other none = none
-  other_fault told before after (BadRecord place) other none = none
-  other_fault told before after LivesSpent other none = absurd other
-  other_fault told before after Memory other none = tt
-
   -- octets that stand for nothing
   pub other_scan : (fault : JournalFault) → (16 < length read) × IsScanFault service read fault → IsOther service known read fault
   other_scan DiskFault f = absurd f.1
@@ -95,93 +85,115 @@ module _ (told : Option DiskState) (area service : ℕ) (octets : List ℕ) (fou
       by_told (Some s) None here image way = absurd way
       by_told (Some s) (Some t) here image way = leaves_now (BeginsWithEither octets doubted) s t (since_refused (BeginsWithEither octets doubted) s t here image way)
 
-  module _ (read : List ℕ) (read_is : IfSome after (λ t. read ≡ t.reads)) (end : End) where
-    rest_at : (o : List ℕ) → StandsAt o read → IfSome after (IsAtRest o)
-    rest_at o at = by_told told after end read_is
+  module _ (end : End) where
+    rest_at : (o : List ℕ) → IfSome after (λ t. StandsAt o t.reads) → IfSome after (IsAtRest o)
+    rest_at o at = by_told told after end at
       where
-        by_told : (a b : Option DiskState) → Tells a b (λ s t. t ≡ synced s) → IfSome b (λ t. read ≡ t.reads) → IfSome b (IsAtRest o)
-        by_told None None end is = tt
-        by_told None (Some t) end is = absurd end
-        by_told (Some s) None end is = absurd end
-        by_told (Some s) (Some t) end is =
-            record { settled = subst (λ (t : DiskState). t.present ≡ record { synced = t.reads; writes = [] }) (sym end) refl; stands = subst (StandsAt o) is at }
+        by_told : (a b : Option DiskState) → Tells a b (λ s t. t ≡ synced s) → IfSome b (λ t. StandsAt o t.reads) → IfSome b (IsAtRest o)
+        by_told None None end at = tt
+        by_told None (Some t) end at = absurd end
+        by_told (Some s) None end at = absurd end
+        by_told (Some s) (Some t) end at =
+            record { settled = subst (λ (t : DiskState). t.present ≡ record { synced = t.reads; writes = [] }) (sym end) refl; stands = at }
 
-    -- the records that were known
-    pub read_known : (d : Option JournalRecord) → d ≡ None → StandsAt octets read → IsSound after area service octets found false d
-    read_known d d_is at =
-        subst (λ (d : Option JournalRecord). IsSound after area service octets found false d) (sym d_is)
-        (record { each = each_of area service octets found None now tt; fits = tt; area_is = sound.area_is; kept = rest_at octets at })
+    module _ (same : ℕ) (closed : Bool) (along : IfSome after (λ t. IsAlong (octets ++ doubted_octets doubted) t.reads same closed)) where
+      -- what was found
+      pub read_found : (l : List ℕ) (f : Found) (d : Option JournalRecord) → MayFind octets found doubted l f → (rest : List ℕ) × (octets ++ doubted_octets doubted ≡ l ++ rest) → (same ≡ length l) × IsTrue closed → d ≡ None → IsSound after area service l f false d
+      read_found l f d may front ends d_is =
+          subst (λ (d : Option JournalRecord). IsSound after area service l f false d) (sym d_is)
+          (record { each = each_of area service l f None (sound.each l f may) tt; fits = tt; area_is = sound.area_is; kept = rest_at l (by_told after along) })
+        where
+          by_told : (b : Option DiskState) → IfSome b (λ t. IsAlong (octets ++ doubted_octets doubted) t.reads same closed) → IfSome b (λ t. StandsAt l t.reads)
+          by_told None a = tt
+          by_told (Some u) a = along_stands l front.0 u.reads same closed (subst (λ (l : List ℕ). IsAlong l u.reads same closed) front.1 a) ends.0 ends.1
 
-    -- these and the record in doubt
-    more_within : (d : Option JournalRecord) → d ≡ doubted → (r : JournalRecord) → d ≡ Some r → IsWithinArea area service (octets ++ record_octets r) (with_record found (length octets) r)
-    more_within d same r is =
-        sound.each (octets ++ record_octets r) (with_record found (length octets) r)
-        (subst (λ (d : Option JournalRecord). MayFind octets found d (octets ++ record_octets r) (with_record found (length octets) r)) (sym is ∙ same) (inr ((refl, refl))))
+      -- a disk that tells its state reads one of these
+      pub read_other : (IsTrue closed → ((same ≡ length octets) ⊎ (same ≡ length (octets ++ doubted_octets doubted))) → ⊥) → after ≡ None
+      read_other none = by_told told after held image end along
+        where
+          by_told : (a b : Option DiskState) → IfSome a (λ s. LeavesOnly (BeginsWithEither octets doubted) s.present) → ReadsImage a → Tells a b (λ s t. t ≡ synced s)
+              → IfSome b (λ t. IsAlong (octets ++ doubted_octets doubted) t.reads same closed) → b ≡ None
+          by_told None None here image end a = refl
+          by_told None (Some t) here image end a = absurd end
+          by_told (Some s) None here image end a = absurd end
+          by_told (Some s) (Some t) here image end a =
+              absurd (along_neither octets t.reads doubted same closed a (λ e t. none t (inl e)) (λ e t. none t (inr e))
+              (subst (BeginsWithEither octets doubted) (sym (ap (λ (t : DiskState). t.reads) end)) (here s.reads image)))
 
-    pub read_doubted : (l : List ℕ) (f : Found) (d : Option JournalRecord) → IsDoubted octets doubted read l → IfSome doubted (λ r. f ≡ with_record found (length octets) r) → d ≡ None → IsSound after area service l f false d
-    read_doubted l f d is f_is d_is =
-        let r = is.0 in
-        let found_is : f ≡ with_record found (length octets) r = subst (λ (o : Option JournalRecord). IfSome o (λ r. f ≡ with_record found (length octets) r)) is.1.0 f_is in
-        subst (λ (d : Option JournalRecord). IsSound after area service l f false d) (sym d_is)
-        (subst (λ (f : Found). IsSound after area service l f false None) (sym found_is)
-        (record {
-          each = each_of area service l (with_record found (length octets) r) None (subst (λ (l : List ℕ). IsWithinArea area service l (with_record found (length octets) r)) (sym is.1.1) (more_within doubted refl r is.1.0)) tt;
-          fits = tt;
-          area_is = sound.area_is;
-          kept = rest_at l is.1.2;
-        }))
+-- ---- the same, of the octets that the code compared
 
-    -- a disk that tells its state reads one of these
-    pub read_other : (StandsAt octets read → ⊥) → IsNotDoubted octets doubted read → after ≡ None
-    read_other differs none = by_told told after held image end read_is
-      where
-        by_told : (a b : Option DiskState) → IfSome a (λ s. LeavesOnly (BeginsWithEither octets doubted) s.present) → ReadsImage a → Tells a b (λ s t. t ≡ synced s) → IfSome b (λ t. read ≡ t.reads) → b ≡ None
-        by_told None None here image end is = refl
-        by_told None (Some t) here image end is = absurd end
-        by_told (Some s) None here image end is = absurd end
-        by_told (Some s) (Some t) here image end is =
-            absurd (not_either octets doubted read differs none (subst (BeginsWithEither octets doubted) (sym (is ∙ ap (λ (t : DiskState). t.reads) end)) (here s.reads image)))
+pub front_of : (octets behind new : List ℕ) (n : ℕ) → new ≡ octets ++ behind → n ≡ length octets → take n new ≡ octets
+front_of octets behind new n new_is n_is = ap (take n) new_is ∙ take_at octets behind n (sym n_is)
 
--- the record in doubt has octets, and few
-pub doubted_small : (told : Option DiskState) (area service : ℕ) (octets : List ℕ) (found : Found) (failed : Bool) (doubted : Option JournalRecord) → IsSound told area service octets found failed doubted → IfSome doubted (λ r. Fits r × length (record_octets r) < 2 ^ 32)
-doubted_small told area service octets found failed None sound = tt
-doubted_small told area service octets found failed (Some r) sound =
+pub whole_of : (octets behind new : List ℕ) (n : ℕ) → new ≡ octets ++ behind → n ≡ length octets → new ≡ take n new ++ behind
+whole_of octets behind new n new_is n_is = new_is ∙ ap (λ (l : List ℕ). l ++ behind) (sym (front_of octets behind new n new_is n_is))
+
+module _ (told : Option DiskState) (area service : ℕ) (octets : List ℕ) (found : Found) (failed : Bool) (doubted : Option JournalRecord) (sound : IsSound told area service octets found failed doubted) (after : Option DiskState) (image : ReadsImage told)
+    (end : Tells told after (λ s t. t ≡ synced s)) (new known : List ℕ) (n : ℕ) (known_is : known ≡ new) (new_is : new ≡ octets ++ doubted_octets doubted) (n_is : n ≡ length octets) (same : ℕ) (closed : Bool)
+    (along : IfSome after (λ t. IsAlong known t.reads same closed)) where
+  whole : IfSome after (λ t. IsAlong (octets ++ doubted_octets doubted) t.reads same closed)
+  whole = subst (λ (l : List ℕ). IfSome after (λ t. IsAlong l t.reads same closed)) (known_is ∙ new_is) along
+
+  pub may_found : (l : List ℕ) (f : Found) → MayFind (take n new) found doubted l f → MayFind octets found doubted l f
+  may_found l f may = subst (λ (o : List ℕ). MayFind o found doubted l f) (front_of octets (doubted_octets doubted) new n new_is n_is) may
+
+  pub found_sound : (l : List ℕ) (f : Found) (d : Option JournalRecord) → MayFind (take n new) found doubted l f → (rest : List ℕ) × (new ≡ l ++ rest) → (same ≡ length l) × IsTrue closed → d ≡ None → IsSound after area service l f false d
+  found_sound l f d may front ends d_is =
+      read_found told area service octets found failed doubted sound after image end same closed whole l f d (may_found l f may) (front.0, sym new_is ∙ front.1) ends d_is
+
+  pub other_none : (IsTrue closed → ((same ≡ n) ⊎ (same ≡ length new)) → ⊥) → after ≡ None
+  other_none none =
+      read_other told area service octets found failed doubted sound after image end same closed whole
+      (λ t e. none t (elim e [ inl e ↦ inl (e ∙ sym n_is) | inr e ↦ inr (e ∙ ap length (sym new_is)) ]))
+
+-- ---- a disk that tells nothing of its state
+
+pub none_told : (a b c : Option DiskState) (R S : DiskState → DiskState → Type 0) → Tells a b R → b ≡ None → c ≡ None → Tells a c S
+none_told None None None R S h e f = tt
+none_told None None (Some t) R S h e f = absurd (no_state t f)
+  where
+    no_state : (t : DiskState) → Some t ≡ None → ⊥
+    no_state t e = absurd cc
+none_told None (Some t) c R S h e f = absurd h
+none_told (Some s) None c R S h e f = absurd h
+none_told (Some s) (Some t) c R S h e f = absurd (no_state t e)
+  where
+    no_state : (t : DiskState) → Some t ≡ None → ⊥
+    no_state t e = absurd cc
+
+pub misread_sound : (b c : Option DiskState) (area service : ℕ) (octets : List ℕ) (found : Found) (doubted : Option JournalRecord) → b ≡ None → c ≡ None → IsSound b area service octets found true doubted → IsSound c area service octets found true doubted
+misread_sound b c area service octets found doubted b_is c_is sound = subst (λ (o : Option DiskState). IsSound o area service octets found true doubted) (b_is ∙ sym c_is) sound
+
+pub misread_fault : (wants : Bool) (told : Option DiskState) (before mid after : ℕ) → before ≤ mid → told ≡ None → mid ≤ after → (fault : JournalFault) → IsReadFault false None mid after fault → IsReadFault wants told before after fault
+misread_fault wants told before mid after x none y DiskFault f = risen_later before mid after x y f
+misread_fault wants told before mid after x none y (Full u n) f = absurd f
+misread_fault wants told before mid after x none y (BadHeader place) f = none
+misread_fault wants told before mid after x none y (BadRecord place) f = none
+misread_fault wants told before mid after x none y LivesSpent f = absurd f
+misread_fault wants told before mid after x none y Memory f = absurd cc
+
+-- what another fault of a reading is of such a disk
+pub other_fault : (service : ℕ) (known read : List ℕ) (before after : ℕ) (fault : JournalFault) → IsOther service known read fault → (fault ≡ Memory → ⊥) → IsReadFault false None before after fault
+other_fault service known read before after DiskFault other some = absurd other
+other_fault service known read before after (Full u n) other some = absurd other
+other_fault service known read before after (BadHeader place) other some = refl
+other_fault service known read before after (BadRecord place) other some = refl
+other_fault service known read before after LivesSpent other some = absurd other
+other_fault service known read before after Memory other some = absurd (some refl)
+
+-- the record in doubt has octets, and room
+pub doubted_fits : (told : Option DiskState) (area service : ℕ) (octets : List ℕ) (found : Found) (failed : Bool) (doubted : Option JournalRecord) → IsSound told area service octets found failed doubted → length octets + length (doubted_octets doubted) + 1 ≤ area
+doubted_fits told area service octets found failed None sound = let now = within_now told area service octets found failed None sound in omega (arith, now.room)
+doubted_fits told area service octets found failed (Some r) sound =
     let more = sound.each (octets ++ record_octets r) (with_record found (length octets) r) (inr ((refl, refl))) in
-    (sound.fits, omega (arith, more.room, sound.area_is, length-append octets (record_octets r)))
+    omega (arith, more.room, length-append octets (record_octets r))
 
 pub known_small : (told : Option DiskState) (area service : ℕ) (octets : List ℕ) (found : Found) (failed : Bool) (doubted : Option JournalRecord) → IsSound told area service octets found failed doubted → length octets < area_limit
 known_small told area service octets found failed doubted sound = let now = within_now told area service octets found failed doubted sound in omega (arith, now.room, sound.area_is)
 
-pub may_known : (octets l : List ℕ) (found f : Found) (doubted : Option JournalRecord) → l ≡ octets → f ≡ found → MayFind octets found doubted l f
-may_known octets l found f None e1 e2 = (e1, e2)
-may_known octets l found f (Some r) e1 e2 = inl ((e1, e2))
-
-pub may_doubted : (octets read l : List ℕ) (found f : Found) (doubted : Option JournalRecord) → IsDoubted octets doubted read l → IfSome doubted (λ r. f ≡ with_record found (length octets) r) → MayFind octets found doubted l f
-may_doubted octets read l found f None is f_is = absurd (none_some is.0 is.1.0)
-  where
-    none_some : (r : JournalRecord) → None ≡ Some r → ⊥
-    none_some r e = absurd cc
-may_doubted octets read l found f (Some q) is f_is =
-    let same : q ≡ is.0 = some_same q is.0 is.1.0 in
-    inr ((is.1.1 ∙ ap (λ (r : JournalRecord). octets ++ record_octets r) (sym same), f_is))
-  where
-    some_same : (q r : JournalRecord) → Some q ≡ Some r → q ≡ r
-    some_same q r e = cc
-
 pub sound_same : (told : Option DiskState) (area service : ℕ) (octets : List ℕ) (f found : Found) (d doubted : Option JournalRecord) → f ≡ found → d ≡ doubted → IsSound told area service octets found true doubted → IsSound told area service octets f true d
 sound_same told area service octets f found d doubted f_is d_is sound =
     subst (λ (d : Option JournalRecord). IsSound told area service octets f true d) (sym d_is) (subst (λ (f : Found). IsSound told area service octets f true doubted) (sym f_is) sound)
-
-pub added_at : (doubted : Option JournalRecord) (f found : Found) (n m : ℕ) → n ≡ m → IfSome doubted (λ r. f ≡ with_record found n r) → IfSome doubted (λ r. f ≡ with_record found m r)
-added_at doubted f found n m e h = subst (λ (n : ℕ). IfSome doubted (λ r. f ≡ with_record found n r)) e h
-
-pub doubted_same : (a b : List ℕ) (doubted : Option JournalRecord) (c d : List ℕ) (more : List ℕ) → a ≡ b → c ≡ d → IsDoubted a doubted c more → IsDoubted b doubted d more
-doubted_same a b doubted c d more e1 e2 h =
-    subst (λ (a : List ℕ). IsDoubted a doubted d more) e1 (subst (λ (c : List ℕ). IsDoubted a doubted c more) e2 h)
-
-pub not_doubted_same : (a b : List ℕ) (doubted : Option JournalRecord) (c d : List ℕ) → a ≡ b → c ≡ d → IsNotDoubted a doubted c → IsNotDoubted b doubted d
-not_doubted_same a b doubted c d e1 e2 h =
-    subst (λ (a : List ℕ). IsNotDoubted a doubted d) e1 (subst (λ (c : List ℕ). IsNotDoubted a doubted c) e2 h)
 
 -- a journal that needn't read its disk again
 module _ (told : Option DiskState) (area service : ℕ) (octets : List ℕ) (found : Found) (failed : Bool) (doubted : Option JournalRecord) (sound : IsSound told area service octets found failed doubted) (fine : failed ≡ false) where

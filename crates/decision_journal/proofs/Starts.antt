@@ -188,14 +188,6 @@ scan_fault service a b image read before after h is old (BadRecord place) f = to
 scan_fault service a b image read before after h is old LivesSpent f = absurd f
 scan_fault service a b image read before after h is old Memory f = tt
 
-pub start_fault : (service : ℕ) (a : Option DiskState) (before mid after : ℕ) → before ≤ mid → mid ≤ after → (fault : JournalFault) → IsDiskFault mid after fault → IsStartFault service a before after fault
-start_fault service a before mid after x y DiskFault f = risen_later before mid after x y f
-start_fault service a before mid after x y (Full u n) f = absurd f
-start_fault service a before mid after x y (BadHeader place) f = absurd f
-start_fault service a before mid after x y (BadRecord place) f = absurd f
-start_fault service a before mid after x y LivesSpent f = absurd f
-start_fault service a before mid after x y Memory f = tt
-
 pub load_fault : (area service : ℕ) (a : Option DiskState) (before after : ℕ) (fault : JournalFault) → IsStartFault service a before after fault → IsLoadFault area service a before after fault
 load_fault area service a before after DiskFault f = f
 load_fault area service a before after (Full u n) f = absurd f
@@ -240,6 +232,10 @@ full_told service u octets found (Some s) (Some t) started left is = (
     is ∙ ap (λ (l : List ℕ). used l found) started.are.octets_are ∙ ap (λ (f : Found). used (front service started.records) f) started.are.found_is,
   ),
 )
+
+-- the same of other octets, and of what their records leave
+pub at_same : (P : List ℕ → Found → Type 0) (l m : List ℕ) (f h : Found) → m ≡ l → h ≡ f → P l f → P m h
+at_same P l m f h l_is f_is p = subst (λ (m : List ℕ). P m h) (sym l_is) (subst (λ (h : Found). P l h) (sym f_is) p)
 
 -- ---- and the next life
 

@@ -67,7 +67,7 @@ IsRefusedAppend told before r after (Full u n) = IsReady told before after × Ha
 IsRefusedAppend told before r after (BadHeader place) = IsUnready told before after
 IsRefusedAppend told before r after (BadRecord place) = IsUnready told before after
 IsRefusedAppend told before r after LivesSpent = ⊥
-IsRefusedAppend told before r after Memory = IsUnready told before after ⊎ (IsReady told before after ⊎ HasDoubt told before r after)
+IsRefusedAppend told before r after Memory = IsUnready told before after ⊎ HasDoubt told before r after
 
 -- once the journal was ready, a Done of a record that stood was appended
 pub record HasDone {D : Type 0} (told : D → Option DiskState) (before after : JournalState D) (place : ℕ) : Type 0 where

@@ -1,6 +1,6 @@
 -- What the octets of a journal stand for (our profile). A journal is a header, records with open gates, and a gate that
 -- isn't open; what stands behind that gate doesn't count. A gate is open where it is 1.
-use Rattle.std.specs.Prelude.{◌≡◌, ◌≢◌, ℕ, ◌+◌, ◌-◌, ◌<◌, ◌≤◌, ◌⊎◌, ◌==◌, nat_lt, not, Bool, true, false, ◌&&◌, ◌||◌, List, [], ◌∷◌, ◌++◌, length, drop, slice_index, position, Option, Some, None, IsTrue}
+use Rattle.std.specs.Prelude.{◌≡◌, ◌≢◌, ◌↔◌, ℕ, ◌+◌, ◌-◌, ◌<◌, ◌≤◌, ◌⊎◌, ◌==◌, nat_lt, not, Bool, true, false, ◌&&◌, ◌||◌, List, [], ◌∷◌, ◌++◌, length, drop, slice_index, position, Option, Some, None, IsTrue}
 use Rattle.std.specs.List.{flat_map, list_any, remove, AllByRecursion}
 use Rattle.decision_journal.specs.declared.record.JournalRecord.{JournalRecord}
 use Rattle.decision_journal.specs.declared.record.JournalRecord.TheVariants.{Life, Decision, Done, Prepared, CellsPrepared, CellsOutcome, CellsOnePhase}
@@ -221,6 +221,11 @@ pub record IsFirstOther (known read : List ℕ) (place : ℕ) : Type 0 where
   pub same : (k : ℕ) → k < place → slice_index read k ≡ slice_index known k
   pub within : (place ≤ length known) × (place ≤ length read)
   pub differs : place < length known → place < length read → slice_index read place ≢ slice_index known place
+
+-- octets that were read are those that are known up to this place, and it is told whether there is a gate that isn't open
+pub record IsAlong (known read : List ℕ) (same : ℕ) (closed : Bool) : Type 0 where
+  pub first : IsFirstOther known read same
+  pub gate : IsTrue closed ↔ ((same < length read) × (slice_index read same ≢ 1))
 
 -- octets are too few for a journal, or stand for records
 abbrev pub HasNoScanFault : ℕ → List ℕ → Type 0

@@ -5,5 +5,6 @@ pub mod Journal
 pub mod Index
 pub mod Laws
 pub mod State
+pub mod Room
 pub mod Calls
 pub mod Loading

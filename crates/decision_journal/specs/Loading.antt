@@ -1,5 +1,5 @@
 -- What a load of a journal leaves, and what it answers (our profile).
-use Rattle.std.specs.Prelude.{◌≡◌, ℕ, ◌+◌, ◌-◌, ◌^◌, ◌<◌, ◌⊎◌, List, [], ◌∷◌, ◌++◌, length, Option, IfSome, if◌then◌else◌}
+use Rattle.std.specs.Prelude.{◌≡◌, ℕ, ◌+◌, ◌-◌, ◌^◌, ◌<◌, ◌⊎◌, Bool, IsTrue, List, [], ◌∷◌, ◌++◌, length, Option, IfSome, if◌then◌else◌}
 use Rattle.ots_outside.specs.Disk.{DiskState, IsImage, LeavesOnly, LeavesOnlySince, synced}
 use Rattle.ots_outside.specs.Source.{HasRisen}
 use Rattle.decision_journal.specs.declared.journal.JournalFault.{JournalFault}
@@ -100,14 +100,14 @@ IsLoadFault area service told before after LivesSpent =
     IfSome told (λ disk. (rs : List JournalRecord) × (Holds service disk.reads rs × ((found_in rs).life ≡ last_life)))
 IsLoadFault area service told before after Memory = Unit {0}
 
--- why a disk was not made a journal, whose count of faults was and is so
-abbrev pub IsDiskFault : ℕ → ℕ → JournalFault → Type 0
-IsDiskFault before after DiskFault = HasRisen before after
-IsDiskFault before after (Full u n) = ⊥
-IsDiskFault before after (BadHeader place) = ⊥
-IsDiskFault before after (BadRecord place) = ⊥
-IsDiskFault before after LivesSpent = ⊥
-IsDiskFault before after Memory = Unit {0}
+-- why a disk was not written, whose count of faults was and is so; memory is wanted only where it may be
+abbrev pub IsDiskFault : Bool → ℕ → ℕ → JournalFault → Type 0
+IsDiskFault wants before after DiskFault = HasRisen before after
+IsDiskFault wants before after (Full u n) = ⊥
+IsDiskFault wants before after (BadHeader place) = ⊥
+IsDiskFault wants before after (BadRecord place) = ⊥
+IsDiskFault wants before after LivesSpent = ⊥
+IsDiskFault wants before after Memory = IsTrue wants
 
 -- why a disk that was so was neither read nor made a journal
 abbrev pub IsStartFault : ℕ → Option DiskState → ℕ → ℕ → JournalFault → Type 0

@@ -6,14 +6,15 @@ use Rattle.ots_outside.specs.Source.{HasRisen}
 use Rattle.decision_journal.specs.declared.journal.JournalFault.{JournalFault}
 use Rattle.decision_journal.specs.declared.journal.JournalFault.TheVariants.{DiskFault, Full, BadHeader, BadRecord, LivesSpent, Memory}
 use Rattle.decision_journal.specs.declared.record.JournalRecord.{JournalRecord}
-use Rattle.decision_journal.specs.declared.record.JournalRecord.TheVariants.{Done}
+use Rattle.decision_journal.specs.declared.record.JournalRecord.TheVariants.{Life, Decision, Done, Prepared, CellsPrepared, CellsOutcome, CellsOnePhase}
 use Rattle.decision_journal.specs.Limits.{area_limit, standing_limit}
 use Rattle.decision_journal.specs.Layout.{Fits, record_octets}
 use Rattle.decision_journal.specs.Journal.{AreRecords, Found, IsFilled, StandsAt, StandsFor, StandsForEither, can_follow, found_in, is_decision, with_record}
 use Rattle.decision_journal.specs.Laws.{IsSettled}
 
 -- a journal: its disk, how large its area is, its service, the octets before the gate at the end, what their records leave,
--- whether the next call has to read the disk again, and the record that the failed call may have appended
+-- whether the next call has to read the disk again, the record that the failed call may have appended, and for how many records
+-- of cells there is room
 pub record JournalState (D : Type 0) : Type 0 where
   pub disk : D
   pub area : ℕ
@@ -22,6 +23,17 @@ pub record JournalState (D : Type 0) : Type 0 where
   pub found : Found
   pub failed : Bool
   pub doubted : Option JournalRecord
+  pub room : ℕ
+
+-- how many records of cells a record is: one, or none
+abbrev pub cells_in : JournalRecord → ℕ
+cells_in (Life life) = 0
+cells_in (Decision life slot generation k asked regs) = 0
+cells_in (Done place) = 0
+cells_in (Prepared life slot generation recovery regs) = 0
+cells_in (CellsPrepared life number recovery ps) = 1
+cells_in (CellsOutcome place end) = 1
+cells_in (CellsOnePhase life number ps) = 1
 
 -- what reading the disk again may find: the octets that are known and what they leave, or these and the record in doubt
 abbrev pub MayFind : List ℕ → Found → Option JournalRecord → List ℕ → Found → Type 0
@@ -47,13 +59,14 @@ abbrev pub BeginsWithEither : List ℕ → Option JournalRecord → List ℕ →
 BeginsWithEither octets None image = StandsAt octets image
 BeginsWithEither octets (Some r) image = StandsAt octets image ⊎ StandsAt (octets ++ record_octets r) image
 
--- these octets and the record in doubt are more, with which an image begins
-abbrev pub IsDoubted : List ℕ → Option JournalRecord → List ℕ → List ℕ → Type 0
-IsDoubted octets doubted image more = (r : JournalRecord) × ((doubted ≡ Some r) × (more ≡ octets ++ record_octets r) × StandsAt more image)
+-- the octets of a record in doubt, and what is found with it, where its gate is at this place
+abbrev pub doubted_octets : Option JournalRecord → List ℕ
+doubted_octets None = []
+doubted_octets (Some r) = record_octets r
 
--- an image doesn't begin with these octets and the record in doubt
-abbrev pub IsNotDoubted : List ℕ → Option JournalRecord → List ℕ → Type 0
-IsNotDoubted octets doubted image = IfSome doubted (λ r. StandsAt (octets ++ record_octets r) image → ⊥)
+abbrev pub with_doubted : Found → ℕ → Option JournalRecord → Found
+with_doubted found place None = found
+with_doubted found place (Some r) = with_record found place r
 
 -- where the disk tells its state: if no call has failed since it was read, it is at rest; else a crash leaves what was
 -- known, or that and the record in doubt
@@ -103,7 +116,7 @@ IsRoomFault area octets found r (Full u n) = HasNoRoom area octets found r u n
 IsRoomFault area octets found r (BadHeader place) = ⊥
 IsRoomFault area octets found r (BadRecord place) = ⊥
 IsRoomFault area octets found r LivesSpent = ⊥
-IsRoomFault area octets found r Memory = Unit {0}
+IsRoomFault area octets found r Memory = ⊥
 
 -- one of the disk's images stands for these records
 pub record MayHold (service : ℕ) (disk : DiskState) (rs : List JournalRecord) : Type 0 where
@@ -182,24 +195,24 @@ pub record HasMore {D : Type 0} (before after : JournalState D) (r : JournalReco
   pub failed : after.failed ≡ false
   pub doubted : after.doubted ≡ None
 
--- why a disk was not read again, of one that was and is so, and whose count of faults was and is so. One that tells its
--- state reads what is expected
-abbrev pub IsReadFault : Option DiskState → ℕ → ℕ → JournalFault → Type 0
-IsReadFault told before after DiskFault = HasRisen before after
-IsReadFault told before after (Full u n) = ⊥
-IsReadFault told before after (BadHeader place) = told ≡ None
-IsReadFault told before after (BadRecord place) = told ≡ None
-IsReadFault told before after LivesSpent = ⊥
-IsReadFault told before after Memory = Unit {0}
+-- why a disk was not read again, of one that was and is so, and whose count of faults was and is so; memory is wanted only where
+-- it may be. One that tells its state reads what is expected
+abbrev pub IsReadFault : Bool → Option DiskState → ℕ → ℕ → JournalFault → Type 0
+IsReadFault wants told before after DiskFault = HasRisen before after
+IsReadFault wants told before after (Full u n) = ⊥
+IsReadFault wants told before after (BadHeader place) = told ≡ None
+IsReadFault wants told before after (BadRecord place) = told ≡ None
+IsReadFault wants told before after LivesSpent = ⊥
+IsReadFault wants told before after Memory = IsTrue wants
 
 -- why a record was not appended to such a disk. What is full is no cause of the disk
-abbrev pub IsAppendFault : Option DiskState → ℕ → ℕ → JournalFault → Type 0
-IsAppendFault told before after DiskFault = HasRisen before after
-IsAppendFault told before after (Full u n) = Unit {0}
-IsAppendFault told before after (BadHeader place) = told ≡ None
-IsAppendFault told before after (BadRecord place) = told ≡ None
-IsAppendFault told before after LivesSpent = ⊥
-IsAppendFault told before after Memory = Unit {0}
+abbrev pub IsAppendFault : Bool → Option DiskState → ℕ → ℕ → JournalFault → Type 0
+IsAppendFault wants told before after DiskFault = HasRisen before after
+IsAppendFault wants told before after (Full u n) = Unit {0}
+IsAppendFault wants told before after (BadHeader place) = told ≡ None
+IsAppendFault wants told before after (BadRecord place) = told ≡ None
+IsAppendFault wants told before after LivesSpent = ⊥
+IsAppendFault wants told before after Memory = IsTrue wants
 
 -- all is synced, and stands for records that the disk held, or for these and the Done
 abbrev pub DoneIsDone : ℕ → ℕ → DiskState → DiskState → Type 0

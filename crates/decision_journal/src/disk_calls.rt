@@ -1,11 +1,12 @@
-ghost use Rattle.std.specs.Prelude.{◌≡◌, ◌<◌, ◌≤◌, ◌+◌, ◌^◌, length, replicate, IsErrOf, OnOk, IfOk, IfSome};
+ghost use Rattle.std.specs.Prelude.{◌≡◌, ◌<◌, ◌≤◌, ◌+◌, ◌^◌, length, IsErrOf, IsTrue, OnOk, IfOk, IfSome};
 ghost use Rattle.std.specs.Option.{ForSome};
-ghost use Rattle.ots_outside.specs.declared.disk.DiskRefusal.TheVariants.{Failed};
+ghost use Rattle.ots_outside.specs.declared.disk.DiskRefusal.TheVariants.{Failed, Memory};
 ghost use Rattle.ots_outside.specs.Disk.{IsAfterRefusal, ReadsImage, Tells, synced, written};
 ghost use Rattle.ots_outside.specs.Source.{HasRisen};
 ghost use Rattle.decision_journal.specs.Laws.{IsOnTheWay, appended, cleared, created, is_letter_due};
+ghost use Rattle.decision_journal.specs.Journal.{IsAlong};
 
-use crate::scan::{FIRST_LETTER, behind_letter_of};
+use crate::scan::{Along, FIRST_LETTER, behind_letter_of};
 use ots_outside::{Disk, DiskRefusal};
 use std::alloc::Global;
 
@@ -17,6 +18,7 @@ pub(crate) fn append_at<D: Disk>(disk: &mut D, gate: u64, behind: &[u8]) -> Resu
         (Tells (D.told disk.old) (D.told disk.new) (λ s t. t ≡ appended gate behind.now s)) }
     ensures way { Tells (D.told disk.old) (D.told disk.new)
         (λ s t. IsOnTheWay s (appended gate behind.now s) t) }
+    ensures want { IsErrOf result Memory → IsTrue D.wants_memory }
     ensures cause { IsErrOf result Failed → HasRisen (D.faults disk.old) (D.faults disk.new) }
     ensures later { D.faults disk.old ≤ D.faults disk.new }
 {
@@ -71,7 +73,7 @@ pub(crate) fn create_at<D: Disk>(disk: &mut D, service: u64, due: bool) -> Resul
 }
 
 /// How many octets are read at a time.
-const PIECE: usize = 65_536;
+pub(crate) const PIECE: usize = 65_536;
 
 /// Syncs the disk, and reads all of its octets, in order.
 pub(crate) fn read_whole<D: Disk>(alloc: Global, disk: &mut D) -> Result<Vec<u8>, DiskRefusal>
@@ -104,4 +106,60 @@ fn read_pieces<D: Disk>(disk: &mut D, octets: &mut [u8]) -> Result<(), DiskRefus
         place = end;
     }
     Ok(())
+}
+
+/// Syncs the disk, and reads all of its octets, in order, a piece at a time. Tells how far they go along with those that are
+/// known.
+pub(crate) fn read_along<D: Disk>(
+    disk: &mut D,
+    piece: &mut [u8],
+    known: &[u8],
+) -> Result<Along, DiskRefusal>
+    requires { 0 < length piece.old }
+    ensures way { Tells (D.told disk.old) (D.told disk.new) (λ s t. IsAfterRefusal s (synced s) t) }
+    ensures along { IfOk result (λ along. IfSome (D.told disk.new)
+        (λ t. IsAlong known.now t.reads along.same along.closed)) }
+    ensures settled { OnOk result (Tells (D.told disk.old) (D.told disk.new) (λ s t. t ≡ synced s)) }
+    ensures within { IfOk result (λ along. along.same ≤ length known.now) }
+    ensures image { ReadsImage (D.told disk.old) }
+    ensures want { IsErrOf result Memory → IsTrue D.wants_memory }
+    ensures cause { IsErrOf result Failed → HasRisen (D.faults disk.old) (D.faults disk.new) }
+    ensures later { D.faults disk.old ≤ D.faults disk.new }
+    ensures piece { length piece.new ≡ length piece.old }
+{
+    disk.sync()?;
+    let length = disk.len()?;
+    go_along(disk, length as usize, piece, known)
+}
+
+/// Reads so many octets, a piece at a time, and tells how far they go along with those that are known.
+fn go_along<D: Disk>(
+    disk: &mut D,
+    count: usize,
+    piece: &mut [u8],
+    known: &[u8],
+) -> Result<Along, DiskRefusal>
+    requires piece { 0 < length piece.old }
+    requires whole { ForSome (D.told disk.old) (λ s. count ≡ length s.reads) }
+    ensures untouched { D.told disk.new ≡ D.told disk.old }
+    ensures along { IfOk result (λ along. IfSome (D.told disk.old)
+        (λ s. IsAlong known.now s.reads along.same along.closed)) }
+    ensures within { IfOk result (λ along. along.same ≤ length known.now) }
+    ensures want { IsErrOf result Memory → IsTrue D.wants_memory }
+    ensures cause { IsErrOf result Failed → HasRisen (D.faults disk.old) (D.faults disk.new) }
+    ensures later { D.faults disk.old ≤ D.faults disk.new }
+    ensures piece { length piece.new ≡ length piece.old }
+{
+    let mut place = 0;
+    let mut found = Along {
+        same: 0,
+        closed: false,
+    };
+    while place < count {
+        let part = piece.len().min(count - place);
+        disk.read_at(place as u64, &mut piece[..part])?;
+        found = found.with_piece(place, known, &piece[..part]);
+        place += part;
+    }
+    Ok(found)
 }

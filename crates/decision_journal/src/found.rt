@@ -1,15 +1,21 @@
-ghost use Rattle.std.specs.Prelude.{◌≡◌, ℕ, ◌+◌, ◌++◌, ◌∷◌, [], ◌==◌, is_some, position, OnOk, OnErr, IfErr};
+ghost use Rattle.std.specs.Prelude.{◌≡◌, ℕ, ◌+◌, ◌≤◌, ◌<◌, ◌++◌, ◌∷◌, [], ◌==◌, is_some, position, OnOk};
 ghost use Rattle.std.specs.List.{list_any};
+ghost use Rattle.decision_journal.specs.Limits.{standing_limit};
 ghost use Rattle.decision_journal.specs.Journal.{are_cells_at, can_follow, is_cells_prepared, is_decision, is_decision_at, nothing_found, taken_away, with_record};
 ghost use Rattle.decision_journal.specs.Index.{AreBefore, AreInOrder, IsIndexed, is_left, left};
-ghost use Rattle.decision_journal.specs.State.{decisions};
+ghost use Rattle.decision_journal.specs.Room.{stands_in};
+ghost use Rattle.decision_journal.specs.State.{cells_in, decisions};
 
 use crate::journal::Standing;
 use crate::record::JournalRecord;
-use std::alloc::Global;
+use std::alloc::{AllocError, Global};
 use std::marker::Model;
 
-/// What the records of a journal leave: the life, and what stands. Contracts see it as a `Found`.
+/// How many decisions and prepared records stand at most.
+pub(crate) const STANDING_LIMIT: usize = 8_192;
+
+/// What the records of a journal leave: the life, and what stands. Contracts see this, and for how many more that stand there
+/// is room.
 #[derive(Drop)]
 pub(crate) struct Index {
     life: u32,
@@ -18,19 +24,23 @@ pub(crate) struct Index {
 }
 
 impl Model for Index {
-    ghost use Rattle.decision_journal.specs.Journal.{Found};
+    ghost use Rattle.std.specs.Prelude.{◌-◌, vec_capacity, vec_len};
     ghost use Rattle.decision_journal.specs.Index.{IsIndexed};
+    ghost use Rattle.decision_journal.specs.Room.{Stock};
 
-    ghost Value = { Found };
+    ghost Value = { Stock };
 
-    ghost view = { λ index. record { life = index.life; standing = index.standing.items } };
+    ghost view = { λ index. record {
+      found = record { life = index.life; standing = index.standing.items };
+      spare = vec_capacity index.standing - vec_len index.standing;
+    } };
 
     ghost invariant = { λ index. IsIndexed index.standing.items index.decisions };
 }
 
 impl Index {
     pub(crate) fn new(alloc: Global) -> Index
-        ensures { result ≡ nothing_found }
+        ensures { result.found ≡ nothing_found }
     {
         Index {
             life: 0,
@@ -40,28 +50,28 @@ impl Index {
     }
 
     pub(crate) fn life(&self) -> u32
-        ensures { result ≡ self.now.life }
+        ensures { result ≡ self.now.found.life }
     {
         self.life
     }
 
     pub(crate) fn standing(&self) -> &[Standing]
-        ensures same { result.now ≡ self.now.standing }
-        ensures order { AreInOrder self.now.standing }
+        ensures same { result.now ≡ self.now.found.standing }
+        ensures order { AreInOrder self.now.found.standing }
     {
         self.standing.as_slice()
     }
 
     /// How many decisions and prepared records stand.
     pub(crate) fn decisions(&self) -> usize
-        ensures { result ≡ decisions self.now }
+        ensures { result ≡ decisions self.now.found }
     {
         self.decisions
     }
 
     /// Whether a record can follow those that were found.
     pub(crate) fn takes(&self, item: &JournalRecord) -> bool
-        ensures { result ≡ can_follow self.now item.now }
+        ensures { result ≡ can_follow self.now.found item.now }
     {
         match item {
             JournalRecord::Life(life) => is_next(*life, self.life),
@@ -71,50 +81,56 @@ impl Index {
         }
     }
 
-    /// Adds a record whose gate is at this place, behind all that stands, or gives it back where memory runs out.
-    pub(crate) fn add(&mut self, place: u32, item: JournalRecord) -> Result<(), JournalRecord>
-        requires behind { AreBefore place self.old.standing }
-        ensures ok { OnOk result (self.new ≡ with_record self.old place item) }
-        ensures err { OnErr result (self.new ≡ self.old) }
-        ensures back { IfErr result (λ back. back ≡ item) }
+    /// Takes memory for all decisions that may stand beside those that do, and for two records more.
+    pub(crate) fn reserve(&mut self) -> Result<(), AllocError>
+        ensures same { self.new.found ≡ self.old.found }
+        ensures ok { OnOk result (standing_limit + 2 ≤ decisions self.new.found + self.new.spare) }
+        ensures two { OnOk result (2 ≤ self.new.spare) }
+        ensures spare { self.old.spare ≤ self.new.spare }
+    {
+        let more = STANDING_LIMIT.saturating_sub(self.decisions) + 2;
+        self.standing.reserve(more)
+    }
+
+    /// Adds a record whose gate is at this place, behind all that stands.
+    pub(crate) fn add(&mut self, place: u32, item: JournalRecord)
+        requires behind { AreBefore place self.old.found.standing }
+        requires room { stands_in item ≤ self.old.spare }
+        ensures found { self.new.found ≡ with_record self.old.found place item }
+        ensures spare { self.old.spare ≤ self.new.spare + stands_in item }
+        ensures decisions { decisions self.old.found + self.old.spare
+            ≤ decisions self.new.found + self.new.spare + cells_in item }
     {
         match item {
-            JournalRecord::Life(life) => {
-                self.life = life;
-                Ok(())
-            }
-            JournalRecord::Done(named) => {
-                self.take_away(named);
-                Ok(())
-            }
+            JournalRecord::Life(life) => self.life = life,
+            JournalRecord::Done(named) => self.take_away(named),
             item => self.put(place, item),
         }
     }
 
     /// Lets a record stand.
-    fn put(&mut self, place: u32, item: JournalRecord) -> Result<(), JournalRecord>
-        requires behind { AreBefore place self.old.standing }
-        ensures ok { OnOk result (self.new ≡ record self.old {
-          standing = self.old.standing ++ record { place = place; item = item } ∷ [];
-        }) }
-        ensures err { OnErr result (self.new ≡ self.old) }
-        ensures back { IfErr result (λ back. back ≡ item) }
+    fn put(&mut self, place: u32, item: JournalRecord)
+        requires behind { AreBefore place self.old.found.standing }
+        requires room { 0 < self.old.spare }
+        ensures found { self.new.found ≡ record self.old.found {
+          standing = self.old.found.standing ++ record { place = place; item = item } ∷ [];
+        } }
+        ensures spare { self.old.spare ≡ self.new.spare + 1 }
     {
         let decided = is_decided(&item);
-        if let Err(refused) = self.standing.push(Standing { place, item }) {
-            return Err(refused.value.item);
-        }
+        self.standing.push_reserved(Standing { place, item });
         if decided {
             self.decisions += 1;
         }
-        Ok(())
     }
 
     /// Takes the decision or prepared record at this place away, where one stands.
     fn take_away(&mut self, place: u32)
-        ensures { self.new ≡ record self.old {
-          standing = taken_away (position (is_decision_at place) self.old.standing) self.old.standing;
+        ensures found { self.new.found ≡ record self.old.found {
+          standing = taken_away (position (is_decision_at place) self.old.found.standing) self.old.found.standing;
         } }
+        ensures spare { self.old.spare ≤ self.new.spare }
+        ensures decisions { decisions self.old.found + self.old.spare ≤ decisions self.new.found + self.new.spare }
     {
         if let Some(index) = decision_at(&self.standing, place) {
             self.standing.remove(index);
@@ -124,26 +140,28 @@ impl Index {
 
     /// Adds a record that was read, whose gate is at this place, behind all that stands. A Done stands in the stead of what
     /// it names until all is read.
-    pub(crate) fn gather(&mut self, place: u32, item: JournalRecord) -> Result<(), JournalRecord>
-        requires behind { AreBefore place self.old.standing }
-        ensures ok { OnOk result (left self.new ≡ with_record (left self.old) place item) }
-        ensures before { OnOk result (AreBefore (place + 1) self.new.standing) }
+    pub(crate) fn gather(&mut self, place: u32, item: JournalRecord) -> Result<(), AllocError>
+        requires behind { AreBefore place self.old.found.standing }
+        ensures ok { OnOk result (left self.new.found ≡ with_record (left self.old.found) place item) }
+        ensures before { OnOk result (AreBefore (place + 1) self.new.found.standing) }
     {
         match item {
-            JournalRecord::Done(named) => {
-                self.mark(named);
-                Ok(())
+            JournalRecord::Done(named) => self.mark(named),
+            item => {
+                self.standing.reserve(1)?;
+                self.add(place, item);
             }
-            item => self.add(place, item),
         }
+        Ok(())
     }
 
     /// Puts a Done in the stead of the decision or prepared record at this place, where one stands.
     fn mark(&mut self, place: u32)
-        ensures marked { left self.new ≡ record (left self.old) {
-          standing = taken_away (position (is_decision_at place) (left self.old).standing) (left self.old).standing;
+        ensures marked { left self.new.found ≡ record (left self.old.found) {
+          standing = taken_away (position (is_decision_at place) (left self.old.found).standing)
+              (left self.old.found).standing;
         } }
-        ensures before { (n : ℕ) → AreBefore n self.old.standing → AreBefore n self.new.standing }
+        ensures before { (n : ℕ) → AreBefore n self.old.found.standing → AreBefore n self.new.found.standing }
     {
         if let Some(index) = decision_at(&self.standing, place) {
             self.standing[index] = Standing {
@@ -156,7 +174,7 @@ impl Index {
 
     /// Leaves what stands, once all is read, and gives back the room of what is done.
     pub(crate) fn settle(&mut self)
-        ensures { self.new ≡ left self.old }
+        ensures { self.new.found ≡ left self.old.found }
     {
         self.standing.retain(|standing| is_kept(standing));
         self.standing.shrink_to_fit();
@@ -164,7 +182,7 @@ impl Index {
 
     /// Whether a decision or prepared record stands at this place.
     pub(crate) fn stands(&self, place: u32) -> bool
-        ensures { result ≡ list_any (is_decision_at place) self.now.standing }
+        ensures { result ≡ list_any (is_decision_at place) self.now.found.standing }
     {
         decision_at(&self.standing, place).is_some()
     }

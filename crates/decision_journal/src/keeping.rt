@@ -1,22 +1,19 @@
-ghost use Rattle.std.specs.Prelude.{◌≡◌, ◌≤◌, ◌+◌, ◌++◌, ◌∷◌, [], length, false, true, None, IsTrue, IfOk, IfErr, OnOk, OnErr};
+ghost use Rattle.std.specs.Prelude.{◌≡◌, ◌<◌, ◌≤◌, ◌+◌, ◌++◌, ◌∷◌, [], length, false, true, None, IsTrue, IfOk, IfErr, OnOk, OnErr};
 ghost use Rattle.std.specs.List.{list_any};
 ghost use Rattle.std.specs.Option.{ForSome};
 ghost use Rattle.ots_outside.specs.Disk.{Tells, synced};
 ghost use Rattle.decision_journal.specs.Layout.{Fits, record_octets};
 ghost use Rattle.decision_journal.specs.Laws.{IsOnTheWay, appended, behind_gate};
-ghost use Rattle.decision_journal.specs.Limits.{area_limit};
-ghost use Rattle.decision_journal.specs.Journal.{can_follow, is_decision_at, with_record};
+ghost use Rattle.decision_journal.specs.Limits.{area_limit, standing_limit};
+ghost use Rattle.decision_journal.specs.Journal.{can_follow, is_decision, is_decision_at, with_record};
 ghost use Rattle.decision_journal.specs.Index.{AreInOrder};
 
-use crate::disk_calls::{append_at, read_whole};
+use crate::disk_calls::{append_at, read_along};
 use crate::found::Index;
 use crate::journal::{JournalFault, Standing, fault_of};
-use crate::loading::start_within;
+use crate::loading::{misread, start_within};
 use crate::record::JournalRecord;
-use crate::room::{
-    add_doubted, doubt, drop_doubt, found_again, keep, prepared, put_closed, written_behind,
-};
-use crate::scan::{other, stands_at};
+use crate::room::{count_cells, find, has_room, put_closed, put_closed_record, put_doubted};
 use ots_outside::{Back, Disk};
 use std::alloc::{AllocError, Global};
 use std::marker::Model;
@@ -29,12 +26,16 @@ pub struct Journal<D: Disk> {
     area: u64,
     service: u64,
     octets: Vec<u8>,
+    piece: Vec<u8>,
     index: Index,
     failed: bool,
     doubted: Option<JournalRecord>,
+    room: usize,
 }
 
 impl<D: Disk> Model for Journal<D> {
+    ghost use Rattle.std.specs.Prelude.{vec_capacity, vec_len};
+    ghost use Rattle.decision_journal.specs.Room.{IsRoomy};
     ghost use Rattle.decision_journal.specs.State.{IsSound, JournalState};
 
     ghost Value = { JournalState D };
@@ -44,18 +45,20 @@ impl<D: Disk> Model for Journal<D> {
       area = j.area;
       service = j.service;
       octets = j.octets.items;
-      found = j.index;
+      found = j.index.found;
       failed = j.failed;
       doubted = j.doubted;
+      room = j.room;
     } };
 
     ghost invariant = { λ j.
-        IsSound (D.told j.disk) j.area j.service j.octets.items j.index j.failed j.doubted };
+        IsSound (D.told j.disk) j.area j.service j.octets.items j.index.found j.failed j.doubted
+        × IsRoomy j.area (vec_capacity j.octets) (vec_len j.piece) j.index j.doubted j.room };
 }
 
 impl<D: Disk> Journal<D> {
     ghost use Rattle.decision_journal.specs.Loading.{IsDiskFault, IsLoadFault, IsRefusedLoad, LoadIsDone, LoadIsSafe};
-    ghost use Rattle.decision_journal.specs.State.{AppendIsDone, AppendIsSafe, HasMore, HasReread, DoneIsDone, IsAppendFault, IsReadFault, IsRoomFault, IsUnread, IsUnsure, IsKept, LeavesFound, StaysWithinArea, MayFollow, ReadIsDone, ReadIsSafe, need, used};
+    ghost use Rattle.decision_journal.specs.State.{AppendIsDone, AppendIsSafe, HasMore, HasReread, DoneIsDone, IsAppendFault, IsReadFault, IsRoomFault, IsUnread, IsUnsure, IsKept, LeavesFound, StaysWithinArea, MayFollow, ReadIsDone, ReadIsSafe, cells_in, decisions, need, used};
     ghost use Rattle.decision_journal.specs.Calls.{HasAppended, IsAfterDone, IsCurrent, IsReady, IsRefusedAppend, IsRefusedReading, IsUnwritten, reread};
 
     /// Whether the next call reads the disk again.
@@ -63,6 +66,13 @@ impl<D: Disk> Journal<D> {
         ensures { result ≡ self.now.failed }
     {
         self.failed
+    }
+
+    /// The number of the journal's service.
+    pub fn service(&self) -> u64
+        ensures { result ≡ self.now.service }
+    {
+        self.service
     }
 
     /// The life of this load.
@@ -97,7 +107,22 @@ impl<D: Disk> Journal<D> {
         self.index.takes(item)
     }
 
-    /// Syncs the disk, and reads it again. Where a call had failed, this tells whether its record is there.
+    /// Takes memory for one record of cells, where there is room for none.
+    pub fn reserve(&mut self) -> Result<(), AllocError>
+        ensures ok { OnOk result (0 < self.new.room) }
+        ensures same { self.new ≡ record self.old { room = self.new.room } }
+        ensures full { OnErr result (self.old.room ≡ 0) }
+        ensures room { self.old.room ≤ self.new.room }
+    {
+        if self.room == 0 {
+            self.index.reserve()?;
+            self.room = 1;
+        }
+        Ok(())
+    }
+
+    /// Syncs the disk, and reads it again. Where a call had failed, this tells whether its record is there. It takes no memory,
+    /// but what the disk takes.
     pub fn reopen(&mut self) -> Result<(), JournalFault>
         ensures read { OnOk result (HasReread self.old self.new) }
         ensures current { OnOk result (IsCurrent D.told self.new) }
@@ -108,28 +133,38 @@ impl<D: Disk> Journal<D> {
         ensures unread { OnErr result (IsUnread self.old self.new) }
         ensures unwritten { OnErr result
             (Tells (D.told self.old.disk) (D.told self.new.disk) IsUnwritten) }
-        ensures fault { IfErr result
-            (IsReadFault (D.told self.new.disk) (D.faults self.old.disk) (D.faults self.new.disk)) }
+        ensures fault { IfErr result (IsReadFault D.wants_memory (D.told self.new.disk)
+            (D.faults self.old.disk) (D.faults self.new.disk)) }
         ensures later { D.faults self.old.disk ≤ D.faults self.new.disk }
         ensures safe { Tells (D.told self.old.disk) (D.told self.new.disk) (ReadIsSafe self.old.service) }
+        ensures room { self.old.room ≤ self.new.room }
     {
         self.failed = true;
-        let read = match read_whole(self.alloc, &mut self.disk) {
-            Ok(read) => read,
-            Err(refusal) => return Err(fault_of(refusal)),
+        let gate = self.octets.len();
+        put_doubted(&mut self.octets, &self.doubted);
+        let along = match read_along(&mut self.disk, &mut self.piece, &self.octets) {
+            Ok(along) => along,
+            Err(refusal) => {
+                self.octets.truncate(gate);
+                return Err(fault_of(refusal));
+            }
         };
-        if stands_at(&self.octets, &read) {
-            self.failed = false;
-            drop_doubt(&mut self.doubted);
-            return Ok(());
+        if !find(
+            &mut self.octets,
+            gate,
+            &mut self.index,
+            &mut self.doubted,
+            along,
+        ) {
+            let place = along.same.min(gate);
+            return Err(misread(
+                self.alloc,
+                &mut self.disk,
+                self.service,
+                &self.octets,
+                place,
+            ));
         }
-        let found = found_again(self.alloc, &self.octets, &self.doubted, &read)?;
-        let more = match found {
-            Some(more) => more,
-            None => return Err(other(self.alloc, self.service, &self.octets, read)),
-        };
-        add_doubted(&mut self.index, self.octets.len() as u32, &mut self.doubted)?;
-        self.octets = more;
         self.failed = false;
         Ok(())
     }
@@ -146,10 +181,11 @@ impl<D: Disk> Journal<D> {
         ensures unwritten { OnErr result
             (Tells (D.told self.old.disk) (D.told self.new.disk) IsUnwritten) }
         ensures was { OnErr result (self.old.failed ≡ true) }
-        ensures fault { IfErr result
-            (IsReadFault (D.told self.new.disk) (D.faults self.old.disk) (D.faults self.new.disk)) }
+        ensures fault { IfErr result (IsReadFault D.wants_memory (D.told self.new.disk)
+            (D.faults self.old.disk) (D.faults self.new.disk)) }
         ensures later { D.faults self.old.disk ≤ D.faults self.new.disk }
         ensures safe { Tells (D.told self.old.disk) (D.told self.new.disk) (ReadIsSafe self.old.service) }
+        ensures room { self.old.room ≤ self.new.room }
     {
         if self.failed {
             return self.reopen();
@@ -157,19 +193,19 @@ impl<D: Disk> Journal<D> {
         Ok(())
     }
 
-    /// What an append writes behind the gate, where there is room for it.
-    fn prepared(&self, item: &JournalRecord) -> Result<Vec<u8>, JournalFault>
+    /// Whether there is room for a record.
+    fn has_room(&self, item: &JournalRecord) -> Result<(), JournalFault>
         requires fits { Fits item.now }
         requires kept { self.now.failed ≡ false }
-        ensures behind { IfOk result (λ behind. behind.items ≡ behind_gate item.now) }
         ensures room { OnOk result (used self.now.octets self.now.found
             + need self.now.area self.now.found item.now ≤ self.now.area) }
         ensures within { OnOk result (used (self.now.octets ++ record_octets item.now)
             (with_record self.now.found (length self.now.octets) item.now) ≤ self.now.area) }
+        ensures few { OnOk result (IsTrue (is_decision item.now) → decisions self.now.found < standing_limit) }
         ensures fault { IfErr result
             (IsRoomFault self.now.area self.now.octets self.now.found item.now) }
     {
-        prepared(self.alloc, self.area, &self.octets, &self.index, item)
+        has_room(self.area, &self.octets, &self.index, item)
     }
 
     /// Whether a decision or prepared record stands at this place. There is room for its Done.
@@ -183,13 +219,14 @@ impl<D: Disk> Journal<D> {
     }
 
     /// Writes a record behind the gate at the end, and then opens that gate.
-    fn write(&mut self, item: JournalRecord, behind: &[u8]) -> Result<u32, JournalFault>
+    fn write(&mut self, item: JournalRecord) -> Result<u32, JournalFault>
         requires kept { self.old.failed ≡ false }
-        requires behind { behind.now ≡ behind_gate item }
         requires fits { Fits item }
         requires follows { IsTrue (can_follow self.old.found item) }
         requires within { used (self.old.octets ++ record_octets item)
             (with_record self.old.found (length self.old.octets) item) ≤ self.old.area }
+        requires few { IsTrue (is_decision item) → decisions self.old.found < standing_limit }
+        requires room { cells_in item ≤ self.old.room }
         ensures more { IfOk result (HasMore self.old self.new item) }
         ensures current { OnOk result (IsCurrent D.told self.new) }
         ensures disk { IfOk result (λ place. Tells (D.told self.old.disk) (D.told self.new.disk)
@@ -199,46 +236,53 @@ impl<D: Disk> Journal<D> {
         ensures unsure { OnErr result (IsUnsure self.old item self.new) }
         ensures way { OnErr result (Tells (D.told self.old.disk) (D.told self.new.disk)
             (λ s t. IsOnTheWay s (appended (length self.old.octets) (behind_gate item) s) t)) }
-        ensures fault { IfErr result (IsDiskFault (D.faults self.old.disk) (D.faults self.new.disk)) }
+        ensures fault { IfErr result
+            (IsDiskFault D.wants_memory (D.faults self.old.disk) (D.faults self.new.disk)) }
         ensures later { D.faults self.old.disk ≤ D.faults self.new.disk }
         ensures safe { Tells (D.told self.old.disk) (D.told self.new.disk) (AppendIsSafe self.old.service item) }
+        ensures room { self.old.room ≡ self.new.room + cells_in item }
     {
         let gate = self.octets.len();
         self.failed = true;
-        if let Err(refusal) = append_at(&mut self.disk, gate as u64, behind) {
-            doubt(&mut self.doubted, item);
+        self.room -= count_cells(&item);
+        put_closed_record(&mut self.octets, &item);
+        let written = append_at(&mut self.disk, gate as u64, &self.octets[gate + 1..]);
+        if let Err(refusal) = written {
+            self.octets.truncate(gate);
+            self.doubted = Some(item);
             return Err(fault_of(refusal));
         }
-        let body = &behind[..behind.len() - 1];
-        if let Err(item) = keep(&mut self.octets, &mut self.index, body, item) {
-            doubt(&mut self.doubted, item);
-            return Err(JournalFault::Memory);
-        }
+        let end = self.octets.len() - 1;
+        self.octets.truncate(end);
+        self.index.add(gate as u32, item);
         self.failed = false;
         Ok(gate as u32)
     }
 
-    /// Appends a record, and tells the place of its gate. Where a call has failed, the disk is read again first.
+    /// Appends a record, and tells the place of its gate. Where a call has failed, the disk is read again first. A record of
+    /// cells needs the room that `reserve` takes, and uses it. It takes no memory, but what the disk takes.
     pub fn append(&mut self, item: JournalRecord) -> Result<u32, JournalFault>
         requires fits { Fits item }
         requires follows { MayFollow self.old item }
+        requires room { cells_in item ≤ self.old.room }
         ensures more { IfOk result (HasAppended D.told self.old item self.new) }
         ensures current { OnOk result (IsCurrent D.told self.new) }
         ensures done { OnOk result
             (Tells (D.told self.old.disk) (D.told self.new.disk) (AppendIsDone self.old.service item)) }
         ensures refused { IfErr result (IsRefusedAppend D.told self.old item self.new) }
-        ensures fault { IfErr result
-            (IsAppendFault (D.told self.new.disk) (D.faults self.old.disk) (D.faults self.new.disk)) }
+        ensures fault { IfErr result (IsAppendFault D.wants_memory (D.told self.new.disk)
+            (D.faults self.old.disk) (D.faults self.new.disk)) }
         ensures later { D.faults self.old.disk ≤ D.faults self.new.disk }
         ensures safe { Tells (D.told self.old.disk) (D.told self.new.disk) (AppendIsSafe self.old.service item) }
+        ensures room { self.old.room ≤ self.new.room + cells_in item }
     {
         self.ready()?;
-        let behind = self.prepared(&item)?;
-        self.write(item, &behind)
+        self.has_room(&item)?;
+        self.write(item)
     }
 
     /// Appends a Done of the decision or prepared record at this place, where one stands; else it writes nothing. Where a
-    /// call has failed, the disk is read again first.
+    /// call has failed, the disk is read again first. It takes no memory, but what the disk takes.
     pub fn done(&mut self, place: u32) -> Result<(), JournalFault>
         ensures after { OnOk result (IsAfterDone D.told self.old self.new place) }
         ensures current { OnOk result (IsCurrent D.told self.new) }
@@ -246,19 +290,18 @@ impl<D: Disk> Journal<D> {
             (Tells (D.told self.old.disk) (D.told self.new.disk) (DoneIsDone self.old.service place)) }
         ensures refused { IfErr result
             (IsRefusedAppend D.told self.old (JournalRecord.Done place) self.new) }
-        ensures fault { IfErr result
-            (IsReadFault (D.told self.new.disk) (D.faults self.old.disk) (D.faults self.new.disk)) }
+        ensures fault { IfErr result (IsReadFault D.wants_memory (D.told self.new.disk)
+            (D.faults self.old.disk) (D.faults self.new.disk)) }
         ensures later { D.faults self.old.disk ≤ D.faults self.new.disk }
         ensures safe { Tells (D.told self.old.disk) (D.told self.new.disk)
             (AppendIsSafe self.old.service (JournalRecord.Done place)) }
+        ensures room { self.old.room ≤ self.new.room }
     {
         self.ready()?;
         if !self.stands(place) {
             return Ok(());
         }
-        let item = JournalRecord::Done(place);
-        let behind = written_behind(self.alloc, &item)?;
-        self.write(item, &behind)?;
+        self.write(JournalRecord::Done(place))?;
         Ok(())
     }
 
@@ -273,10 +316,11 @@ impl<D: Disk> Journal<D> {
             (Tells (D.told self.old.disk) (D.told self.new.disk) (ReadIsDone self.old.service)) }
         ensures refused { IfErr result (IsRefusedReading D.told self.old self.new) }
         ensures same { OnErr result (into.new.items ≡ into.old.items) }
-        ensures fault { IfErr result
-            (IsReadFault (D.told self.new.disk) (D.faults self.old.disk) (D.faults self.new.disk)) }
+        ensures fault { IfErr result (IsReadFault true (D.told self.new.disk)
+            (D.faults self.old.disk) (D.faults self.new.disk)) }
         ensures later { D.faults self.old.disk ≤ D.faults self.new.disk }
         ensures safe { Tells (D.told self.old.disk) (D.told self.new.disk) (ReadIsSafe self.old.service) }
+        ensures room { self.old.room ≤ self.new.room }
     {
         self.ready()?;
         self.put_bytes(into)?;
@@ -338,9 +382,11 @@ impl<D: Disk> Journal<D> {
             area,
             service,
             octets: start.octets,
+            piece: start.piece,
             index: start.index,
             failed: false,
             doubted: None,
+            room: 0,
         };
         match journal.append(life) {
             Ok(_) => Ok(journal),

@@ -1,19 +1,19 @@
-ghost use Rattle.std.specs.Prelude.{◌≡◌, ◌≤◌, ◌<◌, ◌+◌, ◌^◌, IfOk, IfErr, OnOk};
+ghost use Rattle.std.specs.Prelude.{◌≡◌, ◌≤◌, ◌<◌, ◌+◌, ◌^◌, true, false, None, length, vec_capacity, IfOk, IfErr, OnOk};
 ghost use Rattle.std.specs.Option.{ForSome};
 ghost use Rattle.ots_outside.specs.Disk.{Tells, synced};
-ghost use Rattle.decision_journal.specs.Limits.{area_limit};
+ghost use Rattle.decision_journal.specs.Limits.{area_limit, standing_limit};
 ghost use Rattle.decision_journal.specs.Laws.{IsOnTheWay, IsSettled, cleared, created};
 ghost use Rattle.decision_journal.specs.Journal.{IsFilled, IsFresh};
-ghost use Rattle.decision_journal.specs.State.{used};
+ghost use Rattle.decision_journal.specs.State.{IsReadFault, decisions, used};
 ghost use Rattle.decision_journal.specs.Loading.{IsDiskFault, IsLoadFault, IsRefusedLoad, IsStartFault, IsStarted, LoadIsSafe, last_life, readied};
 
-use crate::disk_calls::{create_at, read_whole};
+use crate::disk_calls::{PIECE, create_at, read_whole};
 use crate::found::Index;
 use crate::journal::{JournalFault, fault_of};
 use crate::room::used_of;
-use crate::scan::{filled, header_of, is_due, is_fresh};
-use ots_outside::Disk;
-use std::alloc::Global;
+use crate::scan::{fault_at, filled, header_of, is_due, is_fresh, other};
+use ots_outside::{Disk, DiskRefusal};
+use std::alloc::{AllocError, Global};
 
 /// How many octets a Life takes.
 const LIFE_LENGTH: u64 = 10;
@@ -25,6 +25,8 @@ pub(crate) struct Start {
     pub(crate) octets: Vec<u8>,
     /// What their records leave.
     pub(crate) index: Index,
+    /// Into this a disk is read a piece at a time.
+    pub(crate) piece: Vec<u8>,
 }
 
 /// Makes a journal without records of a disk that was read and is not yet one.
@@ -37,15 +39,15 @@ fn create<D: Disk>(
     requires read { ForSome (D.told disk.old) (λ s. octets.now ≡ s.reads) }
     requires settled { ForSome (D.told disk.old) IsSettled }
     requires fresh { IsFresh octets.now }
-    ensures filled { IfOk result (λ start. IsFilled service start.octets.items start.index) }
+    ensures filled { IfOk result (λ start. IsFilled service start.octets.items start.index.found) }
     ensures started { IfOk result (λ start. Tells (D.told disk.old) (D.told disk.new)
-        (IsStarted service start.octets.items start.index)) }
+        (IsStarted service start.octets.items start.index.found)) }
     ensures safe { Tells (D.told disk.old) (D.told disk.new) (LoadIsSafe service) }
     ensures made { OnOk result
         (Tells (D.told disk.old) (D.told disk.new) (λ s t. t ≡ created service (cleared s))) }
     ensures way { Tells (D.told disk.old) (D.told disk.new)
         (λ s t. IsOnTheWay s (created service (cleared s)) t) }
-    ensures fault { IfErr result (IsDiskFault (D.faults disk.old) (D.faults disk.new)) }
+    ensures fault { IfErr result (IsDiskFault true (D.faults disk.old) (D.faults disk.new)) }
     ensures later { D.faults disk.old ≤ D.faults disk.new }
 {
     if let Err(refusal) = create_at(disk, service, is_due(octets)) {
@@ -54,14 +56,15 @@ fn create<D: Disk>(
     Ok(Start {
         octets: header_of(service).to_vec(alloc)?,
         index: Index::new(alloc),
+        piece: Vec::new(alloc),
     })
 }
 
 /// Reads the journal that a disk holds, or makes one where there is none.
 fn read_or_create<D: Disk>(alloc: Global, disk: &mut D, service: u64) -> Result<Start, JournalFault>
-    ensures filled { IfOk result (λ start. IsFilled service start.octets.items start.index) }
+    ensures filled { IfOk result (λ start. IsFilled service start.octets.items start.index.found) }
     ensures started { IfOk result (λ start. Tells (D.told disk.old) (D.told disk.new)
-        (IsStarted service start.octets.items start.index)) }
+        (IsStarted service start.octets.items start.index.found)) }
     ensures safe { Tells (D.told disk.old) (D.told disk.new) (LoadIsSafe service) }
     ensures readied { OnOk result
         (Tells (D.told disk.old) (D.told disk.new) (λ s t. t ≡ readied service (synced s))) }
@@ -79,7 +82,26 @@ fn read_or_create<D: Disk>(alloc: Global, disk: &mut D, service: u64) -> Result<
         return create(alloc, disk, service, &octets);
     }
     let index = filled(alloc, service, &mut octets)?;
-    Ok(Start { octets, index })
+    Ok(Start {
+        octets,
+        index,
+        piece: Vec::new(alloc),
+    })
+}
+
+/// Takes the memory for all octets of an area, for the decisions that may stand, and for reading a disk.
+fn make_room(start: &mut Start, area: u64) -> Result<(), AllocError>
+    requires { area ≤ area_limit }
+    ensures octets { start.new.octets.items ≡ start.old.octets.items }
+    ensures found { start.new.index.found ≡ start.old.index.found }
+    ensures area { OnOk result (area ≤ vec_capacity start.new.octets) }
+    ensures records { OnOk result (standing_limit ≤ decisions start.new.index.found + start.new.index.spare) }
+    ensures piece { OnOk result (0 < length start.new.piece.items) }
+{
+    let more = (area as usize).saturating_sub(start.octets.len());
+    start.octets.reserve(more)?;
+    start.index.reserve()?;
+    start.piece.resize(PIECE, 0)
 }
 
 /// The same, where a life is left and there is room for it.
@@ -90,11 +112,14 @@ pub(crate) fn start_within<D: Disk>(
     service: u64,
 ) -> Result<Start, JournalFault>
     requires { area ≤ area_limit }
-    ensures filled { IfOk result (λ start. IsFilled service start.octets.items start.index) }
-    ensures life { IfOk result (λ start. start.index.life < last_life) }
-    ensures room { IfOk result (λ start. used start.octets.items start.index + 10 ≤ area) }
+    ensures filled { IfOk result (λ start. IsFilled service start.octets.items start.index.found) }
+    ensures life { IfOk result (λ start. start.index.found.life < last_life) }
+    ensures room { IfOk result (λ start. used start.octets.items start.index.found + 10 ≤ area) }
+    ensures area { IfOk result (λ start. area ≤ vec_capacity start.octets) }
+    ensures records { IfOk result (λ start. standing_limit ≤ decisions start.index.found + start.index.spare) }
+    ensures piece { IfOk result (λ start. 0 < length start.piece.items) }
     ensures started { IfOk result (λ start. Tells (D.told disk.old) (D.told disk.new)
-        (IsStarted service start.octets.items start.index)) }
+        (IsStarted service start.octets.items start.index.found)) }
     ensures safe { Tells (D.told disk.old) (D.told disk.new) (LoadIsSafe service) }
     ensures readied { OnOk result
         (Tells (D.told disk.old) (D.told disk.new) (λ s t. t ≡ readied service (synced s))) }
@@ -104,7 +129,7 @@ pub(crate) fn start_within<D: Disk>(
         (IsLoadFault area service (D.told disk.old) (D.faults disk.old) (D.faults disk.new)) }
     ensures later { D.faults disk.old ≤ D.faults disk.new }
 {
-    let start = read_or_create(alloc, disk, service)?;
+    let mut start = read_or_create(alloc, disk, service)?;
     if start.index.life() == u32::MAX {
         return Err(JournalFault::LivesSpent);
     }
@@ -115,5 +140,33 @@ pub(crate) fn start_within<D: Disk>(
             need: LIFE_LENGTH,
         });
     }
+    make_room(&mut start, area)?;
     Ok(start)
+}
+
+/// Why a disk reads neither what is known nor that and the record in doubt, where it is read once more: what a load would tell
+/// of its octets, or else the first place that differs. So too where memory is wanted to read it. It tells nothing of its state.
+pub(crate) fn misread<D: Disk>(
+    alloc: Global,
+    disk: &mut D,
+    service: u64,
+    known: &[u8],
+    place: usize,
+) -> JournalFault
+    requires none { D.told disk.old ≡ None }
+    requires small { length known.now < 2 ^ 32 }
+    requires within { place ≤ length known.now }
+    ensures none { D.told disk.new ≡ None }
+    ensures fault { IsReadFault false None (D.faults disk.old) (D.faults disk.new) result }
+    ensures later { D.faults disk.old ≤ D.faults disk.new }
+{
+    let read = match read_whole(alloc, disk) {
+        Ok(read) => read,
+        Err(DiskRefusal::Failed) => return JournalFault::DiskFault,
+        Err(DiskRefusal::Memory) => return fault_at(place),
+    };
+    match other(alloc, service, known, read) {
+        JournalFault::Memory => fault_at(place),
+        fault => fault,
+    }
 }

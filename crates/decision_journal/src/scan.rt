@@ -1,9 +1,10 @@
-ghost use Rattle.std.specs.Prelude.{◌≡◌, ◌<◌, ◌≤◌, ◌+◌, ◌^◌, ◌++◌, ◌↔◌, IsTrue, length, drop, IfOk, IfErr, IfSome, IfNone, OnOk, IsErrOf};
+ghost use Rattle.std.specs.Prelude.{◌≡◌, ℕ, List, ◌<◌, ◌≤◌, ◌+◌, ◌^◌, ◌++◌, ◌↔◌, IsTrue, length, drop, IfOk, IfErr, IfSome, IfNone, OnOk, IsErrOf};
 ghost use Rattle.decision_journal.specs.declared.reading.ReadFault.TheVariants.{NoRecord};
+ghost use Rattle.decision_journal.specs.declared.journal.JournalFault.TheVariants.{BadHeader, BadRecord};
 ghost use Rattle.decision_journal.specs.Limits.{area_limit};
 ghost use Rattle.decision_journal.specs.Laws.{behind_letter, is_letter_due};
 ghost use Rattle.decision_journal.specs.Index.{AreBefore, left};
-ghost use Rattle.decision_journal.specs.Journal.{HasNoScanFault, HasNoStep, IsFilled, IsFirstOther, IsFresh, IsOther, IsOtherHeader, IsScanFault, IsScanned, IsStep, IsWithin, StandsAt, header, nothing_found};
+ghost use Rattle.decision_journal.specs.Journal.{HasNoScanFault, HasNoStep, IsAlong, IsFilled, IsFirstOther, IsFresh, IsOther, IsOtherHeader, IsScanFault, IsScanned, IsStep, IsWithin, StandsAt, header, nothing_found};
 
 use crate::found::Index;
 use crate::journal::JournalFault;
@@ -22,10 +23,10 @@ fn step<'a>(
     index: &mut Index,
 ) -> Result<&'a [u8], ReadFault>
     requires within { gate < area_limit }
-    requires behind { AreBefore gate index.old.standing }
-    ensures next { IfOk result (λ rest. IsStep gate behind.now (left index.old) (left index.new) rest.now) }
-    ensures before { OnOk result (AreBefore (gate + 1) index.new.standing) }
-    ensures none { IsErrOf result NoRecord → HasNoStep gate behind.now (left index.old) }
+    requires behind { AreBefore gate index.old.found.standing }
+    ensures next { IfOk result (λ rest. IsStep gate behind.now (left index.old.found) (left index.new.found) rest.now) }
+    ensures before { OnOk result (AreBefore (gate + 1) index.new.found.standing) }
+    ensures none { IsErrOf result NoRecord → HasNoStep gate behind.now (left index.old.found) }
 {
     let (item, rest) = body_of(alloc, behind)?;
     if !is_within(gate, behind, rest) {
@@ -63,8 +64,8 @@ fn scan<'a>(
 ) -> Result<&'a [u8], JournalFault>
     requires long { 16 < length octets.now }
     requires header { octets.now ≡ header service ++ drop 16 octets.now }
-    requires new { index.old ≡ nothing_found }
-    ensures ok { IfOk result (λ rest. IsScanned service octets.now (left index.new) rest.now) }
+    requires new { index.old.found ≡ nothing_found }
+    ensures ok { IfOk result (λ rest. IsScanned service octets.now (left index.new.found) rest.now) }
     ensures fault { IfErr result (IsScanFault service octets.now) }
 {
     let mut rest = &octets[HEADER_LENGTH..];
@@ -153,7 +154,7 @@ pub(crate) fn filled(
     octets: &mut Vec<u8>,
 ) -> Result<Index, JournalFault>
     requires { 16 < length octets.old.items }
-    ensures filled { IfOk result (IsFilled service octets.new.items) }
+    ensures filled { IfOk result (λ index. IsFilled service octets.new.items index.found) }
     ensures stands { OnOk result (StandsAt octets.new.items octets.old.items) }
     ensures fault { IfErr result (IsScanFault service octets.old.items) }
 {
@@ -195,6 +196,67 @@ pub(crate) fn other(alloc: Global, service: u64, known: &[u8], read: Vec<u8>) ->
         JournalFault::BadHeader(place as u32)
     } else {
         JournalFault::BadRecord(place as u32)
+    }
+}
+
+/// The fault of octets that are others from this place on.
+pub(crate) fn fault_at(place: usize) -> JournalFault
+    requires { place < 2 ^ 32 }
+    ensures header { place < 16 → result ≡ BadHeader place }
+    ensures record { 16 ≤ place → result ≡ BadRecord place }
+{
+    if place < HEADER_LENGTH {
+        JournalFault::BadHeader(place as u32)
+    } else {
+        JournalFault::BadRecord(place as u32)
+    }
+}
+
+/// How far octets that were read go along with those that are known.
+#[derive(Clone, Copy)]
+pub(crate) struct Along {
+    /// So many at the front are the same.
+    pub(crate) same: usize,
+    /// Behind these there is a gate that isn't open.
+    pub(crate) closed: bool,
+}
+
+impl Along {
+    /// Whether a gate that isn't open stands at this place, behind octets that are the same.
+    pub(crate) fn ends_at(self, gate: usize) -> bool
+        ensures { IsTrue result ↔ ((self.same ≡ gate) × IsTrue self.closed) }
+    {
+        self.same == gate && self.closed
+    }
+
+    /// The same, once one more piece was read, which begins at this place.
+    pub(crate) fn with_piece(self, place: usize, known: &[u8], piece: &[u8]) -> Along
+        requires before { self.same ≤ place }
+        requires known { self.same ≤ length known.now }
+        ensures along { (read : List ℕ) → length read ≡ place → IsAlong known.now read self.same self.closed
+            → IsAlong known.now (read ++ piece.now) result.same result.closed }
+        ensures before { result.same ≤ place + length piece.now }
+        ensures known { result.same ≤ length known.now }
+    {
+        if self.same < place {
+            return self;
+        }
+        let more = compare(&known[place..], piece);
+        Along {
+            same: place + more.same,
+            closed: more.closed,
+        }
+    }
+}
+
+/// How far octets that were read go along with those that are known.
+fn compare(known: &[u8], read: &[u8]) -> Along
+    ensures { IsAlong known.now read.now result.same result.closed }
+{
+    let same = first_other(known, read);
+    Along {
+        same,
+        closed: same < read.len() && read[same] != OPEN,
     }
 }
 

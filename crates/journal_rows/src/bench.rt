@@ -53,6 +53,7 @@ fn appends(rt: &HostRuntime, disk: FileDisk, count: u32) -> io::Result<()> {
     };
     for _ in 0..count {
         let item = record_of(rt.alloc(), WORDS)?;
+        journal.reserve()?;
         if journal.append(item).is_err() {
             return Err(ErrorKind::Other.into());
         }
@@ -65,7 +66,7 @@ fn retells(rt: &HostRuntime, disk: FileDisk, count: u32) -> io::Result<()> {
     let Ok(journal) = Journal::load(rt.alloc(), disk, AREA, 1) else {
         return Err(ErrorKind::InvalidData.into());
     };
-    let mut recovered = Recovered::from(rt.alloc(), &journal, 1)?;
+    let mut recovered = Recovered::from(rt.alloc(), &journal)?;
     let mut out = Outbox::new(rt.alloc());
     recovered.redrive(&mut out)?;
     for _ in 0..count {

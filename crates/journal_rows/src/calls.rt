@@ -53,6 +53,7 @@ fn append(
     let mut answer = Ok(0);
     for _ in 0..count {
         let item = record_of(alloc, words)?;
+        journal.reserve()?;
         answer = journal.append(item);
     }
     write!(told, "{answer:?}")
@@ -65,6 +66,7 @@ fn append_outcome(
     told: &mut Vec<u8>,
 ) -> io::Result<()> {
     let item = JournalRecord::CellsOutcome(place, CellsEnd::Applied);
+    journal.reserve()?;
     if journal.failed() || !journal.takes(&item) {
         return write!(told, "it can't follow");
     }

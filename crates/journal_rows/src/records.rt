@@ -6,9 +6,10 @@
 //! - `cells REF`: cells that prepared, with the recovery coordinator, and `alone REF`: cells in one phase.
 //!
 //! Each is of life 1, and the cells have one put.
-ghost use Rattle.std.specs.Prelude.{◌≡◌, true, IfOk};
+ghost use Rattle.std.specs.Prelude.{◌≡◌, ◌≤◌, true, IfOk};
 ghost use Rattle.decision_journal.specs.Journal.{Found, can_follow};
 ghost use Rattle.decision_journal.specs.Layout.{Fits, FitsPuts, FitsReference, FitsRegistrations};
+ghost use Rattle.decision_journal.specs.State.{cells_in};
 
 use decision_journal::{JournalRecord, Put, Puts, Registration, Registrations};
 use ots_model::{REFERENCE_LIMIT, RefBytes, RetryKey};
@@ -42,6 +43,7 @@ pub fn add_octets(alloc: Global, octets: &mut Vec<u8>, words: &str) -> io::Resul
 pub fn record_of(alloc: Global, words: &str) -> io::Result<JournalRecord>
     ensures fits { IfOk result Fits }
     ensures follows { IfOk result (λ item. (found : Found) → can_follow found item ≡ true) }
+    ensures cells { IfOk result (λ item. cells_in item ≤ 1) }
 {
     let mut words = words.split(' ');
     let kind = words.next().unwrap_or("");

@@ -1,4 +1,4 @@
-ghost use Rattle.std.specs.Prelude.{◌≡◌, ℕ, ◌+◌, ◌≤◌, Option, length, slice_range, IfSome, IfOk, OnOk, OnErr, IsErrOf};
+ghost use Rattle.std.specs.Prelude.{◌≡◌, ℕ, ◌+◌, ◌≤◌, Bool, Option, length, slice_range, IsTrue, IfSome, IfOk, OnOk, OnErr, IsErrOf};
 ghost use Rattle.std.specs.Option.{ForSome};
 ghost use Rattle.ots_outside.specs.Source.{HasRisen};
 ghost use Rattle.ots_outside.specs.declared.disk.DiskRefusal.TheVariants.{Failed, Memory};
@@ -39,6 +39,9 @@ pub trait Disk {
     /// What the disk reads, and its moments, where it tells them. A write and a sync are each a moment.
     ghost told: { Self → Option DiskState };
 
+    /// Whether a call of the disk may want memory.
+    ghost wants_memory: { Bool };
+
     /// How often the disk has failed, as a number.
     fn fault_count(&self) -> u64
         ensures { result ≡ faults self.now };
@@ -48,6 +51,7 @@ pub trait Disk {
         ensures length { IfOk result (λ n. IfSome (told self.old) (λ disk. n ≡ length disk.reads)) }
         ensures untouched { told self.new ≡ told self.old }
         ensures image { ReadsImage (told self.old) }
+        ensures want { IsErrOf result Memory → IsTrue wants_memory }
         ensures cause { IsErrOf result Failed → HasRisen (faults self.old) (faults self.new) }
         ensures later { faults self.old ≤ faults self.new };
 
@@ -58,6 +62,7 @@ pub trait Disk {
             (λ disk. into.new ≡ slice_range disk.reads place (place + length into.old))) }
         ensures untouched { told self.new ≡ told self.old }
         ensures image { ReadsImage (told self.old) }
+        ensures want { IsErrOf result Memory → IsTrue wants_memory }
         ensures cause { IsErrOf result Failed → HasRisen (faults self.old) (faults self.new) }
         ensures later { faults self.old ≤ faults self.new };
 
@@ -69,6 +74,7 @@ pub trait Disk {
         ensures refused { OnErr result (Tells (told self.old) (told self.new)
             (λ before after. IsAfterRefusal before (written place bytes.now before) after)) }
         ensures image { ReadsImage (told self.old) × ReadsImage (told self.new) }
+        ensures want { IsErrOf result Memory → IsTrue wants_memory }
         ensures cause { IsErrOf result Failed → HasRisen (faults self.old) (faults self.new) }
         ensures later { faults self.old ≤ faults self.new };
 
@@ -79,6 +85,7 @@ pub trait Disk {
         ensures refused { OnErr result (Tells (told self.old) (told self.new)
             (λ before after. IsAfterRefusal before (synced before) after)) }
         ensures image { ReadsImage (told self.old) × ReadsImage (told self.new) }
+        ensures want { IsErrOf result Memory → IsTrue wants_memory }
         ensures cause { IsErrOf result Failed → HasRisen (faults self.old) (faults self.new) }
         ensures later { faults self.old ≤ faults self.new };
 }

@@ -1,4 +1,4 @@
-ghost use Rattle.std.specs.Prelude.{◌≡◌, ◌≤◌, false, IsErrOf, IsTrue, OnErr, OnOk};
+ghost use Rattle.std.specs.Prelude.{◌≡◌, ◌≤◌, false, IfErr, IsErrOf, IsTrue, OnErr, OnOk};
 ghost use Rattle.ots_outside.specs.declared.disk.DiskRefusal.TheVariants.{Failed as DiskFailed};
 ghost use Rattle.ots_outside.specs.Source.{CountsFault, HasRisen};
 
@@ -44,6 +44,7 @@ impl FileDisk {
 
     /// The answer of a call to the file, with its failure counted. Once a sync has failed, it is a failure too.
     fn counted<T: Drop>(&mut self, answer: io::Result<T>) -> Result<T, DiskRefusal>
+        ensures failed { IfErr result (λ refusal. refusal ≡ DiskFailed) }
         ensures cause { OnErr result (HasRisen (file_disk_faults self.old) (file_disk_faults self.new)) }
         ensures later { file_disk_faults self.old ≤ file_disk_faults self.new }
         ensures faults { CountsFault result (file_disk_faults self.old) (file_disk_faults self.new) }
@@ -68,6 +69,8 @@ impl Disk for FileDisk {
 
     ghost told = { λ _. None };
 
+    ghost wants_memory = { false };
+
     fn fault_count(&self) -> u64 {
         self.faults()
     }
@@ -77,7 +80,8 @@ impl Disk for FileDisk {
         ensures cause { IsErrOf result DiskFailed → HasRisen (file_disk_faults self.old) (file_disk_faults self.new) }
         ensures later { file_disk_faults self.old ≤ file_disk_faults self.new }
 
-        // A refusal counts as one fault, and an Ok as none.
+        // It wants no memory. A refusal counts as one fault, and an Ok as none.
+        ensures failed { IfErr result (λ refusal. refusal ≡ DiskFailed) }
         ensures faults { CountsFault result (file_disk_faults self.old) (file_disk_faults self.new) }
 
         // Once a sync has failed, each call fails.
@@ -92,7 +96,8 @@ impl Disk for FileDisk {
         ensures cause { IsErrOf result DiskFailed → HasRisen (file_disk_faults self.old) (file_disk_faults self.new) }
         ensures later { file_disk_faults self.old ≤ file_disk_faults self.new }
 
-        // A refusal counts as one fault, and an Ok as none.
+        // It wants no memory. A refusal counts as one fault, and an Ok as none.
+        ensures failed { IfErr result (λ refusal. refusal ≡ DiskFailed) }
         ensures faults { CountsFault result (file_disk_faults self.old) (file_disk_faults self.new) }
 
         // Once a sync has failed, each call fails.
@@ -107,7 +112,8 @@ impl Disk for FileDisk {
         ensures cause { IsErrOf result DiskFailed → HasRisen (file_disk_faults self.old) (file_disk_faults self.new) }
         ensures later { file_disk_faults self.old ≤ file_disk_faults self.new }
 
-        // A refusal counts as one fault, and an Ok as none.
+        // It wants no memory. A refusal counts as one fault, and an Ok as none.
+        ensures failed { IfErr result (λ refusal. refusal ≡ DiskFailed) }
         ensures faults { CountsFault result (file_disk_faults self.old) (file_disk_faults self.new) }
 
         // Once a sync has failed, each call fails.
@@ -122,7 +128,8 @@ impl Disk for FileDisk {
         ensures cause { IsErrOf result DiskFailed → HasRisen (file_disk_faults self.old) (file_disk_faults self.new) }
         ensures later { file_disk_faults self.old ≤ file_disk_faults self.new }
 
-        // A refusal counts as one fault, and an Ok as none.
+        // It wants no memory. A refusal counts as one fault, and an Ok as none.
+        ensures failed { IfErr result (λ refusal. refusal ≡ DiskFailed) }
         ensures faults { CountsFault result (file_disk_faults self.old) (file_disk_faults self.new) }
 
         // Once it has failed, each call fails.

@@ -112,11 +112,13 @@ fn overwrite(octets: &mut Vec<u8>, place: usize, bytes: &[u8]) -> Result<(), All
 }
 
 impl Disk for SureDisk {
-    ghost use Rattle.std.specs.Prelude.{Some};
+    ghost use Rattle.std.specs.Prelude.{Some, true};
 
     ghost faults = { λ _. 0 };
 
     ghost told = { λ disk. Some disk };
+
+    ghost wants_memory = { true };
 
     fn fault_count(&self) -> u64 {
         0
@@ -270,11 +272,13 @@ fn is_listed(failing: &[u64], call: u64) -> bool
 }
 
 impl Disk for MemDisk {
-    ghost use Rattle.std.specs.Prelude.{Some};
+    ghost use Rattle.std.specs.Prelude.{Some, true};
 
     ghost faults = { λ disk. disk.faults };
 
     ghost told = { λ disk. Some disk.disk };
+
+    ghost wants_memory = { true };
 
     fn fault_count(&self) -> u64 {
         self.faults()

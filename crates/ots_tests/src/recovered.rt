@@ -35,7 +35,7 @@ fn two_decisions(alloc: Global) -> Result<Recovered, Fail> {
     let journal = Journal::load(alloc, disk, 400, 1)
         .ok()
         .ok_or("the disk has room for a journal")?;
-    let mut recovered = Recovered::from(alloc, &journal, 1)?;
+    let mut recovered = Recovered::from(alloc, &journal)?;
     recovered.take_over(400, &decision(alloc, 2)?, &[], &[])?;
     recovered.take_over(26, &decision(alloc, 1)?, &[], &[])?;
     Ok(recovered)

@@ -56,14 +56,9 @@ impl Model for Recovered {
 }
 
 impl Recovered {
-    /// The decisions and prepared records that stand in the journal of this service, as a load leaves them: of a decision the
-    /// commit word to each registration is to be told, of a prepared record none.
-    pub fn from<D: Disk>(
-        alloc: Global,
-        journal: &Journal<D>,
-        service: u64,
-    ) -> Result<Recovered, AllocError>
-        requires service { service ≡ journal.now.service }
+    /// The decisions and prepared records that stand in a journal, as a load leaves them: of a decision the commit word to each
+    /// registration is to be told, of a prepared record none.
+    pub fn from<D: Disk>(alloc: Global, journal: &Journal<D>) -> Result<Recovered, AllocError>
         ensures service { IfOk result (λ r. r.service ≡ journal.now.service) }
         ensures life { IfOk result (λ r. r.life ≡ journal.now.found.life) }
         ensures records { IfOk result (λ r. r.records ≡ filter_map holding.loaded journal.now.found.standing) }
@@ -71,7 +66,7 @@ impl Recovered {
         let records = load_all(alloc, journal.standing())?;
         Ok(Recovered {
             alloc,
-            service,
+            service: journal.service(),
             life: journal.life(),
             records,
         })

@@ -16,7 +16,7 @@ returns-then-is_fresh-clause-safe g c =
 
 pub returns-then-is_fresh-clause-started : goal.returns-then-is_fresh-clause-started
 returns-then-is_fresh-clause-started g c =
-    IfOk-weaker c.create.result _ _ (λ start h. told_started c.args.service (g.D.Disk.told c.args.disk.now) (g.D.Disk.told c.read_whole.new.disk) c.read_whole.ensures.image start.octets.items start.index (g.D.Disk.told c.create.new.disk) c.in-Ok.ensures.settled h) c.create.ensures.started
+    IfOk-weaker c.create.result _ _ (λ start h. told_started c.args.service (g.D.Disk.told c.args.disk.now) (g.D.Disk.told c.read_whole.new.disk) c.read_whole.ensures.image start.octets.items start.index.found (g.D.Disk.told c.create.new.disk) c.in-Ok.ensures.settled h) c.create.ensures.started
 
 pub returns-in_err-index-clause-safe : goal.returns-in_err-index-clause-safe
 returns-in_err-index-clause-safe g c =
@@ -37,7 +37,7 @@ returns-then-is_fresh-clause-readied g c =
 pub returns-then-is_fresh-clause-refused : goal.returns-then-is_fresh-clause-refused
 returns-then-is_fresh-clause-refused g c =
     if_err_weaker c.create.result _ _ (λ fault f. refused_begun c.args.service (g.D.Disk.told c.args.disk.now) (g.D.Disk.told c.create.new.disk)
-    (made_begun c.args.service (g.D.Disk.told c.args.disk.now) (g.D.Disk.told c.read_whole.new.disk) c.read_whole.ensures.image _ c.in-Ok.ensures.settled c.in-Ok.ensures.octets (g.D.Disk.told c.create.new.disk) (subst IsFresh c.deref.ensures.value (c.is_fresh.ensures.0 c.if-is_fresh.true)) c.create.ensures.way) fault (of_disk _ _ fault f)) c.create.ensures.fault
+    (made_begun c.args.service (g.D.Disk.told c.args.disk.now) (g.D.Disk.told c.read_whole.new.disk) c.read_whole.ensures.image _ c.in-Ok.ensures.settled c.in-Ok.ensures.octets (g.D.Disk.told c.create.new.disk) (subst IsFresh c.deref.ensures.value (c.is_fresh.ensures.0 c.if-is_fresh.true)) c.create.ensures.way) fault (of_disk _ _ _ fault f)) c.create.ensures.fault
 
 pub returns-in_err-index-clause-refused : goal.returns-in_err-index-clause-refused
 returns-in_err-index-clause-refused g c =

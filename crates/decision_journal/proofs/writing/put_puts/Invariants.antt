@@ -1,7 +1,11 @@
-use Rattle.std.proofs.Common.{◌≡◌, ◌++◌, length, take}
+use Rattle.std.proofs.Common.{◌≡◌, ◌≤◌, ◌++◌, length, take}
+use Rattle.std.specs.Prelude.{vec_capacity}
 use Rattle.std.specs.List.{flat_map}
 use Rattle.decision_journal.specs.Layout.{put, two}
 use Rattle.decision_journal.proofs.writing.put_puts.Given as goal
 
 abbrev pub invariant-loop-item : goal.invariant-loop-item
-invariant-loop-item l = l.out.items ≡ l.fn.out.items ++ (two (length l.items) ++ flat_map put (take l.item-index l.items))
+invariant-loop-item l = record {
+  items : l.out.items ≡ l.fn.out.items ++ (two (length l.items) ++ flat_map put (take l.item-index l.items));
+  room : vec_capacity l.fn.out ≤ vec_capacity l.out;
+}

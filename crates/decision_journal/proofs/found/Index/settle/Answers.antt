@@ -2,6 +2,7 @@ use Rattle.std.proofs.Common.{List, sym, ap, subst, ◌∙◌, rules}
 use Rattle.std.proofs.lemmas.List.Elements.{filter_from_retain}
 use Rattle.decision_journal.specs.declared.journal.Standing.{Standing}
 use Rattle.decision_journal.specs.Index.{IsIndexed, is_left, left}
+use Rattle.decision_journal.specs.Room.{Stock}
 use Rattle.decision_journal.proofs.Left.{settled_indexed}
 use Rattle.decision_journal.proofs.found.Index.settle.Goals as goal
 
@@ -13,4 +14,4 @@ invariant_of-self c =
 pub returns : goal.returns
 returns c =
     let kept = c.shrink_to_fit.ensures.items ∙ filter_from_retain _ is_left (λ p s b q r. search rules) _ c.self.inside.standing.items c.retain.new.self.items c.retain.ensures.filtered in
-    ap (λ (xs : List Standing). record { life = c.self.inside.life; standing = xs }) kept ∙ ap left c.self.view_is
+    ap (λ (xs : List Standing). record { life = c.self.inside.life; standing = xs }) kept ∙ ap (λ (s : Stock). left s.found) c.self.view_is

@@ -16,3 +16,9 @@ invariant_of-self c =
     let at = subst (λ (xs : List Standing). position (is_decision_at c.args.place) xs ≡ Some c.in-Some.index) c.deref.ensures.value (sym c.decision_at.ensures.index ∙ c.in-Some.is) in
     subst (λ (xs : List Standing). IsIndexed xs (c.self.inside.decisions - 1)) (sym c.remove.ensures.items)
     (take_indexed_at c.args.place c.in-Some.index c.self.inside.decisions c.self.inside.standing.items at c.self.invariant)
+
+pub returns-in-Some-clause-decisions : goal.returns-in-Some-clause-decisions
+returns-in-Some-clause-decisions c =
+    let at = subst (λ (xs : List Standing). position (is_decision_at c.args.place) xs ≡ Some c.in-Some.index) c.deref.ensures.value (sym c.decision_at.ensures.index ∙ c.in-Some.is) in
+    let after = take_indexed_at c.args.place c.in-Some.index c.self.inside.decisions c.self.inside.standing.items at c.self.invariant in
+    rw (← c.self.view_is, c.remove.ensures.items) (omega (arith, c.self.invariant.count, after.count, some_stand_at c.args.place c.in-Some.index c.self.inside.decisions c.self.inside.standing.items at c.self.invariant, c.remove.ensures.len, c.remove.ensures.capacity, c.self.inside.standing.ok.1))

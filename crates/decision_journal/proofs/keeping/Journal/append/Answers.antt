@@ -8,8 +8,8 @@ pub returns-in_err-ready-clause-safe : goal.returns-in_err-ready-clause-safe
 returns-in_err-ready-clause-safe g c =
     read_only c.args.self.now.service c.args.item (g.D.Disk.told c.args.self.now.disk) (g.D.Disk.told c.ready.new.self.disk) c.ready.ensures.safe
 
-pub returns-in_err-behind-clause-safe : goal.returns-in_err-behind-clause-safe
-returns-in_err-behind-clause-safe g c =
+pub returns-in_err-has_room-clause-safe : goal.returns-in_err-has_room-clause-safe
+returns-in_err-has_room-clause-safe g c =
     read_only c.args.self.now.service c.args.item (g.D.Disk.told c.args.self.now.disk) (g.D.Disk.told c.ready.new.self.disk) c.ready.ensures.safe
 
 pub returns-clause-safe : goal.returns-clause-safe
@@ -22,22 +22,22 @@ returns-clause-done g c =
 
 pub returns-clause-more : goal.returns-clause-more
 returns-clause-more g c =
-    appended_write g.D.Disk.told c.args.self.now c.ready.new.self c.in_ok-ready.ensures.read c.in_ok-ready.ensures.disk c.in_ok-ready.ensures.current c.args.item c.write.result c.write.new.self c.write.ensures.more c.write.ensures.disk c.in_ok-behind.ensures.room
+    appended_write g.D.Disk.told c.args.self.now c.ready.new.self c.in_ok-ready.ensures.read c.in_ok-ready.ensures.disk c.in_ok-ready.ensures.current c.args.item c.write.result c.write.new.self c.write.ensures.more c.write.ensures.disk c.in_ok-has_room.ensures.room
 
 pub returns-clause-fault : goal.returns-clause-fault
 returns-clause-fault g c =
-    if_err_weaker c.write.result _ _ (append_fault_then _ _ _ _ c.ready.ensures.later c.write.ensures.later) c.write.ensures.fault
+    if_err_weaker c.write.result _ _ (append_fault_then _ _ _ _ _ c.ready.ensures.later c.write.ensures.later) c.write.ensures.fault
 
 pub returns-in_err-ready-clause-refused : goal.returns-in_err-ready-clause-refused
 returns-in_err-ready-clause-refused g c =
     let p = err_from_is_err_and c.from_residual.result c.from_residual.ensures.1 in
-    rw (p.1, p.2) (refused_unready g.D.Disk.told c.args.self.now c.ready.new.self c.in_err-ready.ensures.unread c.in_err-ready.ensures.unwritten c.in_err-ready.ensures.was c.args.item _ _ _ _ c.in_err-ready.ensures.fault)
+    rw (p.1, p.2) (refused_unready g.D.Disk.told c.args.self.now c.ready.new.self c.in_err-ready.ensures.unread c.in_err-ready.ensures.unwritten c.in_err-ready.ensures.was c.args.item _ _ _ _ _ c.in_err-ready.ensures.fault)
 
-pub returns-in_err-behind-clause-refused : goal.returns-in_err-behind-clause-refused
-returns-in_err-behind-clause-refused g c =
-    let p = err_from_is_err_and c.from_residual-in_err-behind.result c.from_residual-in_err-behind.ensures.1 in
-    rw (p.1, p.2) (refused_ready g.D.Disk.told c.args.self.now c.ready.new.self c.in_ok-ready.ensures.read c.in_ok-ready.ensures.disk c.in_ok-ready.ensures.current c.args.item _ c.in_err-behind.ensures.fault)
+pub returns-in_err-has_room-clause-refused : goal.returns-in_err-has_room-clause-refused
+returns-in_err-has_room-clause-refused g c =
+    let p = err_from_is_err_and c.from_residual-in_err-has_room.result c.from_residual-in_err-has_room.ensures.1 in
+    rw (p.1, p.2) (refused_ready g.D.Disk.told c.args.self.now c.ready.new.self c.in_ok-ready.ensures.read c.in_ok-ready.ensures.disk c.in_ok-ready.ensures.current c.args.item _ c.in_err-has_room.ensures.fault)
 
 pub returns-clause-refused : goal.returns-clause-refused
 returns-clause-refused g c =
-    refused_write g.D.Disk.told c.args.self.now c.ready.new.self c.in_ok-ready.ensures.read c.in_ok-ready.ensures.disk c.in_ok-ready.ensures.current c.args.item c.write.result c.write.new.self _ _ c.write.ensures.fault c.write.ensures.unsure c.write.ensures.way
+    refused_write g.D.Disk.told c.args.self.now c.ready.new.self c.in_ok-ready.ensures.read c.in_ok-ready.ensures.disk c.in_ok-ready.ensures.current c.args.item c.write.result c.write.new.self _ _ _ c.write.ensures.fault c.write.ensures.unsure c.write.ensures.way

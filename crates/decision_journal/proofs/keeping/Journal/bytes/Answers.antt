@@ -10,7 +10,7 @@ returns-clause-ready g c =
 pub returns-in_err-ready-clause-refused : goal.returns-in_err-ready-clause-refused
 returns-in_err-ready-clause-refused g c =
     let p = err_from_is_err_and c.from_residual.result c.from_residual.ensures.1 in
-    rw (p.1, p.2) (unready_reading g.D.Disk.told c.args.self.now c.ready.new.self c.in_err-ready.ensures.unread c.in_err-ready.ensures.unwritten c.in_err-ready.ensures.was _ _ _ _ c.in_err-ready.ensures.fault)
+    rw (p.1, p.2) (unready_reading g.D.Disk.told c.args.self.now c.ready.new.self c.in_err-ready.ensures.unread c.in_err-ready.ensures.unwritten c.in_err-ready.ensures.was _ _ _ _ _ c.in_err-ready.ensures.fault)
 
 pub returns-in_err-put_bytes-clause-refused : goal.returns-in_err-put_bytes-clause-refused
 returns-in_err-put_bytes-clause-refused g c =

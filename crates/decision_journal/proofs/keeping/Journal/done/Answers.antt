@@ -14,10 +14,6 @@ pub returns-then-not-stands-clause-safe : goal.returns-then-not-stands-clause-sa
 returns-then-not-stands-clause-safe g c =
     read_only c.args.self.now.service (Done c.args.place) (g.D.Disk.told c.args.self.now.disk) (g.D.Disk.told c.ready.new.self.disk) c.ready.ensures.safe
 
-pub returns-in_err-behind-clause-safe : goal.returns-in_err-behind-clause-safe
-returns-in_err-behind-clause-safe g c =
-    read_only c.args.self.now.service (Done c.args.place) (g.D.Disk.told c.args.self.now.disk) (g.D.Disk.told c.ready.new.self.disk) c.ready.ensures.safe
-
 pub returns-in_err-write-clause-safe : goal.returns-in_err-write-clause-safe
 returns-in_err-write-clause-safe g c =
     safe_then c.args.self.now.service (Done c.args.place) (g.D.Disk.told c.args.self.now.disk) (g.D.Disk.told c.ready.new.self.disk) (g.D.Disk.told c.write.new.self.disk) c.ready.ensures.safe c.in_ok-ready.ensures.done (at_service (λ n. AppendIsSafe n (Done c.args.place)) _ _ _ _ c.in_ok-ready.ensures.read.service c.write.ensures.safe)
@@ -32,7 +28,7 @@ returns-clause-done g c =
 
 pub returns-in_err-write-clause-fault : goal.returns-in_err-write-clause-fault
 returns-in_err-write-clause-fault g c =
-    let p = err_from_is_err_and c.from_residual-in_err-write.result c.from_residual-in_err-write.ensures.1 in rw (p.1, p.2) (done_fault_then _ _ _ _ c.ready.ensures.later c.write.ensures.later _ c.in_err-write.ensures.fault)
+    let p = err_from_is_err_and c.from_residual-in_err-write.result c.from_residual-in_err-write.ensures.1 in rw (p.1, p.2) (done_fault_then _ _ _ _ _ c.ready.ensures.later c.write.ensures.later _ c.in_err-write.ensures.fault)
 
 pub returns-clause-after : goal.returns-clause-after
 returns-clause-after g c =
@@ -54,14 +50,9 @@ returns-then-not-stands-clause-after g c =
 pub returns-in_err-ready-clause-refused : goal.returns-in_err-ready-clause-refused
 returns-in_err-ready-clause-refused g c =
     let p = err_from_is_err_and c.from_residual.result c.from_residual.ensures.1 in
-    rw (p.1, p.2) (refused_unready g.D.Disk.told c.args.self.now c.ready.new.self c.in_err-ready.ensures.unread c.in_err-ready.ensures.unwritten c.in_err-ready.ensures.was (Done c.args.place) _ _ _ _ c.in_err-ready.ensures.fault)
-
-pub returns-in_err-behind-clause-refused : goal.returns-in_err-behind-clause-refused
-returns-in_err-behind-clause-refused g c =
-    let p = err_from_is_err_and c.from_residual-in_err-behind.result c.from_residual-in_err-behind.ensures.1 in
-    rw (p.1, p.2) (inr (inl (ready_of g.D.Disk.told c.args.self.now c.ready.new.self c.in_ok-ready.ensures.read c.in_ok-ready.ensures.disk c.in_ok-ready.ensures.current)))
+    rw (p.1, p.2) (refused_unready g.D.Disk.told c.args.self.now c.ready.new.self c.in_err-ready.ensures.unread c.in_err-ready.ensures.unwritten c.in_err-ready.ensures.was (Done c.args.place) _ _ _ _ _ c.in_err-ready.ensures.fault)
 
 pub returns-in_err-write-clause-refused : goal.returns-in_err-write-clause-refused
 returns-in_err-write-clause-refused g c =
     let p = err_from_is_err_and c.from_residual-in_err-write.result c.from_residual-in_err-write.ensures.1 in
-    rw (p.1, p.2) (refused_doubt g.D.Disk.told c.args.self.now c.ready.new.self c.in_ok-ready.ensures.read c.in_ok-ready.ensures.disk c.in_ok-ready.ensures.current (Done c.args.place) c.write.new.self c.in_err-write.ensures.unsure c.in_err-write.ensures.way _ _ _ c.in_err-write.ensures.fault)
+    rw (p.1, p.2) (refused_doubt g.D.Disk.told c.args.self.now c.ready.new.self c.in_ok-ready.ensures.read c.in_ok-ready.ensures.disk c.in_ok-ready.ensures.current (Done c.args.place) c.write.new.self c.in_err-write.ensures.unsure c.in_err-write.ensures.way _ _ _ _ c.in_err-write.ensures.fault)

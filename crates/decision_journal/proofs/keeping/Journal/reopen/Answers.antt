@@ -1,119 +1,109 @@
-use Rattle.std.proofs.Common.{◌≡◌, ℕ, ap, sym, subst, arith, length, refl}
+use Rattle.std.proofs.Common.{◌≡◌, ◌∙◌, ℕ, List, true, ap, sym, subst, arith, length, refl}
+use Rattle.std.specs.Prelude.{vec_capacity, vec_len}
+use Rattle.decision_journal.specs.Calls.{IsUnwritten}
 use Rattle.decision_journal.specs.Index.{AreBefore}
+use Rattle.decision_journal.specs.Room.{Stock}
+use Rattle.decision_journal.specs.State.{IsSound, ReadIsSafe}
 use Rattle.decision_journal.proofs.Below.{before_end}
 use Rattle.decision_journal.proofs.Kept.{within_now}
-use Rattle.decision_journal.proofs.Rereads.{read_safe, read_done, read_unread, read_known, read_doubted, doubted_small, known_small, sound_same, added_at, doubted_same, may_known, may_doubted}
-use Rattle.decision_journal.proofs.Begins.{stands_same}
-use Rattle.decision_journal.proofs.Calls.{current_of, on_refusal}
+use Rattle.decision_journal.proofs.Rereads.{doubted_fits, found_sound, front_of, known_small, may_found, misread_fault, misread_sound, none_told, other_none, read_done, read_safe, read_unread, sound_same, whole_of}
+use Rattle.decision_journal.proofs.Roomy.{roomy_more}
+use Rattle.decision_journal.proofs.Calls.{current_of}
 use Rattle.decision_journal.proofs.keeping.Journal.reopen.Goals as goal
 
+pub put_doubted-requires-clause-room : goal.put_doubted-requires-clause-room
+put_doubted-requires-clause-room g c = omega (arith, doubted_fits (g.D.Disk.told c.self.inside.disk) c.self.inside.area c.self.inside.service c.self.inside.octets.items c.self.inside.index.found c.self.inside.failed c.self.inside.doubted c.self.invariant.0, c.self.invariant.1.octets)
+
+pub find-requires-clause-small : goal.find-requires-clause-small
+find-requires-clause-small g c = let gate : c.len-gate.result ≡ length c.self.inside.octets.items = omega (arith, c.len-gate.ensures) in omega (arith, gate, known_small (g.D.Disk.told c.self.inside.disk) c.self.inside.area c.self.inside.service c.self.inside.octets.items c.self.inside.index.found c.self.inside.failed c.self.inside.doubted c.self.invariant.0)
+
+pub find-requires-clause-whole : goal.find-requires-clause-whole
+find-requires-clause-whole g c = let gate : c.len-gate.result ≡ length c.self.inside.octets.items = omega (arith, c.len-gate.ensures) in whole_of c.self.inside.octets.items _ c.put_doubted.new.octets.items c.len-gate.result c.put_doubted.ensures.octets gate
+
+pub find-requires-clause-gate : goal.find-requires-clause-gate
+find-requires-clause-gate g c = let gate : c.len-gate.result ≡ length c.self.inside.octets.items = omega (arith, c.len-gate.ensures) in ap length (front_of c.self.inside.octets.items _ c.put_doubted.new.octets.items c.len-gate.result c.put_doubted.ensures.octets gate) ∙ sym gate
+
+pub find-requires-clause-behind : goal.find-requires-clause-behind
+find-requires-clause-behind g c =
+    let now = within_now (g.D.Disk.told c.self.inside.disk) c.self.inside.area c.self.inside.service c.self.inside.octets.items c.self.inside.index.found c.self.inside.failed c.self.inside.doubted c.self.invariant.0 in
+    let gate : c.len-gate.result ≡ length c.self.inside.octets.items = omega (arith, c.len-gate.ensures) in
+    subst (λ (n : ℕ). AreBefore n c.self.inside.index.found.standing) (sym gate) (before_end c.self.inside.service c.self.inside.octets.items c.self.inside.index.found now.filled)
+
+pub find-requires-clause-room : goal.find-requires-clause-room
+find-requires-clause-room g c = omega (arith, c.self.invariant.1.spare)
+
 pub returns-in-Err-clause-safe : goal.returns-in-Err-clause-safe
-returns-in-Err-clause-safe g c = rw (← c.self.view_is) (read_safe (g.D.Disk.told c.self.inside.disk) c.self.inside.area c.self.inside.service c.self.inside.octets.items c.self.inside.index c.self.inside.failed c.self.inside.doubted c.self.invariant (g.D.Disk.told c.read_whole.new.disk) c.read_whole.ensures.image c.read_whole.ensures.way)
-
-pub returns-then-stands_at-clause-safe : goal.returns-then-stands_at-clause-safe
-returns-then-stands_at-clause-safe g c = rw (← c.self.view_is) (read_safe (g.D.Disk.told c.self.inside.disk) c.self.inside.area c.self.inside.service c.self.inside.octets.items c.self.inside.index c.self.inside.failed c.self.inside.doubted c.self.invariant (g.D.Disk.told c.read_whole.new.disk) c.read_whole.ensures.image c.read_whole.ensures.way)
-
-pub returns-in_err-found-clause-safe : goal.returns-in_err-found-clause-safe
-returns-in_err-found-clause-safe g c = rw (← c.self.view_is) (read_safe (g.D.Disk.told c.self.inside.disk) c.self.inside.area c.self.inside.service c.self.inside.octets.items c.self.inside.index c.self.inside.failed c.self.inside.doubted c.self.invariant (g.D.Disk.told c.read_whole.new.disk) c.read_whole.ensures.image c.read_whole.ensures.way)
-
-pub returns-in_err-add_doubted-clause-safe : goal.returns-in_err-add_doubted-clause-safe
-returns-in_err-add_doubted-clause-safe g c = rw (← c.self.view_is) (read_safe (g.D.Disk.told c.self.inside.disk) c.self.inside.area c.self.inside.service c.self.inside.octets.items c.self.inside.index c.self.inside.failed c.self.inside.doubted c.self.invariant (g.D.Disk.told c.read_whole.new.disk) c.read_whole.ensures.image c.read_whole.ensures.way)
+returns-in-Err-clause-safe g c = rw (← c.self.view_is) (read_safe (g.D.Disk.told c.self.inside.disk) c.self.inside.area c.self.inside.service c.self.inside.octets.items c.self.inside.index.found c.self.inside.failed c.self.inside.doubted c.self.invariant.0 (g.D.Disk.told c.read_along.new.disk) c.read_along.ensures.image c.read_along.ensures.way)
 
 pub returns-clause-safe : goal.returns-clause-safe
-returns-clause-safe g c = rw (← c.self.view_is) (read_safe (g.D.Disk.told c.self.inside.disk) c.self.inside.area c.self.inside.service c.self.inside.octets.items c.self.inside.index c.self.inside.failed c.self.inside.doubted c.self.invariant (g.D.Disk.told c.read_whole.new.disk) c.read_whole.ensures.image c.read_whole.ensures.way)
-
-pub returns-then-stands_at-clause-done : goal.returns-then-stands_at-clause-done
-returns-then-stands_at-clause-done g c = rw (← c.self.view_is) (read_done (g.D.Disk.told c.self.inside.disk) c.self.inside.area c.self.inside.service c.self.inside.octets.items c.self.inside.index c.self.inside.failed c.self.inside.doubted c.self.invariant (g.D.Disk.told c.read_whole.new.disk) c.read_whole.ensures.image c.in-Ok.ensures.settled)
+returns-clause-safe g c = rw (← c.self.view_is) (read_safe (g.D.Disk.told c.self.inside.disk) c.self.inside.area c.self.inside.service c.self.inside.octets.items c.self.inside.index.found c.self.inside.failed c.self.inside.doubted c.self.invariant.0 (g.D.Disk.told c.read_along.new.disk) c.read_along.ensures.image c.read_along.ensures.way)
 
 pub returns-clause-done : goal.returns-clause-done
-returns-clause-done g c = rw (← c.self.view_is) (read_done (g.D.Disk.told c.self.inside.disk) c.self.inside.area c.self.inside.service c.self.inside.octets.items c.self.inside.index c.self.inside.failed c.self.inside.doubted c.self.invariant (g.D.Disk.told c.read_whole.new.disk) c.read_whole.ensures.image c.in-Ok.ensures.settled)
-
-pub invariant_of-self : goal.invariant_of-self
-invariant_of-self g c = read_unread (g.D.Disk.told c.self.inside.disk) c.self.inside.area c.self.inside.service c.self.inside.octets.items c.self.inside.index c.self.inside.failed c.self.inside.doubted c.self.invariant (g.D.Disk.told c.read_whole.new.disk) c.read_whole.ensures.image c.read_whole.ensures.way
-
-pub invariant_of-self-in_err-found : goal.invariant_of-self-in_err-found
-invariant_of-self-in_err-found g c = read_unread (g.D.Disk.told c.self.inside.disk) c.self.inside.area c.self.inside.service c.self.inside.octets.items c.self.inside.index c.self.inside.failed c.self.inside.doubted c.self.invariant (g.D.Disk.told c.read_whole.new.disk) c.read_whole.ensures.image c.read_whole.ensures.way
-
-pub found_again-requires : goal.found_again-requires
-found_again-requires g c = doubted_small (g.D.Disk.told c.self.inside.disk) c.self.inside.area c.self.inside.service c.self.inside.octets.items c.self.inside.index c.self.inside.failed c.self.inside.doubted c.self.invariant
-
-pub other-requires : goal.other-requires
-other-requires g c = omega (arith, known_small (g.D.Disk.told c.self.inside.disk) c.self.inside.area c.self.inside.service c.self.inside.octets.items c.self.inside.index c.self.inside.failed c.self.inside.doubted c.self.invariant, ap length c.deref-in-None.ensures.value)
-
-pub overflow_cast-len : goal.overflow_cast-len
-overflow_cast-len g c = omega (arith, known_small (g.D.Disk.told c.self.inside.disk) c.self.inside.area c.self.inside.service c.self.inside.octets.items c.self.inside.index c.self.inside.failed c.self.inside.doubted c.self.invariant, c.len.ensures)
-
-pub invariant_of-self-then-stands_at : goal.invariant_of-self-then-stands_at
-invariant_of-self-then-stands_at g c =
-    read_known (g.D.Disk.told c.self.inside.disk) c.self.inside.area c.self.inside.service c.self.inside.octets.items c.self.inside.index c.self.inside.failed c.self.inside.doubted c.self.invariant (g.D.Disk.told c.read_whole.new.disk) c.read_whole.ensures.image c.in-Ok.read.items c.in-Ok.ensures.octets c.in-Ok.ensures.settled _ c.drop_doubt.ensures (stands_same _ _ _ _ c.deref.ensures.value c.deref-2.ensures.value (c.stands_at.ensures.0 c.if-stands_at.true))
-
-pub invariant_of-self-in_err-add_doubted : goal.invariant_of-self-in_err-add_doubted
-invariant_of-self-in_err-add_doubted g c =
-    sound_same _ _ _ _ _ _ _ _ c.in_err-add_doubted.ensures.same_found c.in_err-add_doubted.ensures.same_doubted (read_unread (g.D.Disk.told c.self.inside.disk) c.self.inside.area c.self.inside.service c.self.inside.octets.items c.self.inside.index c.self.inside.failed c.self.inside.doubted c.self.invariant (g.D.Disk.told c.read_whole.new.disk) c.read_whole.ensures.image c.read_whole.ensures.way)
-
-pub invariant_of-self-2 : goal.invariant_of-self-2
-invariant_of-self-2 g c =
-    let found = (rw c.in-Some.is at c.in_ok-found.ensures) in
-    let doubted = doubted_same _ _ c.self.inside.doubted _ _ c.in-Some.more.items c.deref-3.ensures.value c.deref-4.ensures.value found in
-    let gate : c.len.result ≡ length c.self.inside.octets.items = omega (arith, c.len.ensures) in
-    read_doubted (g.D.Disk.told c.self.inside.disk) c.self.inside.area c.self.inside.service c.self.inside.octets.items c.self.inside.index c.self.inside.failed c.self.inside.doubted c.self.invariant (g.D.Disk.told c.read_whole.new.disk) c.read_whole.ensures.image c.in-Ok.read.items c.in-Ok.ensures.octets c.in-Ok.ensures.settled _ _ _ doubted
-    (added_at c.self.inside.doubted c.add_doubted.new.index c.self.inside.index _ _ gate c.in_ok-add_doubted.ensures.added) c.in_ok-add_doubted.ensures.none
-
-pub add_doubted-requires : goal.add_doubted-requires
-add_doubted-requires g c =
-    let now = within_now (g.D.Disk.told c.self.inside.disk) c.self.inside.area c.self.inside.service c.self.inside.octets.items c.self.inside.index c.self.inside.failed c.self.inside.doubted c.self.invariant in
-    let gate : c.len.result ≡ length c.self.inside.octets.items = omega (arith, c.len.ensures) in
-    subst (λ (n : ℕ). AreBefore n c.self.inside.index.standing) (sym gate) (before_end c.self.inside.service c.self.inside.octets.items c.self.inside.index now.filled)
-
-pub returns-then-stands_at-clause-current : goal.returns-then-stands_at-clause-current
-returns-then-stands_at-clause-current g c =
-    current_of g.D.Disk.told _ (read_known (g.D.Disk.told c.self.inside.disk) c.self.inside.area c.self.inside.service c.self.inside.octets.items c.self.inside.index c.self.inside.failed c.self.inside.doubted c.self.invariant (g.D.Disk.told c.read_whole.new.disk) c.read_whole.ensures.image c.in-Ok.read.items c.in-Ok.ensures.octets c.in-Ok.ensures.settled _ c.drop_doubt.ensures (stands_same _ _ _ _ c.deref.ensures.value c.deref-2.ensures.value (c.stands_at.ensures.0 c.if-stands_at.true)))
-
-pub returns-clause-current : goal.returns-clause-current
-returns-clause-current g c =
-    let found = (rw c.in-Some.is at c.in_ok-found.ensures) in
-    let doubted = doubted_same _ _ c.self.inside.doubted _ _ c.in-Some.more.items c.deref-3.ensures.value c.deref-4.ensures.value found in
-    let gate : c.len.result ≡ length c.self.inside.octets.items = omega (arith, c.len.ensures) in
-    current_of g.D.Disk.told _ (read_doubted (g.D.Disk.told c.self.inside.disk) c.self.inside.area c.self.inside.service c.self.inside.octets.items c.self.inside.index c.self.inside.failed c.self.inside.doubted c.self.invariant (g.D.Disk.told c.read_whole.new.disk) c.read_whole.ensures.image c.in-Ok.read.items c.in-Ok.ensures.octets c.in-Ok.ensures.settled _ _ _ doubted
-    (added_at c.self.inside.doubted c.add_doubted.new.index c.self.inside.index _ _ gate c.in_ok-add_doubted.ensures.added) c.in_ok-add_doubted.ensures.none)
+returns-clause-done g c = rw (← c.self.view_is) (read_done (g.D.Disk.told c.self.inside.disk) c.self.inside.area c.self.inside.service c.self.inside.octets.items c.self.inside.index.found c.self.inside.failed c.self.inside.doubted c.self.invariant.0 (g.D.Disk.told c.read_along.new.disk) c.read_along.ensures.image c.in-Ok.ensures.settled)
 
 pub returns-in-Err-clause-unwritten : goal.returns-in-Err-clause-unwritten
-returns-in-Err-clause-unwritten g c = rw (← c.self.view_is) c.read_whole.ensures.way
-
-pub returns-in_err-found-clause-unwritten : goal.returns-in_err-found-clause-unwritten
-returns-in_err-found-clause-unwritten g c = rw (← c.self.view_is) (on_refusal _ c.read_whole.ensures.way)
-
-pub returns-in_err-add_doubted-clause-unwritten : goal.returns-in_err-add_doubted-clause-unwritten
-returns-in_err-add_doubted-clause-unwritten g c = rw (← c.self.view_is) (on_refusal _ c.read_whole.ensures.way)
-
-pub returns-then-stands_at-clause-disk : goal.returns-then-stands_at-clause-disk
-returns-then-stands_at-clause-disk g c = rw (← c.self.view_is) c.in-Ok.ensures.settled
+returns-in-Err-clause-unwritten g c = rw (← c.self.view_is) c.read_along.ensures.way
 
 pub returns-clause-disk : goal.returns-clause-disk
 returns-clause-disk g c = rw (← c.self.view_is) c.in-Ok.ensures.settled
 
-pub returns-then-stands_at-clause-read : goal.returns-then-stands_at-clause-read
-returns-then-stands_at-clause-read g c =
-    rw (← c.self.view_is) (record {
-      area = refl;
-      service = refl;
-      known = may_known c.self.inside.octets.items c.self.inside.octets.items c.self.inside.index c.self.inside.index c.self.inside.doubted refl refl;
-      failed = refl;
-      doubted = c.drop_doubt.ensures;
-    })
-
 pub returns-clause-read : goal.returns-clause-read
 returns-clause-read g c =
-    let found = (rw c.in-Some.is at c.in_ok-found.ensures) in
-    let doubted = doubted_same _ _ c.self.inside.doubted _ _ c.in-Some.more.items c.deref-3.ensures.value c.deref-4.ensures.value found in
-    let gate : c.len.result ≡ length c.self.inside.octets.items = omega (arith, c.len.ensures) in
+    let gate : c.len-gate.result ≡ length c.self.inside.octets.items = omega (arith, c.len-gate.ensures) in
     rw (← c.self.view_is) (record {
       area = refl;
       service = refl;
-      known = may_doubted _ _ _ _ _ _ doubted (added_at c.self.inside.doubted c.add_doubted.new.index c.self.inside.index _ _ gate c.in_ok-add_doubted.ensures.added);
+      known = may_found (g.D.Disk.told c.self.inside.disk) c.self.inside.area c.self.inside.service c.self.inside.octets.items c.self.inside.index.found c.self.inside.failed c.self.inside.doubted c.self.invariant.0 (g.D.Disk.told c.read_along.new.disk) c.read_along.ensures.image c.in-Ok.ensures.settled c.put_doubted.new.octets.items c.deref.result.now c.len-gate.result c.deref.ensures.value c.put_doubted.ensures.octets gate c.in-Ok.along.same c.in-Ok.along.closed c.in-Ok.ensures.along c.find.new.octets.items c.find.new.index.found (c.find.ensures.known c.if-not-find.false);
       failed = refl;
-      doubted = c.in_ok-add_doubted.ensures.none;
+      doubted = c.find.ensures.none c.if-not-find.false;
     })
 
-pub returns-in-None-clause-safe : goal.returns-in-None-clause-safe
-returns-in-None-clause-safe g c = rw (← c.self.view_is) (read_safe (g.D.Disk.told c.self.inside.disk) c.self.inside.area c.self.inside.service c.self.inside.octets.items c.self.inside.index c.self.inside.failed c.self.inside.doubted c.self.invariant (g.D.Disk.told c.read_whole.new.disk) c.read_whole.ensures.image c.read_whole.ensures.way)
+pub returns-clause-current : goal.returns-clause-current
+returns-clause-current g c =
+    let gate : c.len-gate.result ≡ length c.self.inside.octets.items = omega (arith, c.len-gate.ensures) in
+    current_of g.D.Disk.told _ (found_sound (g.D.Disk.told c.self.inside.disk) c.self.inside.area c.self.inside.service c.self.inside.octets.items c.self.inside.index.found c.self.inside.failed c.self.inside.doubted c.self.invariant.0 (g.D.Disk.told c.read_along.new.disk) c.read_along.ensures.image c.in-Ok.ensures.settled c.put_doubted.new.octets.items c.deref.result.now c.len-gate.result c.deref.ensures.value c.put_doubted.ensures.octets gate c.in-Ok.along.same c.in-Ok.along.closed c.in-Ok.ensures.along c.find.new.octets.items c.find.new.index.found c.find.new.doubted (c.find.ensures.known c.if-not-find.false) (c.find.ensures.front c.if-not-find.false) (c.find.ensures.ends c.if-not-find.false) (c.find.ensures.none c.if-not-find.false))
+
+pub invariant_of-self : goal.invariant_of-self
+invariant_of-self g c =
+    let gate : c.len-gate.result ≡ length c.self.inside.octets.items = omega (arith, c.len-gate.ensures) in
+    let front = c.truncate.ensures.items ∙ front_of c.self.inside.octets.items _ c.put_doubted.new.octets.items c.len-gate.result c.put_doubted.ensures.octets gate in (
+      subst (λ (l : List ℕ). IsSound (g.D.Disk.told c.read_along.new.disk) c.self.inside.area c.self.inside.service l c.self.inside.index.found true c.self.inside.doubted) (sym front) (read_unread (g.D.Disk.told c.self.inside.disk) c.self.inside.area c.self.inside.service c.self.inside.octets.items c.self.inside.index.found c.self.inside.failed c.self.inside.doubted c.self.invariant.0 (g.D.Disk.told c.read_along.new.disk) c.read_along.ensures.image c.read_along.ensures.way),
+      roomy_more c.self.inside.area (vec_capacity c.self.inside.octets) (vec_len c.self.inside.piece) c.self.inside.index c.self.inside.doubted c.self.inside.room _ _ (omega (arith, c.put_doubted.ensures.room, c.truncate.ensures.capacity)) c.self.invariant.1.pieces c.self.invariant.1,
+    )
+
+pub invariant_of-self-2 : goal.invariant_of-self-2
+invariant_of-self-2 g c =
+    let gate : c.len-gate.result ≡ length c.self.inside.octets.items = omega (arith, c.len-gate.ensures) in (
+      found_sound (g.D.Disk.told c.self.inside.disk) c.self.inside.area c.self.inside.service c.self.inside.octets.items c.self.inside.index.found c.self.inside.failed c.self.inside.doubted c.self.invariant.0 (g.D.Disk.told c.read_along.new.disk) c.read_along.ensures.image c.in-Ok.ensures.settled c.put_doubted.new.octets.items c.deref.result.now c.len-gate.result c.deref.ensures.value c.put_doubted.ensures.octets gate c.in-Ok.along.same c.in-Ok.along.closed c.in-Ok.ensures.along c.find.new.octets.items c.find.new.index.found c.find.new.doubted (c.find.ensures.known c.if-not-find.false) (c.find.ensures.front c.if-not-find.false) (c.find.ensures.ends c.if-not-find.false) (c.find.ensures.none c.if-not-find.false),
+      c.find.ensures.roomy c.self.inside.area _ c.self.inside.room (roomy_more c.self.inside.area (vec_capacity c.self.inside.octets) (vec_len c.self.inside.piece) c.self.inside.index c.self.inside.doubted c.self.inside.room _ _ c.put_doubted.ensures.room c.self.invariant.1.pieces c.self.invariant.1),
+    )
+
+pub misread-requires-clause-none : goal.misread-requires-clause-none
+misread-requires-clause-none g c =
+    let gate : c.len-gate.result ≡ length c.self.inside.octets.items = omega (arith, c.len-gate.ensures) in
+    other_none (g.D.Disk.told c.self.inside.disk) c.self.inside.area c.self.inside.service c.self.inside.octets.items c.self.inside.index.found c.self.inside.failed c.self.inside.doubted c.self.invariant.0 (g.D.Disk.told c.read_along.new.disk) c.read_along.ensures.image c.in-Ok.ensures.settled c.put_doubted.new.octets.items c.deref.result.now c.len-gate.result c.deref.ensures.value c.put_doubted.ensures.octets gate c.in-Ok.along.same c.in-Ok.along.closed c.in-Ok.ensures.along (c.find.ensures.other c.if-not-find.true)
+
+pub invariant_of-self-then-not-find : goal.invariant_of-self-then-not-find
+invariant_of-self-then-not-find g c =
+    let gate : c.len-gate.result ≡ length c.self.inside.octets.items = omega (arith, c.len-gate.ensures) in
+    let none = other_none (g.D.Disk.told c.self.inside.disk) c.self.inside.area c.self.inside.service c.self.inside.octets.items c.self.inside.index.found c.self.inside.failed c.self.inside.doubted c.self.invariant.0 (g.D.Disk.told c.read_along.new.disk) c.read_along.ensures.image c.in-Ok.ensures.settled c.put_doubted.new.octets.items c.deref.result.now c.len-gate.result c.deref.ensures.value c.put_doubted.ensures.octets gate c.in-Ok.along.same c.in-Ok.along.closed c.in-Ok.ensures.along (c.find.ensures.other c.if-not-find.true) in
+    let same = c.find.ensures.same c.if-not-find.true in
+    let unread = read_unread (g.D.Disk.told c.self.inside.disk) c.self.inside.area c.self.inside.service c.self.inside.octets.items c.self.inside.index.found c.self.inside.failed c.self.inside.doubted c.self.invariant.0 (g.D.Disk.told c.read_along.new.disk) c.read_along.ensures.image c.read_along.ensures.way in (
+      subst (λ (l : List ℕ). IsSound (g.D.Disk.told c.misread.new.disk) c.self.inside.area c.self.inside.service l c.find.new.index.found true c.find.new.doubted) (sym (same.0 ∙ front_of c.self.inside.octets.items _ c.put_doubted.new.octets.items c.len-gate.result c.put_doubted.ensures.octets gate))
+          (sound_same _ _ _ _ _ _ _ _ (ap (λ (s : Stock). s.found) same.1) same.2 (misread_sound (g.D.Disk.told c.read_along.new.disk) (g.D.Disk.told c.misread.new.disk) _ _ _ _ _ none c.misread.ensures.none unread)),
+      c.find.ensures.roomy c.self.inside.area _ c.self.inside.room (roomy_more c.self.inside.area (vec_capacity c.self.inside.octets) (vec_len c.self.inside.piece) c.self.inside.index c.self.inside.doubted c.self.inside.room _ _ c.put_doubted.ensures.room c.self.invariant.1.pieces c.self.invariant.1),
+    )
+
+pub returns-then-not-find-clause-unwritten : goal.returns-then-not-find-clause-unwritten
+returns-then-not-find-clause-unwritten g c =
+    let gate : c.len-gate.result ≡ length c.self.inside.octets.items = omega (arith, c.len-gate.ensures) in
+    rw (← c.self.view_is) (none_told (g.D.Disk.told c.self.inside.disk) (g.D.Disk.told c.read_along.new.disk) (g.D.Disk.told c.misread.new.disk) _ IsUnwritten c.read_along.ensures.way (other_none (g.D.Disk.told c.self.inside.disk) c.self.inside.area c.self.inside.service c.self.inside.octets.items c.self.inside.index.found c.self.inside.failed c.self.inside.doubted c.self.invariant.0 (g.D.Disk.told c.read_along.new.disk) c.read_along.ensures.image c.in-Ok.ensures.settled c.put_doubted.new.octets.items c.deref.result.now c.len-gate.result c.deref.ensures.value c.put_doubted.ensures.octets gate c.in-Ok.along.same c.in-Ok.along.closed c.in-Ok.ensures.along (c.find.ensures.other c.if-not-find.true)) c.misread.ensures.none)
+
+pub returns-then-not-find-clause-safe : goal.returns-then-not-find-clause-safe
+returns-then-not-find-clause-safe g c =
+    let gate : c.len-gate.result ≡ length c.self.inside.octets.items = omega (arith, c.len-gate.ensures) in
+    rw (← c.self.view_is) (none_told (g.D.Disk.told c.self.inside.disk) (g.D.Disk.told c.read_along.new.disk) (g.D.Disk.told c.misread.new.disk) _ (ReadIsSafe c.self.inside.service) c.read_along.ensures.way (other_none (g.D.Disk.told c.self.inside.disk) c.self.inside.area c.self.inside.service c.self.inside.octets.items c.self.inside.index.found c.self.inside.failed c.self.inside.doubted c.self.invariant.0 (g.D.Disk.told c.read_along.new.disk) c.read_along.ensures.image c.in-Ok.ensures.settled c.put_doubted.new.octets.items c.deref.result.now c.len-gate.result c.deref.ensures.value c.put_doubted.ensures.octets gate c.in-Ok.along.same c.in-Ok.along.closed c.in-Ok.ensures.along (c.find.ensures.other c.if-not-find.true)) c.misread.ensures.none)
+
+pub returns-then-not-find-clause-fault : goal.returns-then-not-find-clause-fault
+returns-then-not-find-clause-fault g c =
+    rw (← c.self.view_is) (misread_fault g.D.Disk.wants_memory _ _ _ _ c.read_along.ensures.later c.misread.ensures.none c.misread.ensures.later _ c.misread.ensures.fault)
