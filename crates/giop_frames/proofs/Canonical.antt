@@ -1,5 +1,5 @@
 -- What is written spells the message.
-use Rattle.std.proofs.Common.{◌≡◌, ℕ, ◌+◌, ◌<◌, ◌≤◌, ◌^◌, inl, inr, false, ltb, List, [], ◌∷◌, ◌++◌, length, drop, replicate, None, Ok, refl, sym, ap, subst, ◌∙◌, arith, length-append}
+use Rattle.std.proofs.Common.{◌≡◌, ℕ, ◌+◌, ◌<◌, ◌≤◌, ◌^◌, false, ltb, List, [], ◌∷◌, ◌++◌, length, drop, replicate, None, Ok, refl, sym, ap, subst, ◌∙◌, arith, length-append}
 use Rattle.std.specs.List.{flat_map}
 use Rattle.std.proofs.lemmas.Bool.{ltb-false}
 use Rattle.std.proofs.lemmas.List.{drop_at, length-replicate}
@@ -11,8 +11,6 @@ use Rattle.cdr_values.specs.Values.{SpellsAll, canonical_all, with_values}
 use Rattle.cdr_values.specs.Writing.{Writing}
 use Rattle.cdr_values.specs.Laws.{CanonicalSpells}
 use Rattle.cdr_values.specs.Limits.{length_limit}
-use Rattle.giop_frames.specs.declared.fault.FrameFault.{FrameFault}
-use Rattle.giop_frames.specs.declared.fault.FrameFault.TheVariants.{Memory}
 use Rattle.giop_frames.specs.declared.header.Header.{Header}
 use Rattle.giop_frames.specs.declared.layout.Version.{Version}
 use Rattle.giop_frames.specs.declared.layout.Version.TheVariants.{V1_2}
@@ -28,10 +26,10 @@ use Rattle.giop_frames.specs.Layout.{Fields, IsField, AreFields, IsTarget, blank
 use Rattle.giop_frames.specs.Message.{IsMessage, IsContent, kind_of}
 use Rattle.giop_frames.specs.Sizes.{end_of}
 use Rattle.giop_frames.specs.Encode.{content_of, field_refusal, field_values, fields_of, fields_refusal, order_of, padded_body, refusal_of, spelling, tail_of, target_refusal, target_values, told_of, values_of}
-use Rattle.giop_frames.specs.Write.{IsPlain, ArePlain, Refuses}
+use Rattle.giop_frames.specs.Put.{IsPlain, ArePlain}
 use Rattle.giop_frames.specs.Limits.{context_limit, key_limit, size_limit}
 use Rattle.giop_frames.proofs.Ends.{value_size}
-use Rattle.giop_frames.proofs.Written.{with_values-is}
+use Rattle.giop_frames.proofs.Putting.{with_values-is}
 use Rattle.giop_frames.proofs.Refused.{fields_pass, or_none, size_is_small, test_none}
 
 -- ---- the fields
@@ -43,11 +41,6 @@ begun m = record { order = order_of m; start = 12; octets = [] }
 -- what was written there is the fields
 pub fields_written : (version : Version) (m : Message) → (with_values (begun m) (values_of version m)).octets ≡ fields_of version m
 fields_written version m = ap (λ (w : Writing). w.octets) (with_values-is (begun m) (values_of version m))
-
--- of a message that is not refused, only want of memory refuses the fields
-pub only_memory : (version : Version) (m : Message) (fault : FrameFault) → refusal_of version m ≡ None → Refuses (values_of version m) fault (begun m) → fault ≡ Memory
-only_memory version m fault none (inl memory) = memory
-only_memory version m fault none (inr many) = absurd (omega (arith, many, ap length (fields_written version m), size_is_small version m none, length-append (fields_of version m) (tail_of version m)))
 
 -- ---- values
 

@@ -7,8 +7,6 @@ use Rattle.cdr_values.specs.declared.order.Order.{Order}
 use Rattle.cdr_values.specs.declared.order.Order.TheVariants.{Big, Little}
 use Rattle.cdr_values.specs.Value.{Value, Octet, Boolean, UShort, ULong, ULongLong, OctetSequence, Text, Aligned, alignment, gap, octets_of, bare_of, canonical}
 use Rattle.cdr_values.specs.Values.{canonical_all}
-use Rattle.giop_frames.specs.declared.message.ServiceContext.{ServiceContext}
-use Rattle.giop_frames.specs.Layout.{context_values}
 use Rattle.giop_frames.specs.Sizes.{size_of, end_of}
 
 -- values behind others
@@ -20,15 +18,6 @@ end_of-append at (x ∷ xs) ys = end_of-append (end_of at (x ∷ [])) xs ys
 pub values_more : {X : Type 0} (values : X → List Value) (xs : List X) (i : ℕ) (x : X) → i < length xs → x ≡ get_or xs i x → flat_map values (take (i + 1) xs) ≡ flat_map values (take i xs) ++ values x
 values_more {X} values xs i x lt is =
     ap (flat_map values) (take_more xs i x lt ∙ ap (λ (y : X). take i xs ++ y ∷ []) (sym is)) ∙ flat_map-append values (take i xs) (x ∷ []) ∙ ap (λ (vs : List Value). flat_map values (take i xs) ++ vs) (append-nil (values x))
-
--- the end of one more context
-pub end_of-one_more : (at : ℕ) (contexts : List ServiceContext) (i : ℕ) (c : ServiceContext) → i < length contexts → c ≡ get_or contexts i c
-    → end_of at (flat_map context_values (take (i + 1) contexts)) ≡ end_of (end_of at (flat_map context_values (take i contexts))) (context_values c)
-end_of-one_more at contexts i c lt is = ap (end_of at) (values_more context_values contexts i c lt is) ∙ end_of-append at (flat_map context_values (take i contexts)) (context_values c)
-
--- a number and counted octets behind it
-pub end_of-context : (e n r at : ℕ) (c : ServiceContext) → e ≡ at → n ≡ e + gap 4 e + 4 → r ≡ n + gap 4 n + (4 + length c.bytes) → r ≡ end_of at (context_values c)
-end_of-context e n r at c p q s = s ∙ ap (λ (k : ℕ). k + gap 4 k + (4 + length c.bytes)) (q ∙ ap (λ (k : ℕ). k + gap 4 k + 4) p)
 
 -- how many octets a value has without its padding
 bare_size : (order : Order) (value : Value) → length (bare_of order value) ≡ size_of value

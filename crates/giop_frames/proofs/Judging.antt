@@ -7,9 +7,9 @@ use Rattle.cdr_values.specs.declared.fault.CdrFault.TheVariants as cdr
 use Rattle.cdr_values.specs.Value.{number_in}
 use Rattle.cdr_values.specs.Reading.{Reading, ◌>>=◌, number_at, sized_at}
 use Rattle.giop_frames.specs.Fault.{fault_of}
-use Rattle.std.specs.Prelude.{IfErr, remove}
+use Rattle.std.specs.Prelude.{IsOk, remove}
 use Rattle.std.specs.List.{AllByRecursion}
-use Rattle.giop_frames.specs.declared.fault.FrameFault.TheVariants.{BadFragment, Memory}
+use Rattle.giop_frames.specs.declared.fault.FrameFault.TheVariants.{BadFragment}
 use Rattle.giop_frames.specs.Header.{is_fragment}
 use Rattle.giop_frames.specs.Content.{message_of}
 use Rattle.giop_frames.specs.Stream.{Part, Unfinished, after, begun_by, id_of, joined, judged, message_by, numbered, opening, so_far, whole_by, with_begun, without_id}
@@ -112,12 +112,12 @@ short_begun messages place p short room few = record {
 
 -- ---- where memory may be wanted
 
-pub wants_whole : (messages : List Unfinished) (p : Part) → is_fragment p.header.kind ≡ false → p.header.more ≡ false → IfErr (message_by p.header p.content) (λ fault. fault ≡ Memory) → MayWantMemory messages p
+pub wants_whole : (messages : List Unfinished) (p : Part) → is_fragment p.header.kind ≡ false → p.header.more ≡ false → IsOk (message_by p.header p.content) → MayWantMemory messages p
 wants_whole messages p other last sound = record {
   whole = λ f m. sound;
   room = λ f m. let both : true ≡ false = sym m ∙ last in absurd cc;
   free = λ f m. let both : true ≡ false = sym m ∙ last in absurd cc;
-  goes_on = λ f none. let both : true ≡ false = sym f ∙ other in absurd cc;
+  goes_on = λ f. let both : true ≡ false = sym f ∙ other in absurd cc;
 }
 
 pub wants_first : (messages : List Unfinished) (p : Part) → is_fragment p.header.kind ≡ false → p.header.more ≡ true → (numbered (id_of p) messages ≡ None) × (length messages < unfinished_limit) → MayWantMemory messages p
@@ -125,15 +125,16 @@ wants_first messages p other more may = record {
   whole = λ f m. let both : true ≡ false = sym more ∙ m in absurd cc;
   room = λ f m. may.1;
   free = λ f m. may.0;
-  goes_on = λ f none. let both : true ≡ false = sym f ∙ other in absurd cc;
+  goes_on = λ f. let both : true ≡ false = sym f ∙ other in absurd cc;
 }
 
-pub wants_fragment : (messages : List Unfinished) (p : Part) (i : ℕ) → is_fragment p.header.kind ≡ true → IsAt (id_of p) messages i → MayWantMemory messages p
-wants_fragment messages p i fragment at =
-    let found = numbered_at (id_of p) messages i (record { id = 0; place = 0; header = p.header; content = [] }) at in
+pub wants_fragment : (messages : List Unfinished) (p : Part) (i : ℕ) (first : Unfinished) (octets : List ℕ) → is_fragment p.header.kind ≡ true → IsAt (id_of p) messages i → first ≡ get_or messages i first → octets ≡ drop 4 p.content
+    → length (first.content ++ octets) ≤ size_limit → MayWantMemory messages p
+wants_fragment messages p i first octets fragment at is behind fits =
+    let found : numbered (id_of p) messages ≡ Some first = numbered_at (id_of p) messages i first at ∙ ap (λ (u : Unfinished). Some u) (sym is) in
     record {
       whole = λ f m. let both : true ≡ false = sym fragment ∙ f in absurd cc;
       room = λ f m. let both : true ≡ false = sym fragment ∙ f in absurd cc;
       free = λ f m. let both : true ≡ false = sym fragment ∙ f in absurd cc;
-      goes_on = λ f none. let both = sym found ∙ none in absurd cc;
+      goes_on = λ f. rw (found, ← behind) fits;
     }

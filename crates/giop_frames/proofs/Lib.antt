@@ -6,7 +6,7 @@ pub mod Exact
 pub mod Headers
 pub mod Whole
 pub mod Ends
-pub mod Written
+pub mod Putting
 pub mod Refused
 pub mod Canonical
 pub mod Numbered

@@ -1,80 +1,121 @@
--- What refuses a message, as its sizes tell it.
-use Rattle.std.proofs.Common.{◌≡◌, ℕ, ◌+◌, ◌-◌, ◌≤◌, Bool, true, false, cond, ltb, List, [], ◌∷◌, length, Option, Some, None, Result, Ok, Err, refl, sym, ap, ◌∙◌, arith, length-append}
+-- What refuses a message, and how large it is otherwise.
+use Rattle.std.proofs.Common.{◌≡◌, ℕ, ◌+◌, ◌-◌, ◌<◌, ◌≤◌, Bool, true, false, cond, ltb, List, [], ◌∷◌, length, Option, Some, None, Ok, Err, refl, sym, ap, ◌∙◌, arith, length-append}
 use Rattle.std.specs.List.{flat_map}
-use Rattle.std.proofs.lemmas.Bool.{ltb-false}
-use Rattle.cdr_values.specs.declared.fault.CdrFault.TheVariants as cdr
-use Rattle.cdr_values.specs.Value.{has_nul}
-use Rattle.cdr_values.specs.Reading.{◌>>=◌}
+use Rattle.std.proofs.lemmas.Bool.{ltb-false, lt-ltb, le-ltb}
 use Rattle.giop_frames.specs.declared.fault.FrameFault.{FrameFault}
-use Rattle.giop_frames.specs.declared.fault.FrameFault.TheVariants.{TooLarge, Body}
+use Rattle.giop_frames.specs.declared.fault.FrameFault.TheVariants.{TooLarge}
+use Rattle.giop_frames.specs.declared.header.Kind.TheVariants as kinds
 use Rattle.giop_frames.specs.declared.layout.Version.{Version}
 use Rattle.giop_frames.specs.declared.layout.Version.TheVariants.{V1_2}
-use Rattle.giop_frames.specs.declared.layout.Field.{Field}
-use Rattle.giop_frames.specs.declared.layout.Field.TheVariants as fields
 use Rattle.giop_frames.specs.declared.message.Message.{Message}
 use Rattle.giop_frames.specs.declared.message.Message.TheVariants as messages
+use Rattle.giop_frames.specs.declared.told.Told.{Told}
 use Rattle.giop_frames.specs.Limits.{size_limit}
-use Rattle.giop_frames.specs.Layout.{Fields, layout}
+use Rattle.giop_frames.specs.Layout.{body_alignment, layout}
 use Rattle.giop_frames.specs.Message.{kind_of}
 use Rattle.giop_frames.specs.Sizes.{end_of}
-use Rattle.giop_frames.specs.Encode.{◌or◌, content_of, field_refusal, field_values, fields_of, fields_refusal, order_of, refusal_of, size_refusal, tail_at, tail_of, target_refusal, told_of, values_of}
-use Rattle.giop_frames.specs.EncodeInside.{content_size, field_end, fields_end, sized, unless}
-use Rattle.giop_frames.proofs.Ends.{end_of-append, end_of-is}
+use Rattle.giop_frames.specs.Encode.{◌or◌, content_of, field_values, fields_of, fields_refusal, octets_in, order_of, padded_body, refusal_of, size_refusal, spelling, tail_at, tail_of, told_of, values_of}
+use Rattle.giop_frames.specs.EncodeInside.{Tells, behind_of, fields_told, octets_in_table, padded_behind, padding_at, parts_of, unless}
+use Rattle.giop_frames.proofs.Ends.{end_of-is}
 
--- ---- the end, or a refusal
+-- ---- the size
 
--- what follows comes only where nothing is refused
-then : (r later : Option FrameFault) (n end : ℕ) (k : ℕ → Result ℕ FrameFault) → k n ≡ unless later end → (unless r n >>= k) ≡ unless (r or later) end
-then None later n end k e = e
-then (Some fault) later n end k e = refl
+-- the fields end where their octets do
+pub fields_end : (version : Version) (m : Message) → end_of 12 (values_of version m) ≡ 12 + length (fields_of version m)
+fields_end version m = end_of-is (order_of m) 12 (values_of version m)
 
--- fields end where their values do, or are refused
-fields_ends : (f : Fields) (at : ℕ) (table : List Field) → fields_end f at table ≡ unless (fields_refusal f at table) (end_of at (flat_map (field_values f) table))
-unfolding field_end
-fields_ends f at [] = refl
-fields_ends f at (one ∷ others) =
-    let next = end_of at (field_values f one) in
-    let end = end_of at (flat_map (field_values f) (one ∷ others)) in
-    let later : fields_end f next others ≡ unless (fields_refusal f next others) end =
-    fields_ends f next others ∙ ap (unless (fields_refusal f next others)) (sym (end_of-append at (field_values f one) (flat_map (field_values f) others))) in
-    then (field_refusal f at one) (fields_refusal f next others) next end (λ (k : ℕ). fields_end f k others) later
+request_tail : (version : Version) (at : ℕ) (body : List ℕ) → padded_body (body_alignment version) at body ≡ padded_behind version kinds.Request at body
+request_tail version at [] = refl
+request_tail version at (x ∷ xs) = refl
 
--- a test, as a refusal
-tested : (b : Bool) (fault : FrameFault) (n : ℕ) → cond b (Err fault) (Ok n) ≡ unless (cond b (Some fault) None) n
-tested true fault n = refl
-tested false fault n = refl
+reply_tail : (version : Version) (at : ℕ) (body : List ℕ) → padded_body (body_alignment version) at body ≡ padded_behind version kinds.Reply at body
+reply_tail version at [] = refl
+reply_tail version at (x ∷ xs) = refl
 
--- the size is that of the content, or the message is refused
-content_ends : (version : Version) (m : Message) → content_size version m ≡ unless (refusal_of version m) (length (content_of version m))
-unfolding content_size refusal_of
-content_ends version m =
-    let f = told_of m in
-    let table = layout version (kind_of m) in
-    let end = end_of 12 (values_of version m) in
-    let n = length (content_of version m) in
-    let place : end ≡ 12 + length (fields_of version m) = end_of-is (order_of m) 12 (values_of version m) in
-    let tail : length (tail_at version end m) ≡ length (tail_of version m) = ap (λ (k : ℕ). length (tail_at version k m)) place in
-    let size : end - 12 + length (tail_at version end m) ≡ n = omega (arith, place, tail, length-append (fields_of version m) (tail_of version m)) in
-    let last : sized (end - 12 + length (tail_at version end m)) ≡ unless (size_refusal version m) n = ap sized size ∙ tested (ltb size_limit n) (TooLarge n) n in
-    ap (λ (r : Result ℕ FrameFault). r >>= λ at. sized (at - 12 + length (tail_at version at m))) (fields_ends f 12 table) ∙ then (fields_refusal f 12 table) (size_refusal version m) end n (λ (at : ℕ). sized (at - 12 + length (tail_at version at m))) last
+located_tail : (version : Version) (at : ℕ) (rest : List ℕ) → rest ≡ padded_behind version kinds.LocateReply at rest
+located_tail version at [] = refl
+located_tail version at (x ∷ xs) = refl
 
--- a number is there only where nothing is refused
-unless_ok : (r : Option FrameFault) (n k : ℕ) → Ok k ≡ unless r n → (r ≡ None) × (k ≡ n)
+-- what stands behind the fields is padding, and what the message keeps there
+pub tail_is : (version : Version) (at : ℕ) (m : Message) → tail_at version at m ≡ padded_behind version (kind_of m) at (behind_of m)
+tail_is version at (messages.Request r) = request_tail version at r.body
+tail_is version at (messages.Reply r) = reply_tail version at r.body
+tail_is version at (messages.Cancel id) = refl
+tail_is version at (messages.Locate l) = refl
+tail_is version at (messages.LocateReply l) = located_tail version at l.rest
+tail_is version at messages.Close = refl
+tail_is version at messages.Error = refl
+
+-- the size is counted so
+pub size_is : (version : Version) (m : Message) (end : ℕ) → end ≡ end_of 12 (values_of version m)
+    → end - 12 + length (padding_at version (kind_of m) end (behind_of m)) + length (behind_of m) ≡ length (content_of version m)
+size_is version m end ends =
+    let place : end ≡ 12 + length (fields_of version m) = ends ∙ fields_end version m in
+    let padding = padding_at version (kind_of m) end (behind_of m) in
+    let tail : length (tail_of version m) ≡ length (padded_behind version (kind_of m) end (behind_of m)) =
+    ap (λ (k : ℕ). length (tail_at version k m)) (sym place) ∙ ap length (tail_is version end m) in
+    omega (arith, place, tail, length-append padding (behind_of m), length-append (fields_of version m) (tail_of version m))
+
+-- what is told of a message ends where its fields do
+pub told_ends : (version : Version) (m : Message) (t : Told) (end : ℕ) → Tells t m → end ≡ end_of 12 (flat_map (field_values (fields_told t)) (layout version t.kind)) → end ≡ end_of 12 (values_of version m)
+told_ends version m t end h e = rw (h.fields, h.kind) at e
+
+-- and is counted as the message
+pub told_size : (version : Version) (m : Message) (t : Told) (end : ℕ) (padding : List ℕ) → Tells t m → end ≡ end_of 12 (values_of version m) → padding ≡ padding_at version t.kind end t.behind.now
+    → end - 12 + length padding + length t.behind.now ≡ length (content_of version m)
+told_size version m t end padding h ends is =
+    let pad : padding ≡ padding_at version (kind_of m) end (behind_of m) = rw (h.kind, h.behind) at is in
+    omega (arith, size_is version m end ends, ap length pad, ap length h.behind)
+
+-- and spelled as it
+pub spelled_by : (version : Version) (m : Message) (t : Told) (size : ℕ) (octets : List ℕ) → Tells t m → size ≡ length (content_of version m) → octets ≡ fields_of version m
+    → parts_of version t size octets ≡ spelling version m
+unfolding spelling
+spelled_by version m t size octets h is fields = rw (h.kind, h.order, h.behind, is, fields, ← tail_is version (12 + length (fields_of version m)) m) refl
+
+-- the lists of the fields are among those of the message
+pub table_is_small : (version : Version) (m : Message) → octets_in_table (told_of m) (layout version (kind_of m)) ≤ octets_in m
+table_is_small V1_2 (messages.Request r) = omega arith
+table_is_small V1_2 (messages.Reply r) = omega arith
+table_is_small V1_2 (messages.Cancel id) = omega arith
+table_is_small V1_2 (messages.Locate l) = omega arith
+table_is_small V1_2 (messages.LocateReply l) = omega arith
+table_is_small V1_2 messages.Close = omega arith
+table_is_small V1_2 messages.Error = omega arith
+
+-- ---- a refusal, or the size
+
+-- a fault of a field refuses the message
+pub field_refuses : (version : Version) (m : Message) (fault : FrameFault) → fields_refusal (told_of m) 12 (layout version (kind_of m)) ≡ Some fault → refusal_of version m ≡ Some fault
+unfolding refusal_of
+field_refuses version m fault refused = ap (λ (r : Option FrameFault). r or size_refusal version m) refused
+
+-- where the fields pass, the size may refuse it
+size_refuses : (version : Version) (m : Message) → fields_refusal (told_of m) 12 (layout version (kind_of m)) ≡ None → refusal_of version m ≡ size_refusal version m
+unfolding refusal_of
+size_refuses version m passes = ap (λ (r : Option FrameFault). r or size_refusal version m) passes
+
+-- a size that is too large
+pub too_large : (version : Version) (m : Message) (n : ℕ) → fields_refusal (told_of m) 12 (layout version (kind_of m)) ≡ None → n ≡ length (content_of version m) → size_limit < n
+    → refusal_of version m ≡ Some (TooLarge n)
+too_large version m n passes is many =
+    size_refuses version m passes ∙ ap (λ (k : ℕ). cond (ltb size_limit k) (Some (TooLarge k)) None) (sym is) ∙ ap (λ (b : Bool). cond b (Some (TooLarge n)) None) (lt-ltb size_limit n many)
+
+-- a size that is not
+pub fits : (version : Version) (m : Message) (n : ℕ) → fields_refusal (told_of m) 12 (layout version (kind_of m)) ≡ None → n ≡ length (content_of version m) → n ≤ size_limit
+    → refusal_of version m ≡ None
+fits version m n passes is few =
+    size_refuses version m passes ∙ ap (λ (k : ℕ). cond (ltb size_limit k) (Some (TooLarge k)) None) (sym is) ∙ ap (λ (b : Bool). cond b (Some (TooLarge n)) None) (le-ltb size_limit n few)
+
+-- a number is there only where nothing refuses
+pub unless_ok : (r : Option FrameFault) (n k : ℕ) → Ok k ≡ unless r n → (r ≡ None) × (k ≡ n)
 unless_ok None n k e = (refl, cc)
 unless_ok (Some fault) n k e = absurd cc
 
--- and a fault only where it is refused
-unless_err : (r : Option FrameFault) (n : ℕ) (fault : FrameFault) → Err fault ≡ unless r n → r ≡ Some fault
+-- and a fault only where it refuses
+pub unless_err : (r : Option FrameFault) (n : ℕ) (fault : FrameFault) → Err fault ≡ unless r n → r ≡ Some fault
 unless_err None n fault e = absurd cc
 unless_err (Some other) n fault e = cc
-
--- a size was found where nothing refuses
-pub size_found : (version : Version) (m : Message) (n : ℕ) → Ok n ≡ content_size version m → (refusal_of version m ≡ None) × (n ≡ length (content_of version m))
-size_found version m n e = unless_ok (refusal_of version m) (length (content_of version m)) n (e ∙ content_ends version m)
-
--- a fault is the refusal
-pub refused : (version : Version) (m : Message) (fault : FrameFault) → Err fault ≡ content_size version m → refusal_of version m ≡ Some fault
-refused version m fault e = unless_err (refusal_of version m) (length (content_of version m)) fault (e ∙ content_ends version m)
 
 -- ---- what is not refused
 
@@ -98,17 +139,3 @@ size_is_small version m none =
 pub fields_pass : (version : Version) (m : Message) → refusal_of version m ≡ None → fields_refusal (told_of m) 12 (layout version (kind_of m)) ≡ None
 unfolding refusal_of
 fields_pass version m none = (or_none (fields_refusal (told_of m) 12 (layout version (kind_of m))) (size_refusal version m) none).0
-
--- an operation that is written has no NUL
-pub name_passes : (version : Version) (m : Message) → refusal_of version m ≡ None → has_nul (told_of m).operation ≡ false
-name_passes V1_2 (messages.Request r) none =
-    let f = told_of (messages.Request r) in
-    let at = end_of 20 (field_values f fields.Target) in
-    let behind = or_none (target_refusal 20 r.target) (fields_refusal f at (fields.Operation ∷ fields.Contexts ∷ [])) (fields_pass V1_2 (messages.Request r) none) in
-    test_none (has_nul r.operation) (Body at (cdr.BadString at)) (or_none (field_refusal f at fields.Operation) (fields_refusal f (end_of at (field_values f fields.Operation)) (fields.Contexts ∷ [])) behind.1).0
-name_passes V1_2 (messages.Reply r) none = refl
-name_passes V1_2 (messages.Cancel id) none = refl
-name_passes V1_2 (messages.Locate l) none = refl
-name_passes V1_2 (messages.LocateReply l) none = refl
-name_passes V1_2 messages.Close none = refl
-name_passes V1_2 messages.Error none = refl

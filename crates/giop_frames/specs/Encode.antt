@@ -108,12 +108,20 @@ target_refusal at (Key key) =
 target_refusal at Profile = Some NotWritten
 target_refusal at Reference = Some NotWritten
 
--- what passes a limit in a field that would be written from this offset on
+-- an operation has no NUL
+abbrev pub operation_refusal : ℕ → List ℕ → Option FrameFault
+operation_refusal at operation = if has_nul operation then Some (Body at (cdr.BadString at)) else None
+
+-- the number of contexts has a limit
+abbrev pub contexts_refusal : ℕ → List ServiceContext → Option FrameFault
+contexts_refusal at contexts =
+    if nat_lt context_limit (length contexts) then Some (too_long at (length contexts)) else None
+
+-- what refuses a field that would be written from this offset on
 abbrev pub field_refusal : Fields → ℕ → Field → Option FrameFault
 field_refusal f at fields.Target = target_refusal at f.target
-field_refusal f at fields.Operation = if has_nul f.operation then Some (Body at (cdr.BadString at)) else None
-field_refusal f at fields.Contexts =
-    if nat_lt context_limit (length f.contexts) then Some (too_long at (length f.contexts)) else None
+field_refusal f at fields.Operation = operation_refusal at f.operation
+field_refusal f at fields.Contexts = contexts_refusal at f.contexts
 field_refusal f at _ = None
 
 -- the first refusal

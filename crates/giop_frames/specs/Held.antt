@@ -1,5 +1,5 @@
 -- What a stream holds back between two calls, of a stream of messages (CORBA, GIOP Message Formats, Fragment Message).
-use Rattle.std.specs.Prelude.{◌≡◌, ◌≢◌, ◌⊎◌, ◌<◌, ◌≤◌, ◌+◌, ℕ, true, false, List, [], ◌∷◌, ◌++◌, length, Option, Some, None, IfSome, IsSome, Result, Ok, Err, IfErr, IfOk, OnErr, OnOk}
+use Rattle.std.specs.Prelude.{◌≡◌, ◌≢◌, ◌⊎◌, ◌<◌, ◌≤◌, ◌+◌, ℕ, true, false, List, [], ◌∷◌, ◌++◌, length, drop, Option, Some, None, IfSome, IsSome, IsSomeAnd, Result, Ok, Err, IfOk, IsOk, OnErr, OnOk}
 use Rattle.std.specs.List.{AllByRecursion}
 use Rattle.giop_frames.specs.declared.fault.FrameFault.{FrameFault}
 use Rattle.giop_frames.specs.declared.fault.FrameFault.TheVariants.{Short, Memory}
@@ -98,13 +98,18 @@ IsRefusedAtPlace old new fault =
     (versions : List Version) (octets : List ℕ) (messages : List Framed) → Holds versions octets messages old
     → IsRefused versions messages new.place fault octets
 
+-- a message with the octets of this Fragment is no longer than a message may be
+abbrev pub IsJoinedBy : Part → Unfinished → Type 0
+IsJoinedBy p first = length (first.content ++ drop 4 p.content) ≤ size_limit
+
 -- beside these unfinished messages memory may be wanted for this part: for a message in one part in which no fault is
 -- found, for a first part whose request_id is free and for whose message there is room, and for a Fragment of a message
+-- whose joined octets are not too many
 pub record MayWantMemory (messages : List Unfinished) (p : Part) : Type 0 where
-  pub whole : is_fragment p.header.kind ≡ false → p.header.more ≡ false → IfErr (message_by p.header p.content) (λ fault. fault ≡ Memory)
+  pub whole : is_fragment p.header.kind ≡ false → p.header.more ≡ false → IsOk (message_by p.header p.content)
   pub room : is_fragment p.header.kind ≡ false → p.header.more ≡ true → length messages < unfinished_limit
   pub free : is_fragment p.header.kind ≡ false → p.header.more ≡ true → numbered (id_of p) messages ≡ None
-  pub goes_on : is_fragment p.header.kind ≡ true → numbered (id_of p) messages ≢ None
+  pub goes_on : is_fragment p.header.kind ≡ true → IsSomeAnd (numbered (id_of p) messages) (IsJoinedBy p)
 
 -- memory may be wanted for the whole part at a stream's place
 abbrev pub WantsMemory : Held → Type 0

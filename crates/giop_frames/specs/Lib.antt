@@ -15,5 +15,5 @@ pub mod HeldInside
 pub mod Sizes
 pub mod Encode
 pub mod EncodeInside
-pub mod Write
+pub mod Put
 pub mod Laws

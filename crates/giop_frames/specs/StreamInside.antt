@@ -1,5 +1,5 @@
 -- How the code finds a part and an unfinished message, and what its calls do.
-use Rattle.std.specs.Prelude.{◌≡◌, ℕ, ◌+◌, ◌≤◌, ◌<◌, ◌==◌, nat_lt, List, length, take, drop, Option, Some, None, Result, Ok, Err, if◌then◌else◌}
+use Rattle.std.specs.Prelude.{◌≡◌, ℕ, ◌+◌, ◌≤◌, ◌<◌, ◌==◌, nat_lt, List, ◌++◌, length, take, drop, Option, Some, None, Result, Ok, Err, if◌then◌else◌}
 use Rattle.std.specs.List.{position_or_len}
 use Rattle.cdr_values.specs.declared.order.Order.{Order}
 use Rattle.cdr_values.specs.Value.{number_in}
@@ -27,9 +27,10 @@ abbrev pub ReadsId : Order → List ℕ → Result ℕ FrameFault → Type 0
 ReadsId order content (Ok id) = (4 ≤ length content) × (id ≡ number_in order 4 (take 4 content))
 ReadsId order content (Err fault) = (fault ≡ without_id) × (length content < 4)
 
--- the content of a message is too large, which is this fault
-abbrev pub IsTooLarge : List ℕ → FrameFault → Type 0
-IsTooLarge content fault = (fault ≡ TooLarge (length content)) × (size_limit < length content)
+-- a message may have the octets with more behind them, for which a vector of this capacity has no room
+abbrev pub WantsRoom : ℕ → List ℕ → List ℕ → Type 0
+WantsRoom capacity content octets =
+    (length (content ++ octets) ≤ size_limit) × (capacity < length (content ++ octets))
 
 -- what the joined octets of a message whose last part hasn't come say; they have a limit
 abbrev pub limited_so_far : Header → List ℕ → Judgement

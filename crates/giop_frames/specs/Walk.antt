@@ -8,7 +8,7 @@ use Rattle.cdr_values.specs.Reading.{Reading, ◌>>=◌}
 use Rattle.cdr_values.specs.Sequence.{each_at, sequence_at}
 use Rattle.cdr_values.specs.Tagged.{reference_at, tagged_at}
 use Rattle.giop_frames.specs.declared.fault.FrameFault.{FrameFault}
-use Rattle.giop_frames.specs.declared.fault.FrameFault.TheVariants.{Body}
+use Rattle.giop_frames.specs.declared.fault.FrameFault.TheVariants.{Body, Memory}
 use Rattle.giop_frames.specs.declared.header.Header.{Header}
 use Rattle.giop_frames.specs.declared.layout.Field.{Field}
 use Rattle.giop_frames.specs.declared.message.Message.{Message}
@@ -135,6 +135,7 @@ pub record GoesOn (step : Step) (old : Found) (r : Reading) (later : Option Step
 -- where this fault is want of octets, the value that wants them begins less than 8 octets behind this place
 abbrev pub IsNear : ℕ → FrameFault → Type 0
 IsNear place (Body at (cdr.Short stood)) = at < place + 8
+IsNear place Memory = ⊥
 IsNear place fault = Unit {0}
 
 -- a call made this step, or answered its fault; octets that are wanting are those of a value that is near

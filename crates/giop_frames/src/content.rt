@@ -1,17 +1,16 @@
-ghost use Rattle.std.specs.Prelude.{◌≡◌, ◌≤◌, ◌<◌, ◌^◌, length, map, Ok, Err, IfErr, IfOk};
+ghost use Rattle.std.specs.Prelude.{◌≡◌, ◌≤◌, ◌<◌, ◌^◌, length, map, Ok, Err, IfErr, IfOk, IsOk};
 ghost use Rattle.giop_frames.specs.Limits.{size_limit};
 ghost use Rattle.giop_frames.specs.Fault.{Finds};
-ghost use Rattle.giop_frames.specs.Layout.{kept_tail, message_with, tail_gap, tail_start};
+ghost use Rattle.giop_frames.specs.Layout.{kept_tail, message_with, tail_start};
 ghost use Rattle.giop_frames.specs.Stream.{message_by, start_by};
 ghost use Rattle.giop_frames.specs.Walk.{IsAsFar, IsWalked, context_of, message_found, spanned, target_of, told_by};
 
 use crate::fault::FrameFault;
 use crate::found::{Found, FoundContext, FoundTarget, Span};
 use crate::header::{HEADER_LENGTH, Header, Kind, behind, front};
-use crate::layout::body_alignment;
+use crate::layout::tail_gap;
 use crate::message::{Contexts, Locate, Located, Message, Reply, Request, ServiceContext, Target};
 use crate::walk::Walk;
-use cdr_values::gap_before;
 use ots_model::Octets;
 use std::alloc::{AllocError, Global};
 
@@ -27,6 +26,7 @@ pub fn read_message(alloc: Global, header: Header, content: &[u8]) -> Result<Con
     requires { length content.now ≤ size_limit }
     ensures message { Finds (λ found. found.message) result (message_by header content.now) }
     ensures told { IfErr (message_by header content.now) (λ fault. result ≡ Err fault) }
+    ensures memory { IfErr result (λ fault. fault ≡ FrameFault.Memory → IsOk (message_by header content.now)) }
     ensures start { IfOk result (λ found. found.start ≡ start_by header content.now) }
 {
     let mut walk = Walk::new(header);
@@ -46,6 +46,7 @@ pub fn finish_message(
     requires far { IsAsFar header content.now walk }
     ensures message { Finds (λ found. found.message) result (message_by header content.now) }
     ensures told { IfErr (message_by header content.now) (λ fault. result ≡ Err fault) }
+    ensures memory { IfErr result (λ fault. fault ≡ FrameFault.Memory → IsOk (message_by header content.now)) }
     ensures start { IfOk result (λ found. found.start ≡ start_by header content.now) }
 {
     walk.go_on(header, content)?;
@@ -170,7 +171,10 @@ fn kept_tail(header: Header, place: u32, octets: &[u8]) -> &[u8]
     ensures { result.now ≡ kept_tail header.version header.kind place octets.now }
 {
     match header.kind {
-        Kind::Request | Kind::Reply => behind(octets, tail_gap(header, place)),
+        Kind::Request | Kind::Reply => behind(
+            octets,
+            tail_gap(header.version, header.kind, place as usize),
+        ),
         Kind::LocateReply => octets,
         _ => &[],
     }
@@ -181,16 +185,6 @@ fn tail_start(header: Header, place: u32) -> u32
     requires { place < 2 ^ 31 }
     ensures { result ≡ tail_start header.version header.kind place }
 {
-    ((place as usize + tail_gap(header, place)) % 8) as u32
-}
-
-/// The padding in front of it.
-fn tail_gap(header: Header, place: u32) -> usize
-    ensures same { result ≡ tail_gap header.version header.kind place }
-    ensures within { result < 8 }
-{
-    match header.kind {
-        Kind::Request | Kind::Reply => gap_before(body_alignment(header.version), place as usize),
-        _ => 0,
-    }
+    let place = place as usize;
+    ((place + tail_gap(header.version, header.kind, place)) % 8) as u32
 }

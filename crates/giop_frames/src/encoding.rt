@@ -1,23 +1,26 @@
-ghost use Rattle.std.specs.Prelude.{◌≡◌, ◌+◌, ◌<◌, ◌≤◌, ◌^◌, length, replicate};
+ghost use Rattle.std.specs.Prelude.{◌≡◌, ◌+◌, ◌<◌, ◌≤◌, ◌^◌, length, None, IfErr, IfOk, OnOk};
 ghost use Rattle.cdr_values.specs.Value.{octets_of};
 ghost use Rattle.cdr_values.specs.Appending.{Appends, AppendsSome};
+ghost use Rattle.giop_frames.specs.declared.fault.FrameFault.TheVariants.{Memory};
 ghost use Rattle.giop_frames.specs.declared.layout.Version.TheVariants.{V1_2};
 ghost use Rattle.giop_frames.specs.Header.{header_octets, flags_of};
-ghost use Rattle.giop_frames.specs.Layout.{body_alignment};
-ghost use Rattle.giop_frames.specs.Encode.{Encodes, spelling, octets_in, content_of, fields_of, tail_of, padded_body};
+ghost use Rattle.giop_frames.specs.Encode.{Encodes, content_of, fields_of, octets_in, refusal_of, values_of};
+ghost use Rattle.giop_frames.specs.EncodeInside.{padding_at, parts_of, unless};
+ghost use Rattle.giop_frames.specs.Put.{ArePlain};
 
-use crate::fault::FrameFault;
-use crate::fields::fields_octets;
+use crate::fault::{FrameFault, SIZE_LIMIT};
+use crate::fields::put_fields;
 use crate::header::{HEADER_LENGTH, Kind, MAGIC, version_octets};
-use crate::layout::{Version, body_alignment};
+use crate::layout::{Version, tail_gap};
 use crate::message::Message;
-use crate::sizes::content_size;
-use crate::told::{kind_of, order_of};
+use crate::sink::Sink;
+use crate::told::Told;
 use byteorder::{BigEndian, ByteOrder, LittleEndian};
-use cdr_values::{Order, gap_before};
+use cdr_values::{Order, Writer};
+use ots_model::Octets;
 use std::alloc::{AllocError, Global};
 
-const PADDING: [u8; 8] = [0; 8];
+static PADDING: [u8; 8] = [0; 8];
 
 /// Appends the octets of the message to `into`, with padding 0: a Request or a Reply in its own byte order, a message of
 /// another type big endian. The fields are tried from the left: a target other than a key is NotWritten, a key of more
@@ -44,45 +47,99 @@ pub fn encode_as(
     cdr_values::canonical_octets_spell();
     let size = content_size(version, message)?;
     let fields = fields_octets(alloc, version, message)?;
-    append(version, message, size as u32, fields.bytes(), into)?;
+    append(
+        version,
+        &Told::of(message),
+        size as u32,
+        fields.bytes(),
+        into,
+    )?;
     Ok(())
+}
+
+/// How many octets stand behind the header of a message, or why it is not written.
+fn content_size(version: Version, message: &Message) -> Result<usize, FrameFault>
+    requires { octets_in message.now < 2 ^ 31 }
+    ensures { result ≡ unless (refusal_of version message.now) (length (content_of version message.now)) }
+{
+    let told = Told::of(message);
+    let mut sink = Sink {
+        end: HEADER_LENGTH,
+        writer: None,
+    };
+    put_fields(&mut sink, version, &told)?;
+    let fields = sink.end - HEADER_LENGTH;
+    let size = fields + padding(version, &told, sink.end).len() + told.behind.len();
+    if size > SIZE_LIMIT {
+        return Err(FrameFault::TooLarge(size as u32));
+    }
+    Ok(size)
+}
+
+/// The octets of the fields of a message that is not refused.
+fn fields_octets(alloc: Global, version: Version, message: &Message) -> Result<Octets, FrameFault>
+    requires small { octets_in message.now < 2 ^ 31 }
+    requires written { refusal_of version message.now ≡ None }
+    ensures ok { IfOk result (λ octets. octets ≡ fields_of version message.now) }
+    ensures plain { OnOk result (ArePlain (values_of version message.now)) }
+    ensures memory { IfErr result (λ fault. fault ≡ Memory) }
+{
+    let told = Told::of(message);
+    let mut sink = Sink {
+        end: HEADER_LENGTH,
+        writer: Some(Writer::new(alloc, told.order, HEADER_LENGTH as u32)),
+    };
+    put_fields(&mut sink, version, &told)?;
+    match sink.writer {
+        Some(writer) => Ok(writer.finish()),
+        None => Err(FrameFault::Memory),
+    }
 }
 
 /// Appends the message with these fields, or nothing for want of memory.
 fn append(
     version: Version,
-    message: &Message,
+    told: &Told,
     size: u32,
     fields: &[u8],
     into: &mut Vec<u8>,
 ) -> Result<(), AllocError>
-    requires size { size ≡ length (content_of version message.now) }
-    requires fields { fields.now ≡ fields_of version message.now }
-    ensures { Appends (spelling version message.now) result into.old.items into.new.items }
+    requires { length fields.now < 2 ^ 32 }
+    ensures { Appends (parts_of version told.now size fields.now) result into.old.items into.new.items }
 {
     let start = into.len();
-    let appended = append_parts(version, message, size, fields, into);
+    let appended = append_parts(version, told, size, fields, into);
     if appended.is_err() {
         into.truncate(start);
     }
     appended
 }
 
-#[tactic(auto, unfolding(crate::specs::Encode::spelling))]
+/// Appends the header of a message, its fields, and what stands behind them.
 fn append_parts(
     version: Version,
-    message: &Message,
+    told: &Told,
     size: u32,
     fields: &[u8],
     into: &mut Vec<u8>,
 ) -> Result<(), AllocError>
-    requires size { size ≡ length (content_of version message.now) }
-    requires fields { fields.now ≡ fields_of version message.now }
-    ensures { AppendsSome (spelling version message.now) result into.old.items into.new.items }
+    requires { length fields.now < 2 ^ 32 }
+    ensures { AppendsSome (parts_of version told.now size fields.now) result into.old.items into.new.items }
 {
-    append_header(version, order_of(message), kind_of(message), size, into)?;
+    append_header(version, told.order, told.kind, size, into)?;
     into.extend_from_slice(fields)?;
-    append_tail(version, message, HEADER_LENGTH + fields.len(), into)
+    into.extend_from_slice(padding(version, told, HEADER_LENGTH + fields.len()))?;
+    into.extend_from_slice(told.behind)
+}
+
+/// The padding behind the fields, which end at an offset: none where nothing stands behind it.
+fn padding(version: Version, told: &Told, at: usize) -> &'static [u8]
+    ensures { result.now ≡ padding_at version told.now.kind at told.now.behind.now }
+{
+    if told.behind.is_empty() {
+        return &[];
+    }
+    &PADDING[..tail_gap(version, told.kind, at)]
 }
 
 fn append_header(
@@ -98,48 +155,6 @@ fn append_header(
     into.extend_from_slice(&version_octets(version))?;
     into.extend_from_slice(&[header_flags(order), kind.octet()])?;
     into.extend_from_slice(&size_octets(order, size))
-}
-
-/// Appends what stands behind the fields, which end at an offset.
-fn append_tail(
-    version: Version,
-    message: &Message,
-    at: usize,
-    into: &mut Vec<u8>,
-) -> Result<(), AllocError>
-    requires { at ≡ 12 + length (fields_of version message.now) }
-    ensures { AppendsSome (tail_of version message.now) result into.old.items into.new.items }
-{
-    match message {
-        Message::Request(request) => append_body(version, at, request.body.bytes(), into),
-        Message::Reply(reply) => append_body(version, at, reply.body.bytes(), into),
-        Message::LocateReply(located) => into.extend_from_slice(located.rest.bytes()),
-        _ => Ok(()),
-    }
-}
-
-/// Appends a body behind its padding, or nothing where there is none.
-fn append_body(
-    version: Version,
-    at: usize,
-    body: &[u8],
-    into: &mut Vec<u8>,
-) -> Result<(), AllocError>
-    ensures { AppendsSome (padded_body (body_alignment version) at body.now)
-        result into.old.items into.new.items }
-{
-    if body.is_empty() {
-        return Ok(());
-    }
-    append_padding(gap_before(body_alignment(version), at), into)?;
-    into.extend_from_slice(body)
-}
-
-fn append_padding(count: usize, into: &mut Vec<u8>) -> Result<(), AllocError>
-    requires { count ≤ 8 }
-    ensures { AppendsSome (replicate count 0) result into.old.items into.new.items }
-{
-    into.extend_from_slice(&PADDING[..count])
 }
 
 /// The flags of a message that isn't fragmented.

@@ -1,108 +1,119 @@
-ghost use Rattle.std.specs.Prelude.{◌≡◌, ◌+◌, ◌<◌, ◌^◌, length, false, None, IfOk, IfErr, OnOk};
+ghost use Rattle.std.specs.Prelude.{◌≡◌, ◌+◌, ◌*◌, ◌<◌, ◌≤◌, ◌^◌, ◌∷◌, [], length, OnOk};
 ghost use Rattle.std.specs.List.{flat_map};
-ghost use Rattle.cdr_values.specs.Value.{has_nul};
-ghost use Rattle.giop_frames.specs.declared.fault.FrameFault.TheVariants.{Memory};
-ghost use Rattle.giop_frames.specs.Layout.{context_values, contexts_values};
-ghost use Rattle.giop_frames.specs.Encode.{field_values, fields_of, octets_in, octets_in_contexts, refusal_of, target_values, told_of, values_of};
-ghost use Rattle.giop_frames.specs.EncodeInside.{octets_in_field};
-ghost use Rattle.giop_frames.specs.Write.{Writes, ArePlain};
+ghost use Rattle.cdr_values.specs.Value.{Text};
+ghost use Rattle.giop_frames.specs.Limits.{context_limit};
+ghost use Rattle.giop_frames.specs.Layout.{context_values, contexts_values, layout};
+ghost use Rattle.giop_frames.specs.Encode.{contexts_refusal, field_refusal, field_values, fields_refusal, octets_in_contexts, octets_in_target, operation_refusal, target_refusal, target_values};
+ghost use Rattle.giop_frames.specs.EncodeInside.{fields_told, octets_in_field, octets_in_table, target_told};
+ghost use Rattle.giop_frames.specs.Put.{HasPut, Puts};
 
-use crate::fault::FrameFault;
-use crate::header::HEADER_LENGTH;
+use crate::fault::{CONTEXT_LIMIT, FrameFault, KEY_LIMIT, too_long};
 use crate::layout::{Field, KEY_ADDR, Version, layout};
-use crate::message::{Message, ServiceContext};
-use crate::told::{
-    contexts_of, flags_of, id_of, key_of, kind_of, operation_of, order_of, status_of,
-};
-use cdr_values::Writer;
-use ots_model::Octets;
-use std::alloc::Global;
+use crate::message::{ServiceContext, Target};
+use crate::sink::{FieldValue, Sink};
+use crate::told::Told;
+use cdr_values::CdrFault;
 
-/// The octets of the fields of a message that is not refused.
-pub fn fields_octets(
-    alloc: Global,
-    version: Version,
-    message: &Message,
-) -> Result<Octets, FrameFault>
-    requires small { octets_in message.now < 2 ^ 31 }
-    requires written { refusal_of version message.now ≡ None }
-    ensures ok { IfOk result (λ octets. octets ≡ fields_of version message.now) }
-    ensures plain { OnOk result (ArePlain (values_of version message.now)) }
-    ensures memory { IfErr result (λ fault. fault ≡ Memory) }
+/// Puts the fields of a message, in the order of the table of layouts, into a sink at their front: into one that counts
+/// for their size, and into one that writes for their octets. The first refusal is answered.
+pub fn put_fields(sink: &mut Sink, version: Version, told: &Told) -> Result<(), FrameFault>
+    requires front { sink.old.end ≡ 12 }
+    requires small { octets_in_table (fields_told told.now) (layout version told.now.kind) < 2 ^ 31 }
+    ensures puts { Puts (flat_map (field_values (fields_told told.now)) (layout version told.now.kind))
+        (fields_refusal (fields_told told.now) 12 (layout version told.now.kind)) result sink.old sink.new }
+    ensures within { OnOk result
+        (sink.new.end ≤ 2060 + octets_in_table (fields_told told.now) (layout version told.now.kind)) }
 {
-    let mut writer = Writer::new(alloc, order_of(message), HEADER_LENGTH as u32);
-    write_fields(&mut writer, version, message)?;
-    Ok(writer.finish())
-}
-
-fn write_fields(writer: &mut Writer, version: Version, message: &Message) -> Result<(), FrameFault>
-    requires small { octets_in message.now < 2 ^ 31 }
-    requires text { has_nul (told_of message.now).operation ≡ false }
-    ensures writes { Writes (values_of version message.now) result writer.old writer.new }
-    ensures plain { OnOk result (ArePlain (values_of version message.now)) }
-{
-    for field in layout(version, kind_of(message)) {
-        write_field(writer, message, *field)?;
+    for field in layout(version, told.kind) {
+        put_field(sink, told, *field)?;
     }
     Ok(())
 }
 
-/// Writes a field. A reserved octet is 0, and of a target other than a key nothing is written.
-fn write_field(writer: &mut Writer, message: &Message, field: Field) -> Result<(), FrameFault>
-    requires small { octets_in message.now < 2 ^ 31 }
-    requires text { has_nul (told_of message.now).operation ≡ false }
-    ensures writes { Writes (field_values (told_of message.now) field) result writer.old writer.new }
-    ensures plain { OnOk result (ArePlain (field_values (told_of message.now) field)) }
+/// Puts a field. A reserved octet is 0.
+fn put_field(sink: &mut Sink, told: &Told, field: Field) -> Result<(), FrameFault>
+    requires low { sink.old.end < 2 ^ 31 + 4096 }
+    requires small { octets_in_field (fields_told told.now) field < 2 ^ 31 }
+    ensures puts { Puts (field_values (fields_told told.now) field)
+        (field_refusal (fields_told told.now) sink.old.end field) result sink.old sink.new }
+    ensures within { OnOk result
+        (sink.new.end ≤ sink.old.end + octets_in_field (fields_told told.now) field + 256) }
 {
     match field {
-        Field::Id => Ok(writer.ulong(id_of(message))?),
-        Field::Flags => Ok(writer.octet(flags_of(message))?),
-        Field::Reserved => Ok(writer.octet(0)?),
-        Field::Status => Ok(writer.ulong(status_of(message))?),
-        Field::Target => write_target(writer, message),
-        Field::Operation => Ok(writer.string(operation_of(message))?),
-        Field::Contexts => write_contexts(writer, contexts_of(message)),
-    }
-}
-
-fn write_target(writer: &mut Writer, message: &Message) -> Result<(), FrameFault>
-    requires { octets_in message.now < 2 ^ 31 }
-    ensures writes { Writes (target_values (told_of message.now).target) result writer.old writer.new }
-    ensures plain { OnOk result (ArePlain (target_values (told_of message.now).target)) }
-{
-    if let Some(key) = key_of(message) {
-        writer.ushort(KEY_ADDR)?;
-        writer.octets(key)?;
+        Field::Id => sink.put(FieldValue::ULong(told.id)),
+        Field::Flags => sink.put(FieldValue::Octet(told.flags)),
+        Field::Reserved => sink.put(FieldValue::Octet(0)),
+        Field::Status => sink.put(FieldValue::ULong(told.status)),
+        Field::Target => return put_target(sink, told.target),
+        Field::Operation => return put_operation(sink, told.operation),
+        Field::Contexts => return put_contexts(sink, told.contexts),
     }
     Ok(())
 }
 
-fn write_contexts(writer: &mut Writer, contexts: &[ServiceContext]) -> Result<(), FrameFault>
-    requires { length contexts.now + octets_in_contexts contexts.now < 2 ^ 31 }
-    ensures writes { Writes (contexts_values contexts.now) result writer.old writer.new }
-    ensures plain { OnOk result (ArePlain (contexts_values contexts.now)) }
+/// Puts a target, which is written where it is a key.
+fn put_target(sink: &mut Sink, target: Option<&Target>) -> Result<(), FrameFault>
+    requires low { sink.old.end < 2 ^ 31 + 4096 }
+    requires small { octets_in_target (target_told target) < 2 ^ 31 }
+    ensures puts { Puts (target_values (target_told target.entry))
+        (target_refusal sink.old.end (target_told target.entry)) result sink.old sink.new }
+    ensures within { OnOk result (sink.new.end ≤ sink.old.end + octets_in_target (target_told target.entry) + 14) }
 {
-    writer.ulong(contexts.len() as u32)?;
-    write_each_context(writer, contexts)
+    let Some(Target::Key(key)) = target else {
+        return Err(FrameFault::NotWritten);
+    };
+    let key = key.bytes();
+    sink.put(FieldValue::UShort(KEY_ADDR));
+    if key.len() > KEY_LIMIT {
+        return Err(too_long(sink.end as u32, key.len() as u32));
+    }
+    sink.put(FieldValue::Octets(key));
+    Ok(())
 }
 
-fn write_each_context(writer: &mut Writer, contexts: &[ServiceContext]) -> Result<(), FrameFault>
-    requires { octets_in_contexts contexts.now < 2 ^ 31 }
-    ensures writes { Writes (flat_map context_values contexts.now) result writer.old writer.new }
-    ensures plain { OnOk result (ArePlain (flat_map context_values contexts.now)) }
+fn put_operation(sink: &mut Sink, operation: &[u8]) -> Result<(), FrameFault>
+    requires low { sink.old.end < 2 ^ 31 + 4096 }
+    requires small { length operation.now < 2 ^ 31 }
+    ensures puts { Puts (Text operation.now ∷ []) (operation_refusal sink.old.end operation.now)
+        result sink.old sink.new }
+    ensures within { OnOk result (sink.new.end ≤ sink.old.end + length operation.now + 12) }
+{
+    if operation.contains(&0) {
+        let place = sink.end as u32;
+        return Err(FrameFault::Body {
+            place,
+            cdr: CdrFault::BadString(place),
+        });
+    }
+    sink.put(FieldValue::Text(operation));
+    Ok(())
+}
+
+/// Puts the count of the contexts, and the contexts.
+fn put_contexts(sink: &mut Sink, contexts: &[ServiceContext]) -> Result<(), FrameFault>
+    requires low { sink.old.end < 2 ^ 31 + 4096 }
+    requires small { octets_in_contexts contexts.now + length contexts.now < 2 ^ 31 }
+    ensures puts { Puts (contexts_values contexts.now) (contexts_refusal sink.old.end contexts.now)
+        result sink.old sink.new }
+    ensures within { OnOk result (sink.new.end ≤ sink.old.end + octets_in_contexts contexts.now + 256) }
+{
+    if contexts.len() > CONTEXT_LIMIT as usize {
+        return Err(too_long(sink.end as u32, contexts.len() as u32));
+    }
+    sink.put(FieldValue::ULong(contexts.len() as u32));
+    put_each_context(sink, contexts);
+    Ok(())
+}
+
+fn put_each_context(sink: &mut Sink, contexts: &[ServiceContext])
+    requires few { length contexts.now ≤ context_limit }
+    requires low { sink.old.end < 2 ^ 32 }
+    requires small { octets_in_contexts contexts.now < 2 ^ 31 }
+    ensures puts { HasPut (flat_map context_values contexts.now) sink.old sink.new }
+    ensures within { sink.new.end ≤ sink.old.end + octets_in_contexts contexts.now + 14 * length contexts.now }
 {
     for context in contexts {
-        write_context(writer, context)?;
+        sink.put(FieldValue::ULong(context.id));
+        sink.put(FieldValue::Octets(context.bytes.bytes()));
     }
-    Ok(())
-}
-
-fn write_context(writer: &mut Writer, context: &ServiceContext) -> Result<(), FrameFault>
-    requires { length context.now.bytes < 2 ^ 31 }
-    ensures writes { Writes (context_values context.now) result writer.old writer.new }
-    ensures plain { OnOk result (ArePlain (context_values context.now)) }
-{
-    writer.ulong(context.id)?;
-    writer.octets(context.bytes.bytes())?;
-    Ok(())
 }

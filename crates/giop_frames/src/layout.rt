@@ -1,8 +1,9 @@
 ghost use Rattle.std.specs.Prelude.{◌≡◌, ◌<◌, ◌≤◌};
 ghost use Rattle.giop_frames.specs.Header.{profile_versions};
-ghost use Rattle.giop_frames.specs.Layout.{body_alignment, layout};
+ghost use Rattle.giop_frames.specs.Layout.{body_alignment, layout, tail_gap};
 
 use crate::header::Kind;
+use cdr_values::gap_before;
 
 /// A version of GIOP whose messages are known.
 #[derive(Clone, Copy)]
@@ -81,8 +82,19 @@ pub fn layout(version: Version, kind: Kind) -> &'static [Field]
     }
 }
 
+/// The padding in front of what a message keeps behind its fields, which end at this place.
+pub fn tail_gap(version: Version, kind: Kind, place: usize) -> usize
+    ensures same { result ≡ tail_gap version kind place }
+    ensures within { result < 8 }
+{
+    match kind {
+        Kind::Request | Kind::Reply => gap_before(body_alignment(version), place),
+        _ => 0,
+    }
+}
+
 /// The body of a Request and of a Reply stands at a multiple of this.
-pub fn body_alignment(version: Version) -> usize
+fn body_alignment(version: Version) -> usize
     ensures same { result ≡ body_alignment version }
     ensures within { (0 < result) × (result ≤ 8) }
 {

@@ -29,7 +29,7 @@ mod laws;
 mod layout;
 mod message;
 mod parts;
-mod sizes;
+mod sink;
 mod stream;
 mod stream_laws;
 mod told;

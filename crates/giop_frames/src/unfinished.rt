@@ -1,10 +1,10 @@
-ghost use Rattle.std.specs.Prelude.{◌≡◌, ◌<◌, ◌≤◌, ◌++◌, true, false, Err, IfErr, IfOk, OnErr, OnOk, Ok, None, Some, length};
+ghost use Rattle.std.specs.Prelude.{◌≡◌, ◌<◌, ◌≤◌, ◌++◌, true, false, IfErr, IfOk, OnErr, OnOk, Ok, None, Some, length, vec_capacity};
 ghost use Rattle.giop_frames.specs.Limits.{size_limit};
-ghost use Rattle.giop_frames.specs.Fault.{Fails, IfRefused};
+ghost use Rattle.giop_frames.specs.Fault.{Fails};
 ghost use Rattle.giop_frames.specs.Header.{is_fragment};
 ghost use Rattle.giop_frames.specs.Walk.{IsAsFar, IsWalked, wants_octets};
 ghost use Rattle.giop_frames.specs.Stream.{begun_as, joined, message_by, part_of, so_far, with_more};
-ghost use Rattle.giop_frames.specs.StreamInside.{IsTooLarge, limited_so_far};
+ghost use Rattle.giop_frames.specs.StreamInside.{WantsRoom, limited_so_far};
 
 use crate::content::finish_message;
 use crate::fault::{FrameFault, SIZE_LIMIT};
@@ -92,6 +92,8 @@ impl Unfinished {
         ensures after { OnOk result (self.new ≡ with_more octets.now self.old) }
         ensures short { length self.new.content ≤ size_limit }
         ensures refused { IfErr result (λ fault. Fails fault (joined true octets.now self.old)) }
+        ensures memory { IfErr result (λ fault. fault ≡ FrameFault.Memory →
+            length (self.old.content ++ octets.now) ≤ size_limit) }
         ensures err { OnErr result (self.new ≡ self.old) }
     {
         let mut walk = self.walk;
@@ -106,6 +108,8 @@ impl Unfinished {
         requires octets { length octets.now ≤ size_limit }
         ensures says { IfOk result (λ framed. joined false octets.now self.old ≡ Ok (Some framed)) }
         ensures refused { IfErr result (λ fault. Fails fault (joined false octets.now self.old)) }
+        ensures memory { IfErr result (λ fault. fault ≡ FrameFault.Memory →
+            length (self.old.content ++ octets.now) ≤ size_limit) }
         ensures err { OnErr result (self.new ≡ self.old) }
     {
         let before = self.content.len();
@@ -119,7 +123,8 @@ impl Unfinished {
 }
 
 /// More octets of a message have come behind its content, and a walk that stood where octets were wanting goes on over
-/// them. That octets are wanting still is no fault; after one the content is as it was.
+/// them. That octets are wanting still is no fault; after one the content is as it was. A message has at most 65,536
+/// octets (our profile).
 fn go_so_far(
     walk: &mut Walk,
     header: Header,
@@ -137,10 +142,16 @@ fn go_so_far(
     ensures far { OnOk result (IsAsFar header content.new.items walk.new) }
     ensures says { OnOk result (limited_so_far header (content.old.items ++ octets.now) ≡ Ok None) }
     ensures refused { IfErr result (λ fault. Fails fault (limited_so_far header (content.old.items ++ octets.now))) }
+    ensures memory { IfErr result (λ fault. fault ≡ FrameFault.Memory →
+        WantsRoom (vec_capacity content.old) content.old.items octets.now) }
     ensures err { OnErr result (content.new.items ≡ content.old.items) }
 {
     let before = content.len();
-    append(content, octets)?;
+    let joined = before + octets.len();
+    if joined > SIZE_LIMIT {
+        return Err(FrameFault::TooLarge(joined as u32));
+    }
+    content.extend_from_slice(octets)?;
     match walk.go_on(header, content) {
         Err(fault) if !wants_octets(fault) => {
             content.truncate(before);
@@ -160,21 +171,4 @@ fn wants_octets(fault: FrameFault) -> bool
             ..
         }
     )
-}
-
-/// Appends octets of a message, which is 65,536 octets long at most (our profile).
-fn append(content: &mut Vec<u8>, octets: &[u8]) -> Result<(), FrameFault>
-    requires content { length content.old.items ≤ size_limit }
-    requires octets { length octets.now ≤ size_limit }
-    ensures ok { OnOk result (content.new.items ≡ content.old.items ++ octets.now) }
-    ensures short { length content.new.items ≤ size_limit }
-    ensures refused { IfRefused result (IsTooLarge (content.old.items ++ octets.now)) }
-    ensures err { OnErr result (content.new.items ≡ content.old.items) }
-{
-    let joined = content.len() + octets.len();
-    if joined > SIZE_LIMIT {
-        return Err(FrameFault::TooLarge(joined as u32));
-    }
-    content.extend_from_slice(octets)?;
-    Ok(())
 }

@@ -1,6 +1,7 @@
 use Rattle.std.proofs.lemmas.Result.{err_from_is_err_and}
 use Rattle.giop_frames.proofs.Loops.{fails_from, told_from}
 use Rattle.giop_frames.proofs.Walking.{message_fails}
+use Rattle.giop_frames.proofs.Near.{message_found}
 use Rattle.giop_frames.proofs.content.read_message.Goals as goal
 
 pub go_on-requires-clause-walked : goal.go_on-requires-clause-walked
@@ -37,3 +38,12 @@ returns-clause-told c = c.finish_message.ensures.told
 
 pub returns-clause-start : goal.returns-clause-start
 returns-clause-start c = c.finish_message.ensures.start
+
+pub returns-in_err-go_on-clause-memory : goal.returns-in_err-go_on-clause-memory
+returns-in_err-go_on-clause-memory c =
+    let p = err_from_is_err_and c.from_residual.result c.from_residual.ensures.1 in
+    let fault = c.in_err-go_on.field-0.0 in
+    rw (p.1, p.2) (λ e. message_found c.args.header c.args.content.now c.go_on.new.self c.in_err-go_on.ensures.far (rw (message_fails c.args.header c.args.content.now fault c.in_err-go_on.ensures.fault) e))
+
+pub returns-clause-memory : goal.returns-clause-memory
+returns-clause-memory c = c.finish_message.ensures.memory

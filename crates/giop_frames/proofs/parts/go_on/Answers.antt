@@ -53,7 +53,7 @@ returns-in_err-go_on c =
       says = tt;
       after = tt;
       refused = fails_on c.in_err-go_on.field-0.0 _ (judged messages place part) (λ e. says place ∙ e) c.in_err-go_on.ensures.refused;
-      memory = λ e. wants_fragment messages part c.in-Some.index fragment at;
+      memory = λ e. wants_fragment messages part c.in-Some.index first c.behind-octets.result.now fragment at c.index_mut-first.ensures.value c.behind-octets.ensures (c.in_err-go_on.ensures.memory e);
       err = same;
       short = subst AreShort (sym same) c.requires.unfinished;
     })
@@ -92,7 +92,7 @@ returns-in_err-framed c =
       says = tt;
       after = tt;
       refused = fails_on c.in_err-framed.field-0.0 _ (judged messages place part) (λ e. says place ∙ e) c.in_err-framed.ensures.refused;
-      memory = λ e. wants_fragment messages part c.in-Some.index fragment at;
+      memory = λ e. wants_fragment messages part c.in-Some.index first c.behind-octets.result.now fragment at c.index_mut-first.ensures.value c.behind-octets.ensures (c.in_err-framed.ensures.memory e);
       err = same;
       short = subst AreShort (sym same) c.requires.unfinished;
     })

@@ -3,7 +3,7 @@ use Rattle.std.proofs.lemmas.Result.{err_from_is_err_and}
 use Rattle.giop_frames.specs.Header.{is_fragment}
 use Rattle.giop_frames.specs.Held.{AreShort}
 use Rattle.giop_frames.specs.Stream.{Part, judged, message_by, part_of, whole}
-use Rattle.giop_frames.proofs.Loops.{fails_on, told_memory}
+use Rattle.giop_frames.proofs.Loops.{fails_on}
 use Rattle.giop_frames.proofs.Judging.{after_first, after_whole, judged_first, judged_whole, short_begun, wants_first, wants_whole}
 use Rattle.giop_frames.proofs.parts.judge.Goals as goal
 
@@ -52,7 +52,7 @@ returns-in_err-found c =
       says = tt;
       after = tt;
       refused = fails_on fault read (judged messages c.args.place part) (λ e. judged_whole messages c.args.place part first c.if-header.false ∙ ap (whole c.args.place c.args.header _) e) c.in_err-found.ensures.message;
-      memory = λ e. wants_whole messages part first c.if-header.false (told_memory _ fault read e c.in_err-found.ensures.told);
+      memory = λ e. wants_whole messages part first c.if-header.false (c.in_err-found.ensures.memory e);
       err = refl;
       short = c.requires.unfinished;
     })
