@@ -4,8 +4,8 @@ ghost use Rattle.ots_program.specs.Show.{Shows};
 ghost use Rattle.ots_program.specs.Words.{IsReplay, IsShow, IsUsage, command_of};
 
 use crate::devices::{Devices, Word};
-use crate::replay::replay;
-use crate::show::show;
+use crate::replay::replay_script;
+use crate::show::show_messages;
 use crate::status::Status;
 use ots_outside::{Sink, Source};
 use std::alloc::Global;
@@ -67,8 +67,8 @@ pub fn run<R: Wait, S: Source, K: Sink>(
         return Status::Usage;
     };
     match command {
-        Command::Replay => replay(alloc, &mut devices.source, &mut devices.sink),
-        Command::Show => show(rt, alloc, &mut devices.source, &mut devices.sink),
+        Command::Replay => replay_script(alloc, &mut devices.source, &mut devices.sink),
+        Command::Show => show_messages(rt, alloc, &mut devices.source, &mut devices.sink),
     }
 }
 
@@ -98,7 +98,7 @@ pub fn run_plain<S: Source, K: Sink>(
     ensures write_fault { HasWriteFault result (K.faults sink.old) (K.faults sink.new) }
 {
     match Command::of(words) {
-        Some(Command::Replay) => replay(alloc, source, sink),
+        Some(Command::Replay) => replay_script(alloc, source, sink),
         Some(Command::Show) => unreachable!(),
         None => Status::Usage,
     }

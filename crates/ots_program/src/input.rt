@@ -1,4 +1,4 @@
-ghost use Rattle.std.specs.Prelude.{◌≡◌, ◌≤◌, length, IfOk, OnErr};
+ghost use Rattle.std.specs.Prelude.{◌≡◌, ◌≤◌, ℕ, List, Option, length, IfOk, OnErr};
 ghost use Rattle.ots_outside.specs.Source.{CountsWithin, GivesOf, HasRisen};
 ghost use Rattle.ots_program.specs.Limits.{piece_limit};
 
@@ -7,16 +7,32 @@ use ots_outside::{Failed, Source};
 /// How many octets are read at once.
 pub const PIECE: usize = 8_192;
 
-/// Reads a piece of the source into the front of the room, and says how many octets it has. 0 is the end, where there
-/// is room.
-pub fn read_piece<S: Source>(source: &mut S, room: &mut [u8]) -> Result<usize, Failed>
-    requires few { length room.old ≤ piece_limit }
-    ensures count { CountsWithin result room.old }
-    ensures octets { IfOk result (λ n.
-        GivesOf (S.remaining source.old) (length room.old) n room.new (S.remaining source.new)) }
-    ensures untouched { OnErr result (S.remaining source.new ≡ S.remaining source.old) }
-    ensures cause { OnErr result (HasRisen (S.faults source.old) (S.faults source.new)) }
-    ensures later { S.faults source.old ≤ S.faults source.new }
-{
-    source.read(room)
+/// Where the octets of a script or of a stream come from, in pieces of at most 8,192.
+pub trait Pieces {
+    /// How often it has failed.
+    ghost faults: { Self → ℕ };
+
+    /// The octets that are left, where it tells them.
+    ghost remaining: { Self → Option (List ℕ) };
+
+    /// Reads a piece into the front of the room, and says how many octets it has. 0 is the end, where there is room. No
+    /// more than 8,192 may be asked for.
+    fn read_piece(&mut self, room: &mut [u8]) -> Result<usize, Failed>
+        requires few { length room.old ≤ piece_limit }
+        ensures count { CountsWithin result room.old }
+        ensures octets { IfOk result (λ n.
+            GivesOf (remaining self.old) (length room.old) n room.new (remaining self.new)) }
+        ensures untouched { OnErr result (remaining self.new ≡ remaining self.old) }
+        ensures cause { OnErr result (HasRisen (faults self.old) (faults self.new)) }
+        ensures later { faults self.old ≤ faults self.new };
+}
+
+impl<S: Source> Pieces for S {
+    ghost faults = { S.faults };
+
+    ghost remaining = { S.remaining };
+
+    fn read_piece(&mut self, room: &mut [u8]) -> Result<usize, Failed> {
+        self.read(room)
+    }
 }

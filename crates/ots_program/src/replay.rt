@@ -5,19 +5,19 @@ ghost use Rattle.ots_program.specs.Limits.{piece_limit};
 ghost use Rattle.ots_program.specs.PlayingInside.{left};
 ghost use Rattle.ots_program.specs.ReplayInside.{BreaksOff, Halts, IsReady, PlaysPiece};
 
-use crate::input::{PIECE, read_piece};
+use crate::input::{PIECE, Pieces};
 use crate::output::write_out;
 use crate::player::Player;
 use crate::status::Status;
-use ots_outside::{Sink, Source};
+use ots_outside::Sink;
 use ots_world::lines_agree;
 use std::alloc::Global;
 
-/// Replays the script on the source. Its lines go to the sink.
-pub fn replay<S: Source, K: Sink>(alloc: Global, source: &mut S, sink: &mut K) -> Status
-    ensures replays { Replays result (S.remaining source.old) (K.taken sink.old) (K.taken sink.new) }
-    ensures end { IsDoneAtEnd result (S.remaining source.old) (S.remaining source.new) }
-    ensures read_fault { HasReadFault result (S.faults source.old) (S.faults source.new) }
+/// Replays the script on the source, of which it reads at most 8,192 octets at once. Its lines go to the sink.
+pub fn replay_script<P: Pieces, K: Sink>(alloc: Global, source: &mut P, sink: &mut K) -> Status
+    ensures replays { Replays result (P.remaining source.old) (K.taken sink.old) (K.taken sink.new) }
+    ensures end { IsDoneAtEnd result (P.remaining source.old) (P.remaining source.new) }
+    ensures read_fault { HasReadFault result (P.faults source.old) (P.faults source.new) }
     ensures write_fault { HasWriteFault result (K.faults sink.old) (K.faults sink.new) }
 {
     // The law by which the lines are safe.
@@ -25,7 +25,7 @@ pub fn replay<S: Source, K: Sink>(alloc: Global, source: &mut S, sink: &mut K) -
     let mut player = Player::new(alloc);
     let mut room = [0; PIECE];
     loop {
-        let Ok(count) = read_piece(source, &mut room) else {
+        let Ok(count) = source.read_piece(&mut room) else {
             return Status::ReadFault;
         };
         if count == 0 {

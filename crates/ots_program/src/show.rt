@@ -9,25 +9,25 @@ ghost use Rattle.ots_program.specs.Limits.{piece_limit};
 ghost use Rattle.ots_program.specs.MessageLine.{message_line};
 ghost use Rattle.ots_program.specs.MessageLineInside.{Adds};
 
-use crate::input::{PIECE, read_piece};
+use crate::input::{PIECE, Pieces};
 use crate::message_line::write_message_line;
 use crate::output::write_out;
 use crate::status::Status;
 use giop_frames::{FrameFault, Framed, Stream, a_refusal_stays};
-use ots_outside::{Sink, Source};
+use ots_outside::Sink;
 use std::alloc::Global;
 use std::sync::Wait;
 
-/// Writes a line for each message of the source.
-pub fn show<R: Wait, S: Source, K: Sink>(
+/// Writes a line for each message of the source, of which it reads at most 8,192 octets at once.
+pub fn show_messages<R: Wait, P: Pieces, K: Sink>(
     rt: &R,
     alloc: Global,
-    source: &mut S,
+    source: &mut P,
     sink: &mut K,
 ) -> Status
-    ensures shows { Shows result (S.remaining source.old) (K.taken sink.old) (K.taken sink.new) }
-    ensures end { IsDoneAtEnd result (S.remaining source.old) (S.remaining source.new) }
-    ensures read_fault { HasReadFault result (S.faults source.old) (S.faults source.new) }
+    ensures shows { Shows result (P.remaining source.old) (K.taken sink.old) (K.taken sink.new) }
+    ensures end { IsDoneAtEnd result (P.remaining source.old) (P.remaining source.new) }
+    ensures read_fault { HasReadFault result (P.faults source.old) (P.faults source.new) }
     ensures write_fault { HasWriteFault result (K.faults sink.old) (K.faults sink.new) }
 {
     // The law by which what is refused in a piece is refused in the whole.
@@ -35,7 +35,7 @@ pub fn show<R: Wait, S: Source, K: Sink>(
     let mut stream = Stream::new(alloc);
     let mut room = [0; PIECE];
     for _ in rt.forever() {
-        let Ok(count) = read_piece(source, &mut room) else {
+        let Ok(count) = source.read_piece(&mut room) else {
             return Status::ReadFault;
         };
         if count == 0 {

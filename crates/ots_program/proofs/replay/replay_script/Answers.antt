@@ -1,11 +1,11 @@
 use Rattle.std.proofs.Common.{arith}
 use Rattle.ots_program.proofs.Runs.{Replays-broken, Replays-ended, Replays-read, Runs-more, Runs-start}
-use Rattle.ots_program.proofs.replay.replay.Goals as goal
+use Rattle.ots_program.proofs.replay.replay_script.Goals as goal
 
 pub loop-count-init : goal.loop-count-init
 loop-count-init g c = record {
   ready = record { plays = c.new-player.ensures.plays; written = c.new-player.ensures.output };
-  runs = Runs-start c.new-player.result (g.S.Source.remaining c.args.source.now) (g.K.Sink.taken c.args.sink.now) c.new-player.ensures.left;
+  runs = Runs-start c.new-player.result (g.P.Pieces.remaining c.args.source.now) (g.K.Sink.taken c.args.sink.now) c.new-player.ensures.left;
   source_faults = omega arith;
   sink_faults = omega arith;
 }

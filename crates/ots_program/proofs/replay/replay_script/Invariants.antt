@@ -3,13 +3,13 @@ use Rattle.ots_program.specs.Limits.{octets_limit}
 use Rattle.ots_program.specs.PlayingInside.{octets_fed}
 use Rattle.ots_program.specs.ReplayInside.{IsReady}
 use Rattle.ots_program.proofs.Runs.{Runs}
-use Rattle.ots_program.proofs.replay.replay.Given as goal
+use Rattle.ots_program.proofs.replay.replay_script.Given as goal
 
 abbrev pub invariant-loop-count : goal.invariant-loop-count
 invariant-loop-count g l = record {
   ready : IsReady l.player;
-  runs : Runs l.player (g.S.Source.remaining l.fn.source) (g.S.Source.remaining l.source) (g.K.Sink.taken l.fn.sink) (g.K.Sink.taken l.sink);
-  source_faults : g.S.Source.faults l.fn.source ≤ g.S.Source.faults l.source;
+  runs : Runs l.player (g.P.Pieces.remaining l.fn.source) (g.P.Pieces.remaining l.source) (g.K.Sink.taken l.fn.sink) (g.K.Sink.taken l.sink);
+  source_faults : g.P.Pieces.faults l.fn.source ≤ g.P.Pieces.faults l.source;
   sink_faults : g.K.Sink.faults l.fn.sink ≤ g.K.Sink.faults l.sink;
 }
 

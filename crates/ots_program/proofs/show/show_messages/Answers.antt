@@ -2,13 +2,13 @@ use Rattle.std.proofs.Common.{ap, ◌∙◌, arith}
 use Rattle.giop_frames.specs.Held.{Held}
 use Rattle.giop_frames.specs.Stream.{part_at}
 use Rattle.ots_program.proofs.Showing.{nothing_partial, read_to_end, showing_broke, showing_ended, showing_failed, showing_more, showing_start}
-use Rattle.ots_program.proofs.show.show.Goals as goal
+use Rattle.ots_program.proofs.show.show_messages.Goals as goal
 
 pub loop-init : goal.loop-init
 loop-init g c = record {
   accepts = ap (λ (h : Held). h.refused) c.new-stream.ensures.nothing;
   partial = ap (λ (h : Held). part_at h.versions h.rest) c.new-stream.ensures.nothing ∙ nothing_partial;
-  showing = showing_start (g.S.Source.remaining c.args.source.now) (g.K.Sink.taken c.args.sink.now) c.new-stream.result c.new-stream.ensures.holds;
+  showing = showing_start (g.P.Pieces.remaining c.args.source.now) (g.K.Sink.taken c.args.sink.now) c.new-stream.result c.new-stream.ensures.holds;
   source_faults = omega arith;
   sink_faults = omega arith;
 }
