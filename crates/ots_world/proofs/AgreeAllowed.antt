@@ -12,7 +12,6 @@ use Rattle.ots_model.specs.declared.line.Line.{Line}
 use Rattle.ots_model.specs.declared.line.Line.TheVariants as lines
 use Rattle.ots_model.specs.Safe as safe
 use Rattle.ots_model.specs.Safe.{Stands, IsSent, IsToldCommit, IsToldRollback, HasConsented, IsRegistered, IsOf, IsJoined, IsUpFrom, IsUnder, IsDecided, TakesPart}
-use Rattle.ots_model.specs.SafeByLine as line
 use Rattle.ots_model.specs.SafeByLine.{CanApply, CanUndo, CanRegister, IsAllowed, IsCommittedBy, IsNew}
 use Rattle.two_phase.specs.Laws.{AllConsent, IsRollback}
 use Rattle.two_phase.specs.Poll.{Poll, outcome}

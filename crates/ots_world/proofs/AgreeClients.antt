@@ -4,7 +4,6 @@ use Rattle.std.specs.Prelude.{is_none}
 use Rattle.std.specs.List.{slice_get, filter_map, cons_option}
 use Rattle.std.specs.Option.{option_map}
 use Rattle.ots_model.specs.declared.line.Operation.TheVariants as operations
-use Rattle.ots_model.specs.declared.response.Exception.TheVariants as exceptions
 use Rattle.ots_model.specs.declared.response.Response.TheVariants as responses
 use Rattle.ots_model.specs.declared.line.Line.{Line}
 use Rattle.ots_model.specs.declared.line.Line.TheVariants as lines

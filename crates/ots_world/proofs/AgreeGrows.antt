@@ -7,7 +7,6 @@ use Rattle.ots_model.specs.declared.completion.Vote.TheVariants.{VoteCommit, Vot
 use Rattle.ots_model.specs.declared.completion.Word.{Word}
 use Rattle.ots_model.specs.declared.completion.Word.TheVariants as words
 use Rattle.ots_model.specs.declared.response.Response.{Response}
-use Rattle.ots_model.specs.declared.response.Exception.TheVariants as exceptions
 use Rattle.ots_model.specs.declared.response.Response.TheVariants as responses
 use Rattle.ots_model.specs.declared.line.ResourceState.{ResourceState}
 use Rattle.ots_model.specs.declared.line.ResourceState.TheVariants as states

@@ -13,7 +13,7 @@ use Rattle.ots_world.specs.Board.{Board, Effects, next_message, sending, with_tr
 use Rattle.ots_world.specs.Clients.{call_message, first_number, participants, commits_with}
 use Rattle.ots_world.specs.Does.{Tells, TellsPart, Does}
 use Rattle.ots_world.proofs.DoesLemmas.{does_then, part_of_first}
-use Rattle.ots_world.proofs.ClientsGrow.{goes_on_grows}
+use Rattle.ots_world.proofs.Grows.{grows, goes_on_leads}
 
 -- the call goes out, and the completion begins
 abbrev pub commit_call : ℕ → Transaction → Board → Effects
@@ -30,7 +30,8 @@ module _ (place : ℕ) (t : Transaction) (b : Board) where
   pub commit_sends : length b.messages < length (commits_with place t b).board.messages
   commit_sends =
       let more = length-append b.messages (call_message operations.Commit place ∷ []) in
-      omega (arith, goes_on_grows place (commit_call place t b).board, more)
+      let first = (commit_call place t b).board in
+      omega (arith, grows first (goes_on place first) (goes_on_leads place first), more)
 
   -- the board once the call is out, in the order of the code
   pub commit_board : (u : Transaction) (called : Board) (message : ℕ) (completion : Progress)

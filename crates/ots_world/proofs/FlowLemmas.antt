@@ -2,9 +2,9 @@
 use Rattle.std.proofs.Common.{◌≡◌, ℕ, ◌+◌, ◌-◌, ◌<◌, ◌≤◌, zero, suc, Bool, true, false, not, List, [], ◌∷◌, ◌++◌, length, take, Option, Some, None, Result, Ok, Err, get_or, refl, sym, ap, subst, ◌∙◌, arith, append_assoc}
 use Rattle.std.specs.List.{list_any}
 use Rattle.std.proofs.lemmas.List.Quantifiers.{position-Some}
+use Rattle.std.proofs.lemmas.Option.{none-some}
 use Rattle.ots_model.specs.declared.line.Line.{Line}
 use Rattle.ots_model.specs.Line.{text_of}
-use Rattle.ots_model.specs.declared.response.Exception.TheVariants as exceptions
 use Rattle.ots_model.specs.declared.response.Response.TheVariants as responses
 use Rattle.ots_world.specs.declared.board.Content.TheVariants.{Reply}
 use Rattle.ots_world.specs.declared.board.Message.{Message}
@@ -19,8 +19,7 @@ use Rattle.ots_world.specs.Stands.{Carries}
 use Rattle.ots_world.specs.World.{World, Stepped, Moves, in_world, flow}
 use Rattle.ots_world.proofs.StateLemmas.{carries_does}
 use Rattle.ots_world.proofs.DoesLemmas.{does_stop, part_behind, text-append, append_nil}
-use Rattle.ots_world.proofs.Grows.{flows_grows, delivers_grows, delivers_keeps}
-use Rattle.ots_world.proofs.Cells.{delivers_keeps_cells}
+use Rattle.ots_world.proofs.Grows.{flows_grows, delivers_grows, delivers_keeps, delivers_leads}
 use Rattle.ots_world.specs.Claim.{is_claim, holds_cell}
 
 some_message : Message
@@ -50,6 +49,26 @@ pub lowest_front : (b : Board) (place : ℕ) → lowest b ≡ Some place → All
 unfolding lowest
 lowest_front b place is = front place b.messages (position-Some (λ m. not m.delivered) b.messages place some_message is).2
 
+-- and so each of the first ones that were delivered is before it
+behind_delivered : (n : ℕ) (messages : List Message) (place : ℕ) → AllDelivered (take n messages) → place < length messages
+    → not (get_or messages place some_message).delivered ≡ true → n ≤ place
+behind_delivered zero messages place all within waits = omega arith
+behind_delivered (suc n) [] place all within waits = absurd (omega arith)
+behind_delivered (suc n) (m ∷ messages) zero all within waits = absurd (both_not m.delivered all.0 waits)
+  where
+    both_not : (d : Bool) → d ≡ true → not d ≡ true → ⊥
+    both_not true h waits = cc waits
+    both_not false h waits = cc h
+behind_delivered (suc n) (m ∷ messages) (suc place) all within waits =
+    let less = behind_delivered n messages place all.1 (omega arith) waits in
+    omega (arith, less)
+
+lowest_behind : (n : ℕ) (b : Board) (place : ℕ) → AllDelivered (take n b.messages) → lowest b ≡ Some place → n ≤ place
+unfolding lowest
+lowest_behind n b place all is =
+    let found = position-Some (λ m. not m.delivered) b.messages place some_message is in
+    behind_delivered n b.messages place all found.0 found.1
+
 -- what is kept beside the board agrees with it once the lowest message was delivered
 pub delivered_indexed : (s new : State) (place : ℕ) → IsIndexed s → lowest s.board ≡ Some place
     → new.board ≡ (delivers place s.board).board → new.delivered ≡ place + 1 → new.claims ≡ s.claims → IsIndexed new
@@ -57,12 +76,23 @@ delivered_indexed s new place h is board delivered claims =
     let within = lowest_within s.board place is in
     let after = (delivers place s.board).board in
     let kept = delivers_keeps place s.board within (lowest_front s.board place is) in
+    let leads = delivers_leads place s.board in
     let P : Board → Type 0 = λ b. AllDelivered (take (place + 1) b.messages) in
     record {
       within = omega (arith, within, delivers_grows place s.board, ap (λ (b : Board). length b.messages) board, delivered);
       delivered = rw delivered (subst P (sym board) kept);
-      claims = λ end cell. ap (list_any (is_claim end cell)) claims ∙ h.claims end cell ∙ sym (delivers_keeps_cells place s.board end cell)
+      claims = λ end cell. ap (list_any (is_claim end cell)) claims ∙ h.claims end cell ∙ sym (leads.cells end cell)
           ∙ ap (λ (b : Board). list_any (holds_cell end cell) b.resources) (sym board);
+      records = omega (
+        arith,
+        h.records,
+        leads.records,
+        delivers_grows place s.board,
+        delivered,
+        lowest_behind s.delivered s.board place h.delivered is,
+        ap (λ (b : Board). length b.messages) board,
+        ap (λ (b : Board). length b.records) board,
+      );
     }
 
 -- A run of deliveries so far, out of so many: what is left does the rest, and these lines were told.
@@ -147,6 +177,8 @@ pub record IsFlowing (start now : State) (count left : ℕ) (before after : List
   pub indexed : IsIndexed now
   pub same : shown now ≡ record (shown start) { board = now.board }
   pub flows : Flows start.board count now.board left before after
+  -- where there was none to deliver, nothing has happened
+  pub still : lowest start.board ≡ None → now ≡ start
 
 -- before the first turn
 pub flowing_first : (start : State) (count : ℕ) (before : List ℕ) → IsIndexed start → IsFlowing start start count (count - 0) before before
@@ -155,6 +187,7 @@ flowing_first start count before h = record {
   same = refl;
   flows = let P : ℕ → Type 0 = λ n. Flows start.board count start.board n before before in
       let none : count ≡ count - 0 = omega arith in subst P none (flows_start start.board count before);
+  still = λ none. refl;
 }
 
 -- one more left than behind the next turn
@@ -167,6 +200,10 @@ turned start now count turn before after less h =
     let P : ℕ → Type 0 = λ n. Flows start.board count now.board n before after in
     subst P (one_left count turn less) h.flows
 
+-- none is the lowest where there was none, and nothing has happened
+none_lowest : (start now : State) (place : ℕ) → now ≡ start → lowest start.board ≡ None → lowest now.board ≡ Some place → ⊥
+none_lowest start now place same none some = none-some place (sym none ∙ ap (λ (s : State). lowest s.board) (sym same) ∙ some)
+
 -- a turn that delivers keeps it
 pub flowing_more : (start now new : State) (count turn : ℕ) (before mid after : List ℕ) (delivered : Bool) → turn < count
     → IsFlowing start now count (count - turn) before mid → delivered ≡ true → DeliversLowest now new mid after (Ok delivered)
@@ -177,6 +214,7 @@ flowing_more start now new count turn before mid after delivered less h is does 
       indexed = d.4;
       same = d.3 ∙ ap (λ (w : World). record w { board = new.board }) h.same;
       flows = flows_more start.board count now.board (count - (turn + 1)) before mid (turned start now count turn before mid less h) d.0 d.1 new.board after d.2;
+      still = λ none. absurd (none_lowest start now d.0 (h.still none) none d.1);
     }
 
 -- effects on the board of a world carry out the line, by what they answer
@@ -230,3 +268,8 @@ flowing_stop start now new count turn before mid after fault r less h does is =
     let d = flows_stop start.board count now.board (count - (turn + 1)) before mid (turned start now count turn before mid less h) does.0 does.1 new.board after fault does.2 in
     let P : Result (Unit {0}) WorldFault → Type 0 = λ x. Carries (flow count (shown start)) (shown start) (shown new) before after x in
     subst P (sym is) (stopped _ (flows count start.board) (shown start) (shown new) new.board before after fault (flow_moves count (shown start)) d)
+
+-- no turn stops inside a delivery where there was none to deliver
+pub flowing_quiet : (start now new : State) (count left : ℕ) (before mid after : List ℕ) (fault : WorldFault)
+    → IsFlowing start now count left before mid → DeliversLowest now new mid after (Err fault) → lowest start.board ≡ None → ⊥
+flowing_quiet start now new count left before mid after fault h does none = none_lowest start now does.0 (h.still none) none does.1

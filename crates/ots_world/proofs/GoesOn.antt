@@ -1,5 +1,5 @@
 -- A world's lines stay safe, from what a step says of the world and the lines.
-use Rattle.std.proofs.Common.{◌≡◌, ℕ, ◌⊎◌, List, [], ◌∷◌, ◌++◌, take, drop, Result, Ok, Err, IfErr, OnOk, IsErrOf, refl, sym, ap, subst, ◌∙◌, append_assoc, ⊎_elim}
+use Rattle.std.proofs.Common.{◌≡◌, ℕ, List, [], ◌++◌, take, drop, Result, Ok, Err, IfErr, OnOk, IsErrOf, refl, sym, ap, subst, ◌∙◌, append_assoc, ⊎_elim}
 use Rattle.std.proofs.lemmas.List.{take-append-drop}
 use Rattle.ots_model.specs.declared.line.Line.{Line}
 use Rattle.ots_model.specs.Safe.{AreSafe}
@@ -8,7 +8,7 @@ use Rattle.ots_world.specs.declared.fault.WorldFault.TheVariants as faults
 use Rattle.ots_world.specs.declared.script.ScriptEvent.{ScriptEvent}
 use Rattle.ots_world.specs.Agreement.{Reaches, more, Agreement, HasTold, GoesOnSafely}
 use Rattle.ots_world.specs.Standing.{Standing}
-use Rattle.ots_world.specs.Stands.{Moved, Refused, Stopped, Spent, IsRefusal, HasStepped}
+use Rattle.ots_world.specs.Stands.{Moved, Refused, Stopped, IsRefusal, HasStepped}
 use Rattle.ots_world.specs.World.{Stepped, Moves, Names, step}
 use Rattle.ots_world.proofs.DoesLemmas.{append_nil}
 

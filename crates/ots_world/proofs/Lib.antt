@@ -1,13 +1,13 @@
 pub mod Cells
 pub mod ClaimLemmas
 pub mod ClientLemmas
-pub mod ClientsGrow
 pub mod CommitLemmas
 pub mod DirectoryLemmas
 pub mod DoesLemmas
 pub mod FlowLemmas
 pub mod Grows
 pub mod ScriptLemmas
+pub mod ImageLemmas
 pub mod StateLemmas
 pub mod AgreeLists
 pub mod AgreePoll

@@ -1,5 +1,5 @@
 -- What a line of a script does, by what was looked up, and how what calls have done carries it out.
-use Rattle.std.proofs.Common.{◌≡◌, ℕ, ◌<◌, ◌&&◌, ◌||◌, ◌==◌, not, nat_lt, Bool, true, false, List, [], ◌∷◌, ◌++◌, length, Option, Some, None, Result, Ok, Err, MatchResult, IsErrOf, OnOk, Bor, is_none, refl, sym, ap, subst, ◌∙◌, arith}
+use Rattle.std.proofs.Common.{◌≡◌, ℕ, ◌+◌, ◌<◌, ◌≤◌, ◌&&◌, ◌||◌, ◌==◌, not, nat_lt, Bool, true, false, List, [], ◌∷◌, ◌++◌, length, Option, Some, None, Result, Ok, Err, MatchResult, IsErrOf, OnOk, Bor, is_none, refl, sym, ap, subst, ◌∙◌, arith}
 use Rattle.std.specs.List.{slice_get, list_any}
 use Rattle.std.specs.Option.{option_copied}
 use Rattle.std.proofs.lemmas.Option.{slice_get_read, slice_get_past, same_Some}
@@ -9,6 +9,7 @@ use Rattle.std.proofs.lemmas.Bool.Decides.{nat_tests}
 use Rattle.std.proofs.lemmas.List.{length-append}
 use Rattle.ots_model.specs.declared.line.Line.{Line}
 use Rattle.ots_model.specs.declared.line.Line.TheVariants as lines
+use Rattle.ots_model.specs.declared.line.Operation.TheVariants as operations
 use Rattle.ots_world.specs.declared.board.Transaction.{Transaction}
 use Rattle.ots_world.specs.declared.board.Resource.{Resource}
 use Rattle.ots_world.specs.declared.directory.Thing.{Thing}
@@ -19,16 +20,17 @@ use Rattle.ots_world.specs.declared.state.State.{State}
 use Rattle.ots_world.specs.Limits.{registration_limit, transaction_limit}
 use Rattle.ots_world.specs.Board.{Board, Effects, with_resource}
 use Rattle.ots_world.specs.Claim.{is_claim}
-use Rattle.ots_world.specs.Clients.{opening, made, registering, put_into, refusing, commits_with}
+use Rattle.ots_world.specs.Clients.{call_message, opening, made, registering, put_into, refusing, commits_with}
 use Rattle.ots_world.specs.Does.{Tells, TellsPart, Does, CannotSend}
 use Rattle.ots_world.specs.Named.{thing}
 use Rattle.ots_world.specs.StateInside.{IsIndexed}
 use Rattle.ots_world.specs.Stands.{Carries}
 use Rattle.ots_world.specs.World.{World, Step, Stepped, Moves, Names, in_world, named, is_free, node_named, end_named, transaction_named, resource_named, makes_node, makes_end, begins, registers, registers_with, can_take, puts, can_put, refuses, can_refuse, commits, can_commit}
-use Rattle.ots_world.proofs.Cells.{holds, holds-same, holds-put, holds-made, commits_keeps_cells}
+use Rattle.ots_world.proofs.Cells.{holds, holds-same, holds-put, holds-made}
 use Rattle.ots_world.proofs.ClientLemmas.{Finds}
 use Rattle.ots_world.proofs.DoesLemmas.{tells_none}
-use Rattle.ots_world.proofs.Grows.{Later, later_same, later_then, later_behind, later_length, later_delivered, goes_on_extends}
+use Rattle.ots_world.proofs.CommitLemmas.{commit_sends}
+use Rattle.ots_world.proofs.Grows.{Later, later_same, later_behind, later_length, later_delivered, commits_leads}
 
 -- a line that is refused for its names
 pub carries_names : (s : Stepped) (w : World) (text : List ℕ) → s ≡ Names → Carries s w w text text (Err faults.Names)
@@ -119,13 +121,16 @@ pub read_at : {A : Type 0} (xs ys : List A) (i : ℕ) (found : Option (Bor A)) �
 read_at xs ys i None same past = ap (λ zs. slice_get zs i) (sym same) ∙ slice_get_past xs i past
 read_at xs ys i (Some x) same at = ap (λ zs. slice_get zs i) (sym same) ∙ slice_get_read xs (length xs) i x.now refl at.0 (at.1 x.now)
 
--- what keeps the messages and the cells of a board keeps what the state has beside it
+-- what keeps the messages and the cells of a board, and sends a message for each record that it adds, keeps what the state has
+-- beside it
 pub keeps_indexed : (s new : State) → IsIndexed s → new.delivered ≡ s.delivered → new.claims ≡ s.claims → Later s.board.messages new.board.messages
-    → ((end cell : ℕ) → holds end cell new.board.resources ≡ holds end cell s.board.resources) → IsIndexed new
-keeps_indexed s new h place claims later cells = record {
+    → ((end cell : ℕ) → holds end cell new.board.resources ≡ holds end cell s.board.resources)
+    → length new.board.records + length s.board.messages ≤ length s.board.records + length new.board.messages → IsIndexed new
+keeps_indexed s new h place claims later cells records = record {
   within = omega (arith, h.within, place, later_length s.board.messages new.board.messages later);
   delivered = rw place (later_delivered s.delivered s.board.messages new.board.messages h.within later h.delivered);
   claims = λ end cell. ap (list_any (is_claim end cell)) claims ∙ h.claims end cell ∙ sym (cells end cell);
+  records = omega (arith, h.records, place, records);
 }
 
 -- a name that is free names nothing
@@ -311,6 +316,7 @@ put_indexed s new place r cell value h is none where_to board claims =
       claims = λ end c. claims end c
           ∙ ap (λ held. is_claim end c (record { end = r.end; cell = cell }) || held) (h.claims end c)
           ∙ sym (ap (λ b. holds end c b.resources) board ∙ holds-put end c s.board.resources place r cell value is none);
+      records = omega (arith, h.records, where_to, ap length messages, ap (λ (b : Board). length b.records) board);
     }
 
 pub refused_indexed : (s new : State) (place : ℕ) (r : Resource) → IsIndexed s → slice_get s.board.resources place ≡ Some r
@@ -319,6 +325,7 @@ refused_indexed s new place r h is where_to claims board =
     keeps_indexed s new h where_to claims
     (let P : Board → Type 0 = λ b. Later s.board.messages b.messages in subst P (sym board) (later_same s.board.messages))
     (λ end cell. ap (λ b. holds end cell b.resources) board ∙ holds-same end cell s.board.resources place r (refusing r) is refl)
+    (omega (arith, ap (λ (b : Board). length b.messages) board, ap (λ (b : Board). length b.records) board))
 
 pub begun_indexed : (s new : State) (name : List ℕ) (node : ℕ) → IsIndexed s
     → new.delivered ≡ s.delivered → new.claims ≡ s.claims → new.board ≡ opening name node s.board → IsIndexed new
@@ -326,6 +333,7 @@ begun_indexed s new name node h where_to claims board =
     keeps_indexed s new h where_to claims
     (let P : Board → Type 0 = λ b. Later s.board.messages b.messages in subst P (sym board) (later_same s.board.messages))
     (λ end cell. ap (λ b. holds end cell b.resources) board)
+    (omega (arith, ap (λ (b : Board). length b.messages) board, ap (λ (b : Board). length b.records) board))
 
 pub registered_indexed : (s new : State) (place : ℕ) (t : Transaction) (name : List ℕ) (transaction at : ℕ) → IsIndexed s
     → new.delivered ≡ s.delivered → new.claims ≡ s.claims → new.board ≡ registering place t (made name transaction at) s.board → IsIndexed new
@@ -333,14 +341,16 @@ registered_indexed s new place t name transaction at h where_to claims board =
     keeps_indexed s new h where_to claims
     (let P : Board → Type 0 = λ b. Later s.board.messages b.messages in subst P (sym board) (later_behind s.board.messages _))
     (λ end cell. ap (λ b. holds end cell b.resources) board ∙ holds-made end cell s.board.resources name transaction at)
+    (omega (arith, ap (λ (b : Board). length b.messages) board, ap (λ (b : Board). length b.records) board, length-append s.board.messages (call_message operations.RegisterResource place ∷ [])))
 
 pub committed_indexed : (s new : State) (place : ℕ) (t : Transaction) → IsIndexed s
     → new.delivered ≡ s.delivered → new.claims ≡ s.claims → new.board ≡ (commits_with place t s.board).board → IsIndexed new
 committed_indexed s new place t h where_to claims board =
+    let leads = commits_leads place t s.board in
     keeps_indexed s new h where_to claims
-    (let P : Board → Type 0 = λ b. Later s.board.messages b.messages in
-    subst P (sym board) (later_then s.board.messages _ _ (later_behind s.board.messages _) (goes_on_extends place _)))
-    (λ end cell. ap (λ b. holds end cell b.resources) board ∙ commits_keeps_cells place t s.board end cell)
+    (let P : Board → Type 0 = λ b. Later s.board.messages b.messages in subst P (sym board) leads.messages)
+    (λ end cell. ap (λ b. holds end cell b.resources) board ∙ leads.cells end cell)
+    (omega (arith, ap (λ (b : Board). length b.messages) board, ap (λ (b : Board). length b.records) board, leads.records, commit_sends place t s.board))
 
 pub begun-world : (node name : List ℕ) (place : ℕ) (w : World) (board : Board) (names : List (List ℕ × Thing)) (number : ℕ)
     → board ≡ opening name place w.board → number ≡ length w.board.transactions → names ≡ w.names ++ (name, things.Transaction number) ∷ []

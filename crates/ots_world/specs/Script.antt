@@ -1,6 +1,6 @@
 -- The grammar of a script's lines, from octets to events (our profile). A line is parted into words by single spaces.
 -- Its first word says what it does, and its other words are names, numbers and the like.
-use Rattle.std.specs.Prelude.{ℕ, IsTrue, ◌+◌, ◌^◌, Bool, true, false, not, ◌&&◌, ◌==◌, nat_lt, nat_le, List, [], ◌∷◌, length, Option, Some, None, Result, Ok, Err, ◌≡◌, codes, if◌then◌else◌}
+use Rattle.std.specs.Prelude.{ℕ, ◌+◌, ◌^◌, Bool, true, false, not, ◌&&◌, ◌==◌, nat_lt, nat_le, List, [], ◌∷◌, length, Option, Some, None, Result, Ok, Err, ◌≡◌, codes, if◌then◌else◌}
 use Rattle.std.specs.List.{list_all, slice_split}
 use Rattle.std.specs.Option.{option_map, option_and_then}
 use Rattle.std.specs.Str.{bytes_eq}
@@ -147,10 +147,15 @@ event_of (word ∷ a ∷ b ∷ []) = event_of_two word a b
 event_of (word ∷ a ∷ b ∷ c ∷ []) = if bytes_eq word (codes "stop") then stop a b c else event_of_three word a b c
 event_of _ = None
 
--- a line of four words that begins with `stop`: the octets of its image want memory
-abbrev pub IsStop : List (List ℕ) → Type 0
-IsStop (word ∷ a ∷ b ∷ c ∷ []) = IsTrue (bytes_eq word (codes "stop"))
-IsStop _ = ⊥
+-- an image of octets, which want memory
+abbrev pub HasOctets : Image → Type 0
+HasOctets (images.Octets octets) = Unit {0}
+HasOctets _ = ⊥
+
+-- an event whose image has them
+abbrev pub WantsMemory : ScriptEvent → Type 0
+WantsMemory (events.Stop server write image) = HasOctets image
+WantsMemory _ = ⊥
 
 -- what a line says
 pub data Reading : Type 0 where
@@ -178,15 +183,15 @@ unfoldable pub reading : List ℕ → Reading
 reading line = if nat_lt line_limit (length line) then Bad else if is_blank line then Blank
     else says (event_of (words line))
 
--- the answer of a reader of lines, unless memory ran out
+-- The answer of a reader of lines. Memory may run out for a line that says an event with octets, and for no other.
 abbrev pub Reads : Result (Option ScriptEvent) ScriptFault → Reading → Type 0
 Reads (Ok (Some event)) read = read ≡ Says event
 Reads (Ok None) read = read ≡ Blank
 Reads (Err faults.BadLine) read = read ≡ Bad
-Reads (Err faults.Memory) read = Unit {0}
+Reads (Err faults.Memory) read = (event : ScriptEvent) × (read ≡ Says event) × WantsMemory event
 
--- the answer of a reader of one thing, unless memory ran out
-abbrev pub Gives : {A : Type 0} → Result A ScriptFault → Option A → Type 0
-Gives (Ok thing) read = read ≡ Some thing
-Gives (Err faults.BadLine) read = read ≡ None
-Gives (Err faults.Memory) read = Unit {0}
+-- the answer of a reader of one thing, likewise
+abbrev pub Gives : {A : Type 0} → (A → Type 0) → Result A ScriptFault → Option A → Type 0
+Gives wants (Ok thing) read = read ≡ Some thing
+Gives wants (Err faults.BadLine) read = read ≡ None
+Gives {A = A} wants (Err faults.Memory) read = (thing : A) × (read ≡ Some thing) × wants thing

@@ -1,9 +1,11 @@
 -- What a world is before and after a line of a script, by what the line is answered.
-use Rattle.std.specs.Prelude.{◌≡◌, ℕ, ◌<◌, ◌≤◌, ◌⊎◌, List, length, Result, Ok, Err, IsErrOf, IfErr, OnOk}
+use Rattle.std.specs.Prelude.{◌≡◌, ℕ, ◌<◌, ◌≤◌, ◌⊎◌, List, length, None, Result, Ok, Err, IsErrOf, IfErr, OnOk}
 use Rattle.ots_world.specs.declared.fault.WorldFault.{WorldFault}
 use Rattle.ots_world.specs.declared.fault.WorldFault.TheVariants as faults
 use Rattle.ots_world.specs.Limits.{message_limit}
 use Rattle.ots_world.specs.declared.script.ScriptEvent.{ScriptEvent}
+use Rattle.ots_world.specs.declared.script.ScriptEvent.TheVariants as events
+use Rattle.ots_world.specs.Board.{lowest}
 use Rattle.ots_world.specs.Standing.{Standing}
 use Rattle.ots_world.specs.World.{World, Step, Stepped, Moves, Names, step}
 use Rattle.ots_world.specs.Does.{Tells, TellsPart}
@@ -57,6 +59,12 @@ PassesLimit old event n = (old ≡ Err (faults.Limit n)) ⊎ ((n ≡ message_lim
 abbrev pub IsRefusal : Standing → ScriptEvent → WorldFault → Standing → List ℕ → List ℕ → Type 0
 IsRefusal old event fault new before after = (fault ≡ faults.Names) ⊎ Stopped old event fault new before after ⊎ Spent old fault new before after
 
+-- a line that only makes a resource refuse, or finds no message to deliver: it wants no memory
+abbrev pub IsQuiet : ScriptEvent → World → Type 0
+IsQuiet (events.Refuse name) w = Unit {0}
+IsQuiet (events.Flow count) w = lowest w.board ≡ None
+IsQuiet _ w = ⊥
+
 -- What a world has done with a line of a script, by what it answers.
 pub record HasStepped (old : Standing) (event : ScriptEvent) (new : Standing) (before after : List ℕ) (result : Result (Unit {0}) WorldFault) : Type 0 where
   -- the world after the line, and the lines that tell it, are the definition's
@@ -69,6 +77,8 @@ pub record HasStepped (old : Standing) (event : ScriptEvent) (new : Standing) (b
   pub stopped : IfErr result (λ fault. IsRefusal old event fault new before after)
   -- a limit is answered only where it is passed
   pub limit : (n : ℕ) → result ≡ Err (faults.Limit n) → PassesLimit old event n
+  -- a line that wants no memory isn't answered by want of it
+  pub quiet : (w : World) → old ≡ Ok w → IsQuiet event w → ¬ (IsErrOf result faults.Memory)
   -- what the world answers for good it answers again
   pub spent : (fault : WorldFault) → old ≡ Err fault → result ≡ Err fault
 

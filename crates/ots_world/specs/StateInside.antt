@@ -1,4 +1,4 @@
-use Rattle.std.specs.Prelude.{◌≡◌, ℕ, ◌≤◌, Bool, true, false, List, length, take, Some, None, Result, Ok, Err}
+use Rattle.std.specs.Prelude.{◌≡◌, ℕ, ◌+◌, ◌*◌, ◌≤◌, Bool, true, false, List, length, take, Some, None, Result, Ok, Err}
 use Rattle.std.specs.List.{list_any}
 use Rattle.ots_world.specs.declared.state.State.{State}
 use Rattle.ots_world.specs.declared.fault.WorldFault.{WorldFault}
@@ -16,6 +16,8 @@ pub record IsIndexed (s : State) : Type 0 where
   pub within : s.delivered ≤ length s.board.messages
   pub delivered : AllDelivered (take s.delivered s.board.messages)
   pub claims : (end cell : ℕ) → list_any (is_claim end cell) s.claims ≡ list_any (holds_cell end cell) s.board.resources
+  -- a delivery adds two records at most, and a commit call one
+  pub records : length s.board.records ≤ 2 * s.delivered + length s.board.messages
 
 -- the lowest message that was never delivered is delivered, or there is none
 abbrev pub DeliversLowest : State → State → List ℕ → List ℕ → Result Bool WorldFault → Type 0

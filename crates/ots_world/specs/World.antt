@@ -3,7 +3,6 @@ use Rattle.std.specs.Prelude.{ℕ, ◌++◌, Bool, true, false, not, ◌&&◌, �
 use Rattle.std.specs.List.{slice_get, list_any}
 use Rattle.std.specs.Option.{option_and_then}
 use Rattle.ots_model.specs.declared.line.Operation.TheVariants as operations
-use Rattle.ots_model.specs.declared.response.Exception.TheVariants as exceptions
 use Rattle.ots_model.specs.declared.response.Response.TheVariants as responses
 use Rattle.ots_model.specs.declared.line.Line.{Line}
 use Rattle.ots_model.specs.declared.line.Line.TheVariants as lines

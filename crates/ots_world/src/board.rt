@@ -193,6 +193,7 @@ impl Model for Board {
 
 impl Board {
     ghost use Rattle.ots_world.specs.Board as board;
+    ghost use Rattle.ots_world.specs.BoardInside.{HasPlace};
     ghost use Rattle.ots_world.specs.Does.{Does, CannotSend};
     ghost use Rattle.two_phase.specs.Progress as progress;
     ghost use Rattle.ots_world.specs.declared.fault.WorldFault.TheVariants as faults;
@@ -426,12 +427,11 @@ impl Board {
     /// The decision record of the transaction at a place is the next item of the journal.
     fn record(&mut self, lines: &mut Vec<u8>, place: u32) -> Result<(), WorldFault>
         requires there { place < length self.old.transactions }
+        requires room { HasPlace self.old }
         ensures does { (t : Transaction) → slice_get self.old.transactions place ≡ Some t →
             Does (board.recorded place t self.old) self.new lines.old.items lines.new.items result }
     {
-        let Ok(decision) = u32::try_from(self.records.len()) else {
-            return Err(WorldFault::Memory);
-        };
+        let decision = self.records.len() as u32;
         self.records.push(Record::Decision { transaction: place })?;
         let transaction = &mut self.transactions[place as usize];
         transaction.decision = Some(decision);
@@ -467,6 +467,7 @@ impl Board {
 
     /// After an answer to prepare, the outcome of the transaction at a place is fixed or not.
     fn settle(&mut self, lines: &mut Vec<u8>, place: u32) -> Result<(), WorldFault>
+        requires { HasPlace self.old }
         ensures does { Does (board.settles place self.old) self.new lines.old.items lines.new.items result }
     {
         let Some(transaction) = self.transactions.get(place as usize) else {
@@ -517,6 +518,7 @@ impl Board {
         resource: u32,
         response: Response,
     ) -> Result<(), WorldFault>
+        requires { HasPlace self.old }
         ensures does { Does (board.votes place resource response self.old)
             self.new lines.old.items lines.new.items result }
     {
@@ -533,6 +535,7 @@ impl Board {
         resource: u32,
         response: Response,
     ) -> Result<(), WorldFault>
+        requires { HasPlace self.old }
         ensures does { Does (board.goes_on_after word place resource response self.old)
             self.new lines.old.items lines.new.items result }
     {
@@ -552,6 +555,7 @@ impl Board {
         request: u32,
         response: Response,
     ) -> Result<(), WorldFault>
+        requires { HasPlace self.old }
         ensures does { Does (board.hears request response self.old)
             self.new lines.old.items lines.new.items result }
     {
@@ -577,6 +581,7 @@ impl Board {
 
     /// A message reaches its receiver.
     fn act(&mut self, lines: &mut Vec<u8>, message: u32, content: Content) -> Result<(), WorldFault>
+        requires { HasPlace self.old }
         ensures does { Does (board.acts message content self.old)
             self.new lines.old.items lines.new.items result }
     {
@@ -589,6 +594,7 @@ impl Board {
 
     /// The message at a place is delivered.
     pub fn deliver(&mut self, lines: &mut Vec<u8>, place: usize) -> Result<(), WorldFault>
+        requires { HasPlace self.old }
         ensures does { Does (board.delivers place self.old) self.new lines.old.items lines.new.items result }
     {
         let Some(message) = self.messages.get_mut(place) else {

@@ -1,5 +1,4 @@
-ghost use Rattle.std.specs.Prelude.{IsErrOf};
-ghost use Rattle.ots_world.specs.Script.{reading, Reads, Gives, IsStop, event_of, words};
+ghost use Rattle.ots_world.specs.Script.{reading, Reads, Gives, WantsMemory, event_of, words};
 
 use events::{event_of_one, event_of_three, event_of_two, stop};
 use ots_model::{Decision, Name, Octets};
@@ -188,7 +187,6 @@ pub enum ScriptFault {
 #[tactic(auto, unfolding(crate::specs::Script::reading))]
 pub fn parse_line(alloc: Global, bytes: &[u8]) -> Result<Option<ScriptEvent>, ScriptFault>
     ensures exact { Reads result (reading bytes.now) }
-    ensures memory { IsErrOf result ScriptFault.Memory → IsStop (words bytes.now) }
 {
     if bytes.len() > LINE_LIMIT {
         return Err(ScriptFault::BadLine);
@@ -201,8 +199,7 @@ pub fn parse_line(alloc: Global, bytes: &[u8]) -> Result<Option<ScriptEvent>, Sc
 
 #[tactic(auto, using(crate::proofs::ScriptLemmas::five_words))]
 fn event_of(alloc: Global, line: &[u8]) -> Result<ScriptEvent, ScriptFault>
-    ensures exact { Gives result (event_of (words line.now)) }
-    ensures memory { IsErrOf result ScriptFault.Memory → IsStop (words line.now) }
+    ensures { Gives WantsMemory result (event_of (words line.now)) }
 {
     let (word, Some(rest)) = first_word(line) else {
         return Err(ScriptFault::BadLine);

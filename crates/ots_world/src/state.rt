@@ -1,8 +1,9 @@
-ghost use Rattle.std.specs.Prelude.{◌≡◌, ℕ, ◌≤◌, ◌==◌, ◌&&◌, nat_lt, length, take, slice_get, Some, IsErrOf, OnOk, MatchResult};
+ghost use Rattle.std.specs.Prelude.{◌≡◌, ℕ, ◌≤◌, ◌==◌, ◌&&◌, nat_lt, length, take, slice_get, Some, None, IsErrOf, OnOk, MatchResult};
+ghost use Rattle.ots_world.specs.Board.{lowest};
 ghost use Rattle.ots_world.specs.Clients as clients;
 ghost use Rattle.ots_world.specs.Does.{Tells, TellsPart};
 ghost use Rattle.ots_world.specs.Limits.{message_limit, transaction_limit};
-ghost use Rattle.ots_world.specs.Stands.{Carries};
+ghost use Rattle.ots_world.specs.Stands.{Carries, IsQuiet};
 ghost use Rattle.ots_world.specs.World as world;
 ghost use Rattle.ots_world.specs.declared.fault.WorldFault.TheVariants as faults;
 
@@ -285,6 +286,7 @@ impl State {
         ensures carries { (lines : _) → Carries (world.refuses resource.now (shown self.old))
             (shown self.old) (shown self.new) lines lines result }
         ensures names { IsErrOf result faults.Names → self.new ≡ self.old }
+        ensures quiet { ¬ (IsErrOf result faults.Memory) }
         ensures indexed { OnOk result (IsIndexed self.new) }
     {
         let Some(place) = self.resource_named(resource) else {
@@ -356,7 +358,7 @@ impl State {
         let Some(place) = self.board.lowest_from(self.delivered) else {
             return Ok(false);
         };
-        // No more messages were sent than may be, so that the next place fits its type.
+        // No more messages were sent than may be, so that this place and that of the next record fit their types.
         let _sent = self.board.sent();
         self.board.deliver(lines, place)?;
         self.delivered = place + 1;
@@ -369,6 +371,7 @@ impl State {
         ensures carries { Carries (world.flow count (shown self.old))
             (shown self.old) (shown self.new) lines.old.items lines.new.items result }
         ensures names { IsErrOf result faults.Names → self.new ≡ self.old }
+        ensures quiet { lowest self.old.board ≡ None → ¬ (IsErrOf result faults.Memory) }
         ensures indexed { OnOk result (IsIndexed self.new) }
     {
         'deliveries: for _ in 0..count {
@@ -386,6 +389,7 @@ impl State {
         ensures carries { Carries (world.step event.now (shown self.old))
             (shown self.old) (shown self.new) lines.old.items lines.new.items result }
         ensures names { IsErrOf result faults.Names → self.new ≡ self.old }
+        ensures quiet { IsQuiet event.now (shown self.old) → ¬ (IsErrOf result faults.Memory) }
         ensures indexed { OnOk result (IsIndexed self.new) }
     {
         match event {

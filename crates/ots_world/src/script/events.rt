@@ -1,5 +1,5 @@
 ghost use Rattle.std.specs.Prelude.{◌≡◌};
-ghost use Rattle.ots_world.specs.Script.{Gives, event_of_names, event_of_one, event_of_server, event_of_three, event_of_two, stop};
+ghost use Rattle.ots_world.specs.Script.{Gives, WantsMemory, event_of_names, event_of_one, event_of_server, event_of_three, event_of_two, stop};
 
 use crate::script::words::{
     decision, flag, image, name, number, positive, quantity, relation, seconds, whose,
@@ -181,7 +181,7 @@ pub(super) fn stop(
     second: &[u8],
     third: &[u8],
 ) -> Result<ScriptEvent, ScriptFault>
-    ensures { Gives result (stop first.now second.now third.now) }
+    ensures { Gives WantsMemory result (stop first.now second.now third.now) }
 {
     let server = name(first).ok_or(ScriptFault::BadLine)?;
     let write = positive(second).ok_or(ScriptFault::BadLine)?;

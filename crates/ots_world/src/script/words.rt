@@ -1,14 +1,14 @@
 ghost use Rattle.std.specs.Prelude.{◌≡◌, ◌^◌, ◌+◌, ◌&&◌, ◌==◌, [], ◌∷◌, nat_lt, if◌then◌else◌};
+ghost use Rattle.std.specs.Char.{is_ascii_hexdigit};
 ghost use Rattle.std.specs.List.{list_all, position};
-ghost use Rattle.std.specs.Option.{option_map_or};
+ghost use Rattle.std.specs.Option.{is_some, option_map_or};
 ghost use Rattle.std.specs.Str.Parse.{digits_value};
 ghost use Rattle.hex.specs.Hex.{decode_of};
 ghost use Rattle.ots_model.specs.Name.{is_digit};
 ghost use Rattle.ots_world.specs.Limits.{flow_limit};
-ghost use Rattle.ots_world.specs.Script.{Gives, decision, flag, image, name, number, number_within, octets_of, relation, whose, words};
+ghost use Rattle.ots_world.specs.Script.{Gives, HasOctets, decision, flag, image, name, number, number_within, octets_of, relation, whose, words};
 
 use crate::script::{FLOW_LIMIT, IMAGE_LIMIT, Image, Relation, ScriptFault, Whose};
-use hex::FromHexError;
 use ots_model::{Decision, Name, Octets};
 use std::alloc::Global;
 
@@ -145,7 +145,7 @@ pub(super) fn relation(word: &[u8]) -> Option<Relation>
 
 #[tactic(auto, unfolding(crate::specs::Script::image))]
 pub(super) fn image(alloc: Global, word: &[u8]) -> Result<Image, ScriptFault>
-    ensures { Gives result (image word.now) }
+    ensures { Gives HasOctets result (image word.now) }
 {
     if word == b"old".as_slice() {
         Ok(Image::Old)
@@ -158,11 +158,30 @@ pub(super) fn image(alloc: Global, word: &[u8]) -> Result<Image, ScriptFault>
 
 // The octets that the word spells in hexadecimal, where there is one at least and they are not too many.
 fn octets(alloc: Global, word: &[u8]) -> Result<Octets, ScriptFault>
-    ensures { Gives result (octets_of (decode_of word.now)) }
+    ensures { Gives (λ _. Unit {0}) result (octets_of (decode_of word.now)) }
 {
-    match hex::decode(alloc, word) {
-        Ok(octets) if matches!(octets.len(), 1..=IMAGE_LIMIT) => Ok(Octets::from_vec(octets)),
-        Err(FromHexError::OutOfMemory) => Err(ScriptFault::Memory),
-        _ => Err(ScriptFault::BadLine),
+    if !are_octets(word) {
+        return Err(ScriptFault::BadLine);
     }
+    match hex::decode(alloc, word) {
+        Ok(octets) => Ok(Octets::from_vec(octets)),
+        Err(_) => Err(ScriptFault::Memory),
+    }
+}
+
+// Whether the word spells such octets.
+fn are_octets(word: &[u8]) -> bool
+    ensures { result ≡ is_some (octets_of (decode_of word.now)) }
+{
+    let octets = word.len() / 2;
+    if word.len() % 2 == 1 || octets < 1 || octets > IMAGE_LIMIT {
+        return false;
+    }
+    are_digits(word)
+}
+
+fn are_digits(word: &[u8]) -> bool
+    ensures { result ≡ list_all is_ascii_hexdigit word.now }
+{
+    word.iter().all(|digit| digit.is_ascii_hexdigit())
 }

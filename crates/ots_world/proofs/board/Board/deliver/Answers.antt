@@ -6,7 +6,7 @@ use Rattle.std.proofs.lemmas.Grind.{common_steps}
 use Rattle.ots_model.specs.declared.line.Line.TheVariants as lines
 use Rattle.ots_world.specs.contracts.board.Board.{the_view}
 use Rattle.ots_world.specs.Board.{Effects, nothing, with_message, acts, delivers}
-use Rattle.ots_world.proofs.Grows.{grows, acts_extends}
+use Rattle.ots_world.proofs.Grows.{grows, acts_leads}
 use Rattle.ots_world.proofs.DoesLemmas.{does_at, does_nothing_at, does_stop_err, does_then_ok, told_last}
 use Rattle.ots_world.proofs.board.Board.deliver.Goals as goal
 
@@ -30,7 +30,7 @@ returns-in_err-tell c =
     let p = err_from_is_err_and c.from_residual.result c.from_residual.ensures.1 in
     record {
       does = does_at b.messages place _ (nothing b) n _ _ _ _ some
-          (does_stop_err first next _ _ _ _ _ _ (grows first.board (next first.board) (acts_extends (place + 1) n.content first.board))
+          (does_stop_err first next _ _ _ _ _ _ (grows first.board (next first.board) (acts_leads (place + 1) n.content first.board))
           (told_last first _ _ _ _ _ (ap (λ x. with_message place (record n { delivered = true }) x) c.self.view_is) refl c.tell.ensures.told)
           c.in_err-tell.was (p.1 ∙ ap Err p.2));
     }

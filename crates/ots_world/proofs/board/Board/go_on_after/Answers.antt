@@ -1,7 +1,7 @@
 use Rattle.std.proofs.Common.{Err, ap, ◌∙◌}
 use Rattle.std.proofs.lemmas.Result.{err_from_is_err_and}
 use Rattle.ots_world.specs.Board.{goes_on, votes}
-use Rattle.ots_world.proofs.Grows.{grows, goes_on_extends}
+use Rattle.ots_world.proofs.Grows.{grows, goes_on_leads}
 use Rattle.ots_world.proofs.DoesLemmas.{does_stop_err, does_then_ok}
 use Rattle.ots_world.proofs.board.Board.go_on_after.Goals as goal
 
@@ -11,7 +11,7 @@ returns-in_err-take_vote-in-Prepare c =
     let p = err_from_is_err_and c.from_residual.result c.from_residual.ensures.1 in
     let first = votes c.args.place c.args.resource c.args.response b in
     record {
-      does = rw c.in-Prepare.is (does_stop_err first (goes_on c.args.place) _ _ _ _ _ _ (grows first.board (goes_on c.args.place first.board) (goes_on_extends c.args.place first.board))
+      does = rw c.in-Prepare.is (does_stop_err first (goes_on c.args.place) _ _ _ _ _ _ (grows first.board (goes_on c.args.place first.board) (goes_on_leads c.args.place first.board))
           c.take_vote.ensures.does c.in_err-take_vote-in-Prepare.was (p.1 ∙ ap Err p.2));
     }
 

@@ -1,4 +1,4 @@
-use Rattle.std.proofs.Common.{◌≡◌, ℕ, ◌-◌, false, List, if◌then◌else◌, None, Some, Ok, cond, refl, ap, sym, ◌∙◌, arith}
+use Rattle.std.proofs.Common.{◌≡◌, ℕ, ◌-◌, false, List, length, if◌then◌else◌, None, Some, Ok, cond, refl, ap, sym, ◌∙◌, arith}
 use Rattle.std.specs.List.{slice_get}
 use Rattle.std.proofs.lemmas.Option.{gets}
 use Rattle.std.proofs.lemmas.Grind.{common_steps}
@@ -10,6 +10,7 @@ use Rattle.ots_world.specs.declared.board.Content.{Content}
 use Rattle.ots_world.specs.declared.board.Content.TheVariants.{Call, Request, Reply}
 use Rattle.ots_world.specs.contracts.board.Board.{the_view}
 use Rattle.ots_world.specs.Board.{Board, Effects, nothing, at_place, with_message, goes_on_after, learns, hears, hears_of}
+use Rattle.ots_world.proofs.Grows.{learns_leads}
 use Rattle.ots_world.proofs.DoesLemmas.{does_nothing, does_at, does_nothing_at, does_same, set_same}
 use Rattle.ots_world.proofs.board.Board.hear.Goals as goal
 
@@ -97,3 +98,12 @@ returns c =
       does = does_same (hears_from place said b) _ _ _ _ _ e
           (does_at b.messages place _ (nothing b) n _ _ _ _ some (does_same _ _ _ _ _ _ heard c.go_on_after.ensures.does));
     }
+
+-- what is learnt adds no record
+pub go_on_after-requires : goal.go_on_after-requires
+go_on_after-requires c =
+    let r = c.in-Request in
+    let heard = with_message c.saturating_sub.result (record c.in-Some.message.now { awaited = false }) (the_view c.self.inside) in
+    let leads = learns_leads r.transaction r.number c.args.response heard in
+    let records : Board → ℕ = λ b. length b.records in
+    omega (arith, c.requires, leads.records, ap records c.learn.ensures.learns, ap records c.self.view_is)

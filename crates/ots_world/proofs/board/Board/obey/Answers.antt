@@ -5,7 +5,7 @@ use Rattle.std.proofs.lemmas.Option.{gets}
 use Rattle.std.proofs.lemmas.Grind.{common_steps}
 use Rattle.ots_world.specs.Board.{obeys, nothing, changed, replies}
 use Rattle.ots_world.specs.Table.{answer_to, change_by}
-use Rattle.ots_world.proofs.Grows.{grows, replies_extends}
+use Rattle.ots_world.proofs.Grows.{grows, replies_leads}
 use Rattle.ots_world.proofs.DoesLemmas.{does_at, does_nothing_at, does_same, does_stop_err, does_then_ok}
 use Rattle.ots_world.proofs.board.Board.obey.Goals as goal
 
@@ -27,7 +27,7 @@ returns-in_err-change c =
     let next = replies c.args.message (answer_to c.args.word r.stage) in
     record {
       does = does_at b.resources c.args.place _ (nothing b) r _ _ _ _ some
-          (does_stop_err first next _ _ _ _ _ _ (grows first.board (next first.board) (replies_extends _ _ first.board))
+          (does_stop_err first next _ _ _ _ _ _ (grows first.board (next first.board) (replies_leads _ _ first.board))
           (does_same _ _ _ _ _ _ change (c.change.ensures.does r some)) c.in_err-change.was (p.1 ∙ ap Err p.2));
     }
 

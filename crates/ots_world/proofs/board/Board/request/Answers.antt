@@ -6,7 +6,7 @@ use Rattle.std.proofs.lemmas.Grind.{common_steps}
 use Rattle.ots_model.specs.declared.completion.Outward.{Outward}
 use Rattle.ots_model.specs.declared.line.Line.TheVariants.{Send}
 use Rattle.ots_world.specs.declared.board.Transaction.{Transaction}
-use Rattle.ots_world.specs.Board.{Board, requests, requests_of, resource_of, name_at, next_message}
+use Rattle.ots_world.specs.Board.{Board, requests, requests_of, resource_of, name_at}
 use Rattle.ots_world.proofs.DoesLemmas.{does_nothing, does_same, cannot_send_err, told_last}
 use Rattle.ots_world.proofs.board.Board.request.Goals as goal
 

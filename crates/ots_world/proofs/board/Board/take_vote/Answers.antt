@@ -1,7 +1,7 @@
 use Rattle.std.proofs.Common.{Err, ap, ◌∙◌}
 use Rattle.std.proofs.lemmas.Result.{err_from_is_err_and}
 use Rattle.ots_world.specs.Board.{settles, telling, counted, name_at}
-use Rattle.ots_world.proofs.Grows.{grows, settles_extends}
+use Rattle.ots_world.proofs.Grows.{grows, settles_leads}
 use Rattle.ots_world.proofs.DoesLemmas.{does_stop_err, does_then_ok}
 use Rattle.ots_world.proofs.board.Board.take_vote.Goals as goal
 
@@ -11,7 +11,7 @@ returns-in_err-count c =
     let p = err_from_is_err_and c.from_residual.result c.from_residual.ensures.1 in
     let first = telling (λ name. counted name c.args.response) (name_at b.resources c.args.resource) b in
     record {
-      does = does_stop_err first (settles c.args.place) _ _ _ _ _ _ (grows first.board (settles c.args.place first.board) (settles_extends c.args.place first.board))
+      does = does_stop_err first (settles c.args.place) _ _ _ _ _ _ (grows first.board (settles c.args.place first.board) (settles_leads c.args.place first.board))
           c.count.ensures.does c.in_err-count.was (p.1 ∙ ap Err p.2);
     }
 

@@ -1,4 +1,4 @@
-use Rattle.std.proofs.Common.{◌∙◌, ap, sym, refl, Err, length}
+use Rattle.std.proofs.Common.{◌∙◌, ap, sym, refl, Err}
 use Rattle.std.specs.Option.{option_copied}
 use Rattle.std.proofs.lemmas.Result.{err_from_is_err_and}
 use Rattle.ots_world.specs.StateInside.{shown}
