@@ -194,12 +194,12 @@ Values id minor number = Text id ∷ ULong minor ∷ ULong number ∷ []
 system_at_found : ReadingLaws → (operation : Operation) (r : Reading) (answer : Answer) → system_at r ≡ Ok answer → IsSaid operation 2 r answer
 unfolding system_at
 system_at_found laws operation r answer e =
-    let a = bind_ok (told_as fault_of (string_at r)) (λ id. or_refuse (Marshal r.place) (system_named id.0) >>= (λ x. told_as fault_of (ulong_at id.1) >>= (λ m. told_as fault_of (ulong_at m.1) >>= (λ n. or_refuse (Marshal m.1.place) (completed_of n.0) >>= (λ c. ended (answers.System x c) n.1))))) answer e in
-    let b = bind_ok (or_refuse (Marshal r.place) (system_named a.0.0)) (λ x. told_as fault_of (ulong_at a.0.1) >>= (λ m. told_as fault_of (ulong_at m.1) >>= (λ n. or_refuse (Marshal m.1.place) (completed_of n.0) >>= (λ c. ended (answers.System x c) n.1)))) answer a.2 in
-    let m = bind_ok (told_as fault_of (ulong_at a.0.1)) (λ m. told_as fault_of (ulong_at m.1) >>= (λ n. or_refuse (Marshal m.1.place) (completed_of n.0) >>= (λ c. ended (answers.System b.0 c) n.1))) answer b.2 in
-    let n = bind_ok (told_as fault_of (ulong_at m.0.1)) (λ n. or_refuse (Marshal m.0.1.place) (completed_of n.0) >>= (λ c. ended (answers.System b.0 c) n.1)) answer m.2 in
-    let c = bind_ok (or_refuse (Marshal m.0.1.place) (completed_of n.0.0)) (λ c. ended (answers.System b.0 c) n.0.1) answer n.2 in
-    let d = ended_found (answers.System b.0 c.0) answer n.0.1 c.2 in
+    let a = bind_ok (told_as fault_of (string_at r)) (λ id. or_refuse (Marshal r.place) (system_named id.0) >>= (λ x. told_as fault_of (ulong_at id.1) >>= (λ m. told_as fault_of (ulong_at m.1) >>= (λ n. or_refuse (Marshal m.1.place) (completed_of n.0) >>= (λ c. ended (answers.System x m.0 c) n.1))))) answer e in
+    let b = bind_ok (or_refuse (Marshal r.place) (system_named a.0.0)) (λ x. told_as fault_of (ulong_at a.0.1) >>= (λ m. told_as fault_of (ulong_at m.1) >>= (λ n. or_refuse (Marshal m.1.place) (completed_of n.0) >>= (λ c. ended (answers.System x m.0 c) n.1)))) answer a.2 in
+    let m = bind_ok (told_as fault_of (ulong_at a.0.1)) (λ m. told_as fault_of (ulong_at m.1) >>= (λ n. or_refuse (Marshal m.1.place) (completed_of n.0) >>= (λ c. ended (answers.System b.0 m.0 c) n.1))) answer b.2 in
+    let n = bind_ok (told_as fault_of (ulong_at m.0.1)) (λ n. or_refuse (Marshal m.0.1.place) (completed_of n.0) >>= (λ c. ended (answers.System b.0 m.0.0 c) n.1)) answer m.2 in
+    let c = bind_ok (or_refuse (Marshal m.0.1.place) (completed_of n.0.0)) (λ c. ended (answers.System b.0 m.0.0 c) n.0.1) answer n.2 in
+    let d = ended_found (answers.System b.0 m.0.0 c.0) answer n.0.1 c.2 in
     let id = system_found a.0.0 b.0 (there_ok (Marshal r.place) (system_named a.0.0) b.0 b.1) in
     let number = completed_found n.0.0 c.0 (there_ok (Marshal m.0.1.place) (completed_of n.0.0) c.0 c.1) in
     let one = laws.string.found r a.0.0 a.0.1 (told_ok fault_of (string_at r) a.0 a.1) in
@@ -207,8 +207,8 @@ system_at_found laws operation r answer e =
     let three = laws.ulong.found m.0.1 n.0.0 n.0.1 (told_ok fault_of (ulong_at m.0.1) n.0 n.1) in
     let stand : ReadsAll r (Values a.0.0 m.0.0 n.0.0) n.0.1 = (a.0.1, one, (m.0.1, two, (n.0.1, three, refl))) in
     let named : ReadsAll r (Values (system_id b.0) m.0.0 n.0.0) n.0.1 = subst (λ (t : List ℕ). ReadsAll r (Values t m.0.0 n.0.0) n.0.1) id stand in
-    is_said operation 2 r (answers.System b.0 c.0) answer d.0
-    (tt, refl, (m.0.0, record { behind = n.0.1; stand = subst (λ (k : ℕ). ReadsAll r (Values (system_id b.0) m.0.0 k) n.0.1) number named; few = d.1 }))
+    is_said operation 2 r (answers.System b.0 m.0.0 c.0) answer d.0
+    (tt, refl, record { behind = n.0.1; stand = subst (λ (k : ℕ). ReadsAll r (Values (system_id b.0) m.0.0 k) n.0.1) number named; few = d.1 })
 
 plain_found : ReferencesAreReadExactly → ContextsStandExactly → ReadingLaws → (operation : Operation) (r : Reading) (answer : Answer) → (given_at (row_of operation).gives r >>= (λ g. Ok (answers.Plain g))) ≡ Ok answer → IsSaid operation 0 r answer
 plain_found refs contexts laws operation r answer e =
@@ -242,9 +242,9 @@ answer_only refs contexts laws operation (answers.Plain g) r is h =
 answer_only refs contexts laws operation (answers.User x) r is h =
     let raised : raises operation x ≡ true = is in
     rw (laws.string.only r (user_id x) h.stand.0 h.stand.1, user_only x, raised) (ended_only (answers.User x) h.stand.0 (few_left r h.behind (Text (user_id x)) h.stand h.few))
-answer_only refs contexts laws operation (answers.System x c) r is h =
-    let s = h.1.stand in
-    rw (laws.string.only r (system_id x) s.0 s.1, system_only x, laws.ulong.only s.0 h.0 s.2.0 s.2.1, laws.ulong.only s.2.0 (completed_number c) s.2.2.0 s.2.2.1, completed_only c) (ended_only (answers.System x c) s.2.2.0 (few_left s.2.0 h.1.behind (ULong (completed_number c)) s.2.2 h.1.few))
+answer_only refs contexts laws operation (answers.System x m c) r is h =
+    let s = h.stand in
+    rw (laws.string.only r (system_id x) s.0 s.1, system_only x, laws.ulong.only s.0 m s.2.0 s.2.1, laws.ulong.only s.2.0 (completed_number c) s.2.2.0 s.2.2.1, completed_only c) (ended_only (answers.System x m c) s.2.2.0 (few_left s.2.0 h.behind (ULong (completed_number c)) s.2.2 h.few))
 
 with_found : ReferencesAreReadExactly → ContextsStandExactly → ReadingLaws → (call : Call) (answer : Answer) (reply : Reply) → answer_with call reply ≡ Ok answer → IsAnswer call answer reply
 unfolding answer_with

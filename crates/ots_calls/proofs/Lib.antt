@@ -1,6 +1,9 @@
 pub mod Steps
+pub mod Finding
 pub mod Tables
+pub mod Words
 pub mod Written
+pub mod Pieces
 pub mod Bodies
 pub mod Requests
 pub mod Contexts

@@ -24,7 +24,7 @@ reference_held call (answers.Plain (given.Word text)) reply is h = absurd h
 reference_held call (answers.Plain (given.Transaction context)) reply is h = absurd h
 reference_held call (answers.Plain (given.Found value)) reply is h = absurd h
 reference_held call (answers.User exception) reply is h = absurd h
-reference_held call (answers.System exception done) reply is h = absurd h
+reference_held call (answers.System exception minor done) reply is h = absurd h
 
 pub not_starved : (heard : Heard) → IsAnswered heard → ¬ (heard ≡ hears.Starved)
 not_starved heard is same = subst IsAnswered same is

@@ -1,8 +1,9 @@
 -- Each operation is found by its name, and only by its name.
-use Rattle.std.proofs.Common.{◌≡◌, ℕ, ◌&&◌, ◌||◌, Bool, true, false, eqb, List, [], ◌∷◌, length, Option, Some, None, find, refl, sym, subst, ◌∙◌, arith}
+use Rattle.std.proofs.Common.{◌≡◌, ℕ, ◌<◌, ◌&&◌, ◌||◌, Bor, map, get_or, ap, Bool, true, false, eqb, List, [], ◌∷◌, length, Option, Some, None, find, refl, sym, subst, ◌∙◌, arith}
 use Rattle.std.specs.List.{list_any}
 use Rattle.std.specs.Str.{bytes_eq}
 use Rattle.std.proofs.lemmas.Bool.{and_parts}
+use Rattle.std.proofs.lemmas.List.{get_or-map}
 use Rattle.std.proofs.lemmas.Slice.Eq.{bytes_eq-Decides}
 use Rattle.ots_calls.specs.declared.interface.Interface.TheVariants as interfaces
 use Rattle.ots_calls.specs.declared.operation.Bare.TheVariants.{GetTerminator, GetCoordinator, RollbackTransaction, GetStatus, GetParentStatus, GetTopLevelStatus, IsTopLevelTransaction, HashTransaction, HashTopLevelTran, RollbackOnly, GetTransactionName, CreateSubtransaction, GetTxcontext, Prepare, Rollback, Commit, CommitOnePhase, Forget, BeforeCompletion, RollbackSubtransaction, NonExistent}
@@ -10,7 +11,7 @@ use Rattle.ots_calls.specs.declared.operation.Handing.TheVariants.{IsSameTransac
 use Rattle.ots_calls.specs.declared.operation.Operation.{Operation}
 use Rattle.ots_calls.specs.declared.operation.Operation.TheVariants.{Bare, Handing, Create, Recreate, CommitTransaction, AfterCompletion, Put, Get, IsA}
 use Rattle.ots_calls.specs.Table.{kinds_of, operation_named, operations, serves, word_of}
-use Rattle.ots_calls.specs.TableInside.{of_length}
+use Rattle.ots_calls.specs.TableInside.{by_length, of_length}
 use Rattle.ots_calls.specs.Laws.{NamesTellOperations}
 use Rattle.ots_calls.proofs.Steps.{found}
 
@@ -105,3 +106,8 @@ few_is kind word None None e f = refl
 -- an operation is found among those whose names are as long
 pub named_among_few : (kind : ℕ) (word : List ℕ) → find (λ operation. serves kind operation && bytes_eq word (word_of operation)) (of_length (length word)) ≡ operation_named kind word
 named_among_few kind word = few_is kind word (operation_named kind word) (named_by_length kind word) refl refl
+
+-- the list to which one of several references points
+pub now_at : (refs : List (Bor (List Operation))) (n : ℕ) (d : Bor (List Operation)) → map (λ (some : Bor (List Operation)). some.now) refs ≡ by_length → n < length refs → (get_or refs n d).now ≡ of_length n
+now_at refs n d same within =
+    sym (get_or-map (λ (some : Bor (List Operation)). some.now) refs n d [] within) ∙ ap (λ (lists : List (List Operation)). get_or lists n []) same

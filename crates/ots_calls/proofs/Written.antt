@@ -1,15 +1,12 @@
 -- What was written into an empty writer is read again.
-use Rattle.std.proofs.Common.{◌≡◌, ℕ, ◌+◌, ◌<◌, ◌≤◌, Bool, true, false, cond, ltb, Some, None, List, [], ◌∷◌, ◌++◌, length, refl, sym, ap, subst, ◌∙◌, append_assoc, arith, length-append}
-use Rattle.std.proofs.lemmas.Bool.{ltb-false}
+use Rattle.std.proofs.Common.{◌≡◌, ℕ, ◌+◌, List, [], ◌∷◌, ◌++◌, length, sym, ap, subst, ◌∙◌, append_assoc, arith, length-append}
 use Rattle.std.proofs.lemmas.List.{append-nil}
 use Rattle.cdr_values.specs.declared.order.Order.{Order}
 use Rattle.cdr_values.specs.declared.order.Order.TheVariants.{Big}
-use Rattle.cdr_values.specs.declared.fault.CdrFault.{CdrFault}
-use Rattle.cdr_values.specs.declared.fault.CdrFault.TheVariants.{BadString, TooLong}
 use Rattle.cdr_values.specs.Again.{AllFit, standing, ValuesAreReadAgain}
-use Rattle.cdr_values.specs.Value.{Value, Text, canonical, has_nul, octets_of}
+use Rattle.cdr_values.specs.Value.{Value, canonical}
 use Rattle.cdr_values.specs.Values.{ReadsAll, canonical_all, with_values}
-use Rattle.cdr_values.specs.Writing.{Writing, place_of, refusal, with_value}
+use Rattle.cdr_values.specs.Writing.{Writing, place_of, with_value}
 use Rattle.ots_calls.specs.Call.{AreLeft}
 use Rattle.ots_calls.specs.Writing.{blank}
 
@@ -36,17 +33,3 @@ left_again again values w octets fit written is =
       stand = subst (λ (xs : List ℕ). ReadsAll (standing Big 0 xs) values (standing Big (0 + length all) [])) (append-nil all ∙ sym parts) h;
       few = omega arith;
     }
-
-passed : (b : Bool) (x y : CdrFault) (rest : Bool) → cond b (Some x) (cond rest (Some y) None) ≡ None → (b ≡ false) × (rest ≡ false)
-passed true x y rest e = absurd cc
-passed false x y true e = absurd cc
-passed false x y false e = (refl, refl)
-
--- a text that isn't refused fits
-pub text_fits : (text : List ℕ) → refusal blank (Text text) ≡ None → (length text < 65536) × (has_nul text ≡ false)
-text_fits text e =
-    let all = canonical Big 0 (Text text) in
-    let h = passed (has_nul text) (BadString 0) (TooLong 0 (length all)) (ltb 65536 (length all)) e in
-    let few : length all ≤ 65536 = ltb-false _ _ h.1 in
-    let size : length all ≡ 4 + (length text + 1) = omega (arith, length-append (octets_of Big 4 (length text + 1)) (text ++ 0 ∷ []), length-append text (0 ∷ [])) in
-    (omega (arith, few, size), h.0)

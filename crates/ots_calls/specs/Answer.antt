@@ -44,7 +44,7 @@ completed_number completed.Maybe = 2
 abbrev pub status_number : Answer → ℕ
 status_number (answers.Plain what) = 0
 status_number (answers.User exception) = 1
-status_number (answers.System exception done) = 2
+status_number (answers.System exception minor done) = 2
 
 -- which operations give such
 abbrev pub gives_of : Given → Gives
@@ -87,14 +87,14 @@ IsGiven what r = AreLeft (given_values what) r
 abbrev pub IsOf : Operation → Answer → Type 0
 IsOf operation (answers.Plain what) = gives_of what ≡ (row_of operation).gives
 IsOf operation (answers.User exception) = IsTrue (raises operation exception)
-IsOf operation (answers.System exception done) = Unit {0}
+IsOf operation (answers.System exception minor done) = Unit {0}
 
--- what a reader has left is the answer. The minor code of a system exception may be any.
+-- what a reader has left is the answer
 abbrev pub Says : Answer → Reading → Type 0
 Says (answers.Plain what) r = IsGiven what r
 Says (answers.User exception) r = AreLeft (Text (user_id exception) ∷ []) r
-Says (answers.System exception done) r = (minor : ℕ)
-    × AreLeft (Text (system_id exception) ∷ ULong minor ∷ ULong (completed_number done) ∷ []) r
+Says (answers.System exception minor done) r =
+    AreLeft (Text (system_id exception) ∷ ULong minor ∷ ULong (completed_number done) ∷ []) r
 
 -- the reply is this answer to the call
 pub record IsAnswer (call : Call) (answer : Answer) (reply : Reply) : Type 0 where

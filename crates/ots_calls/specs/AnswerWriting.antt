@@ -1,18 +1,17 @@
--- The reply with an answer (our profile). It is big endian, with padding 0 and minor code 0, and has no service contexts.
-use Rattle.std.specs.Prelude.{◌≡◌, ◌⊎◌, ℕ, List, [], ◌∷◌, length, Option, Some, None, Result, Ok, Err}
-use Rattle.cdr_values.specs.declared.fault.CdrFault.{CdrFault}
+-- The reply with an answer (our profile). It is big endian, with padding 0, and has no service contexts.
+use Rattle.std.specs.Prelude.{◌≡◌, ◌⊎◌, ℕ, List, [], ◌∷◌, length, Result, Ok, Err}
 use Rattle.cdr_values.specs.declared.order.Order.TheVariants.{Big}
 use Rattle.cdr_values.specs.Reading.{◌>>=◌}
-use Rattle.cdr_values.specs.Value.{Value, ULong, Text}
+use Rattle.cdr_values.specs.Tagged.{reference_values}
+use Rattle.cdr_values.specs.Value.{ULong, Text}
 use Rattle.cdr_values.specs.Values.{with_values}
-use Rattle.cdr_values.specs.Writing.{Writing, refusal, with_value}
 use Rattle.giop_frames.specs.declared.message.Reply.{Reply}
 use Rattle.ots_context.specs.Writing.{kept_length, with_context}
 use Rattle.ots_calls.specs.Answer.{IsOf, completed_number, given_values, status_number}
 use Rattle.ots_calls.specs.Call.{operation_of}
 use Rattle.ots_calls.specs.Exception.{system_id, user_id}
-use Rattle.ots_calls.specs.Fault.{fault_of, fault_of_context, told_as}
-use Rattle.ots_calls.specs.Writing.{blank, unless_refused}
+use Rattle.ots_calls.specs.Fault.{fault_of_context, told_as}
+use Rattle.ots_calls.specs.Writing.{blank, octets_with}
 use Rattle.ots_calls.specs.declared.answer.Answer.{Answer}
 use Rattle.ots_calls.specs.declared.answer.Answer.TheVariants as answers
 use Rattle.ots_calls.specs.declared.answer.Given.{Given}
@@ -21,29 +20,18 @@ use Rattle.ots_calls.specs.declared.call.Call.{Call}
 use Rattle.ots_calls.specs.declared.fault.CallFault.{CallFault}
 use Rattle.ots_calls.specs.declared.fault.CallFault.TheVariants.{BadParam}
 
--- what comes next, unless a value is refused
-abbrev pub then_unless : {A : Type 0} → Option CdrFault → Result A CallFault → Result A CallFault
-then_unless None next = next
-then_unless (Some fault) next = Err (fault_of fault)
-
--- the octets of a writer, and of these values behind them, up to the first that is refused
-abbrev pub octets_with : Writing → List Value → Result (List ℕ) CallFault
-octets_with w [] = Ok w.octets
-octets_with w (value ∷ values) = then_unless (refusal w value) (octets_with (with_value w value) values)
-
 -- the body of what was given
 abbrev pub given_body : Given → Result (List ℕ) CallFault
 given_body (given.Transaction context) = told_as fault_of_context (with_context blank context)
-given_body (given.Word text) = unless_refused (refusal blank (Text text)) (with_values blank (Text text ∷ [])).octets
-given_body what = Ok (with_values blank (given_values what)).octets
+given_body (given.Reference reference) = Ok (with_values blank (reference_values reference)).octets
+given_body what = octets_with blank (given_values what)
 
 -- the body of an answer
 abbrev pub answer_body : Answer → Result (List ℕ) CallFault
 answer_body (answers.Plain what) = given_body what
-answer_body (answers.User exception) =
-    unless_refused (refusal blank (Text (user_id exception))) (with_values blank (Text (user_id exception) ∷ [])).octets
-answer_body (answers.System exception done) =
-    octets_with blank (Text (system_id exception) ∷ ULong 0 ∷ ULong (completed_number done) ∷ [])
+answer_body (answers.User exception) = octets_with blank (Text (user_id exception) ∷ [])
+answer_body (answers.System exception minor done) =
+    octets_with blank (Text (system_id exception) ∷ ULong minor ∷ ULong (completed_number done) ∷ [])
 
 -- the reply with this body
 abbrev pub reply_with : ℕ → Answer → List ℕ → Reply

@@ -92,7 +92,7 @@ system_at r = do
   minor ← told_as fault_of (ulong_at id.1)
   number ← told_as fault_of (ulong_at minor.1)
   done ← or_refuse (Marshal minor.1.place) (completed_of number.0)
-  ended (answers.System exception done) number.1
+  ended (answers.System exception minor.0 done) number.1
 
 -- the answer of a reply with this status: NO_EXCEPTION, USER_EXCEPTION or SYSTEM_EXCEPTION
 unfoldable pub answer_at : Operation → ℕ → Reading → Result Answer CallFault

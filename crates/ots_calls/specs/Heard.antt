@@ -41,11 +41,11 @@ heard_of_system systems.TransactionRolledBack = hears.RolledBack
 heard_of_system systems.ObjectNotExist = hears.NoObject
 heard_of_system exception = hears.Other
 
--- an answer, as it is heard. Whether the operation was done that raised a system exception makes no difference.
+-- an answer, as it is heard. The minor code of a system exception, and whether the operation was done, make no difference.
 abbrev pub heard_in : Answer → Heard
 heard_in (answers.Plain what) = heard_of_given what
 heard_in (answers.User exception) = heard_of_user exception
-heard_in (answers.System exception done) = heard_of_system exception
+heard_in (answers.System exception minor done) = heard_of_system exception
 
 -- a reference was given: what is heard holds it. For nothing else memory is wanted.
 abbrev pub GivesReference : Answer → Type 0

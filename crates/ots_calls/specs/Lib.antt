@@ -7,6 +7,7 @@ pub mod Reading
 pub mod Retry
 pub mod Request
 pub mod Writing
+pub mod WritingInside
 pub mod Exception
 pub mod Answer
 pub mod Answering

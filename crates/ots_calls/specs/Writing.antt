@@ -5,9 +5,9 @@ use Rattle.cdr_values.specs.declared.order.Order.TheVariants.{Big}
 use Rattle.cdr_values.specs.Encapsulation.{begun}
 use Rattle.cdr_values.specs.Reading.{◌>>=◌}
 use Rattle.cdr_values.specs.Tagged.{reference_values}
-use Rattle.cdr_values.specs.Value.{ULongLong, Text}
+use Rattle.cdr_values.specs.Value.{Value, ULongLong}
 use Rattle.cdr_values.specs.Values.{with_values}
-use Rattle.cdr_values.specs.Writing.{Writing, refusal}
+use Rattle.cdr_values.specs.Writing.{Writing, refusal, with_value}
 use Rattle.giop_frames.specs.Encode.{octets_in_contexts, refusal_of, size_refusal}
 use Rattle.giop_frames.specs.declared.layout.Version.TheVariants.{V1_2}
 use Rattle.giop_frames.specs.declared.message.Message.{Message}
@@ -34,22 +34,26 @@ use Rattle.ots_calls.specs.declared.fault.CallFault.TheVariants.{BadKey, BadOper
 abbrev pub blank : Writing
 blank = record { order = Big; start = 0; octets = [] }
 
--- the octets, unless a value is refused
-abbrev pub unless_refused : Option CdrFault → List ℕ → Result (List ℕ) CallFault
-unless_refused None octets = Ok octets
-unless_refused (Some fault) octets = Err (fault_of fault)
+-- what comes next, unless a value is refused
+abbrev pub then_unless : {A : Type 0} → Option CdrFault → Result A CallFault → Result A CallFault
+then_unless None next = next
+then_unless (Some fault) next = Err (fault_of fault)
 
--- the octets of a reference that names an object
-abbrev pub if_object : Bool → List ℕ → Result (List ℕ) CallFault
-if_object nil octets = if nil then Err BadParam else Ok octets
+-- the octets of a writer, and of these values behind them, up to the first that is refused
+abbrev pub octets_with : Writing → List Value → Result (List ℕ) CallFault
+octets_with w [] = Ok w.octets
+octets_with w (value ∷ values) = then_unless (refusal w value) (octets_with (with_value w value) values)
+
+-- a call hands over a reference to no object
+abbrev pub lacks_object : Call → Bool
+lacks_object (calls.Handing handing reference) = is_nil reference
+lacks_object call = false
 
 -- the body of a call
 abbrev pub body_of : Call → Result (List ℕ) CallFault
-body_of (calls.Handing handing reference) =
-    if_object (is_nil reference) (with_values blank (reference_values reference)).octets
+body_of (calls.Handing handing reference) = Ok (with_values blank (reference_values reference)).octets
 body_of (calls.Recreate context) = told_as fault_of_context (with_context blank context)
-body_of (calls.IsA id) = unless_refused (refusal blank (Text id)) (with_values blank (Text id ∷ [])).octets
-body_of call = Ok (with_values blank (arguments call)).octets
+body_of call = octets_with blank (arguments call)
 
 -- a service context
 abbrev pub service_context : ℕ → List ℕ → ServiceContext
@@ -95,11 +99,17 @@ request_with id c contexts body = record {
 abbrev pub LacksOperation : Called → Type 0
 LacksOperation c = (is_kind c.key.kind ≡ true) × (serves c.key.kind (operation_of c.call) ≡ false)
 
+-- its object has the operation, which is to take a reference to an object, and is handed one to none
+abbrev pub LacksObject : Called → Type 0
+LacksObject c =
+    (is_kind c.key.kind ≡ true) × (serves c.key.kind (operation_of c.call) ≡ true) × (lacks_object c.call ≡ true)
+
 -- the request of a call
 unfoldable pub request_of : ℕ → Called → Result Request CallFault
 request_of id c =
     if not (is_kind c.key.kind) then Err BadKey else
     if not (serves c.key.kind (operation_of c.call)) then Err BadOperation else
+    if lacks_object c.call then Err BadParam else
     (contexts_of c >>= λ contexts. body_of c.call >>= λ body. Ok (request_with id c contexts body))
 
 -- a message of GIOP 1.2, unless it has too many octets: nothing but its size refuses it

@@ -49,8 +49,8 @@ pub enum Answer {
     Plain(Given),
     /// It raised a user exception.
     User(UserException),
-    /// It raised a system exception. The minor code isn't told.
-    System(SystemException, Completed),
+    /// It raised a system exception, with this minor code.
+    System(SystemException, u32, Completed),
 }
 
 impl Given {
@@ -80,7 +80,7 @@ impl Answer {
         match self {
             Answer::Plain(_) => 0,
             Answer::User(_) => 1,
-            Answer::System(_, _) => 2,
+            Answer::System(_, _, _) => 2,
         }
     }
 }

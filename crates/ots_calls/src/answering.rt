@@ -71,7 +71,7 @@ fn read_status(
     ensures memory { result ≡ Err CallFault.Memory → WantsMemory operation status }
 {
     match status {
-        0 => Ok(Answer::Plain(read_given(alloc, operation.gives(), reader)?)),
+        0 => Ok(Answer::Plain(read_given(alloc, operation.row().gives, reader)?)),
         1 => read_raised(operation, reader),
         2 => read_system(reader),
         _ => Err(CallFault::Marshal(reader.place())),
@@ -203,11 +203,11 @@ fn read_system(reader: &mut Reader) -> Result<Answer, CallFault>
     let Some(exception) = SystemException::named(id) else {
         return Err(CallFault::Marshal(place));
     };
-    let _minor = reader.ulong()?;
+    let minor = reader.ulong()?;
     let place = reader.place();
     let number = reader.ulong()?;
     match completed_of(number) {
-        Some(completed) => ended(reader, Answer::System(exception, completed)),
+        Some(completed) => ended(reader, Answer::System(exception, minor, completed)),
         None => Err(CallFault::Marshal(place)),
     }
 }

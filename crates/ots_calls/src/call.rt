@@ -1,6 +1,7 @@
 ghost use Rattle.std.specs.Prelude.{◌≡◌};
 ghost use Rattle.ots_calls.specs.Call.{operation_of, shape_of};
 ghost use Rattle.ots_calls.specs.Table.{row_of};
+ghost use Rattle.ots_calls.specs.Writing.{lacks_object};
 
 use crate::operation::{Bare, Handing, Operation};
 use ior_refs::{ObjectKey, ObjectRef};
@@ -47,6 +48,16 @@ impl Call {
             Call::Put(_, _) => Operation::Put,
             Call::Get(_) => Operation::Get,
             Call::IsA(_) => Operation::IsA,
+        }
+    }
+
+    /// Whether it hands over a reference to no object.
+    pub fn lacks_object(&self) -> bool
+        ensures { result ≡ lacks_object self.now }
+    {
+        match self {
+            Call::Handing(_, reference) => reference.is_nil(),
+            _ => false,
         }
     }
 }

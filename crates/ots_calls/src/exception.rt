@@ -1,5 +1,4 @@
-ghost use Rattle.std.specs.Prelude.{◌≡◌, find};
-ghost use Rattle.std.specs.Option.{option_copied};
+ghost use Rattle.std.specs.Prelude.{◌≡◌};
 ghost use Rattle.std.specs.Str.{bytes_eq};
 ghost use Rattle.ots_calls.specs.Exception.{user_id, user_named};
 
@@ -48,7 +47,12 @@ impl UserException {
     pub fn named(id: &[u8]) -> Option<UserException>
         ensures { result ≡ user_named id.now }
     {
-        named_among(&USER_EXCEPTIONS, id).copied()
+        for one in &USER_EXCEPTIONS {
+            if has_id(*one, id) {
+                return Some(*one);
+            }
+        }
+        None
     }
 
     /// Its repository id.
@@ -72,13 +76,6 @@ impl UserException {
             UserException::Unavailable => b"IDL:omg.org/CosTransactions/Unavailable:1.0",
         }
     }
-}
-
-/// The exception of this repository id among these.
-fn named_among<'a>(some: &'a [UserException], id: &[u8]) -> Option<&'a UserException>
-    ensures { option_copied result ≡ find (λ one. bytes_eq id.now (user_id one)) some.now }
-{
-    some.iter().find(|one| has_id(**one, id))
 }
 
 /// Whether the exception has this repository id.

@@ -24,7 +24,7 @@ pub fn heard(alloc: Global, a: &Answer) -> Result<Heard, AllocError>
     match a {
         Answer::Plain(given) => heard_of_given(alloc, given),
         Answer::User(exception) => Ok(heard_of_user(*exception)),
-        Answer::System(exception, _) => Ok(heard_of_system(*exception)),
+        Answer::System(exception, _, _) => Ok(heard_of_system(*exception)),
     }
 }
 

@@ -13,6 +13,7 @@ pub use laws::{answers_are_read_exactly, names_tell_operations, requests_are_rea
 pub use operation::{Bare, Handing, Operation};
 pub use replying::write_answer;
 pub use request::read_call;
+pub use rows::Row;
 pub use system::SystemException;
 pub use writing::write_call;
 

@@ -1,30 +1,26 @@
-ghost use Rattle.std.specs.Prelude.{◌≡◌, ◌⊎◌, ◌^◌, ◌<◌, ◌≤◌, [], ◌∷◌, IfErr, IfOk, Err, Ok, length};
+ghost use Rattle.std.specs.Prelude.{◌≡◌, ◌⊎◌, ◌^◌, ◌<◌, ◌≤◌, IfErr, IfOk, Err, Ok, length};
 ghost use Rattle.std.specs.Bool.{OnFalse, OnTrue};
 ghost use Rattle.cdr_values.specs.Again.{standing};
 ghost use Rattle.cdr_values.specs.Limits.{output_limit};
-ghost use Rattle.cdr_values.specs.Values.{with_values};
-ghost use Rattle.cdr_values.specs.Value.{Boolean, ULong, ULongLong, Text};
 ghost use Rattle.cdr_values.specs.declared.order.Order.TheVariants.{Big};
 ghost use Rattle.giop_frames.specs.Encode.{octets_in};
 ghost use Rattle.giop_frames.specs.declared.message.Message.TheVariants as messages;
 ghost use Rattle.ots_calls.specs.Answer.{IsAnswer, IsGiven, IsOf, Says, completed_number, vote_number};
 ghost use Rattle.ots_calls.specs.Answering.{answer_with};
-ghost use Rattle.ots_calls.specs.AnswerWriting.{IsUnwritten, answer_body, given_body, given_length, octets_with, reply_of};
-ghost use Rattle.ots_calls.specs.Call.{AreLeft, operation_of};
+ghost use Rattle.ots_calls.specs.AnswerWriting.{IsUnwritten, answer_body, given_body, given_length, reply_of};
+ghost use Rattle.ots_calls.specs.Call.{operation_of};
 ghost use Rattle.ots_calls.specs.Fault.{Finds};
-ghost use Rattle.ots_calls.specs.Writing.{OnlySizeRefuses, blank};
+ghost use Rattle.ots_calls.specs.Writing.{OnlySizeRefuses};
 ghost use Rattle.ots_calls.specs.declared.answer.Answer.TheVariants as answers;
 ghost use Rattle.ots_calls.specs.declared.fault.CallFault.TheVariants.{Memory};
 
 use crate::answer::{Answer, Completed, Given};
-use crate::body::{
-    context_body, flag_body, nothing, number_body, reference_octets, status_number, text_body,
-};
+use crate::body::{Piece, context_body, reference_body, status_number, values_body};
 use crate::call::Call;
 use crate::fault::CallFault;
 use crate::laws::answers_are_read_exactly;
 use crate::operation::Operation;
-use cdr_values::{Order, Writer, values_are_read_again};
+use cdr_values::Order;
 use giop_frames::{Contexts, Reply};
 use ots_model::{Octets, Vote};
 use std::alloc::Global;
@@ -63,9 +59,9 @@ fn is_of(operation: Operation, answer: &Answer) -> bool
     ensures no { OnFalse result (¬ IsOf operation answer.now) }
 {
     match answer {
-        Answer::Plain(given) => given.gives() == operation.gives(),
+        Answer::Plain(given) => given.gives() == operation.row().gives,
         Answer::User(exception) => operation.may_raise(*exception),
-        Answer::System(_, _) => true,
+        Answer::System(_, _, _) => true,
     }
 }
 
@@ -78,8 +74,16 @@ fn answer_body(alloc: Global, answer: &Answer) -> Result<Octets, CallFault>
 {
     match answer {
         Answer::Plain(given) => given_body(alloc, given),
-        Answer::User(exception) => text_body(alloc, exception.id()),
-        Answer::System(exception, completed) => system_body(alloc, exception.id(), *completed),
+        Answer::User(exception) => values_body(alloc, &[Piece::Text(exception.id())]),
+        Answer::System(exception, minor, completed) => {
+            let number = completed_number(*completed);
+            let pieces = [
+                Piece::Text(exception.id()),
+                Piece::Number(*minor),
+                Piece::Number(number),
+            ];
+            values_body(alloc, &pieces)
+        }
     }
 }
 
@@ -91,16 +95,16 @@ fn given_body(alloc: Global, given: &Given) -> Result<Octets, CallFault>
     ensures short { IfOk result (λ octets. length octets ≤ output_limit) }
 {
     match given {
-        Given::Nothing => Ok(nothing(alloc)),
-        Given::Flag(flag) => flag_body(alloc, *flag),
-        Given::Number(number) => number_body(alloc, *number),
-        Given::Reference(reference) => reference_octets(alloc, reference),
-        Given::State(status) => number_body(alloc, status_number(*status)),
-        Given::Ballot(vote) => number_body(alloc, vote_number(*vote)),
-        Given::Word(text) => text_body(alloc, text.bytes()),
+        Given::Nothing => values_body(alloc, &[]),
+        Given::Flag(flag) => values_body(alloc, &[Piece::Flag(*flag)]),
+        Given::Number(number) => values_body(alloc, &[Piece::Number(*number)]),
+        Given::Reference(reference) => reference_body(alloc, reference),
+        Given::State(status) => values_body(alloc, &[Piece::Number(status_number(*status))]),
+        Given::Ballot(vote) => values_body(alloc, &[Piece::Number(vote_number(*vote))]),
+        Given::Word(text) => values_body(alloc, &[Piece::Text(text.bytes())]),
         Given::Transaction(context) => context_body(alloc, context),
-        Given::Found(Some(value)) => flag_and_value_body(alloc, true, *value),
-        Given::Found(None) => flag_and_value_body(alloc, false, 0),
+        Given::Found(Some(value)) => values_body(alloc, &[Piece::Flag(true), Piece::Long(*value)]),
+        Given::Found(None) => values_body(alloc, &[Piece::Flag(false), Piece::Long(0)]),
     }
 }
 
@@ -124,34 +128,4 @@ fn completed_number(completed: Completed) -> u32
         Completed::No => 1,
         Completed::Maybe => 2,
     }
-}
-
-fn flag_and_value_body(alloc: Global, flag: bool, value: u64) -> Result<Octets, CallFault>
-    ensures exact { Finds (λ octets. octets) result
-        (Ok (with_values blank (Boolean flag ∷ ULongLong value ∷ [])).octets) }
-    ensures left { IfOk result (λ octets. AreLeft (Boolean flag ∷ ULongLong value ∷ []) (standing Big 0 octets)) }
-    ensures short { IfOk result (λ octets. length octets ≤ output_limit) }
-{
-    values_are_read_again();
-    let mut writer = Writer::new(alloc, Order::Big, 0);
-    writer.boolean(flag)?;
-    writer.ulonglong(value)?;
-    Ok(writer.finish())
-}
-
-/// The body of a system exception, with minor code 0.
-fn system_body(alloc: Global, id: &[u8], completed: Completed) -> Result<Octets, CallFault>
-    requires { length id.now < 2 ^ 31 }
-    ensures exact { Finds (λ octets. octets) result
-        (octets_with blank (Text id.now ∷ ULong 0 ∷ ULong (completed_number completed) ∷ [])) }
-    ensures left { IfOk result (λ octets.
-        AreLeft (Text id.now ∷ ULong 0 ∷ ULong (completed_number completed) ∷ []) (standing Big 0 octets)) }
-    ensures short { IfOk result (λ octets. length octets ≤ output_limit) }
-{
-    values_are_read_again();
-    let mut writer = Writer::new(alloc, Order::Big, 0);
-    writer.string(id)?;
-    writer.ulong(0)?;
-    writer.ulong(completed_number(completed))?;
-    Ok(writer.finish())
 }

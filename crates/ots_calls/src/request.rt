@@ -1,5 +1,4 @@
-ghost use Rattle.std.specs.Prelude.{◌≡◌, ◌≢◌, ◌⊎◌, ◌^◌, ◌<◌, All, IfErr, IfOk, IfSome, Err, Ok, length};
-ghost use Rattle.std.specs.Option.{option_copied};
+ghost use Rattle.std.specs.Prelude.{◌≡◌, ◌≢◌, ◌⊎◌, ◌^◌, ◌<◌, All, IfErr, IfOk, Err, Ok, length};
 ghost use Rattle.ots_calls.specs.Fault.{Finds};
 ghost use Rattle.ots_calls.specs.Request.{IsFor, Refuses, WantsMemory, WantsMemoryFor, called_with};
 ghost use Rattle.ots_calls.specs.Retry.{first_retry, retry_in, retry_in_first};
@@ -66,20 +65,12 @@ fn find_retry(contexts: &[ServiceContext]) -> Result<Option<RetryKey>, CallFault
     ensures exact { Finds (λ key. key) result (retry_in_first (first_retry contexts.now)) }
     ensures memory { result ≢ Err CallFault.Memory }
 {
-    match first_retry(contexts) {
-        None => Ok(None),
-        Some(octets) => Ok(Some(read_retry(octets)?)),
+    for context in contexts {
+        if context.id == RETRY_CONTEXT {
+            return Ok(Some(read_retry(context.bytes.bytes())?));
+        }
     }
-}
-
-/// The octets of the first service context for retry keys.
-fn first_retry(contexts: &[ServiceContext]) -> Option<&[u8]>
-    requires { All (λ context. length context.bytes < 2 ^ 31) contexts.now }
-    ensures first { option_copied result ≡ first_retry contexts.now }
-    ensures short { IfSome result (λ octets. length octets.now < 2 ^ 31) }
-{
-    let context = contexts.iter().find(|context| context.id == RETRY_CONTEXT)?;
-    Some(context.bytes.bytes())
+    Ok(None)
 }
 
 /// The retry key in an encapsulation.

@@ -1,43 +1,173 @@
 ghost use Rattle.std.specs.Prelude.{◌≡◌};
 ghost use Rattle.ots_calls.specs.Answer.{raises};
-ghost use Rattle.ots_calls.specs.Table.{row_of};
-ghost use Rattle.ots_calls.specs.declared.operation.Operation.TheVariants as operations;
+ghost use Rattle.ots_calls.specs.Table.{row_of, serves, word_of};
 
 use crate::exception::{UserException, has_id};
 use crate::gives::Gives;
-use crate::operation::{Bare, Handing, Operation};
+use crate::interface::Interface;
+use crate::operation::Operation;
+
+/// A row of the table of operations.
+#[derive(Clone, Copy)]
+pub struct Row {
+    /// The interface that has the operation.
+    pub interface: Interface,
+    /// Its name.
+    pub word: &'static [u8],
+    /// What it gives.
+    pub gives: Gives,
+    /// The user exceptions that it raises.
+    pub raises: &'static [UserException],
+}
+
+/// A row by the names of its parts.
+macro_rules! row {
+    ($interface:ident, $word:literal, $gives:ident $(, $raised:ident)*) => {
+        Row {
+            interface: Interface::$interface,
+            word: $word,
+            gives: Gives::$gives,
+            raises: &[$(UserException::$raised),*],
+        }
+    };
+}
+
+/// The rows of the operations that take nothing, in the order of the variants.
+static BARE: [Row; 21] = [
+    row!(Control, b"get_terminator", Reference, Unavailable),
+    row!(Control, b"get_coordinator", Reference, Unavailable),
+    row!(Terminator, b"rollback", Nothing),
+    row!(Coordinator, b"get_status", State),
+    row!(Coordinator, b"get_parent_status", State),
+    row!(Coordinator, b"get_top_level_status", State),
+    row!(Coordinator, b"is_top_level_transaction", Flag),
+    row!(Coordinator, b"hash_transaction", Number),
+    row!(Coordinator, b"hash_top_level_tran", Number),
+    row!(Coordinator, b"rollback_only", Nothing, Inactive),
+    row!(Coordinator, b"get_transaction_name", Word),
+    row!(
+        Coordinator,
+        b"create_subtransaction",
+        Reference,
+        SubtransactionsUnavailable,
+        Inactive
+    ),
+    row!(Coordinator, b"get_txcontext", Transaction, Unavailable),
+    row!(
+        Resource,
+        b"prepare",
+        Ballot,
+        HeuristicMixed,
+        HeuristicHazard
+    ),
+    row!(
+        Resource,
+        b"rollback",
+        Nothing,
+        HeuristicCommit,
+        HeuristicMixed,
+        HeuristicHazard
+    ),
+    row!(
+        Resource,
+        b"commit",
+        Nothing,
+        NotPrepared,
+        HeuristicRollback,
+        HeuristicMixed,
+        HeuristicHazard
+    ),
+    row!(Resource, b"commit_one_phase", Nothing, HeuristicHazard),
+    row!(Resource, b"forget", Nothing),
+    row!(Synchronization, b"before_completion", Nothing),
+    row!(
+        SubtransactionAwareResource,
+        b"rollback_subtransaction",
+        Nothing
+    ),
+    row!(Object, b"_non_existent", Flag),
+];
+
+/// The rows of the operations that take a reference, in the order of the variants.
+static HANDING: [Row; 9] = [
+    row!(Coordinator, b"is_same_transaction", Flag),
+    row!(Coordinator, b"is_related_transaction", Flag),
+    row!(Coordinator, b"is_ancestor_transaction", Flag),
+    row!(Coordinator, b"is_descendant_transaction", Flag),
+    row!(Coordinator, b"register_resource", Reference, Inactive),
+    row!(
+        Coordinator,
+        b"register_synchronization",
+        Nothing,
+        Inactive,
+        SynchronizationUnavailable
+    ),
+    row!(
+        Coordinator,
+        b"register_subtran_aware",
+        Nothing,
+        Inactive,
+        NotSubtransaction
+    ),
+    row!(
+        RecoveryCoordinator,
+        b"replay_completion",
+        State,
+        NotPrepared
+    ),
+    row!(
+        SubtransactionAwareResource,
+        b"commit_subtransaction",
+        Nothing
+    ),
+];
+
+static CREATE: Row = row!(TransactionFactory, b"create", Reference);
+
+static RECREATE: Row = row!(TransactionFactory, b"recreate", Reference);
+
+static COMMIT_TRANSACTION: Row = row!(
+    Terminator,
+    b"commit",
+    Nothing,
+    HeuristicMixed,
+    HeuristicHazard
+);
+
+static AFTER_COMPLETION: Row = row!(Synchronization, b"after_completion", Nothing);
+
+static PUT: Row = row!(Cells, b"put", Nothing);
+
+static GET: Row = row!(Cells, b"get", Found);
+
+static IS_A: Row = row!(Object, b"_is_a", Flag);
 
 impl Operation {
-    /// What it gives.
-    pub fn gives(self) -> Gives
-        ensures { result ≡ (row_of self).gives }
+    /// Its row in the table.
+    pub fn row(self) -> &'static Row
+        ensures interface { result.now.interface ≡ (row_of self).interface }
+        ensures name { result.now.word.now ≡ word_of self }
+        ensures gives { result.now.gives ≡ (row_of self).gives }
+        ensures raises { result.now.raises.now ≡ (row_of self).raises }
     {
         match self {
-            Operation::Bare(bare) => bare_gives(bare),
-            Operation::Handing(handing) => handing_gives(handing),
-            Operation::Create | Operation::Recreate => Gives::Reference,
-            Operation::CommitTransaction | Operation::AfterCompletion | Operation::Put =>
-                Gives::Nothing,
-            Operation::Get => Gives::Found,
-            Operation::IsA => Gives::Flag,
+            Operation::Bare(bare) => &BARE[bare as usize],
+            Operation::Handing(handing) => &HANDING[handing as usize],
+            Operation::Create => &CREATE,
+            Operation::Recreate => &RECREATE,
+            Operation::CommitTransaction => &COMMIT_TRANSACTION,
+            Operation::AfterCompletion => &AFTER_COMPLETION,
+            Operation::Put => &PUT,
+            Operation::Get => &GET,
+            Operation::IsA => &IS_A,
         }
     }
 
-    /// The user exceptions that it raises.
-    pub fn raises(self) -> &'static [UserException]
-        ensures { result.now ≡ (row_of self).raises }
+    /// Whether objects have it whose keys are of this kind.
+    pub fn serves(self, kind: u8) -> bool
+        ensures { result ≡ serves kind self }
     {
-        match self {
-            Operation::Bare(bare) => bare_raises(bare),
-            Operation::Handing(handing) => handing_raises(handing),
-            Operation::CommitTransaction => MIXED_OR_HAZARD,
-            Operation::Create
-            | Operation::Recreate
-            | Operation::AfterCompletion
-            | Operation::Put
-            | Operation::Get
-            | Operation::IsA => &[],
-        }
+        self.row().interface.kinds().contains(&kind)
     }
 
     /// Whether it raises this user exception.
@@ -45,111 +175,11 @@ impl Operation {
         ensures { result ≡ raises self exception }
     {
         let id = exception.id();
-        self.raises().iter().any(|one| has_id(*one, id))
-    }
-}
-
-const MIXED_OR_HAZARD: &[UserException; 2] = &[
-    UserException::HeuristicMixed,
-    UserException::HeuristicHazard,
-];
-
-fn bare_gives(bare: Bare) -> Gives
-    ensures { result ≡ (row_of (operations.Bare bare)).gives }
-{
-    match bare {
-        Bare::GetTerminator | Bare::GetCoordinator | Bare::CreateSubtransaction => Gives::Reference,
-        Bare::GetStatus | Bare::GetParentStatus | Bare::GetTopLevelStatus => Gives::State,
-        Bare::IsTopLevelTransaction | Bare::NonExistent => Gives::Flag,
-        Bare::HashTransaction | Bare::HashTopLevelTran => Gives::Number,
-        Bare::GetTransactionName => Gives::Word,
-        Bare::GetTxcontext => Gives::Transaction,
-        Bare::Prepare => Gives::Ballot,
-        Bare::RollbackTransaction
-        | Bare::RollbackOnly
-        | Bare::Rollback
-        | Bare::Commit
-        | Bare::CommitOnePhase
-        | Bare::Forget
-        | Bare::BeforeCompletion
-        | Bare::RollbackSubtransaction => Gives::Nothing,
-    }
-}
-
-fn handing_gives(handing: Handing) -> Gives
-    ensures { result ≡ (row_of (operations.Handing handing)).gives }
-{
-    match handing {
-        Handing::IsSameTransaction
-        | Handing::IsRelatedTransaction
-        | Handing::IsAncestorTransaction
-        | Handing::IsDescendantTransaction => Gives::Flag,
-        Handing::RegisterResource => Gives::Reference,
-        Handing::RegisterSynchronization
-        | Handing::RegisterSubtranAware
-        | Handing::CommitSubtransaction => Gives::Nothing,
-        Handing::ReplayCompletion => Gives::State,
-    }
-}
-
-fn bare_raises(bare: Bare) -> &'static [UserException]
-    ensures { result.now ≡ (row_of (operations.Bare bare)).raises }
-{
-    match bare {
-        Bare::GetTerminator | Bare::GetCoordinator | Bare::GetTxcontext => &[
-            UserException::Unavailable,
-        ],
-        Bare::RollbackOnly => &[UserException::Inactive],
-        Bare::CreateSubtransaction => &[
-            UserException::SubtransactionsUnavailable,
-            UserException::Inactive,
-        ],
-        Bare::Prepare => MIXED_OR_HAZARD,
-        Bare::Rollback => &[
-            UserException::HeuristicCommit,
-            UserException::HeuristicMixed,
-            UserException::HeuristicHazard,
-        ],
-        Bare::Commit => &[
-            UserException::NotPrepared,
-            UserException::HeuristicRollback,
-            UserException::HeuristicMixed,
-            UserException::HeuristicHazard,
-        ],
-        Bare::CommitOnePhase => &[UserException::HeuristicHazard],
-        Bare::RollbackTransaction
-        | Bare::GetStatus
-        | Bare::GetParentStatus
-        | Bare::GetTopLevelStatus
-        | Bare::IsTopLevelTransaction
-        | Bare::HashTransaction
-        | Bare::HashTopLevelTran
-        | Bare::GetTransactionName
-        | Bare::Forget
-        | Bare::BeforeCompletion
-        | Bare::RollbackSubtransaction
-        | Bare::NonExistent => &[],
-    }
-}
-
-fn handing_raises(handing: Handing) -> &'static [UserException]
-    ensures { result.now ≡ (row_of (operations.Handing handing)).raises }
-{
-    match handing {
-        Handing::RegisterResource => &[UserException::Inactive],
-        Handing::RegisterSynchronization => &[
-            UserException::Inactive,
-            UserException::SynchronizationUnavailable,
-        ],
-        Handing::RegisterSubtranAware => &[
-            UserException::Inactive,
-            UserException::NotSubtransaction,
-        ],
-        Handing::ReplayCompletion => &[UserException::NotPrepared],
-        Handing::IsSameTransaction
-        | Handing::IsRelatedTransaction
-        | Handing::IsAncestorTransaction
-        | Handing::IsDescendantTransaction
-        | Handing::CommitSubtransaction => &[],
+        for one in self.row().raises {
+            if has_id(*one, id) {
+                return true;
+            }
+        }
+        false
     }
 }

@@ -1,5 +1,4 @@
-ghost use Rattle.std.specs.Prelude.{◌≡◌, find};
-ghost use Rattle.std.specs.Option.{option_copied};
+ghost use Rattle.std.specs.Prelude.{◌≡◌};
 ghost use Rattle.std.specs.Str.{bytes_eq};
 ghost use Rattle.ots_calls.specs.Exception.{system_id, system_named};
 
@@ -178,7 +177,12 @@ impl SystemException {
     pub fn named(id: &[u8]) -> Option<SystemException>
         ensures { result ≡ system_named id.now }
     {
-        named_among(&SYSTEM_EXCEPTIONS, id).copied()
+        for one in &SYSTEM_EXCEPTIONS {
+            if has_id(*one, id) {
+                return Some(*one);
+            }
+        }
+        None
     }
 
     /// Its repository id.
@@ -187,13 +191,6 @@ impl SystemException {
     {
         SYSTEM_IDS[self as usize]
     }
-}
-
-/// The exception of this repository id among these.
-fn named_among<'a>(some: &'a [SystemException], id: &[u8]) -> Option<&'a SystemException>
-    ensures { option_copied result ≡ find (λ one. bytes_eq id.now (system_id one)) some.now }
-{
-    some.iter().find(|one| has_id(**one, id))
 }
 
 /// Whether the exception has this repository id.

@@ -10,7 +10,7 @@ ghost use Rattle.ots_context.specs.Writing.{kept_length};
 ghost use Rattle.ots_calls.specs.Fault.{Finds};
 ghost use Rattle.ots_calls.specs.Request.{AreBoth, IsCall, called_with};
 ghost use Rattle.ots_calls.specs.Retry.{IsRetry, first_retry};
-ghost use Rattle.ots_calls.specs.Writing.{LacksOperation, OnlySizeRefuses, carried_length, contexts_of, handed_length, request_of, retry_octets, size_of_contexts, with_retry, with_transaction};
+ghost use Rattle.ots_calls.specs.Writing.{LacksObject, LacksOperation, OnlySizeRefuses, carried_length, contexts_of, handed_length, request_of, retry_octets, size_of_contexts, with_retry, with_transaction};
 
 use crate::body::body_of;
 use crate::call::Called;
@@ -31,7 +31,7 @@ const KINDS: &[u8; 10] = b"FCTKVRUYAD";
 const TRANSACTION_SERVICE: u32 = 0;
 
 /// The request of a call, with this request_id. It is big endian, and a reply is wanted.
-#[tactic(auto, using(crate::proofs::Sizes::key_length), unfolding(crate::specs::Writing::request_of))]
+#[tactic(auto, using(crate::proofs::Sizes::key_length, crate::proofs::Words::word_short), unfolding(crate::specs::Writing::request_of))]
 pub fn write_call(alloc: Global, id: u32, c: &Called) -> Result<Request, CallFault>
     requires call { handed_length c.now.call < 2 ^ 31 }
     requires context { carried_length c.now.context < 2 ^ 31 }
@@ -43,6 +43,7 @@ pub fn write_call(alloc: Global, id: u32, c: &Called) -> Result<Request, CallFau
     ensures framed { IfOk result (λ request. OnlySizeRefuses (messages.Request request)) }
     ensures kind { is_kind c.now.key.kind ≡ false → result ≡ Err CallFault.BadKey }
     ensures served { LacksOperation c.now → result ≡ Err CallFault.BadOperation }
+    ensures object { LacksObject c.now → result ≡ Err CallFault.BadParam }
 {
     requests_are_read_exactly();
     let operation = c.call.operation();
@@ -52,13 +53,16 @@ pub fn write_call(alloc: Global, id: u32, c: &Called) -> Result<Request, CallFau
     if !operation.serves(c.key.kind) {
         return Err(CallFault::BadOperation);
     }
+    if c.call.lacks_object() {
+        return Err(CallFault::BadParam);
+    }
     let contexts = contexts_of(alloc, c)?;
     let body = body_of(alloc, &c.call)?;
     Ok(Request {
         id,
         flags: 3,
         target: Target::Key(Octets::new(alloc, &key_octets(&c.key))?),
-        operation: Octets::new(alloc, operation.word())?,
+        operation: Octets::new(alloc, operation.row().word)?,
         contexts,
         order: Order::Big,
         body,

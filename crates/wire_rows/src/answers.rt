@@ -2,101 +2,113 @@
 ghost use Rattle.std.specs.Prelude.{◌^◌, ◌<◌, IsTrue};
 ghost use Rattle.ots_calls.specs.AnswerWriting.{given_length};
 
-use crate::calls::{call_in, tell_operation, tell_text};
-use crate::messages::{front, tell_encoded};
-use crate::values::{MOST, digits, is_short, short, tell_fields, tell_reference};
-use giop_frames::{Message, Reply, decode};
-use ots_calls::{Answer, Call, Given, heard, heard_in_reply, read_answer, write_answer};
+use crate::calls::{call_in, tell_operation};
+use crate::messages::{front, is_short_reply, tell_encoded};
+use crate::told::Told;
+use crate::values::{MOST, is_short, tell_fields, tell_reference};
+use giop_frames::{Message, Reply};
+use ots_calls::{Answer, Call, CallFault, Given, heard, heard_in_reply, read_answer, write_answer};
 use ots_model::Disposition;
 use ots_model::tree::Heard;
 use std::alloc::Global;
-use std::io;
-use std::io::{ErrorKind, Write};
 
 /// Tells the answer that a Reply is, which stands behind its Request, what is heard in it, and how it is written.
-pub fn tell(alloc: Global, told: &mut Vec<u8>, octets: &[u8]) -> io::Result<()> {
-    let called = call_in(alloc, octets)?;
-    let reply = reply_behind(alloc, octets)?;
-    tell_reply(alloc, told, &called.call, &reply)
-}
-
-/// The Reply behind the message in front of these octets.
-fn reply_behind(alloc: Global, octets: &[u8]) -> io::Result<Reply> {
-    let octets = short(octets);
-    let Ok(found) = decode(alloc, octets) else {
-        return Err(ErrorKind::InvalidInput.into());
+pub fn tell(alloc: Global, told: &mut Told, octets: &[u8]) {
+    let Some((called, behind)) = call_in(alloc, octets) else {
+        return told.text(b"\n", b"no call");
     };
-    match front(alloc, &octets[found.used as usize..])? {
-        Message::Reply(reply) => Ok(reply),
-        _ => Err(ErrorKind::InvalidInput.into()),
+    match front(alloc, behind) {
+        Some((Message::Reply(reply), _)) => tell_reply(alloc, told, &called.call, &reply),
+        _ => told.text(b"\n", b"no reply"),
     }
 }
 
 /// Tells the answer to a call that a Reply is.
-fn tell_reply(alloc: Global, told: &mut Vec<u8>, call: &Call, reply: &Reply) -> io::Result<()> {
-    tell_operation(told, "answer to", call)?;
-    writeln!(told)?;
-    if reply.body.bytes().len() > MOST {
-        return Err(ErrorKind::InvalidInput.into());
-    }
-    match read_answer(alloc, call, reply) {
-        Ok(answer) => {
-            tell_answer(alloc, told, &answer)?;
-            tell_heard(alloc, told, &heard(alloc, &answer)?)?;
-            tell_written(alloc, told, reply.id, call, &answer)
+fn tell_reply(alloc: Global, told: &mut Told, call: &Call, reply: &Reply) {
+    tell_operation(told, b"\nanswer to ", call);
+    match read(alloc, call, reply) {
+        Some(Ok(answer)) => {
+            tell_answer(alloc, told, &answer);
+            tell_written(alloc, told, reply.id, call, &answer);
         }
-        Err(fault) => {
-            writeln!(told, "{fault:?}")?;
-            tell_heard(alloc, told, &heard_in_reply(alloc, call, reply))
+        Some(Err(fault)) => {
+            told.value(b"\n", &fault);
+            tell_heard_in(alloc, told, call, reply);
         }
+        None => told.text(b"\n", b"too long"),
     }
 }
 
-/// Tells an answer.
-fn tell_answer(alloc: Global, told: &mut Vec<u8>, answer: &Answer) -> io::Result<()> {
+/// The answer that a Reply is, unless it is too long to be read.
+fn read(alloc: Global, call: &Call, reply: &Reply) -> Option<Result<Answer, CallFault>> {
+    if is_short_reply(reply) {
+        Some(read_answer(alloc, call, reply))
+    } else {
+        None
+    }
+}
+
+/// Tells what is heard in a Reply that is no answer.
+fn tell_heard_in(alloc: Global, told: &mut Told, call: &Call, reply: &Reply) {
+    if is_short_reply(reply) {
+        tell_heard(told, &heard_in_reply(alloc, call, reply));
+    }
+}
+
+/// Tells an answer, and what the caller hears in it.
+fn tell_answer(alloc: Global, told: &mut Told, answer: &Answer) {
     match answer {
         Answer::Plain(given) => tell_given(alloc, told, given),
-        Answer::User(exception) => writeln!(told, "raises {exception:?}"),
-        Answer::System(exception, completed) => {
-            writeln!(told, "raises {exception:?}, completed {completed:?}")
+        Answer::User(exception) => told.value(b"\nraises ", exception),
+        Answer::System(exception, minor, completed) => {
+            told.value(b"\nraises ", exception);
+            told.number(b", minor ", u64::from(*minor));
+            told.value(b", completed ", completed);
         }
+    }
+    match heard(alloc, answer) {
+        Ok(heard) => tell_heard(told, &heard),
+        Err(error) => told.value(b"\n", &error),
     }
 }
 
 /// Tells how an answer to a call is written, with this request_id.
-fn tell_written(
+fn tell_written(alloc: Global, told: &mut Told, id: u32, call: &Call, answer: &Answer) {
+    match written(alloc, id, call, answer) {
+        Some(Ok(reply)) => tell_encoded(alloc, told, &Message::Reply(reply)),
+        Some(Err(fault)) => told.value(b"\nnot written: ", &fault),
+        None => told.text(b"\n", b"too long"),
+    }
+}
+
+/// The reply with an answer, unless that is too long to be written.
+fn written(
     alloc: Global,
-    told: &mut Vec<u8>,
     id: u32,
     call: &Call,
     answer: &Answer,
-) -> io::Result<()> {
-    if !is_answer_short(answer) {
-        return Err(ErrorKind::InvalidInput.into());
-    }
-    match write_answer(alloc, id, call, answer) {
-        Ok(reply) => tell_encoded(alloc, told, &Message::Reply(reply)),
-        Err(fault) => writeln!(told, "not written: {fault:?}"),
+) -> Option<Result<Reply, CallFault>> {
+    if is_answer_short(answer) {
+        Some(write_answer(alloc, id, call, answer))
+    } else {
+        None
     }
 }
 
 /// Tells what an operation gave.
-fn tell_given(alloc: Global, told: &mut Vec<u8>, given: &Given) -> io::Result<()> {
-    write!(told, "gives")?;
+fn tell_given(alloc: Global, told: &mut Told, given: &Given) {
+    told.text(b"\n", b"gives");
     match given {
-        Given::Nothing => writeln!(told, " nothing"),
-        Given::Flag(flag) => writeln!(told, " {flag}"),
-        Given::Number(number) => writeln!(told, " {number}"),
-        Given::Reference(reference) => tell_reference(alloc, told, "", reference),
-        Given::State(status) => writeln!(told, " {status:?}"),
-        Given::Ballot(vote) => writeln!(told, " {vote:?}"),
-        Given::Word(text) => tell_text(told, text.bytes()),
-        Given::Transaction(context) => {
-            writeln!(told)?;
-            tell_fields(alloc, told, context)
-        }
-        Given::Found(Some(value)) => writeln!(told, " the value {value}"),
-        Given::Found(None) => writeln!(told, " no value"),
+        Given::Nothing => told.text(b" ", b"nothing"),
+        Given::Flag(flag) => told.value(b" ", flag),
+        Given::Number(number) => told.number(b" ", u64::from(*number)),
+        Given::Reference(reference) => tell_reference(alloc, told, b"", reference),
+        Given::State(status) => told.value(b" ", status),
+        Given::Ballot(vote) => told.value(b" ", vote),
+        Given::Word(text) => told.text(b" ", text.bytes()),
+        Given::Transaction(context) => tell_fields(alloc, told, context),
+        Given::Found(Some(value)) => told.number(b" the value ", *value),
+        Given::Found(None) => told.text(b" ", b"no value"),
     }
 }
 
@@ -111,31 +123,28 @@ fn is_answer_short(answer: &Answer) -> bool
 }
 
 /// Tells what the caller hears.
-fn tell_heard(alloc: Global, told: &mut Vec<u8>, heard: &Heard) -> io::Result<()> {
+fn tell_heard(told: &mut Told, heard: &Heard) {
+    told.text(b"\n", b"heard ");
     match heard {
-        Heard::Voted(vote) => writeln!(told, "heard {vote:?}"),
-        Heard::Heuristic(disposition) => {
-            writeln!(told, "heard Heuristic {}", disposition_text(*disposition))
-        }
-        Heard::Told(status) => writeln!(told, "heard Told {status:?}"),
-        Heard::Enlisted(reference) => {
-            writeln!(told, "heard Enlisted {}", digits(alloc, reference.bytes())?)
-        }
-        Heard::Done => writeln!(told, "heard Done"),
-        Heard::RolledBack => writeln!(told, "heard RolledBack"),
-        Heard::NotPrepared => writeln!(told, "heard NotPrepared"),
-        Heard::NoObject => writeln!(told, "heard NoObject"),
-        Heard::Other => writeln!(told, "heard Other"),
-        Heard::Lost => writeln!(told, "heard Lost"),
-        Heard::Starved => writeln!(told, "heard Starved"),
+        Heard::Voted(vote) => told.value(b"", vote),
+        Heard::Heuristic(disposition) => told.text(b"Heuristic ", disposition_text(*disposition)),
+        Heard::Told(status) => told.value(b"Told ", status),
+        Heard::Enlisted(reference) => told.digits(b"Enlisted ", reference.bytes()),
+        Heard::Done => told.text(b"", b"Done"),
+        Heard::RolledBack => told.text(b"", b"RolledBack"),
+        Heard::NotPrepared => told.text(b"", b"NotPrepared"),
+        Heard::NoObject => told.text(b"", b"NoObject"),
+        Heard::Other => told.text(b"", b"Other"),
+        Heard::Lost => told.text(b"", b"Lost"),
+        Heard::Starved => told.text(b"", b"Starved"),
     }
 }
 
-fn disposition_text(disposition: Disposition) -> &'static str {
+fn disposition_text(disposition: Disposition) -> &'static [u8] {
     match disposition {
-        Disposition::Committed => "Committed",
-        Disposition::RolledBack => "RolledBack",
-        Disposition::Mixed => "Mixed",
-        Disposition::Unknown => "Unknown",
+        Disposition::Committed => b"Committed",
+        Disposition::RolledBack => b"RolledBack",
+        Disposition::Mixed => b"Mixed",
+        Disposition::Unknown => b"Unknown",
     }
 }

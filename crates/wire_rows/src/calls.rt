@@ -2,157 +2,158 @@
 ghost use Rattle.std.specs.Prelude.{◌^◌, ◌<◌, IsTrue};
 ghost use Rattle.ots_calls.specs.Writing.{carried_length, handed_length};
 
-use crate::messages::{are_short, front, tell_encoded};
+use crate::messages::{front, is_short_request, tell_encoded};
+use crate::told::Told;
 use crate::values::{MOST, is_short, tell_context, tell_fields, tell_reference};
 use giop_frames::{Message, Request};
+use ior_refs::ObjectKey;
 use ots_calls::{Call, CallFault, Called, read_call, write_call};
-use ots_context::{Context, find_context};
+use ots_context::{Context, ContextFault, find_context};
 use std::alloc::Global;
-use std::io;
-use std::io::{ErrorKind, Write};
 
 /// Tells the transaction context of the Request that these octets are.
-pub fn tell_within(alloc: Global, told: &mut Vec<u8>, octets: &[u8]) -> io::Result<()> {
-    let request = request_in(alloc, octets)?;
-    if !are_short(request.contexts.items()) {
-        return Err(ErrorKind::InvalidInput.into());
+pub fn tell_within(alloc: Global, told: &mut Told, octets: &[u8]) {
+    match request_in(alloc, octets) {
+        Some((request, _)) => tell_found(alloc, told, found(alloc, &request)),
+        None => told.text(b"\n", b"no request"),
     }
-    match find_context(alloc, &request) {
-        Ok(Some(context)) => tell_context(alloc, told, &context),
-        Ok(None) => writeln!(told, "none"),
-        Err(fault) => writeln!(told, "{fault:?}"),
+}
+
+fn found(alloc: Global, request: &Request) -> Option<Result<Option<Context>, ContextFault>> {
+    if is_short_request(request) {
+        Some(find_context(alloc, request))
+    } else {
+        None
+    }
+}
+
+fn tell_found(
+    alloc: Global,
+    told: &mut Told,
+    found: Option<Result<Option<Context>, ContextFault>>,
+) {
+    match found {
+        Some(Ok(Some(context))) => tell_context(alloc, told, &context),
+        Some(Ok(None)) => told.text(b"\n", b"none"),
+        Some(Err(fault)) => told.value(b"\n", &fault),
+        None => told.text(b"\n", b"too long"),
     }
 }
 
 /// Tells the call that a Request is, and how it is written.
-fn tell(alloc: Global, told: &mut Vec<u8>, octets: &[u8]) -> io::Result<()> {
-    let request = request_in(alloc, octets)?;
-    match read(alloc, &request)? {
-        Ok(called) => tell_called(alloc, told, request.id, &called),
-        Err(fault) => writeln!(told, "{fault:?}"),
+pub fn tell(alloc: Global, told: &mut Told, octets: &[u8]) {
+    let Some((request, _)) = request_in(alloc, octets) else {
+        return told.text(b"\n", b"no request");
+    };
+    match read(alloc, &request) {
+        Some(Ok(called)) => {
+            tell_called(alloc, told, &called);
+            tell_written(alloc, told, request.id, &called);
+        }
+        Some(Err(fault)) => told.value(b"\n", &fault),
+        None => told.text(b"\n", b"too long"),
     }
 }
 
-/// Tells the same, and reads and writes the call so many times more.
-pub fn tell_times(
-    alloc: Global,
-    told: &mut Vec<u8>,
-    octets: &[u8],
-    reads: usize,
-    writes: usize,
-) -> io::Result<()> {
-    tell(alloc, told, octets)?;
-    repeat(alloc, octets, reads, writes)
-}
-
-fn repeat(alloc: Global, octets: &[u8], reads: usize, writes: usize) -> io::Result<()> {
+/// Reads and writes the call so many times.
+pub fn repeat(alloc: Global, octets: &[u8], reads: usize, writes: usize) {
     for _ in 0..reads {
-        call_in(alloc, octets)?;
+        let _called = call_in(alloc, octets);
     }
-    if writes > 0 {
-        write(alloc, &call_in(alloc, octets)?, writes)?;
-    }
-    Ok(())
-}
-
-fn write(alloc: Global, called: &Called, count: usize) -> io::Result<()> {
-    for _ in 0..count {
-        let mut told = Vec::new(alloc);
-        tell_written(alloc, &mut told, 1, called)?;
-    }
-    Ok(())
-}
-
-/// The call that these octets begin with.
-pub fn call_in(alloc: Global, octets: &[u8]) -> io::Result<Called> {
-    match read(alloc, &request_in(alloc, octets)?)? {
-        Ok(called) => Ok(called),
-        Err(_) => Err(ErrorKind::InvalidInput.into()),
+    if let Some((called, _)) = call_in(alloc, octets) {
+        for _ in 0..writes {
+            tell_written(alloc, &mut Told::new(alloc), 1, &called);
+        }
     }
 }
 
-/// The Request that these octets begin with.
-fn request_in(alloc: Global, octets: &[u8]) -> io::Result<Request> {
-    match front(alloc, octets)? {
-        Message::Request(request) => Ok(request),
-        _ => Err(ErrorKind::InvalidInput.into()),
+/// The call that these octets begin with, and what stands behind it.
+pub fn call_in(alloc: Global, octets: &[u8]) -> Option<(Called, &[u8])> {
+    let (request, behind) = request_in(alloc, octets)?;
+    match read(alloc, &request) {
+        Some(Ok(called)) => Some((called, behind)),
+        _ => None,
     }
 }
 
-/// The call that a Request is.
-fn read(alloc: Global, request: &Request) -> io::Result<Result<Called, CallFault>> {
-    if request.body.bytes().len() > MOST || !are_short(request.contexts.items()) {
-        return Err(ErrorKind::InvalidInput.into());
+/// The Request that these octets begin with, and what stands behind it.
+fn request_in(alloc: Global, octets: &[u8]) -> Option<(Request, &[u8])> {
+    match front(alloc, octets) {
+        Some((Message::Request(request), behind)) => Some((request, behind)),
+        _ => None,
     }
-    Ok(read_call(alloc, request))
 }
 
-fn tell_called(alloc: Global, told: &mut Vec<u8>, id: u32, called: &Called) -> io::Result<()> {
-    let key = &called.key;
-    writeln!(
-        told,
-        "to {} {} {} {} {} {}",
-        char::from(key.kind),
-        key.service,
-        key.life,
-        key.slot,
-        key.generation,
-        key.index
-    )?;
-    tell_parameters(alloc, told, &called.call)?;
+/// The call that a Request is, unless it is too long to be read.
+fn read(alloc: Global, request: &Request) -> Option<Result<Called, CallFault>> {
+    if is_short_request(request) {
+        Some(read_call(alloc, request))
+    } else {
+        None
+    }
+}
+
+fn tell_called(alloc: Global, told: &mut Told, called: &Called) {
+    tell_key(told, &called.key);
+    tell_parameters(alloc, told, &called.call);
     if let Some(retry) = &called.retry {
-        writeln!(told, "retry {} {}", retry.client, retry.number)?;
+        told.number(b"\nretry ", retry.client);
+        told.number(b" ", retry.number);
     }
     if let Some(context) = &called.context {
-        writeln!(told, "within")?;
-        tell_fields(alloc, told, context)?;
+        told.text(b"\n", b"within");
+        tell_fields(alloc, told, context);
     }
-    tell_written(alloc, told, id, called)
+}
+
+fn tell_key(told: &mut Told, key: &ObjectKey) {
+    told.text(b"\nto ", &[key.kind]);
+    told.number(b" ", key.service);
+    told.number(b" ", u64::from(key.life));
+    told.number(b" ", u64::from(key.slot));
+    told.number(b" ", key.generation);
+    told.number(b" ", u64::from(key.index));
 }
 
 /// Tells the operation of a call, and what it hands over.
-fn tell_parameters(alloc: Global, told: &mut Vec<u8>, call: &Call) -> io::Result<()> {
-    tell_operation(told, "call", call)?;
+fn tell_parameters(alloc: Global, told: &mut Told, call: &Call) {
+    tell_operation(told, b"\ncall ", call);
     match call {
-        Call::Bare(_) => writeln!(told),
-        Call::Handing(_, reference) => {
-            writeln!(told)?;
-            tell_reference(alloc, told, "with", reference)
+        Call::Bare(_) => {}
+        Call::Handing(_, reference) => tell_reference(alloc, told, b"\nwith", reference),
+        Call::Create(time_out) => told.number(b" ", u64::from(*time_out)),
+        Call::Recreate(context) => tell_fields(alloc, told, context),
+        Call::CommitTransaction(report_heuristics) => told.value(b" ", report_heuristics),
+        Call::AfterCompletion(status) => told.value(b" ", status),
+        Call::Put(cell, value) => {
+            told.number(b" ", *cell);
+            told.number(b" ", *value);
         }
-        Call::Create(time_out) => writeln!(told, " {time_out}"),
-        Call::Recreate(context) => {
-            writeln!(told)?;
-            tell_fields(alloc, told, context)
-        }
-        Call::CommitTransaction(report_heuristics) => writeln!(told, " {report_heuristics}"),
-        Call::AfterCompletion(status) => writeln!(told, " {status:?}"),
-        Call::Put(cell, value) => writeln!(told, " {cell} {value}"),
-        Call::Get(cell) => writeln!(told, " {cell}"),
-        Call::IsA(id) => tell_text(told, id.bytes()),
+        Call::Get(cell) => told.number(b" ", *cell),
+        Call::IsA(id) => told.text(b" ", id.bytes()),
     }
 }
 
 /// Tells the name of a call's operation.
-pub fn tell_operation(told: &mut Vec<u8>, what: &str, call: &Call) -> io::Result<()> {
-    write!(told, "{what} ")?;
-    told.write_all(call.operation().word())
-}
-
-/// Tells a text behind a space.
-pub fn tell_text(told: &mut Vec<u8>, text: &[u8]) -> io::Result<()> {
-    write!(told, " ")?;
-    told.write_all(text)?;
-    writeln!(told)
+pub fn tell_operation(told: &mut Told, what: &[u8], call: &Call) {
+    told.text(what, call.operation().row().word);
 }
 
 /// Tells how a call is written, with this request_id.
-fn tell_written(alloc: Global, told: &mut Vec<u8>, id: u32, called: &Called) -> io::Result<()> {
-    if !is_call_short(&called.call) || !is_context_short(&called.context) {
-        return Err(ErrorKind::InvalidInput.into());
+fn tell_written(alloc: Global, told: &mut Told, id: u32, called: &Called) {
+    match written(alloc, id, called) {
+        Some(Ok(request)) => tell_encoded(alloc, told, &Message::Request(request)),
+        Some(Err(fault)) => told.value(b"\nnot written: ", &fault),
+        None => told.text(b"\n", b"too long"),
     }
-    match write_call(alloc, id, called) {
-        Ok(request) => tell_encoded(alloc, told, &Message::Request(request)),
-        Err(fault) => writeln!(told, "not written: {fault:?}"),
+}
+
+/// The request of a call, unless that is too long to be written.
+fn written(alloc: Global, id: u32, called: &Called) -> Option<Result<Request, CallFault>> {
+    if is_call_short(&called.call) && is_context_short(&called.context) {
+        Some(write_call(alloc, id, called))
+    } else {
+        None
     }
 }
 

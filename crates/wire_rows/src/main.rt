@@ -21,26 +21,36 @@
 #![tactic(auto)]
 
 use case::Case;
+use std::alloc::{AllocError, Global};
 use std::io;
 use std::io::Write;
+use told::Told;
 
 mod answers;
 mod calls;
 mod case;
 mod messages;
+mod told;
 mod values;
 
 fn main(rt: HostRuntime) -> io::Result<()> {
     let mut out = rt.stdout();
     let text = io::read_to_string(rt.alloc(), rt.stdin())?;
     for case in text.as_str().split("\n== ").skip(1) {
-        let (head, lines) = case.split_once('\n').unwrap_or((case, ""));
-        writeln!(out, "== {head}")?;
-        let case = Case::of(head)?;
-        let input = case.input(rt.alloc(), lines)?;
-        let mut told = Vec::new(rt.alloc());
-        case.tell(rt.alloc(), &mut told, &input)?;
-        out.write_all(told.as_slice())?;
+        out.write_all(told_of(rt.alloc(), case)?.as_slice())?;
     }
     Ok(())
+}
+
+/// What is told of a case.
+fn told_of(alloc: Global, case: &str) -> Result<Vec<u8>, AllocError> {
+    let mut told = Told::new(alloc);
+    let (head, lines) = case.split_once('\n').unwrap_or((case, ""));
+    told.text(b"== ", head.as_bytes());
+    match Case::of(head) {
+        Some(case) => case.tell(alloc, &mut told, lines),
+        None => told.text(b"\n", b"no case"),
+    }
+    told.text(b"\n", b"");
+    told.finish()
 }

@@ -1,133 +1,133 @@
 //! What is told of messages.
-ghost use Rattle.std.specs.Prelude.{◌+◌, ◌<◌, ◌≤◌, ◌^◌, All, IsTrue, length};
+ghost use Rattle.std.specs.Prelude.{◌+◌, ◌<◌, ◌≤◌, ◌^◌, All, IfSome, IsTrue, length};
 ghost use Rattle.giop_frames.specs.Encode.{octets_in, octets_in_contexts, octets_in_target};
 
-use crate::values::{MOST, digits, short};
-use giop_frames::{FrameFault, Message, Reply, Request, ServiceContext, Target, decode, encode};
+use crate::told::Told;
+use crate::values::{MOST, short};
+use giop_frames::{
+    Decoded, FrameFault, Message, Reply, Request, ServiceContext, Target, decode, encode,
+};
 use std::alloc::Global;
-use std::io;
-use std::io::{ErrorKind, Write};
 
 /// How many octets of a field are told.
 const TOLD: usize = 64;
 
-/// The message in front of the octets.
-pub fn front(alloc: Global, octets: &[u8]) -> io::Result<Message> {
-    match decode(alloc, short(octets)) {
-        Ok(found) => Ok(found.message),
-        Err(_) => Err(ErrorKind::InvalidInput.into()),
+/// What is in front of the octets.
+fn decoded(alloc: Global, octets: &[u8]) -> Result<Decoded, FrameFault> {
+    decode(alloc, short(octets))
+}
+
+/// The message in front of the octets, and what stands behind it.
+pub fn front(alloc: Global, octets: &[u8]) -> Option<(Message, &[u8])> {
+    match decoded(alloc, octets) {
+        Ok(found) => Some((found.message, octets.get(found.used as usize..)?)),
+        Err(_) => None,
     }
 }
 
 /// Tells the message in front of these octets, and how it is written.
-pub fn tell(alloc: Global, told: &mut Vec<u8>, octets: &[u8]) -> io::Result<()> {
-    let octets = short(octets);
-    match decode(alloc, octets) {
+pub fn tell(alloc: Global, told: &mut Told, octets: &[u8]) {
+    match decoded(alloc, octets) {
         Ok(found) => {
-            tell_fields(alloc, told, &found.message)?;
-            tell_written(alloc, told, &found.message, &octets[..found.used as usize])
+            tell_fields(told, &found.message);
+            tell_written(alloc, told, &found.message, octets);
         }
-        Err(fault) => writeln!(told, "{fault:?}"),
+        Err(fault) => told.value(b"\n", &fault),
     }
 }
 
-fn tell_fields(alloc: Global, told: &mut Vec<u8>, message: &Message) -> io::Result<()> {
+fn tell_fields(told: &mut Told, message: &Message) {
     match message {
-        Message::Request(request) => {
-            writeln!(
-                told,
-                "Request {} flags {} {:?}",
-                request.id, request.flags, request.order
-            )?;
-            tell_target(alloc, told, &request.target)?;
-            tell_octets(alloc, told, "operation", request.operation.bytes())?;
-            tell_contexts(alloc, told, request.contexts.items())?;
-            tell_octets(alloc, told, "body", request.body.bytes())
-        }
-        Message::Reply(reply) => {
-            writeln!(
-                told,
-                "Reply {} status {} {:?}",
-                reply.id, reply.status, reply.order
-            )?;
-            tell_contexts(alloc, told, reply.contexts.items())?;
-            tell_octets(alloc, told, "body", reply.body.bytes())
-        }
-        Message::Cancel(id) => writeln!(told, "CancelRequest {id}"),
+        Message::Request(request) => tell_request(told, request),
+        Message::Reply(reply) => tell_reply(told, reply),
+        Message::Cancel(id) => told.number(b"\nCancelRequest ", u64::from(*id)),
         Message::Locate(locate) => {
-            writeln!(told, "LocateRequest {}", locate.id)?;
-            tell_target(alloc, told, &locate.target)
+            told.number(b"\nLocateRequest ", u64::from(locate.id));
+            tell_target(told, &locate.target);
         }
         Message::LocateReply(located) => {
-            writeln!(told, "LocateReply {} status {}", located.id, located.status)?;
-            tell_octets(alloc, told, "rest", located.rest.bytes())
+            told.number(b"\nLocateReply ", u64::from(located.id));
+            told.number(b" status ", u64::from(located.status));
+            tell_octets(told, b"\nrest ", located.rest.bytes());
         }
-        Message::Close => writeln!(told, "CloseConnection"),
-        Message::Error => writeln!(told, "MessageError"),
+        Message::Close => told.text(b"\n", b"CloseConnection"),
+        Message::Error => told.text(b"\n", b"MessageError"),
     }
 }
 
-fn tell_target(alloc: Global, told: &mut Vec<u8>, target: &Target) -> io::Result<()> {
+fn tell_request(told: &mut Told, request: &Request) {
+    told.number(b"\nRequest ", u64::from(request.id));
+    told.number(b" flags ", u64::from(request.flags));
+    told.value(b" ", &request.order);
+    tell_target(told, &request.target);
+    tell_octets(told, b"\noperation ", request.operation.bytes());
+    tell_contexts(told, request.contexts.items());
+    tell_octets(told, b"\nbody ", request.body.bytes());
+}
+
+fn tell_reply(told: &mut Told, reply: &Reply) {
+    told.number(b"\nReply ", u64::from(reply.id));
+    told.number(b" status ", u64::from(reply.status));
+    told.value(b" ", &reply.order);
+    tell_contexts(told, reply.contexts.items());
+    tell_octets(told, b"\nbody ", reply.body.bytes());
+}
+
+fn tell_target(told: &mut Told, target: &Target) {
     match target {
-        Target::Key(key) => tell_octets(alloc, told, "key", key.bytes()),
-        Target::Profile => writeln!(told, "profile"),
-        Target::Reference => writeln!(told, "reference"),
+        Target::Key(key) => tell_octets(told, b"\nkey ", key.bytes()),
+        Target::Profile => told.text(b"\n", b"profile"),
+        Target::Reference => told.text(b"\n", b"reference"),
     }
 }
 
-fn tell_contexts(alloc: Global, told: &mut Vec<u8>, contexts: &[ServiceContext]) -> io::Result<()> {
+fn tell_contexts(told: &mut Told, contexts: &[ServiceContext]) {
     for context in contexts {
-        write!(told, "context {} ", context.id)?;
-        tell_octets(alloc, told, "of", context.bytes.bytes())?;
+        told.number(b"\ncontext ", u64::from(context.id));
+        tell_octets(told, b" of ", context.bytes.bytes());
     }
-    Ok(())
 }
 
 /// Tells how many octets these are, and what they begin with.
-fn tell_octets(alloc: Global, told: &mut Vec<u8>, what: &str, octets: &[u8]) -> io::Result<()> {
+fn tell_octets(told: &mut Told, what: &[u8], octets: &[u8]) {
+    told.number(what, octets.len() as u64);
     if octets.is_empty() {
-        return writeln!(told, "{what} 0");
+        return;
     }
     let front = &octets[..octets.len().min(TOLD)];
-    let more = if front.len() < octets.len() { ".." } else { "" };
-    writeln!(
-        told,
-        "{what} {} {}{more}",
-        octets.len(),
-        digits(alloc, front)?
-    )
+    told.digits(b" ", front);
+    if front.len() < octets.len() {
+        told.text(b"..", b"");
+    }
 }
 
-/// Tells how a message is written that was read from these octets.
-fn tell_written(
-    alloc: Global,
-    told: &mut Vec<u8>,
-    message: &Message,
-    octets: &[u8],
-) -> io::Result<()> {
-    if !is_short(message) {
-        return Err(ErrorKind::InvalidInput.into());
-    }
+/// Tells how a message is written that stands in front of these octets.
+fn tell_written(alloc: Global, told: &mut Told, message: &Message, octets: &[u8]) {
     match encoded(alloc, message) {
-        Ok(written) => tell_again(alloc, told, written.as_slice(), octets),
-        Err(fault) => writeln!(told, "not written: {fault:?}"),
+        Some(Ok(written)) => tell_again(told, &written, octets),
+        Some(Err(fault)) => told.value(b"\nnot written: ", &fault),
+        None => told.text(b"\n", b"too long"),
     }
 }
 
-fn tell_again(alloc: Global, told: &mut Vec<u8>, written: &[u8], octets: &[u8]) -> io::Result<()> {
-    if written == octets {
-        return writeln!(told, "written as it was");
+fn tell_again(told: &mut Told, written: &[u8], octets: &[u8]) {
+    if octets.starts_with(written) {
+        told.text(b"\n", b"written as it was");
+    } else {
+        told.digits(b"\nwritten ", written);
     }
-    tell_digits(alloc, told, written)
 }
 
-/// Tells octets that were written.
-fn tell_digits(alloc: Global, told: &mut Vec<u8>, written: &[u8]) -> io::Result<()> {
-    let digits = digits(alloc, written)?;
-    writeln!(told, "written {digits}")
+/// The octets of a message, unless it is too long to be written.
+fn encoded(alloc: Global, message: &Message) -> Option<Result<Vec<u8>, FrameFault>> {
+    if is_short(message) {
+        Some(written(alloc, message))
+    } else {
+        None
+    }
 }
 
-fn encoded(alloc: Global, message: &Message) -> Result<Vec<u8>, FrameFault>
+fn written(alloc: Global, message: &Message) -> Result<Vec<u8>, FrameFault>
     requires { octets_in message.now < 2 ^ 31 }
 {
     let mut octets = Vec::new(alloc);
@@ -136,12 +136,11 @@ fn encoded(alloc: Global, message: &Message) -> Result<Vec<u8>, FrameFault>
 }
 
 /// Tells how a message is encoded.
-pub fn tell_encoded(alloc: Global, told: &mut Vec<u8>, message: &Message) -> io::Result<()>
-    requires { octets_in message.now < 2 ^ 31 }
-{
+pub fn tell_encoded(alloc: Global, told: &mut Told, message: &Message) {
     match encoded(alloc, message) {
-        Ok(octets) => tell_digits(alloc, told, octets.as_slice()),
-        Err(fault) => writeln!(told, "not encoded: {fault:?}"),
+        Some(Ok(written)) => told.digits(b"\nwritten ", &written),
+        Some(Err(fault)) => told.value(b"\nnot encoded: ", &fault),
+        None => told.text(b"\n", b"too long"),
     }
 }
 
@@ -157,24 +156,22 @@ fn is_short(message: &Message) -> bool
     }
 }
 
-fn is_short_request(request: &Request) -> bool
-    ensures { IsTrue result → octets_in (Message.Request request.now) < 2 ^ 31 }
+/// Whether a Request has few octets.
+pub fn is_short_request(request: &Request) -> bool
+    ensures octets { IsTrue result → octets_in (Message.Request request.now) < 2 ^ 31 }
+    ensures body { IsTrue result → length request.now.body < 2 ^ 31 }
+    ensures contexts { IsTrue result → All (λ context. length context.bytes < 2 ^ 31) request.now.contexts }
 {
     let fields = request.operation.bytes().len() <= MOST && request.body.bytes().len() <= MOST;
-    fields && is_short_target(&request.target) && are_few(request.contexts.items())
+    fields && is_short_target(&request.target) && are_short(request.contexts.items())
 }
 
-fn is_short_reply(reply: &Reply) -> bool
-    ensures { IsTrue result → octets_in (Message.Reply reply.now) < 2 ^ 31 }
+/// Whether a Reply has few octets.
+pub fn is_short_reply(reply: &Reply) -> bool
+    ensures octets { IsTrue result → octets_in (Message.Reply reply.now) < 2 ^ 31 }
+    ensures body { IsTrue result → length reply.now.body < 2 ^ 31 }
 {
-    reply.body.bytes().len() <= MOST && are_few(reply.contexts.items())
-}
-
-/// Whether the contexts have few octets together.
-fn are_few(contexts: &[ServiceContext]) -> bool
-    ensures { IsTrue result → length contexts.now + octets_in_contexts contexts.now ≤ 2 ^ 28 }
-{
-    are_short(contexts)
+    reply.body.bytes().len() <= MOST && are_short(reply.contexts.items())
 }
 
 fn is_short_target(target: &Target) -> bool
@@ -188,7 +185,7 @@ fn is_short_target(target: &Target) -> bool
 
 /// Whether the contexts are few, and each has few octets.
 #[tactic(auto, using(crate::proofs::Contexts::each_short, crate::proofs::Contexts::few_octets))]
-pub fn are_short(contexts: &[ServiceContext]) -> bool
+fn are_short(contexts: &[ServiceContext]) -> bool
     ensures each { IsTrue result → All (λ context. length context.bytes < 2 ^ 31) contexts.now }
     ensures together { IsTrue result → length contexts.now + octets_in_contexts contexts.now ≤ 2 ^ 28 }
 {

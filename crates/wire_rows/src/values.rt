@@ -2,12 +2,12 @@
 ghost use Rattle.std.specs.Prelude.{◌^◌, ◌<◌, ◌≤◌, IsTrue, length};
 ghost use Rattle.ots_context.specs.Writing.{kept_length};
 
+use crate::told::Told;
 use cdr_values::Order;
-use ior_refs::{ObjectRef, iiop, parse_ior, print_ior};
-use ots_context::{AnyTail, Context, Identity, decode_context, encode_context};
-use std::alloc::Global;
-use std::io;
-use std::io::{ErrorKind, Write};
+use ior_refs::{Iiop, IorFault, ObjectRef, iiop, parse_ior, print_ior};
+use ots_context::{AnyTail, Context, ContextFault, Identity, decode_context, encode_context};
+use ots_model::Octets;
+use std::alloc::{AllocError, Global};
 
 /// How many octets of an input are looked at.
 pub const MOST: usize = 1_000_000;
@@ -20,106 +20,121 @@ pub fn short(octets: &[u8]) -> &[u8]
 }
 
 /// Tells the reference of a stringified one, and how it is printed.
-pub fn tell_text(alloc: Global, told: &mut Vec<u8>, text: &[u8]) -> io::Result<()> {
-    match parse_ior(alloc, short(text.trim_ascii_end())) {
-        Ok(found) => tell_printed(alloc, told, &found),
-        Err(fault) => writeln!(told, "{fault:?}"),
+pub fn tell_stringified(alloc: Global, told: &mut Told, text: &[u8]) {
+    match parsed(alloc, text.trim_ascii_end()) {
+        Ok(reference) => {
+            tell_reference(alloc, told, b"\nis", &reference);
+            tell_printed(told, printed(alloc, &reference));
+        }
+        Err(fault) => told.value(b"\n", &fault),
     }
 }
 
-fn tell_printed(alloc: Global, told: &mut Vec<u8>, reference: &ObjectRef) -> io::Result<()> {
-    tell_reference(alloc, told, "is", reference)?;
-    let printed = print_ior(alloc, reference)?;
-    told.write_all(printed.bytes())?;
-    writeln!(told)
+fn parsed(alloc: Global, text: &[u8]) -> Result<ObjectRef, IorFault> {
+    parse_ior(alloc, short(text))
+}
+
+fn printed(alloc: Global, reference: &ObjectRef) -> Result<Octets, AllocError> {
+    print_ior(alloc, reference)
+}
+
+fn tell_printed(told: &mut Told, printed: Result<Octets, AllocError>) {
+    match printed {
+        Ok(text) => told.text(b"\n", text.bytes()),
+        Err(error) => told.value(b"\n", &error),
+    }
 }
 
 /// Tells what a reference is, and what its first IIOP profile says.
-pub fn tell_reference(
-    alloc: Global,
-    told: &mut Vec<u8>,
-    what: &str,
-    reference: &ObjectRef,
-) -> io::Result<()> {
+pub fn tell_reference(alloc: Global, told: &mut Told, what: &[u8], reference: &ObjectRef) {
     if reference.is_nil() {
-        return writeln!(told, "{what} nil");
+        told.text(what, b" nil");
+        return;
     }
-    write!(told, "{what} ")?;
-    told.write_all(reference.type_id())?;
-    match iiop(alloc, reference) {
-        Ok(at) => {
-            write!(told, " iiop {}.{} ", at.major, at.minor)?;
-            told.write_all(at.host.bytes())?;
-            writeln!(told, " {} {}", at.port, digits(alloc, at.key.bytes())?)
-        }
-        Err(fault) => writeln!(told, " {fault:?}"),
+    told.text(what, b" ");
+    told.text(reference.type_id(), b" ");
+    match place(alloc, reference) {
+        Ok(place) => tell_place(told, &place),
+        Err(fault) => told.value(b"", &fault),
     }
 }
 
-/// The hexadecimal digits of the octets.
-pub fn digits(alloc: Global, octets: &[u8]) -> io::Result<String> {
-    Ok(hex::encode(alloc, octets)?)
+fn place(alloc: Global, reference: &ObjectRef) -> Result<Iiop, IorFault> {
+    iiop(alloc, reference)
+}
+
+fn tell_place(told: &mut Told, place: &Iiop) {
+    told.number(b"iiop ", u64::from(place.major));
+    told.number(b".", u64::from(place.minor));
+    told.text(b" ", place.host.bytes());
+    told.number(b" ", u64::from(place.port));
+    told.digits(b" ", place.key.bytes());
 }
 
 /// Tells the context that these octets are.
-pub fn tell_octets(alloc: Global, told: &mut Vec<u8>, octets: &[u8]) -> io::Result<()> {
-    match decode_context(alloc, short(octets)) {
+pub fn tell_octets(alloc: Global, told: &mut Told, octets: &[u8]) {
+    match decoded(alloc, octets) {
         Ok(context) => tell_context(alloc, told, &context),
-        Err(fault) => writeln!(told, "{fault:?}"),
+        Err(fault) => told.value(b"\n", &fault),
     }
+}
+
+fn decoded(alloc: Global, octets: &[u8]) -> Result<Context, ContextFault> {
+    decode_context(alloc, short(octets))
 }
 
 /// Tells what a context says.
-pub fn tell_fields(alloc: Global, told: &mut Vec<u8>, context: &Context) -> io::Result<()> {
-    writeln!(told, "timeout {}", context.timeout)?;
-    tell_identity(alloc, told, "current", &context.current)?;
+pub fn tell_fields(alloc: Global, told: &mut Told, context: &Context) {
+    told.number(b"\ntimeout ", u64::from(context.timeout));
+    tell_identity(alloc, told, b"\ncurrent", &context.current);
     for parent in context.parents.items() {
-        tell_identity(alloc, told, "parent", parent)?;
+        tell_identity(alloc, told, b"\nparent", parent);
     }
-    tell_tail(alloc, told, &context.tail)
+    tell_tail(told, &context.tail);
 }
 
 /// Tells a context, and how it is written.
-pub fn tell_context(alloc: Global, told: &mut Vec<u8>, context: &Context) -> io::Result<()> {
-    tell_fields(alloc, told, context)?;
+pub fn tell_context(alloc: Global, told: &mut Told, context: &Context) {
+    tell_fields(alloc, told, context);
     if !is_short(&context.tail) {
-        return Err(ErrorKind::InvalidInput.into());
+        told.text(b"\n", b"too long");
+        return;
     }
     match encode_context(alloc, context) {
-        Ok(written) => writeln!(told, "written {}", digits(alloc, written.bytes())?),
-        Err(fault) => writeln!(told, "not written: {fault:?}"),
+        Ok(written) => told.digits(b"\nwritten ", written.bytes()),
+        Err(fault) => told.value(b"\nnot written: ", &fault),
     }
 }
 
-fn tell_identity(
-    alloc: Global,
-    told: &mut Vec<u8>,
-    what: &str,
-    identity: &Identity,
-) -> io::Result<()> {
+fn tell_identity(alloc: Global, told: &mut Told, what: &[u8], identity: &Identity) {
     let otid = &identity.otid;
-    let tid = digits(alloc, otid.tid())?;
-    writeln!(told, "{what} {} {} {tid}", otid.format(), otid.bqual())?;
-    tell_reference(alloc, told, "coord", &identity.coord)?;
-    tell_reference(alloc, told, "term", &identity.term)
+    told.text(what, b" ");
+    told.value(b"", &otid.format());
+    told.number(b" ", u64::from(otid.bqual()));
+    told.digits(b" ", otid.tid());
+    tell_reference(alloc, told, b"\ncoord", &identity.coord);
+    tell_reference(alloc, told, b"\nterm", &identity.term);
 }
 
-fn tell_tail(alloc: Global, told: &mut Vec<u8>, tail: &AnyTail) -> io::Result<()> {
+fn tell_tail(told: &mut Told, tail: &AnyTail) {
     match tail {
-        AnyTail::Null => writeln!(told, "tail null"),
+        AnyTail::Null => told.text(b"\n", b"tail null"),
         AnyTail::Kept {
             order,
             modulo,
             octets,
         } => {
-            let order = if *order == Order::Big {
-                "big"
-            } else {
-                "little"
-            };
-            let octets = digits(alloc, octets.bytes())?;
-            writeln!(told, "tail {order} {modulo} {octets}")
+            told.text(b"\ntail ", order_text(*order));
+            told.number(b" ", u64::from(*modulo));
+            told.digits(b" ", octets.bytes());
         }
+    }
+}
+
+fn order_text(order: Order) -> &'static [u8] {
+    match order {
+        Order::Big => b"big",
+        Order::Little => b"little",
     }
 }
 

@@ -3,7 +3,7 @@ use Rattle.cdr_values.specs.Tagged.{reference_values}
 use Rattle.cdr_values.specs.Values.{with_values}
 use Rattle.cdr_values.specs.Writing.{Writing}
 use Rattle.ots_calls.proofs.Written.{left_again}
-use Rattle.ots_calls.proofs.body.reference_octets.Goals as goal
+use Rattle.ots_calls.proofs.body.reference_body.Goals as goal
 
 pub returns-clause-left : goal.returns-clause-left
 returns-clause-left c =

@@ -1,0 +1,9 @@
+-- Looking for the first member of a list that passes a test, one after another.
+use Rattle.std.proofs.Common.{◌≡◌, ℕ, ◌+◌, ◌<◌, Bool, false, List, ◌∷◌, length, find, get_or, drop, refl, sym, ◌∙◌}
+use Rattle.std.proofs.lemmas.List.{at_drop_more}
+
+-- it isn't that one
+pub passed_by : {A : Type 0} (p : A → Bool) (xs : List A) (i : ℕ) (d : A) → find p (drop i xs) ≡ find p xs → i < length xs → p (get_or xs i d) ≡ false → find p (drop (i + 1) xs) ≡ find p xs
+passed_by p xs i d so_far within fails =
+    let next : find p (get_or xs i d ∷ drop (i + 1) xs) ≡ find p (drop (i + 1) xs) = rw fails refl in
+    sym next ∙ sym (at_drop_more (find p) xs i d within) ∙ so_far
