@@ -1,8 +1,10 @@
 ghost use Rattle.std.specs.Prelude.{◌≡◌, IfOk};
 ghost use Rattle.otid_names.specs.Otid.{global};
-ghost use Rattle.otid_names.specs.Name.{own_words, foreign_words, dotted, name, hash};
+ghost use Rattle.std.specs.List.{fold};
+ghost use Rattle.otid_names.specs.Own.{own};
+ghost use Rattle.otid_names.specs.Name.{own_words, foreign_words, dotted, name, hash, hashed};
 
-use crate::otid::{Otid, OwnNumbers};
+use crate::otid::{Otid, OwnNumbers, own_tid};
 use ots_model::Octets;
 use std::alloc::{AllocError, Global};
 
@@ -45,7 +47,21 @@ fn foreign_text(alloc: Global, o: &Otid) -> Result<Vec<u8>, AllocError>
 pub fn hash_of(o: &Otid) -> u32
     ensures { result ≡ hash o.now }
 {
-    o.tid().iter().fold(
+    hash_octets(o.tid())
+}
+
+/// The hash of our own otid of these numbers. It needs no memory.
+pub fn own_hash(numbers: &OwnNumbers) -> u32
+    ensures { result ≡ hash (own numbers.now) }
+{
+    hash_octets(&own_tid(numbers))
+}
+
+/// The hash of the octets of a tid.
+fn hash_octets(tid: &[u8]) -> u32
+    ensures { result ≡ fold hashed 0 tid.now }
+{
+    tid.iter().fold(
         0,
         |hash: u32, octet| hash.wrapping_mul(31).wrapping_add(u32::from(*octet)),
     )

@@ -82,15 +82,10 @@ impl Otid {
     pub fn own(alloc: Global, numbers: &OwnNumbers) -> Result<Otid, AllocError>
         ensures made { IfOk result (λ o. o ≡ own numbers.now) }
     {
-        let mut tid = [0u8; OWN_LENGTH];
-        BigEndian::write_u64(&mut tid[..8], numbers.service);
-        BigEndian::write_u32(&mut tid[8..12], numbers.life);
-        BigEndian::write_u64(&mut tid[12..20], numbers.generation);
-        BigEndian::write_u32(&mut tid[20..], numbers.branch);
         Ok(Otid {
             format: OWN_FORMAT,
             bqual: OWN_BQUAL,
-            tid: Octets::new(alloc, &tid)?,
+            tid: Octets::new(alloc, &own_tid(numbers))?,
         })
     }
 
@@ -138,4 +133,16 @@ impl Otid {
             branch: BigEndian::read_u32(&tid[20..]),
         })
     }
+}
+
+/// The tid of our own otid of these four numbers.
+pub(crate) fn own_tid(numbers: &OwnNumbers) -> [u8; OWN_LENGTH]
+    ensures { result ≡ tid_of numbers.now }
+{
+    let mut tid = [0u8; OWN_LENGTH];
+    BigEndian::write_u64(&mut tid[..8], numbers.service);
+    BigEndian::write_u32(&mut tid[8..12], numbers.life);
+    BigEndian::write_u64(&mut tid[12..20], numbers.generation);
+    BigEndian::write_u32(&mut tid[20..], numbers.branch);
+    tid
 }

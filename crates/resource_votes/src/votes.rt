@@ -187,6 +187,14 @@ impl Votes {
             .find(|r| r.aware && r.branch == branch && after < r.index)
     }
 
+    /// The registration with this number.
+    pub fn registration(&self, index: u32) -> Option<&Registration>
+        ensures { option_copied result ≡ ballots.numbered self.now.ballots.registrations index }
+    {
+        let place = (index as usize).checked_sub(1)?;
+        self.registrations.get(place)
+    }
+
     /// The synchronization with this number.
     pub fn sync(&self, index: u32) -> Option<&Registration>
         ensures { option_copied result ≡ ballots.numbered self.now.ballots.synchronizations index }

@@ -233,6 +233,17 @@ next_word c = if is_some c.out then None else option_and_then (outward_of c) (er
 abbrev pub after_next : Course → Course
 after_next c = if is_some c.out then c else record c { out = errand c }
 
+-- the registration whose vote the word that is out asks for
+abbrev pub voter_at : Course → Errand → Option ℕ
+voter_at c e = elim e.stage [
+  | stages.Asking ↦ if decides_alone c then None else option_map (λ (p : Party). p.index) (slice_get c.parties e.place)
+  | stages.Telling ↦ None
+  | stages.Forgetting ↦ None
+]
+
+abbrev pub voter : Course → Option ℕ
+voter c = option_and_then (voter_at c) c.out
+
 -- the next number
 abbrev pub following : CallNumber → CallNumber
 following n = record n { serial = n.serial + 1 }

@@ -1,5 +1,5 @@
 -- A completion of a tree of transactions, from its making on.
-use Rattle.std.specs.Prelude.{ℕ, ◌≤◌, max, Bool, false, List, [], Option, None}
+use Rattle.std.specs.Prelude.{ℕ, ◌≤◌, max, Bool, false, List, [], Option, Some, None}
 use Rattle.ots_model.specs.declared.completion.CallNumber.{CallNumber}
 use Rattle.ots_model.specs.declared.completion.Disposition.{Disposition}
 use Rattle.ots_model.specs.declared.completion.Heard.{Heard}
@@ -74,6 +74,31 @@ after_reread found (Going c) = Going (course.after_reread found c)
 abbrev pub after_rollback : Reason → Standing → Standing
 after_rollback reason (Waiting room) = Waiting room
 after_rollback reason (Going c) = Going (course.after_rollback reason c)
+
+-- there is a single participant, which is to decide alone
+abbrev pub decides_alone : Standing → Bool
+decides_alone (Waiting room) = false
+decides_alone (Going c) = course.decides_alone c
+
+-- the number of the word that is out, or else of the next one
+abbrev pub number : Standing → Option CallNumber
+number (Waiting room) = None
+number (Going c) = Some c.number
+
+-- the registration whose vote the word that is out asks for
+abbrev pub voter : Standing → Option ℕ
+voter (Waiting room) = None
+voter (Going c) = course.voter c
+
+-- nobody knew at some time whether the record stands
+abbrev pub was_doubtful : Standing → Bool
+was_doubtful (Waiting room) = false
+was_doubtful (Going c) = course.is_unsure c.stood
+
+-- the place at which the record stands
+abbrev pub record_place : Standing → Option ℕ
+record_place (Waiting room) = None
+record_place (Going c) = course.record_place c.stood c.reread
 
 abbrev pub outcome : Standing → Option Outcome
 outcome (Waiting room) = None

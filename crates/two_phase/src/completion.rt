@@ -220,6 +220,56 @@ impl Completion {
         }
     }
 
+    /// Whether there is a single participant, which is to decide alone.
+    pub fn decides_alone(&self) -> bool
+        ensures alone { result ≡ stages.decides_alone self.now }
+    {
+        match &self.state {
+            Standing::Waiting(_) => false,
+            Standing::Going(course) => course.decides_alone(),
+        }
+    }
+
+    /// The number of the word that is out, or else of the next one, where it has started.
+    pub fn number(&self) -> Option<CallNumber>
+        ensures number { result ≡ stages.number self.now }
+    {
+        match &self.state {
+            Standing::Waiting(_) => None,
+            Standing::Going(course) => Some(course.number),
+        }
+    }
+
+    /// The registration whose vote the word that is out asks for.
+    pub fn voter(&self) -> Option<u32>
+        ensures voter { result ≡ stages.voter self.now }
+    {
+        match &self.state {
+            Standing::Waiting(_) => None,
+            Standing::Going(course) => course.voter(),
+        }
+    }
+
+    /// Whether nobody knew at some time whether the decision record stands.
+    pub fn was_doubtful(&self) -> bool
+        ensures doubtful { result ≡ stages.was_doubtful self.now }
+    {
+        match &self.state {
+            Standing::Waiting(_) => false,
+            Standing::Going(course) => course.was_doubtful(),
+        }
+    }
+
+    /// The place at which the decision record stands.
+    pub fn record_place(&self) -> Option<u32>
+        ensures place { result ≡ stages.record_place self.now }
+    {
+        match &self.state {
+            Standing::Waiting(_) => None,
+            Standing::Going(course) => course.record_place(),
+        }
+    }
+
     /// Whether the decision record names this registration: it takes part, and has voted commit.
     pub fn is_named(&self, registration: u32) -> bool
         ensures named { result ≡ stages.is_named self.now registration }

@@ -316,7 +316,7 @@ impl Course {
     }
 
     /// Whether there is a single participant, which is to decide alone.
-    fn decides_alone(&self) -> bool
+    pub fn decides_alone(&self) -> bool
         ensures { result ≡ course.decides_alone self.now }
     {
         self.one_phase && self.parties.len() == 1
@@ -423,8 +423,27 @@ impl Course {
         }
     }
 
+    /// The registration whose vote the word that is out asks for.
+    pub fn voter(&self) -> Option<u32>
+        ensures { result ≡ course.voter self.now }
+    {
+        let errand = self.out?;
+        if !matches!(errand.stage, Stage::Asking) || self.decides_alone() {
+            return None;
+        }
+        let party = self.parties.get(errand.place)?;
+        Some(party.index)
+    }
+
+    /// Whether nobody knew at some time whether the record stands.
+    pub fn was_doubtful(&self) -> bool
+        ensures { result ≡ course.is_unsure (self.now).stood }
+    {
+        matches!(self.stood, Some(Stood::Unsure(_)))
+    }
+
     /// The place at which the record stands.
-    fn record_place(&self) -> Option<u32>
+    pub fn record_place(&self) -> Option<u32>
         ensures { result ≡ course.record_place (self.now).stood (self.now).reread }
     {
         match (self.stood, self.reread) {

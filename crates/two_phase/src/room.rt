@@ -10,13 +10,14 @@ use std::mem;
 
 /// An empty buffer with room for any reference.
 #[derive(Drop)]
-pub(crate) struct Blank {
+pub struct Blank {
     octets: Vec<u8>,
     ghost room: { (octets.items ≡ []) × (reference_limit ≤ vec_capacity octets) },
 }
 
 impl Blank {
-    fn new(alloc: Global) -> Result<Blank, AllocError> {
+    /// An empty buffer.
+    pub fn new(alloc: Global) -> Result<Blank, AllocError> {
         Ok(Blank {
             octets: Vec::with_capacity(alloc, REFERENCE_LIMIT)?,
         })

@@ -177,8 +177,24 @@ impl Tree {
         if !self.rows[branch as usize].state.is_live() {
             return Err(TreeFault::Inactive);
         }
-        self.set_state(branch, State::Marked);
+        self.set_marked(branch);
         Ok(())
+    }
+
+    /// Ends this branch, however it stands.
+    pub fn close(&mut self, branch: u32, committed: bool)
+        requires there { branch < length self.old.rows }
+        ensures { self.new ≡ record self.old { rows = calls.ended self.old.rows branch committed } }
+    {
+        self.set_state(branch, ended(committed));
+    }
+
+    /// Marks this branch, however it stands.
+    pub fn set_marked(&mut self, branch: u32)
+        requires there { branch < length self.old.rows }
+        ensures { self.new ≡ record self.old { rows = calls.marked self.old.rows branch } }
+    {
+        self.set_state(branch, State::Marked);
     }
 
     /// The status of this branch (`get_status`).
@@ -197,6 +213,42 @@ impl Tree {
         ensures earlier { IfSome result (λ parent. parent < branch) }
     {
         parent_of(&self.rows, branch)
+    }
+
+    /// The status of this branch, where there is one.
+    pub fn status_at(&self, branch: u32) -> Option<Status>
+        ensures { result ≡ calls.status self.now.rows branch }
+    {
+        let row = self.rows.get(branch as usize)?;
+        Some(row.state.status())
+    }
+
+    /// Whether there is this branch, and it has not ended.
+    pub fn is_live_at(&self, branch: u32) -> bool
+        ensures { result ≡ ancestry.is_live_branch self.now.rows branch }
+    {
+        match self.rows.get(branch as usize) {
+            Some(row) => row.state.is_live(),
+            None => false,
+        }
+    }
+
+    /// Whether there is this branch, and it is marked.
+    pub fn is_marked_at(&self, branch: u32) -> bool
+        ensures { result ≡ calls.is_marked (ancestry.state self.now.rows branch) }
+    {
+        match self.rows.get(branch as usize) {
+            Some(row) => matches!(row.state, State::Marked),
+            None => false,
+        }
+    }
+
+    /// The branch of which this one is a subtransaction, where there is this one and it is no top.
+    pub fn parent_at(&self, branch: u32) -> Option<u32>
+        ensures { result ≡ ancestry.parent self.now.rows branch }
+    {
+        let row = self.rows.get(branch as usize)?;
+        row.parent
     }
 
     /// The status of this branch's parent (`get_parent_status`); that of the top is its own.
