@@ -1,5 +1,5 @@
 -- What a replay answers, and what its sink has taken (our profile).
-use Rattle.std.specs.Prelude.{◌≡◌, ℕ, ◌<◌, List, [], ◌∷◌, ◌++◌, length, take, Option, Some, IfSome}
+use Rattle.std.specs.Prelude.{◌≡◌, ◌≢◌, ℕ, ◌<◌, List, [], ◌∷◌, ◌++◌, length, take, Option, Some, IfSome}
 use Rattle.ots_model.specs.declared.line.Line.{Line}
 use Rattle.ots_model.specs.Line.{spelling, text_of}
 use Rattle.ots_model.specs.Safe.{AreSafe}
@@ -16,13 +16,13 @@ IsReadToEnd before after = IfSome before (λ octets. after ≡ Some [])
 abbrev pub IsDoneAtEnd : Status → Option (List ℕ) → Option (List ℕ) → Type 0
 IsDoneAtEnd status before after = status ≡ statuses.Done → IsReadToEnd before after
 
--- ReadFault comes only where the source's count of faults rose
+-- ReadFault comes only where the source's count of faults rose; with any other status the count is as it was
 abbrev pub HasReadFault : Status → ℕ → ℕ → Type 0
-HasReadFault status before after = status ≡ statuses.ReadFault → HasRisen before after
+HasReadFault status before after = (status ≡ statuses.ReadFault → HasRisen before after) × (status ≢ statuses.ReadFault → after ≡ before)
 
--- WriteFault comes only where the sink's count of faults rose
+-- WriteFault comes only where the sink's count of faults rose; with any other status the count is as it was
 abbrev pub HasWriteFault : Status → ℕ → ℕ → Type 0
-HasWriteFault status before after = status ≡ statuses.WriteFault → HasRisen before after
+HasWriteFault status before after = (status ≡ statuses.WriteFault → HasRisen before after) × (status ≢ statuses.WriteFault → after ≡ before)
 
 -- a status of a replay
 abbrev pub OfReplay : Status → Type 0

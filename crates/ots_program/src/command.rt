@@ -59,7 +59,7 @@ pub fn run<R: Wait, S: Source, K: Sink>(
     // Done comes once the source was read to its end.
     ensures end { IsDoneAtEnd result (S.remaining devices.old.source) (S.remaining devices.new.source) }
 
-    // A fault of a device comes only where that device has failed.
+    // A fault of a device is told exactly where that device has failed.
     ensures read_fault { HasReadFault result (S.faults devices.old.source) (S.faults devices.new.source) }
     ensures write_fault { HasWriteFault result (K.faults devices.old.sink) (K.faults devices.new.sink) }
 {
@@ -93,7 +93,7 @@ pub fn run_plain<S: Source, K: Sink>(
     // Done comes once the source was read to its end.
     ensures end { IsDoneAtEnd result (S.remaining source.old) (S.remaining source.new) }
 
-    // A fault of a device comes only where that device has failed.
+    // A fault of a device is told exactly where that device has failed.
     ensures read_fault { HasReadFault result (S.faults source.old) (S.faults source.new) }
     ensures write_fault { HasWriteFault result (K.faults sink.old) (K.faults sink.new) }
 {

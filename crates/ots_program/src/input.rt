@@ -1,4 +1,4 @@
-ghost use Rattle.std.specs.Prelude.{◌≡◌, ◌≤◌, ℕ, List, Option, length, IfOk, OnErr};
+ghost use Rattle.std.specs.Prelude.{◌≡◌, ◌≤◌, ℕ, List, Option, length, IfOk, OnErr, OnOk};
 ghost use Rattle.ots_outside.specs.Source.{CountsWithin, GivesOf, HasRisen};
 ghost use Rattle.ots_program.specs.Limits.{piece_limit};
 
@@ -24,7 +24,7 @@ pub trait Pieces {
             GivesOf (remaining self.old) (length room.old) n room.new (remaining self.new)) }
         ensures untouched { OnErr result (remaining self.new ≡ remaining self.old) }
         ensures cause { OnErr result (HasRisen (faults self.old) (faults self.new)) }
-        ensures later { faults self.old ≤ faults self.new };
+        ensures calm { OnOk result (faults self.new ≡ faults self.old) };
 }
 
 impl<S: Source> Pieces for S {

@@ -1,4 +1,4 @@
-ghost use Rattle.std.specs.Prelude.{◌≡◌, ◌≤◌, [], IfErr, OnErr, OnOk};
+ghost use Rattle.std.specs.Prelude.{◌≡◌, [], IfErr, OnErr, OnOk};
 ghost use Rattle.ots_outside.specs.Sink.{Takes, TakesPart};
 ghost use Rattle.ots_outside.specs.Source.{HasRisen};
 
@@ -12,7 +12,7 @@ pub fn write_out<K: Sink>(output: &mut Vec<u8>, sink: &mut K) -> Result<(), Stat
     ensures emptied { output.new.items ≡ [] }
     ensures fault { IfErr result (λ status. status ≡ Status.WriteFault) }
     ensures cause { OnErr result (HasRisen (K.faults sink.old) (K.faults sink.new)) }
-    ensures later { K.faults sink.old ≤ K.faults sink.new }
+    ensures calm { OnOk result (K.faults sink.new ≡ K.faults sink.old) }
 {
     if output.is_empty() {
         return Ok(());

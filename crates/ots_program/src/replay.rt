@@ -45,7 +45,7 @@ fn play<K: Sink>(player: &mut Player, piece: &[u8], sink: &mut K) -> Result<(), 
     ensures breaks_off { IfErr result (λ status.
         BreaksOff status player.old piece.now (K.taken sink.old) (K.taken sink.new)) }
     ensures write_fault { result ≡ Err Status.WriteFault → HasRisen (K.faults sink.old) (K.faults sink.new) }
-    ensures later { K.faults sink.old ≤ K.faults sink.new }
+    ensures calm { result ≢ Err Status.WriteFault → K.faults sink.new ≡ K.faults sink.old }
 {
     let played = player.feed(piece);
     write_out(&mut player.output, sink)?;
@@ -59,7 +59,6 @@ fn finish<K: Sink>(player: Player, sink: &mut K) -> Status
     ensures halts { Halts result (left player []) (K.taken sink.old) (K.taken sink.new) }
     ensures read { result ≢ Status.ReadFault }
     ensures write_fault { HasWriteFault result (K.faults sink.old) (K.faults sink.new) }
-    ensures later { K.faults sink.old ≤ K.faults sink.new }
 {
     let (mut output, ended) = player.finish();
     if let Err(status) = write_out(&mut output, sink) {

@@ -1,4 +1,4 @@
-ghost use Rattle.std.specs.Prelude.{◌≡◌, ◌≤◌, ◌++◌, [], length, None, Err, IfErr, OnErr, OnOk};
+ghost use Rattle.std.specs.Prelude.{◌≡◌, ◌≢◌, ◌≤◌, ◌++◌, [], length, None, Err, IfErr, OnErr, OnOk};
 ghost use Rattle.giop_frames.specs.Stream.{part_at};
 ghost use Rattle.giop_frames.specs.Held.{place_of};
 ghost use Rattle.ots_outside.specs.Source.{HasRisen};
@@ -62,7 +62,7 @@ fn show_piece<K: Sink>(
     ensures broken { IfErr result (λ status.
         BrokeOff status stream.old piece.now (K.taken sink.old) (K.taken sink.new)) }
     ensures write_fault { result ≡ Err Status.WriteFault → HasRisen (K.faults sink.old) (K.faults sink.new) }
-    ensures later { K.faults sink.old ≤ K.faults sink.new }
+    ensures calm { result ≢ Err Status.WriteFault → K.faults sink.new ≡ K.faults sink.old }
 {
     let mut lines = Vec::new(alloc);
     let taken = take_piece(alloc, stream, piece, &mut lines);

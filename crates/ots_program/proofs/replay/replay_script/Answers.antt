@@ -1,4 +1,4 @@
-use Rattle.std.proofs.Common.{arith}
+use Rattle.std.proofs.Common.{refl, sym, ◌∙◌, arith}
 use Rattle.ots_program.proofs.Runs.{Replays-broken, Replays-ended, Replays-read, Runs-more, Runs-start}
 use Rattle.ots_program.proofs.replay.replay_script.Goals as goal
 
@@ -6,8 +6,8 @@ pub loop-count-init : goal.loop-count-init
 loop-count-init g c = record {
   ready = record { plays = c.new-player.ensures.plays; written = c.new-player.ensures.output };
   runs = Runs-start c.new-player.result (g.P.Pieces.remaining c.args.source.now) (g.K.Sink.taken c.args.sink.now) c.new-player.ensures.left;
-  source_faults = omega arith;
-  sink_faults = omega arith;
+  source_faults = refl;
+  sink_faults = refl;
 }
 
 pub returns-in_default-clause-replays : goal.returns-in_default-clause-replays
@@ -25,6 +25,6 @@ pub loop-count-preserved : goal.loop-count-preserved
 loop-count-preserved g c = record {
   ready = c.in_default-play.ensures.plays.ready;
   runs = Runs-more c.loop-count.player c.play.new.player _ _ _ _ _ _ _ _ _ c.loop-count.invariant.runs c.in-Ok.ensures.octets c.in_default-play.ensures.plays;
-  source_faults = omega (arith, c.loop-count.invariant.source_faults, c.read_piece.ensures.later);
-  sink_faults = omega (arith, c.loop-count.invariant.sink_faults, c.play.ensures.later);
+  source_faults = c.in-Ok.ensures.calm ∙ c.loop-count.invariant.source_faults;
+  sink_faults = c.play.ensures.calm (λ e. cc (sym c.in_default-play.is ∙ e)) ∙ c.loop-count.invariant.sink_faults;
 }

@@ -1,4 +1,4 @@
-use Rattle.std.proofs.Common.{ap, ◌∙◌, arith}
+use Rattle.std.proofs.Common.{refl, sym, ap, ◌∙◌, arith}
 use Rattle.giop_frames.specs.Held.{Held}
 use Rattle.giop_frames.specs.Stream.{part_at}
 use Rattle.ots_program.proofs.Showing.{nothing_partial, read_to_end, showing_broke, showing_ended, showing_failed, showing_more, showing_start}
@@ -9,8 +9,8 @@ loop-init g c = record {
   accepts = ap (λ (h : Held). h.refused) c.new-stream.ensures.nothing;
   partial = ap (λ (h : Held). part_at h.versions h.rest) c.new-stream.ensures.nothing ∙ nothing_partial;
   showing = showing_start (g.P.Pieces.remaining c.args.source.now) (g.K.Sink.taken c.args.sink.now) c.new-stream.result c.new-stream.ensures.holds;
-  source_faults = omega arith;
-  sink_faults = omega arith;
+  source_faults = refl;
+  sink_faults = refl;
 }
 
 pub returns-in_default-clause-shows : goal.returns-in_default-clause-shows
@@ -33,6 +33,6 @@ loop-preserved g c =
       accepts = took.accepts;
       partial = took.partial;
       showing = showing_more _ _ _ _ _ _ _ _ _ _ _ c.loop.invariant.showing c.in-Ok.ensures.octets took;
-      source_faults = omega (arith, c.loop.invariant.source_faults, c.read_piece.ensures.later);
-      sink_faults = omega (arith, c.loop.invariant.sink_faults, c.show_piece.ensures.later);
+      source_faults = c.in-Ok.ensures.calm ∙ c.loop.invariant.source_faults;
+      sink_faults = c.show_piece.ensures.calm (λ e. cc (sym c.in_default-show_piece.is ∙ e)) ∙ c.loop.invariant.sink_faults;
     }
