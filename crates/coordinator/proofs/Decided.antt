@@ -17,7 +17,8 @@ use Rattle.coordinator.specs.Laws.{CommitGoesByRecord, FamiliesCommitByRecord}
 use Rattle.coordinator.specs.Step.{family_step, is_silent, quiet}
 use Rattle.coordinator.specs.Node.{Node}
 use Rattle.coordinator.specs.NodeRecords.{record_of, record_says}
-use Rattle.coordinator.specs.NodeCalls.{RetoldAnswer, retold_answer, has_room, steps_to, refuses, replies, records_hear, hears_record, by_records, answers_recovered, family_for, applied_by, applies}
+use Rattle.coordinator.specs.History.{has_room}
+use Rattle.coordinator.specs.NodeCalls.{RetoldAnswer, retold_answer, steps_to, refuses, replies, records_hear, hears_record, by_records, answers_recovered, family_for, applied_by, applies}
 use Rattle.coordinator.specs.NodeTick.{Happening, happening, happens_in, tick_at, tick_of, ticks}
 use Rattle.coordinator.specs.NodeLaws.{GoesDecided, NodesCommitByRecord}
 
@@ -52,7 +53,7 @@ module _ (law : FamiliesCommitByRecord) where
   called_by : (o : Option Family) (k : ObjectKey) (e : Event) (stood : Option Stood) (n : Node)
       → AllByRecursion GoesDecided (applied_by o k e stood n).words
   unfolding answers_recovered
-  called_by (Some f) k e stood n = by_room (has_room f e) f e stood n
+  called_by (Some f) k e stood n = by_room (has_room f.entries e) f e stood n
   called_by None k e stood n = recovered_by (retold_answer e.act) k e stood n
 
   -- a tick of a family
@@ -67,7 +68,7 @@ module _ (law : FamiliesCommitByRecord) where
   one_more : (b : Bool) (now : ℕ) (f : Family) (others : List Happening) → AllByRecursion GoDecided others
       → AllByRecursion GoDecided (cons_option (if b then None else Some (happening f (tick_of now f))) others)
   one_more true now f others all = all
-  one_more false now f others all = (tick_by (has_room f (tick_at now)) now f, all)
+  one_more false now f others all = (tick_by (has_room f.entries (tick_at now)) now f, all)
 
   all_ticked : (now : ℕ) (families : List (Option Family)) → AllByRecursion GoDecided (filter_map (happens_in now) families)
   all_ticked now [] = tt

@@ -1,3 +1,7 @@
+mod Unroomed
+mod Seated
+mod Among
+mod Kin
 mod Named
 mod Played
 mod Phased

@@ -20,12 +20,13 @@ use Rattle.coordinator.specs.Family.{Family}
 use Rattle.coordinator.specs.Hearing.{decision_record}
 use Rattle.coordinator.specs.Limits.{generation_limit}
 use Rattle.coordinator.specs.Step.{Stepped, family_step, Wanted, Appends, WritesDone, Rereads, wanted}
-use Rattle.coordinator.specs.Node.{Node, life, load}
+use Rattle.coordinator.specs.Node.{Node, life}
 use Rattle.coordinator.specs.NodeSlots.{makes, makes_in, makes_no_family, with_new, next_key, free_slot}
 use Rattle.coordinator.specs.NodeRecords.{record_of, record_says}
-use Rattle.coordinator.specs.NodeCalls.{RetoldAnswer, retold_answer, journaled, has_room, steps_to, refuses, replies, records_hear, hears_record, by_records, answers_recovered, family_for, applied_by, applies}
+use Rattle.coordinator.specs.History.{has_room}
+use Rattle.coordinator.specs.NodeCalls.{RetoldAnswer, retold_answer, journaled, steps_to, refuses, replies, records_hear, hears_record, by_records, answers_recovered, family_for, applied_by, applies}
 use Rattle.coordinator.specs.NodeTick.{ticks}
-use Rattle.coordinator.specs.NodeLaws.{NodeBecomes, by_making, by_call, by_tick, NodeGoesOn, still, further, KeepsNumbers, NodesKeepNumbers, KeysAreNew, LivesRise}
+use Rattle.coordinator.specs.NodeLaws.{NodeBecomes, by_making, by_call, by_tick, still, further, KeepsNumbers, NodesKeepNumbers, KeysAreNew, LivesRise}
 use Rattle.coordinator.proofs.Outcomes.{append_by_consent}
 
 -- ---- lives
@@ -100,7 +101,7 @@ recovered_by None k e stood n = replied (option_and_then (record_says k e.key e.
 
 called : (o : Option Family) (k : ObjectKey) (e : Event) (stood : Option Stood) (n : Node) → KeepsNumbers n (applied_by o k e stood n).node
 unfolding answers_recovered
-called (Some f) k e stood n = by_room (has_room f e) f e stood (family_step f e stood) n
+called (Some f) k e stood n = by_room (has_room f.entries e) f e stood (family_step f e stood) n
 called None k e stood n = recovered_by (retold_answer e.act) k e stood n
 
 becomes : (n later : Node) → NodeBecomes n later → KeepsNumbers n later

@@ -32,7 +32,7 @@ use Rattle.coordinator.specs.declared.phase.Column.TheVariants as columns
 use Rattle.coordinator.specs.Phases.{column, is_marked, has_parent_ended}
 use Rattle.coordinator.specs.Closing.{asking, rolling_back, begun, begins, decides, decides_by, rests, tells_next, next_told, next_synchronization, calls_next, afterwards, finishes, before, asked_of, asked_ones, gives_up, waits}
 use Rattle.coordinator.specs.Running.{word_of, tells_first, commits_up, own_ends, own_duties, tells_own, passes_top, passes, ends_below, duties_below, sweeps_next, sweeps, tells_after, by_leg, runs, runs_call, goes_on}
-use Rattle.coordinator.specs.Hearing.{is_markable, marks, marks_parent, is_plain, told_commit, told_end, told_before, reason_of, told_participant, inner_number, told, hears_at, vote_in, vote_at, vote_effects, done_effects, wants_done, answers_doubt, doubts_by, decided, closes, settles}
+use Rattle.coordinator.specs.Hearing.{is_markable, marks, marks_parent, is_plain, told_commit, told_end, told_before, reason_of, told_participant, inner_number, told, hears_at, vote_effects, done_effects, wants_done, answers_doubt, doubts_by, decided, closes, settles}
 use Rattle.coordinator.specs.declared.event.Act.{Act}
 use Rattle.coordinator.specs.declared.event.Act.TheVariants as acts
 use Rattle.coordinator.specs.declared.event.Event.{Event}
@@ -45,14 +45,8 @@ use Rattle.resource_votes.specs.Ballots.{Ballots, adopted}
 use Rattle.resource_votes.specs.declared.registration.VoteFault.{VoteFault}
 use Rattle.two_phase.specs.LawsOfReached.{TreeOutcomeStays}
 use Rattle.two_phase.specs.LawsOfReached.IsReached.{begins as reached, rolls_back as reached_by_rollback, goes_on as reached_on}
-use Rattle.two_phase.specs.declared.party.Errand.{Errand}
-use Rattle.two_phase.specs.declared.party.Party.{Party}
-use Rattle.two_phase.specs.declared.party.Stage.{Stage as PartyStage}
-use Rattle.two_phase.specs.declared.party.Stage.TheVariants as party
 use Rattle.ots_model.specs.declared.tree.Outcome.TheVariants as outcomes
 use Rattle.ots_model.specs.declared.completion.Heard.TheVariants as participants
-use Rattle.std.specs.List.{slice_get}
-use Rattle.std.specs.Option.{option_map_or}
 use Rattle.coordinator.specs.declared.effect.Effect.{Effect}
 use Rattle.coordinator.specs.Laws.{IsThere, IsNewOutcome, FamiliesDecideOnce, Proceeds, still, asks, rolls_back as starts_back, goes_on as proceeds_on, further, GoesOut, IsOfSubtransaction, FamiliesStepRightly}
 
@@ -363,7 +357,7 @@ hears_answer (Waiting room) n h = still (Waiting room)
 hears_answer (UnderWay k) n h = proceeds_on k (course.after_answer n h k) (by_answer k n h)
 
 -- votes are no outcome
-vote_effects_new : (s later : Standing) (h : ParticipantHeard) (o : Option Party) → AllByRecursion (IsNewOutcome s later) (vote_effects h o)
+vote_effects_new : (s later : Standing) (h : ParticipantHeard) (o : Option ℕ) → AllByRecursion (IsNewOutcome s later) (vote_effects h o)
 vote_effects_new s later (participants.Voted vote) (Some p) = (tt, tt)
 vote_effects_new s later (participants.Voted vote) None = tt
 vote_effects_new s later participants.Done o = tt
@@ -375,32 +369,12 @@ vote_effects_new s later participants.Other o = tt
 vote_effects_new s later participants.Lost o = tt
 vote_effects_new s later participants.Starved o = tt
 
-unless_alone : (s later : Standing) (alone : Bool) (some : List Effect) → AllByRecursion (IsNewOutcome s later) some
-    → AllByRecursion (IsNewOutcome s later) (if alone then [] else some)
-unless_alone s later true some all = tt
-unless_alone s later false some all = all
-
-vote_stage_new : (s later : Standing) (c : Course) (h : ParticipantHeard) (stage : PartyStage) (place : ℕ)
-    → AllByRecursion (IsNewOutcome s later) (vote_at c h (record { stage = stage; place = place }))
-vote_stage_new s later c h party.Asking place = unless_alone s later (course.decides_alone c) _ (vote_effects_new s later h (slice_get c.parties place))
-vote_stage_new s later c h party.Telling place = tt
-vote_stage_new s later c h party.Forgetting place = tt
-
-vote_out_new : (s later : Standing) (c : Course) (h : ParticipantHeard) (o : Option Errand)
-    → AllByRecursion (IsNewOutcome s later) (option_map_or (vote_at c h) o [])
-vote_out_new s later c h (Some e) = vote_stage_new s later c h e.stage e.place
-vote_out_new s later c h None = tt
-
-vote_new : (s later t : Standing) (h : ParticipantHeard) → AllByRecursion (IsNewOutcome s later) (vote_in t h)
-vote_new s later (Waiting room) h = tt
-vote_new s later (UnderWay c) h = vote_out_new s later c h c.out
-
 told_participant_quiet : (n : CallNumber) (h : Heard) (f : Family) → Quiet f.completion (told_participant n h f)
 unfolding told_participant
 told_participant_quiet n h f =
     let later : Standing = stages.after_answer (inner_number f f.completion n) (of_participant h) f.completion in
-    quietly f.completion (shows (vote_in f.completion (of_participant h)) f) (completes_as later)
-    (record { proceeds = still f.completion; silent = refl; told = λ law there. vote_new f.completion f.completion f.completion (of_participant h) })
+    quietly f.completion (shows (vote_effects (of_participant h) (stages.voter f.completion)) f) (completes_as later)
+    (record { proceeds = still f.completion; silent = refl; told = λ law there. vote_effects_new f.completion f.completion (of_participant h) (stages.voter f.completion) })
     (completes_quiet later f (hears_answer f.completion (inner_number f f.completion n) (of_participant h)))
 
 told_quiet : (leg : Leg) (n : CallNumber) (b : ℕ) (c : Call) (h : Heard) (f : Family) → Quiet f.completion (told leg n b c h f)

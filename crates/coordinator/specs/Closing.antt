@@ -16,7 +16,6 @@ use Rattle.ots_model.specs.declared.tree.Word.{Word}
 use Rattle.ots_model.specs.declared.tree.Word.TheVariants as words
 use Rattle.resource_votes.specs.Ballots.{participants}
 use Rattle.resource_votes.specs.declared.registration.Registration.{Registration}
-use Rattle.two_phase.specs.Course as course
 use Rattle.two_phase.specs.Stages as stages
 use Rattle.two_phase.specs.Stages.{Standing, Waiting, Going as UnderWay}
 use Rattle.coordinator.specs.declared.said.Said.{Said}
@@ -33,18 +32,13 @@ notice_to word r = record { word = word; registration = r.index; to = r.to }
 abbrev pub next_synchronization : Family → ℕ → Option Registration
 next_synchronization f called = slice_get f.ballots.synchronizations called
 
--- nobody knew at some time whether the decision record stands
-abbrev pub was_doubtful : Standing → Bool
-was_doubtful (Waiting room) = false
-was_doubtful (UnderWay c) = course.is_unsure c.stood
-
 abbrev pub is_unknown : Outcome → Bool
 is_unknown outcomes.Unknown = true
 is_unknown _ = false
 
 -- synchronizations are told an outcome that is known, where it never was in doubt
 abbrev pub tells_synchronizations : Standing → Outcome → Bool
-tells_synchronizations s fixed = not (was_doubtful s) && not (is_unknown fixed)
+tells_synchronizations s fixed = not (stages.was_doubtful s) && not (is_unknown fixed)
 
 abbrev pub next_told : Family → Outcome → ℕ → Option Registration
 next_told f fixed called = if tells_synchronizations f.completion fixed then next_synchronization f called else None

@@ -5,7 +5,6 @@ use Rattle.std.specs.Prelude.{ℕ, Bool, false, List, [], ◌∷◌, Option, Som
 use Rattle.std.specs.List.{slice_get}
 use Rattle.std.specs.Option.{option_map_or, option_and_then}
 use Rattle.ior_refs.specs.declared.key.ObjectKey.{ObjectKey}
-use Rattle.otid_names.specs.Otid.{OtidParts}
 use Rattle.ots_model.specs.declared.completion.CallNumber.{CallNumber}
 use Rattle.ots_model.specs.declared.completion.Stood.{Stood}
 use Rattle.txn_tree.specs.Calls.{top_alone}
@@ -13,16 +12,16 @@ use Rattle.txn_tree.specs.declared.row.Row.{Row}
 use Rattle.resource_votes.specs.Ballots.{Ballots, no_ballots}
 use Rattle.resource_votes.specs.declared.registration.Registration.{Registration}
 use Rattle.two_phase.specs.Stages.{Standing, Waiting}
+pub use Rattle.coordinator.specs.declared.call.Ending.{Ending}
+pub use Rattle.coordinator.specs.declared.call.Ending.TheVariants.{TellsRollback, TellsCommit, RollsBackUpdates}
+pub use Rattle.coordinator.specs.declared.call.Leg.{Leg}
+pub use Rattle.coordinator.specs.declared.call.Leg.TheVariants.{Below, Own, Before, Deciding, After}
+pub use Rattle.coordinator.specs.declared.call.Stage.{Stage}
+pub use Rattle.coordinator.specs.declared.call.Stage.TheVariants.{Going, Finishing, Completing, Over}
+pub use Rattle.coordinator.specs.declared.call.Superior.{Superior}
+use Rattle.coordinator.specs.declared.event.Event.{Event}
 use Rattle.coordinator.specs.declared.said.Said.{Said}
 use Rattle.coordinator.specs.declared.said.Entry.{Entry}
-
--- what the end of a subtransaction has for a resource
-pub data Ending : Type 0 where
-  -- one that is told of its end learns of the rollback, or of the commit into this parent
-  TellsRollback : Ending
-  TellsCommit : (above : ℕ) → Ending
-  -- one of its list is rolled back
-  RollsBackUpdates : Ending
 
 -- that is still to be told to a resource
 pub record Duty : Type 0 where
@@ -34,19 +33,6 @@ pub data Aim : Type 0 where
   Commits : (asked : Bool) → Aim
   RollsBack : (says : Said) → Aim
 
--- how far a call has come. The last three are those of the top-level transaction alone.
-pub data Leg : Type 0 where
-  -- live subtransactions below its transaction are rolled back
-  Below : Leg
-  -- the resources of its own subtransaction are told
-  Own : Leg
-  -- so many synchronizations were sent before_completion
-  Before : (called : ℕ) → Leg
-  -- its completion asks and tells the participants
-  Deciding : Leg
-  -- so many synchronizations were sent after_completion
-  After : (called : ℕ) → Leg
-
 -- a call under way, which ends its transaction
 pub record Call : Type 0 where
   -- the place in the history of the entry that waits for its answer; a tick waits for none
@@ -57,22 +43,6 @@ pub record Call : Type 0 where
   pub left : List Duty
   -- the serial number of its word that is out
   pub out : Option ℕ
-
--- how far the top-level transaction has come
-pub data Stage : Type 0 where
-  -- no call has begun to end it
-  Going : Stage
-  -- its commit has begun, and nobody was asked
-  Finishing : Stage
-  -- its completion is under way
-  Completing : Stage
-  -- it has ended
-  Over : Stage
-
--- of a subordinate, the transaction that it belongs to: its superior's coordinator, and the otid
-pub record Superior : Type 0 where
-  pub coordinator : List ℕ
-  pub otid : OtidParts
 
 pub record Family : Type 0 where
   -- the key of the top-level transaction's coordinator
@@ -95,6 +65,11 @@ pub record Family : Type 0 where
   pub serial : ℕ
   -- the history, in order
   pub entries : List Entry
+
+-- a family, and the event for which memory was taken
+pub record FamilyParts : Type 0 where
+  pub family : Family
+  pub ready : Option Event
 
 -- a new family of a root: the top-level transaction alone
 abbrev pub new_family : ObjectKey → Option ℕ → Family

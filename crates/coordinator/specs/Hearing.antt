@@ -3,7 +3,7 @@
 -- the journal is asked, are our profile).
 use Rattle.std.specs.Prelude.{ℕ, ◌&&◌, ◌||◌, Bool, true, false, not, List, [], ◌∷◌, map, filter, Option, Some, None, is_none, is_some, if◌then◌else◌}
 use Rattle.std.specs.List.{slice_get}
-use Rattle.std.specs.Option.{option_map_or, option_and_then}
+use Rattle.std.specs.Option.{option_and_then}
 use Rattle.ots_model.specs.Heard.{of_participant}
 use Rattle.ots_model.specs.declared.completion.CallNumber.{CallNumber}
 use Rattle.ots_model.specs.declared.completion.Doubted.{Doubted}
@@ -19,14 +19,11 @@ use Rattle.ots_model.specs.declared.tree.Reason.{Reason}
 use Rattle.ots_model.specs.declared.tree.Reason.TheVariants as reasons
 use Rattle.txn_tree.specs.Calls.{marked}
 use Rattle.txn_tree.specs.Rows.{parent}
-use Rattle.two_phase.specs.Course as course
-use Rattle.two_phase.specs.Course.{Course}
 use Rattle.two_phase.specs.Parties.{has_voted_commit}
 use Rattle.two_phase.specs.Stages as stages
 use Rattle.two_phase.specs.Stages.{Standing, Waiting, Going as UnderWay}
-use Rattle.two_phase.specs.declared.party.Errand.{Errand}
+pub use Rattle.two_phase.specs.Stages.{record_place}
 use Rattle.two_phase.specs.declared.party.Party.{Party}
-use Rattle.two_phase.specs.declared.party.Stage.TheVariants as party
 use Rattle.decision_journal.specs.declared.record.JournalRecord.{JournalRecord}
 use Rattle.decision_journal.specs.declared.record.JournalRecord.TheVariants.{Decision}
 use Rattle.decision_journal.specs.declared.record.Registration.{Registration as Recorded}
@@ -81,21 +78,10 @@ unfoldable pub told_before : ℕ → Call → Heard → Family → Moved
 told_before called c h f =
     if is_plain h then only f else gives_up (reason_of called h) c (with_call 0 (record c { leg = Deciding }) f)
 
--- a vote is counted: what the participant at a place has answered to prepare
-abbrev pub vote_effects : ParticipantHeard → Option Party → List Effect
-vote_effects (participants.Voted vote) (Some p) = effects.Voted p.index vote ∷ []
+-- a vote is counted: what the registration has answered that was asked
+abbrev pub vote_effects : ParticipantHeard → Option ℕ → List Effect
+vote_effects (participants.Voted vote) (Some registration) = effects.Voted registration vote ∷ []
 vote_effects _ _ = []
-
-abbrev pub vote_at : Course → ParticipantHeard → Errand → List Effect
-vote_at c h e = elim e.stage [
-  | party.Asking ↦ if course.decides_alone c then [] else vote_effects h (slice_get c.parties e.place)
-  | party.Telling ↦ []
-  | party.Forgetting ↦ []
-]
-
-abbrev pub vote_in : Standing → ParticipantHeard → List Effect
-vote_in (Waiting room) h = []
-vote_in (UnderWay c) h = option_map_or (vote_at c h) c.out []
 
 -- the number that the completion knows its word by
 abbrev pub inner_number : Family → Standing → CallNumber → CallNumber
@@ -105,7 +91,7 @@ inner_number f (UnderWay c) n = c.number
 -- a participant was asked or told
 unfoldable pub told_participant : CallNumber → Heard → Family → Moved
 told_participant n h f =
-    shows (vote_in f.completion (of_participant h)) f
+    shows (vote_effects (of_participant h) (stages.voter f.completion)) f
     ▹ completes_as (stages.after_answer (inner_number f f.completion n) (of_participant h) f.completion)
 
 -- what the answer does, by how far the call has come
@@ -119,11 +105,6 @@ told (After called) n b c h f = only f
 -- the answer to the word of a call: it is out no more
 unfoldable pub hears_at : CallNumber → ℕ → Call → Heard → Family → Moved
 hears_at n b c h f = told c.leg n b (record c { out = None }) h (with_call b (record c { out = None }) f)
-
--- where the decision record stands
-abbrev pub record_place : Standing → Option ℕ
-record_place (Waiting room) = None
-record_place (UnderWay c) = course.record_place c.stood c.reread
 
 -- the decision record is to be named done: all have completed, and nobody keeps a heuristic outcome
 unfoldable pub wants_done : Family → Bool

@@ -1,6 +1,6 @@
 -- The history of a family: one entry for each thing that happened, and what it answers to a call that comes again under its
 -- key (our profile).
-use Rattle.std.specs.Prelude.{ℕ, ◌==◌, ◌&&◌, Bool, true, false, nat_le, List, find, position, Option, Some, None, if◌then◌else◌}
+use Rattle.std.specs.Prelude.{ℕ, ◌==◌, ◌&&◌, ◌||◌, Bool, true, false, not, nat_le, List, length, find, position, Option, Some, None, is_some, if◌then◌else◌}
 use Rattle.std.specs.List.{slice_get, flat_map}
 use Rattle.std.specs.Option.{option_map, option_map_or, option_and_then}
 use Rattle.ots_model.specs.declared.service.RetryKey.{RetryKey}
@@ -22,8 +22,11 @@ is_later _ = false
 abbrev pub is_for : ℕ → Finished → Bool
 is_for at a = a.position == at
 
+abbrev pub answer_among : ℕ → List Finished → Option Said
+answer_among at answers = option_map (λ (a : Finished). a.said) (find (is_for at) answers)
+
 abbrev pub later_answer : List Entry → ℕ → Option Said
-later_answer entries at = option_map (λ (a : Finished). a.said) (find (is_for at) (flat_map (λ (e : Entry). e.finished) entries))
+later_answer entries at = answer_among at (flat_map (λ (e : Entry). e.finished) entries)
 
 -- what the call at a place was answered; Later where it has no answer yet
 abbrev pub answer_of : List Entry → ℕ → Entry → Said
@@ -65,3 +68,7 @@ limit_of act = if is_own_act act then history_limit else call_limit
 -- the history has no room for an event
 abbrev pub is_full : ℕ → Event → Bool
 is_full entries e = nat_le (limit_of e.act) entries
+
+-- the history has room for an event, or the event is a call that comes again
+abbrev pub has_room : List Entry → Event → Bool
+has_room entries e = is_some (kept_for entries e.key) || not (is_full (length entries) e)

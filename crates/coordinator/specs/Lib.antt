@@ -1,5 +1,7 @@
 pub mod Limits
 pub mod Family
+pub mod Calls
+pub mod Room
 pub mod Moves
 pub mod Phases
 pub mod Closing
@@ -9,6 +11,7 @@ pub mod Names
 pub mod Table
 pub mod History
 pub mod Step
+pub mod StateInside
 pub mod Plays
 pub mod AnswersByPhase
 pub mod Laws

@@ -1,6 +1,7 @@
 -- The otids, names, hashes and relations of a family's transactions (Transaction Service, interface Coordinator; the numbers
 -- of our own otids, and how another coordinator is known by its key, are our profile).
 use Rattle.std.specs.Prelude.{ℕ, ◌==◌, ◌&&◌, Bool, nat_lt, List, length, Option, Some, None, if◌then◌else◌}
+use Rattle.std.specs.Option.{option_map, option_map_or}
 use Rattle.ior_refs.specs.declared.key.ObjectKey.{ObjectKey}
 use Rattle.otid_names.specs.Otid.{OtidParts}
 use Rattle.otid_names.specs.Own.{own}
@@ -16,12 +17,11 @@ abbrev pub numbers_of : Family → ℕ → OwnNumbers
 numbers_of f b = record { service = f.key.service; life = f.key.life; generation = f.key.generation; branch = b }
 
 -- a subordinate's branch 0 has the otid that its superior gave
-abbrev pub top_otid : Family → Option Superior → OtidParts
-top_otid f None = own (numbers_of f 0)
-top_otid f (Some s) = s.otid
+abbrev pub given_otid : Family → ℕ → Option OtidParts
+given_otid f b = if b == 0 then option_map (λ (s : Superior). s.otid) f.superior else None
 
 unfoldable pub otid_of : Family → ℕ → OtidParts
-otid_of f b = if b == 0 then top_otid f f.superior else own (numbers_of f b)
+otid_of f b = option_map_or (λ o. o) (given_otid f b) (own (numbers_of f b))
 
 unfoldable pub name_of : Family → ℕ → List ℕ
 name_of f b = name (otid_of f b)

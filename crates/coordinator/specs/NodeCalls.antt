@@ -1,6 +1,6 @@
 -- A call to a node: it is a step of the family that its key names, or is answered by a record; and what it asks of the journal
 -- (our profile).
-use Rattle.std.specs.Prelude.{ℕ, ◌==◌, ◌||◌, Bool, not, List, [], ◌∷◌, length, Option, Some, None, is_some, Result, Ok, Err, if◌then◌else◌}
+use Rattle.std.specs.Prelude.{ℕ, ◌==◌, List, [], ◌∷◌, length, Option, Some, None, is_some, Result, Ok, Err, if◌then◌else◌}
 use Rattle.std.specs.Option.{option_map, option_and_then}
 use Rattle.ior_refs.specs.declared.key.ObjectKey.{ObjectKey}
 use Rattle.ots_model.specs.declared.completion.CallNumber.{CallNumber}
@@ -25,7 +25,7 @@ use Rattle.coordinator.specs.declared.said.Said.{Said}
 use Rattle.coordinator.specs.declared.said.Said.TheVariants as said
 use Rattle.coordinator.specs.declared.said.StepAnswer.{StepAnswer}
 use Rattle.coordinator.specs.Family.{Family}
-use Rattle.coordinator.specs.History.{kept_for, is_full}
+use Rattle.coordinator.specs.History.{has_room}
 use Rattle.coordinator.specs.Step.{Stepped, family_step, Wanted, Appends, WritesDone, wanted}
 use Rattle.coordinator.specs.Node.{Node, life, with_family, family_of}
 use Rattle.coordinator.specs.NodeRecords.{record_of, record_says}
@@ -45,10 +45,6 @@ journaled (Some (Appends item)) (Some (answers.Stands place)) found = with_recor
 journaled (Some (WritesDone named)) (Some (answers.Stands place)) found = with_record found place (Done named)
 journaled asked stood found = found
 
--- the history of a family has room for an event, or the event is a call that comes again
-abbrev pub has_room : Family → Event → Bool
-has_room f e = is_some (kept_for f.entries e.key) || not (is_full (length f.entries) e)
-
 -- a step of a family
 abbrev pub answer_of : Family → Stepped → StepAnswer
 answer_of f s = record { position = length f.entries; said = s.said; finished = s.finished; effects = s.effects }
@@ -61,7 +57,7 @@ steps_to n f e stood s = record {
 }
 
 abbrev pub by_family : Family → Event → Option Stood → Node → Applied
-by_family f e stood n = if has_room f e then steps_to n f e stood (family_step f e stood) else refuses faults.NoResources n
+by_family f e stood n = if has_room f.entries e then steps_to n f e stood (family_step f e stood) else refuses faults.NoResources n
 
 -- an answer without a family: nothing waits for it there
 abbrev pub alone : Said → List Effect → StepAnswer
@@ -137,7 +133,7 @@ applies k e stood n = applied_by (family_for k e n) k e stood n
 
 -- what a call asks of the journal
 abbrev pub family_wants : Family → Event → Option Wanted
-family_wants f e = if has_room f e then wanted f e else None
+family_wants f e = if has_room f.entries e then wanted f e else None
 
 abbrev pub records_want : Option RetoldAnswer → Node → Option Wanted
 records_want (Some a) n = done_wanted a.number a.heard n

@@ -15,7 +15,7 @@ use Rattle.coordinator.specs.declared.said.Said.TheVariants as said
 use Rattle.coordinator.specs.Family.{Family}
 use Rattle.coordinator.specs.Step.{Stepped, family_step, is_silent, quiet}
 use Rattle.coordinator.specs.Node.{Node, life}
-use Rattle.coordinator.specs.NodeCalls.{has_room}
+use Rattle.coordinator.specs.History.{has_room}
 use Rattle.coordinator.specs.NodeSlots.{takes_over}
 
 -- the clock stands at a moment
@@ -24,7 +24,7 @@ tick_at now = record { key = None; branch = 0; now = now; act = acts.Tick }
 
 -- what a tick does to a family: nothing, where its history has no room for it
 abbrev pub tick_of : ℕ → Family → Stepped
-tick_of now f = if has_room f (tick_at now) then family_step f (tick_at now) None else quiet said.Plain f
+tick_of now f = if has_room f.entries (tick_at now) then family_step f (tick_at now) None else quiet said.Plain f
 
 abbrev pub ticked : ℕ → Option Family → Option Family
 ticked now place = option_map (λ f. (tick_of now f).family) place

@@ -8,11 +8,8 @@ use Rattle.ots_model.specs.declared.tree.Outcome.{Outcome}
 use Rattle.ots_model.specs.declared.tree.Outcome.TheVariants as outcomes
 use Rattle.txn_tree.specs.Rows.{state, parent, is_live_branch}
 use Rattle.txn_tree.specs.Calls as tree
-use Rattle.txn_tree.specs.declared.row.State.{State}
-use Rattle.txn_tree.specs.declared.row.State.TheVariants as states
-use Rattle.two_phase.specs.Course as course
 use Rattle.two_phase.specs.Stages as stages
-use Rattle.two_phase.specs.Stages.{Standing, Waiting, Going as UnderWay}
+use Rattle.two_phase.specs.Stages.{Standing}
 use Rattle.coordinator.specs.declared.phase.Column.{Column}
 use Rattle.coordinator.specs.declared.phase.Column.TheVariants as columns
 use Rattle.coordinator.specs.declared.phase.Phase.{Phase}
@@ -23,16 +20,11 @@ use Rattle.coordinator.specs.Family.{Family, Stage, Going, Finishing, Completing
 abbrev pub is_marked : Family → ℕ → Bool
 is_marked f b = tree.is_marked (state f.rows b)
 
--- the only participant is to decide alone
-abbrev pub is_alone : Standing → Bool
-is_alone (Waiting room) = false
-is_alone (UnderWay c) = course.decides_alone c
-
 -- a completion before its outcome is fixed
 abbrev pub open_phase : Standing → Phase
 open_phase s =
     if stages.is_doubtful s then phases.Doubt
-    else if is_alone s then phases.OnePhase
+    else if stages.decides_alone s then phases.OnePhase
     else phases.Preparing
 
 -- a completion under way
@@ -106,15 +98,17 @@ top_column phases.RollingBack = columns.RolledBack
 top_column (phases.Ended (outcomes.Rollback reason)) = columns.RolledBack
 top_column _ = columns.Past
 
-abbrev pub sub_column : Bool → Option State → Column
-sub_column true s = columns.Past
-sub_column false (Some states.Active) = columns.Active
-sub_column false (Some states.Marked) = columns.Marked
-sub_column false (Some states.RolledBack) = columns.RolledBack
-sub_column false _ = columns.Past
+abbrev pub live_column : Option Status → Column
+live_column (Some status.Active) = columns.Active
+live_column (Some status.MarkedRollback) = columns.Marked
+live_column (Some status.RolledBack) = columns.RolledBack
+live_column _ = columns.Past
+
+abbrev pub sub_column : Family → ℕ → Column
+sub_column f b = if is_ending f b then columns.Past else live_column (tree.status f.rows b)
 
 unfoldable pub column : Family → ℕ → Column
-column f b = if b == 0 then top_column (phase f) else sub_column (is_ending f b) (state f.rows b)
+column f b = if b == 0 then top_column (phase f) else sub_column f b
 
 -- what may still be registered with a transaction is for its tree to say
 abbrev pub is_open : Column → Bool

@@ -3,6 +3,7 @@
 
 pub use effect::{Effect, Effects};
 pub use event::{Act, CALL_LIMIT, Event, HISTORY_LIMIT};
+pub use family::{Family, FamilyFault};
 pub use laws::{
     answers_follow_phases, decisions_rest_on_consent, families_commit_by_record,
     families_decide_once, families_play, families_step_rightly, family_outcomes_stay,
@@ -14,9 +15,15 @@ pub use node::NodeFault;
 pub use phase::{Column, Phase};
 pub use said::{Answers, Entry, Finished, Said, StepAnswer};
 
+mod call;
+mod copies;
 mod effect;
 mod event;
+mod family;
+mod history;
 mod laws;
+mod names;
 mod node;
 mod phase;
 mod said;
+mod state;

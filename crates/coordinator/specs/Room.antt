@@ -1,0 +1,14 @@
+-- A family, with the memory that was taken for its next steps.
+use Rattle.std.specs.Prelude.{ℕ, ◌-◌}
+use Rattle.two_phase.specs.Stages.{Standing, Waiting, Going as UnderWay}
+use Rattle.coordinator.specs.Family.{Family}
+
+-- a family, and for how many more entries, subtransactions and registrations memory is taken
+pub record StateParts : Type 0 where
+  pub family : Family
+  pub room : ℕ
+
+-- for how many more participants a completion has room, beside so many; one that has started takes no further one
+abbrev pub spare : Standing → ℕ → ℕ
+spare (Waiting room) count = room - count
+spare (UnderWay c) count = 1
