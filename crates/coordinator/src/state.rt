@@ -148,7 +148,8 @@ impl State {
     /// Its phase while its completion is under way.
     #[tactic(auto, using(crate::proofs::Unroomed::unroomed_outcome))]
     fn ending_phase(&self) -> Phase
-        ensures { result ≡ phases.ending_phase (self.now.family).completion (stages.outcome (self.now.family).completion) }
+        ensures { result ≡ phases.ending_phase (self.now.family).completion
+            (stages.outcome (self.now.family).completion) }
     {
         match self.completion.outcome() {
             None => self.open_phase(),
@@ -161,7 +162,8 @@ impl State {
     /// Its phase once its completion is over.
     #[tactic(auto, using(crate::proofs::Unroomed::unroomed_outcome))]
     fn ended_phase(&self) -> Phase
-        ensures { result ≡ phases.ended_phase (self.now.family).completion (stages.outcome (self.now.family).completion) }
+        ensures { result ≡ phases.ended_phase (self.now.family).completion
+            (stages.outcome (self.now.family).completion) }
     {
         match self.completion.outcome() {
             None => self.open_phase(),
