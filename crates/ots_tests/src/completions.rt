@@ -49,7 +49,7 @@ fn what_comes_behind_reserve_needs_no_memory(rt: HostRuntime) -> Result<(), Fail
         completion.answer(&outward.number, heard);
         completion.decided(Stood::Stands(4));
     }
-    assert_eq!(rt; completion.outcome(), Some(Outcome::Commit(Ground::Record)));
+    assert!(rt; completion.outcome() == Some(Outcome::Commit(Ground::Record)));
     assert!(rt; completion.is_settled() && completion.report().is_none());
     Ok(())
 }

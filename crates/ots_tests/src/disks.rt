@@ -18,22 +18,22 @@ fn faults<D: Disk>(disk: &D) -> u64 {
 fn a_disk_fails_where_it_is_listed(rt: HostRuntime) -> Result<(), Fail> {
     let failing = vec![in rt.alloc(); 2]?;
     let mut disk = MemDisk::new(rt.alloc(), b"abcd".to_vec(rt.alloc())?, failing)?;
-    assert_eq!(rt; keep(&mut disk, b"xy"), Ok(()));
-    assert_eq!(rt; keep(&mut disk, b"zz"), Err(DiskRefusal::Failed));
-    assert_eq!(rt; disk.octets(), b"xycd".as_slice());
-    assert_eq!(rt; keep(&mut disk, b"longer"), Ok(()));
-    assert_eq!(rt; disk.octets(), b"longer".as_slice());
-    assert_eq!(rt; disk.len(), Ok(6));
-    assert_eq!(rt; faults(&disk), 1);
+    assert!(rt; keep(&mut disk, b"xy") == Ok(()));
+    assert!(rt; keep(&mut disk, b"zz") == Err(DiskRefusal::Failed));
+    assert!(rt; disk.octets() == b"xycd".as_slice());
+    assert!(rt; keep(&mut disk, b"longer") == Ok(()));
+    assert!(rt; disk.octets() == b"longer".as_slice());
+    assert!(rt; disk.len() == Ok(6));
+    assert!(rt; faults(&disk) == 1);
     Ok(())
 }
 
 #[test]
 fn a_sure_disk_keeps_all(rt: HostRuntime) -> Result<(), Fail> {
     let mut disk = SureDisk::new(rt.alloc(), Vec::new(rt.alloc()))?;
-    assert_eq!(rt; keep(&mut disk, b"abcd"), Ok(()));
-    assert_eq!(rt; keep(&mut disk, b"xy"), Ok(()));
-    assert_eq!(rt; disk.len(), Ok(4));
-    assert_eq!(rt; disk.octets(), b"xycd".as_slice());
+    assert!(rt; keep(&mut disk, b"abcd") == Ok(()));
+    assert!(rt; keep(&mut disk, b"xy") == Ok(()));
+    assert!(rt; disk.len() == Ok(4));
+    assert!(rt; disk.octets() == b"xycd".as_slice());
     Ok(())
 }

@@ -25,16 +25,16 @@ fn keep(disk: &mut FileDisk, place: u64, bytes: &[u8]) -> Result<(), DiskRefusal
 fn a_file_keeps_what_is_synced(rt: HostRuntime) -> io::Result<()> {
     let long = vec![in rt.alloc(); 2; 70_000]?;
     let mut disk = file_disk(&rt, "ots_file_disk", true)?;
-    assert_eq!(rt; keep(&mut disk, 0, &[1; 150]), Ok(()));
-    assert_eq!(rt; keep(&mut disk, 0, b"xy"), Ok(()));
-    assert_eq!(rt; keep(&mut disk, 120, &long), Ok(()));
+    assert!(rt; keep(&mut disk, 0, &[1; 150]) == Ok(()));
+    assert!(rt; keep(&mut disk, 0, b"xy") == Ok(()));
+    assert!(rt; keep(&mut disk, 120, &long) == Ok(()));
     let mut disk = file_disk(&rt, "ots_file_disk", false)?;
-    assert_eq!(rt; disk.len(), Ok(70_120));
+    assert!(rt; disk.len() == Ok(70_120));
     let mut seam = [0; 4];
-    assert_eq!(rt; disk.read_at(118, &mut seam), Ok(()));
-    assert_eq!(rt; seam, [1, 1, 2, 2]);
+    assert!(rt; disk.read_at(118, &mut seam) == Ok(()));
+    assert!(rt; seam == [1, 1, 2, 2]);
     let mut back = vec![in rt.alloc(); 0; 70_000]?;
-    assert_eq!(rt; disk.read_at(120, &mut back), Ok(()));
+    assert!(rt; disk.read_at(120, &mut back) == Ok(()));
     assert!(rt; back == long);
     fs::remove_file(&rt, "ots_file_disk")
 }
@@ -42,14 +42,14 @@ fn a_file_keeps_what_is_synced(rt: HostRuntime) -> io::Result<()> {
 #[test]
 fn a_file_is_read_within_its_octets(rt: HostRuntime) -> io::Result<()> {
     let mut disk = file_disk(&rt, "ots_file_reads", true)?;
-    assert_eq!(rt; keep(&mut disk, 0, b"abcd"), Ok(()));
-    assert_eq!(rt; keep(&mut disk, 0, b"xy"), Ok(()));
+    assert!(rt; keep(&mut disk, 0, b"abcd") == Ok(()));
+    assert!(rt; keep(&mut disk, 0, b"xy") == Ok(()));
     let mut piece = [0; 3];
-    assert_eq!(rt; disk.read_at(1, &mut piece), Ok(()));
-    assert_eq!(rt; piece, *b"ycd");
-    assert_eq!(rt; disk.faults(), 0);
-    assert_eq!(rt; disk.read_at(2, &mut piece), Err(DiskRefusal::Failed));
-    assert_eq!(rt; disk.faults(), 1);
+    assert!(rt; disk.read_at(1, &mut piece) == Ok(()));
+    assert!(rt; piece == *b"ycd");
+    assert!(rt; disk.faults() == 0);
+    assert!(rt; disk.read_at(2, &mut piece) == Err(DiskRefusal::Failed));
+    assert!(rt; disk.faults() == 1);
     fs::remove_file(&rt, "ots_file_reads")
 }
 
@@ -83,11 +83,11 @@ fn counts(journal: &Journal<FileDisk>) -> (u32, usize, u64) {
 #[test]
 fn a_file_keeps_a_journal(rt: HostRuntime) -> io::Result<()> {
     let mut journal = next_life(&rt, "ots_file_journal", true)?;
-    assert_eq!(rt; decide(rt.alloc(), &mut journal), Ok(26));
+    assert!(rt; decide(rt.alloc(), &mut journal) == Ok(26));
     let mut journal = next_life(&rt, "ots_file_journal", false)?;
-    assert_eq!(rt; counts(&journal), (2, 1, 0));
-    assert_eq!(rt; done(&mut journal, 26), Ok(()));
+    assert!(rt; counts(&journal) == (2, 1, 0));
+    assert!(rt; done(&mut journal, 26) == Ok(()));
     let journal = next_life(&rt, "ots_file_journal", false)?;
-    assert_eq!(rt; counts(&journal), (3, 0, 0));
+    assert!(rt; counts(&journal) == (3, 0, 0));
     fs::remove_file(&rt, "ots_file_journal")
 }

@@ -113,8 +113,8 @@ fn answers_complete_a_record(rt: HostRuntime) -> Result<(), Fail> {
             }
         }
         let letters = dues(rt.alloc(), &recovered)?;
-        assert_eq!(rt; letters.as_slice(), waiting.as_bytes());
-        assert_eq!(rt; place.is_some(), complete);
+        assert!(rt; letters.as_slice() == waiting.as_bytes());
+        assert!(rt; place.is_some() == complete);
     }
     Ok(())
 }
@@ -138,19 +138,19 @@ fn words_go_in_record_order(rt: HostRuntime) -> Result<(), Fail> {
     recovered.redrive(&mut out)?;
     let told = words(rt.alloc(), out)?;
     let all = [(26, 1, true), (26, 2, true), (400, 1, true), (400, 2, true)];
-    assert_eq!(rt; told.as_slice(), all.as_slice());
-    assert_eq!(rt; recovered.heard(&number(1), &heard(b'h')), None);
-    assert_eq!(rt; recovered.heard(&number(2), &heard(b'd')), None);
+    assert!(rt; told.as_slice() == all.as_slice());
+    assert!(rt; recovered.heard(&number(1), &heard(b'h')) == None);
+    assert!(rt; recovered.heard(&number(2), &heard(b'd')) == None);
     recovered.done(400);
     let mut out = Outbox::new(rt.alloc());
     recovered.redrive(&mut out)?;
     let told = words(rt.alloc(), out)?;
-    assert_eq!(rt; told.as_slice(), [(26, 1, false)].as_slice());
-    assert_eq!(rt; recovered.heard(&number(1), &heard(b'd')), Some(26));
+    assert!(rt; told.as_slice() == [(26, 1, false)].as_slice());
+    assert!(rt; recovered.heard(&number(1), &heard(b'd')) == Some(26));
     let mut out = Outbox::new(rt.alloc());
     recovered.redrive(&mut out)?;
     let told = words(rt.alloc(), out)?;
-    assert_eq!(rt; told.as_slice(), [(26, 1, true), (26, 2, true)].as_slice());
+    assert!(rt; told.as_slice() == [(26, 1, true), (26, 2, true)].as_slice());
     Ok(())
 }
 
@@ -173,35 +173,26 @@ fn a_record_answers_for_its_registrations(rt: HostRuntime) -> Result<(), Fail> {
     let nil = [0, 0, 0, 1, 0, 0, 0, 0, 0, 0, 0, 0];
     let nil = ObjectRef::from_bytes(rt.alloc(), &RefBytes::new(rt.alloc(), &nil)?)?;
     let unknown = Err(ReplayFault::ObjectNotExist);
-    assert_eq!(rt;
-        recovered.replay_completion(&key(1), &first),
-        Ok(Status::Committing)
-    );
-    assert_eq!(rt;
-        recovered.replay_completion(&key(2), &first),
-        Err(ReplayFault::NotPrepared)
-    );
-    assert_eq!(rt; recovered.replay_completion(&key(3), &first), unknown);
-    assert_eq!(rt;
-        recovered.replay_completion(&key(1), &nil),
-        Err(ReplayFault::BadParam)
-    );
+    assert!(rt; recovered.replay_completion(&key(1), &first) == Ok(Status::Committing));
+    assert!(rt; recovered.replay_completion(&key(2), &first) == Err(ReplayFault::NotPrepared));
+    assert!(rt; recovered.replay_completion(&key(3), &first) == unknown);
+    assert!(rt; recovered.replay_completion(&key(1), &nil) == Err(ReplayFault::BadParam));
     let later = ObjectKey { life: 2, ..key(1) };
-    assert_eq!(rt; recovered.replay_completion(&later, &first), unknown);
+    assert!(rt; recovered.replay_completion(&later, &first) == unknown);
     let third = ObjectKey {
         generation: 3,
         ..key(1)
     };
-    assert_eq!(rt; recovered.replay_completion(&third, &first), unknown);
+    assert!(rt; recovered.replay_completion(&third, &first) == unknown);
     let other = ObjectKey {
         service: 2,
         ..key(1)
     };
-    assert_eq!(rt; recovered.replay_completion(&other, &first), unknown);
+    assert!(rt; recovered.replay_completion(&other, &first) == unknown);
     let coordinator = ObjectKey {
         kind: b'K',
         ..key(1)
     };
-    assert_eq!(rt; recovered.replay_completion(&coordinator, &first), unknown);
+    assert!(rt; recovered.replay_completion(&coordinator, &first) == unknown);
     Ok(())
 }

@@ -51,8 +51,8 @@ fn our_own_reference_has_its_octets(rt: HostRuntime) -> Result<(), Fail> {
     )??;
     let octets = made.to_bytes(rt.alloc())?;
     let digits = hex::encode(rt.alloc(), octets.bytes())?;
-    assert_eq!(rt; digits.as_str(), resource());
-    assert_eq!(rt; key_within(rt.alloc(), &octets)?, Some(key()));
+    assert!(rt; digits.as_str() == resource());
+    assert!(rt; key_within(rt.alloc(), &octets)? == Some(key()));
     Ok(())
 }
 
@@ -60,13 +60,13 @@ fn our_own_reference_has_its_octets(rt: HostRuntime) -> Result<(), Fail> {
 #[test]
 fn references_that_are_not_made(rt: HostRuntime) -> Result<(), Fail> {
     let nul = made(rt.alloc(), b"a\0", b"e\0")?.err();
-    assert_eq!(rt; nul, Some(IorFault::Cdr(CdrFault::BadString(0))));
+    assert!(rt; nul == Some(IorFault::Cdr(CdrFault::BadString(0))));
     let nul = made(rt.alloc(), b"", b"e\0")?.err();
-    assert_eq!(rt; nul, Some(IorFault::Cdr(CdrFault::BadString(3))));
+    assert!(rt; nul == Some(IorFault::Cdr(CdrFault::BadString(3))));
     let type_id = vec![in rt.alloc(); b'x'; 956]?;
     assert!(rt; made(rt.alloc(), &type_id[..955], b"e")?.is_ok());
     let long = made(rt.alloc(), &type_id, b"e")?.err();
-    assert_eq!(rt; long, Some(IorFault::TooLong(0)));
+    assert!(rt; long == Some(IorFault::TooLong(0)));
     Ok(())
 }
 
@@ -82,15 +82,12 @@ fn numbers(generation: u64, branch: u32) -> OwnNumbers {
 #[test]
 fn otids_have_their_names_and_hashes(rt: HostRuntime) -> Result<(), Fail> {
     let own = Otid::own(rt.alloc(), &numbers(1, 0))?;
-    assert_eq!(rt; own.own_numbers(), Some(numbers(1, 0)));
-    assert_eq!(rt; name_of(rt.alloc(), &own)?.bytes(), b"1.1.1.0".as_slice());
-    assert_eq!(rt; hash_of(&own), 1_060_830_211);
-    assert_eq!(rt; global_part(&own).len(), 20);
+    assert!(rt; own.own_numbers() == Some(numbers(1, 0)));
+    assert!(rt; name_of(rt.alloc(), &own)?.bytes() == b"1.1.1.0".as_slice());
+    assert!(rt; hash_of(&own) == 1_060_830_211);
+    assert!(rt; global_part(&own).len() == 20);
     let foreign = Otid::new(rt.alloc(), -3, 1, b"\x0a\xff")?;
-    assert_eq!(rt;
-        name_of(rt.alloc(), &foreign)?.bytes(),
-        b"-3.0aff".as_slice()
-    );
+    assert!(rt; name_of(rt.alloc(), &foreign)?.bytes() == b"-3.0aff".as_slice());
     Ok(())
 }
 
@@ -146,10 +143,10 @@ fn sixteen_parents_are_written(rt: HostRuntime) -> Result<(), Fail> {
     let parents = decode_context(rt.alloc(), octets.bytes())?
         .parents
         .into_vec();
-    assert_eq!(rt; parents.len(), 16);
-    assert_eq!(rt; parents[15].otid.own_numbers(), Some(numbers(1, 16)));
+    assert!(rt; parents.len() == 16);
+    assert!(rt; parents[15].otid.own_numbers() == Some(numbers(1, 16)));
     let refused = written(rt.alloc(), 17, AnyTail::Null)?.err();
-    assert_eq!(rt; refused, Some(ContextFault::TooMany(68)));
+    assert!(rt; refused == Some(ContextFault::TooMany(68)));
     Ok(())
 }
 
@@ -177,11 +174,11 @@ fn a_kept_tail_is_written_where_it_stood(rt: HostRuntime) -> Result<(), Fail> {
     let misplaced = Some(ContextFault::TailPlace);
     let null = b"\0\0\0\0";
     let long = b"\0\0\0\x0b\0\0\0\0";
-    assert_eq!(rt; refusal(alloc, Order::Big, 0, long)?, None);
-    assert_eq!(rt; refusal(alloc, Order::Big, 0, b"")?, None);
-    assert_eq!(rt; refusal(alloc, Order::Big, 4, long)?, misplaced);
-    assert_eq!(rt; refusal(alloc, Order::Little, 0, long)?, misplaced);
-    assert_eq!(rt; refusal(alloc, Order::Big, 0, null)?, misplaced);
+    assert!(rt; refusal(alloc, Order::Big, 0, long)? == None);
+    assert!(rt; refusal(alloc, Order::Big, 0, b"")? == None);
+    assert!(rt; refusal(alloc, Order::Big, 4, long)? == misplaced);
+    assert!(rt; refusal(alloc, Order::Little, 0, long)? == misplaced);
+    assert!(rt; refusal(alloc, Order::Big, 0, null)? == misplaced);
     Ok(())
 }
 
@@ -189,12 +186,12 @@ fn a_kept_tail_is_written_where_it_stood(rt: HostRuntime) -> Result<(), Fail> {
 fn a_kept_tail_has_its_limit(rt: HostRuntime) -> Result<(), Fail> {
     let tail = vec![in rt.alloc(); 1; 65_465]?;
     let most = refusal(rt.alloc(), Order::Big, 0, &tail[..65_464])?;
-    assert_eq!(rt; most, None);
+    assert!(rt; most == None);
     let more = refusal(rt.alloc(), Order::Big, 4, &tail)?;
     let full = CdrFault::TooLong {
         place: 72,
         length: 65_537,
     };
-    assert_eq!(rt; more, Some(ContextFault::Cdr(full)));
+    assert!(rt; more == Some(ContextFault::Cdr(full)));
     Ok(())
 }

@@ -37,18 +37,18 @@ fn written(alloc: Global, order: Order) -> Result<Octets, CdrFault> {
 fn each_type_is_written_and_read(rt: HostRuntime) -> Result<(), Fail> {
     for (bytes, order) in [(BIG, Order::Big), (LITTLE, Order::Little)] {
         let octets = written(rt.alloc(), order)?;
-        assert_eq!(rt; octets.bytes(), bytes.as_slice());
+        assert!(rt; octets.bytes() == bytes.as_slice());
         let mut reader = Reader::encapsulation(&bytes)?;
-        assert_eq!(rt; reader.octet(), Ok(7));
-        assert_eq!(rt; reader.ushort(), Ok(0x0102));
-        assert_eq!(rt; reader.boolean(), Ok(true));
-        assert_eq!(rt; reader.align(4), Ok(()));
-        assert_eq!(rt; reader.ulong(), Ok(0x0102_0304));
-        assert_eq!(rt; reader.string(), Ok(b"hi".as_slice()));
-        assert_eq!(rt; reader.octets(), Ok([170, 187].as_slice()));
-        assert_eq!(rt; reader.ulonglong(), Ok(0x0102_0304_0506_0708));
-        assert_eq!(rt; reader.place(), 40);
-        assert_eq!(rt; reader.rest(), [5, 6, 7].as_slice());
+        assert!(rt; reader.octet() == Ok(7));
+        assert!(rt; reader.ushort() == Ok(0x0102));
+        assert!(rt; reader.boolean() == Ok(true));
+        assert!(rt; reader.align(4) == Ok(()));
+        assert!(rt; reader.ulong() == Ok(0x0102_0304));
+        assert!(rt; reader.string() == Ok(b"hi".as_slice()));
+        assert!(rt; reader.octets() == Ok([170, 187].as_slice()));
+        assert!(rt; reader.ulonglong() == Ok(0x0102_0304_0506_0708));
+        assert!(rt; reader.place() == 40);
+        assert!(rt; reader.rest() == [5, 6, 7].as_slice());
     }
     Ok(())
 }
@@ -61,13 +61,13 @@ fn too_long(place: u32, length: u32) -> Result<(), CdrFault> {
 fn a_writer_ends_at_65_536_octets_and_refuses_a_nul(rt: HostRuntime) -> Result<(), Fail> {
     let items = vec![in rt.alloc(); 7; 65_533]?;
     let mut writer = Writer::new(rt.alloc(), Order::Big, 4);
-    assert_eq!(rt; writer.string(b"h\0i"), Err(CdrFault::BadString(4)));
-    assert_eq!(rt; writer.octets(&items), too_long(4, 65_537));
-    assert_eq!(rt; writer.octets(&items[1..]), Ok(()));
-    assert_eq!(rt; writer.octet(1), too_long(65_540, 65_537));
-    assert_eq!(rt; writer.string(b""), too_long(65_540, 65_541));
-    assert_eq!(rt; writer.string(b"\0"), Err(CdrFault::BadString(65_540)));
-    assert_eq!(rt; writer.raw(b""), Ok(()));
-    assert_eq!(rt; writer.finish().bytes().len(), 65_536);
+    assert!(rt; writer.string(b"h\0i") == Err(CdrFault::BadString(4)));
+    assert!(rt; writer.octets(&items) == too_long(4, 65_537));
+    assert!(rt; writer.octets(&items[1..]) == Ok(()));
+    assert!(rt; writer.octet(1) == too_long(65_540, 65_537));
+    assert!(rt; writer.string(b"") == too_long(65_540, 65_541));
+    assert!(rt; writer.string(b"\0") == Err(CdrFault::BadString(65_540)));
+    assert!(rt; writer.raw(b"") == Ok(()));
+    assert!(rt; writer.finish().bytes().len() == 65_536);
     Ok(())
 }

@@ -19,11 +19,8 @@ fn next(
     match next_framed(stream)? {
         Some(framed) => {
             assert!(rt; matches!(framed.version, Version::V1_2));
-            assert_eq!(rt; framed.place, 0);
-            assert_eq!(rt;
-                (framed.order, framed.size, framed.start),
-                (order, size, start)
-            );
+            assert!(rt; framed.place == 0);
+            assert!(rt; (framed.order, framed.size, framed.start) == (order, size, start));
             Ok(framed.message)
         }
         None => panic!(rt; "no message"),
@@ -35,7 +32,7 @@ fn check_first(rt: &impl Abort, stream: &mut Stream) -> Result<(), Fail> {
     let found = next(rt, stream, Order::Big, 10, 4)?;
     assert!(rt; matches!(found, Message::LocateReply(_)));
     assert!(rt; next_message(stream)?.is_none());
-    assert_eq!(rt; standing(stream), (22, true, 7));
+    assert!(rt; standing(stream) == (22, true, 7));
     Ok(())
 }
 
@@ -43,7 +40,7 @@ fn check_first(rt: &impl Abort, stream: &mut Stream) -> Result<(), Fail> {
 fn check_last(rt: &impl Abort, stream: &mut Stream) -> Result<(), Fail> {
     let found = next_message(stream)?;
     assert!(rt; matches!(found, Some(Message::Close)));
-    assert_eq!(rt; standing(stream), (34, false, 0));
+    assert!(rt; standing(stream) == (34, false, 0));
     Ok(())
 }
 
@@ -52,7 +49,7 @@ fn a_stream_gives_messages_and_tells_what_it_holds(rt: HostRuntime) -> Result<()
     let bytes = octets(&rt, rt.alloc(), LOCATED)?;
     let mut stream = stream_of(rt.alloc(), &bytes)?;
     feed(&mut stream, b"GIOP\x01\x02\0")?;
-    assert_eq!(rt; standing(&stream), (0, true, 29));
+    assert!(rt; standing(&stream) == (0, true, 29));
     check_first(&rt, &mut stream)?;
     feed(&mut stream, b"\x05\0\0\0\0")?;
     check_last(&rt, &mut stream)
@@ -97,8 +94,8 @@ fn in_parts(alloc: Global, content: &[u8], first: usize) -> Result<Vec<u8>, Fail
 fn check_register(rt: &impl Abort, found: &Message, body: &[u8]) {
     match found {
         Message::Request(request) => {
-            assert_eq!(rt; request.operation.bytes(), b"register_resource".as_slice());
-            assert_eq!(rt; request.body.bytes(), body);
+            assert!(rt; request.operation.bytes() == b"register_resource".as_slice());
+            assert!(rt; request.body.bytes() == body);
         }
         _ => panic!(rt; "another message"),
     }
@@ -123,7 +120,7 @@ fn check_parts(rt: &impl Abort, alloc: Global, content: &[u8], first: u32) -> Re
 #[test]
 fn fields_may_be_cut_into_parts(rt: HostRuntime) -> Result<(), Fail> {
     let whole = octets(&rt, rt.alloc(), REGISTER_RESOURCE)?;
-    assert_eq!(rt; whole.len(), 412);
+    assert!(rt; whole.len() == 412);
     for count in 0..49_u32 {
         check_parts(&rt, rt.alloc(), &whole[12..], 4 + 8 * count)?;
     }

@@ -27,8 +27,8 @@ fn not_written(
     requires { octets_in message < 2 ^ 31 }
 {
     let mut into = b"before".to_vec(alloc)?;
-    assert_eq!(rt; encode(alloc, &message, &mut into).err(), Some(fault));
-    assert_eq!(rt; into.as_slice(), b"before".as_slice());
+    assert!(rt; encode(alloc, &message, &mut into).err() == Some(fault));
+    assert!(rt; into.as_slice() == b"before".as_slice());
     Ok(())
 }
 
@@ -132,7 +132,7 @@ fn contexts_are_made_of_a_vector_and_give_it_back(rt: HostRuntime) -> Result<(),
     };
     let contexts = Contexts::from_vec(vec![in rt.alloc(); context]?);
     match contexts.into_vec().as_slice() {
-        [only] => assert_eq!(rt; (only.id, only.bytes.bytes()), (1, b"ab".as_slice())),
+        [only] => assert!(rt; (only.id, only.bytes.bytes()) == (1, b"ab".as_slice())),
         _ => panic!(rt; "other contexts"),
     }
     Ok(())
@@ -145,8 +145,8 @@ fn a_message_has_its_own_octets(rt: HostRuntime) -> Result<(), Fail> {
     encode(rt.alloc(), &Message::Close, &mut into)?;
     into.push(7)?;
     let (before, behind) = into.split_at(6);
-    assert_eq!(rt; before, b"before".as_slice());
-    assert_eq!(rt; behind.len(), 13);
-    assert_eq!(rt; decode(rt.alloc(), behind)?.used, 12);
+    assert!(rt; before == b"before".as_slice());
+    assert!(rt; behind.len() == 13);
+    assert!(rt; decode(rt.alloc(), behind)?.used == 12);
     Ok(())
 }
