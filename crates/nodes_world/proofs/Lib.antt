@@ -1,0 +1,2 @@
+mod Struck
+mod Played

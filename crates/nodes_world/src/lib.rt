@@ -1,0 +1,12 @@
+//! A world of nodes and ends, as definitions: what each line of a script does to it, and what it tells.
+#![tactic(auto)]
+
+pub use deed::{Deed, Manner};
+pub use laws::{appends_strike_disks, worlds_play};
+pub use message::{Content, Message};
+pub use thing::Thing;
+
+mod deed;
+mod laws;
+mod message;
+mod thing;
