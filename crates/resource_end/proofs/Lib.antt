@@ -3,3 +3,13 @@ mod Played
 mod Stored
 mod Held
 mod Recalled
+mod Numbered
+mod Known
+mod Gaps
+mod Finding
+mod Counted
+mod Named
+mod Holding
+mod Claims
+mod Told
+mod Seen

@@ -41,7 +41,7 @@ at_cell cell p q qs true e rest =
 at_cell cell p q qs false e rest = at_order cell p q qs e (nat_lt p.cell q.cell) rest
 
 -- what a cell has behind one more put
-one_put : (cell : ℕ) (p : Put) (ps : List Put) → value_at cell (with_put p ps) ≡ (if p.cell == cell then Some p.value else value_at cell ps)
+pub one_put : (cell : ℕ) (p : Put) (ps : List Put) → value_at cell (with_put p ps) ≡ (if p.cell == cell then Some p.value else value_at cell ps)
 one_put cell p [] = refl
 one_put cell p (q ∷ qs) = at_cell cell p q qs (p.cell == q.cell) refl (one_put cell p qs)
 

@@ -1,5 +1,7 @@
 -- What a fault of the journal is to the callers of its end, and what writing a record comes to (our profile).
-use Rattle.std.specs.Prelude.{ℕ, Bool, true, false, Result, Ok, Err}
+use Rattle.std.specs.Prelude.{ℕ, Bool, true, false, Option, Result, Ok, Err}
+use Rattle.ots_outside.specs.Disk.{DiskState}
+use Rattle.decision_journal.specs.Loading.{IsLoadFault}
 use Rattle.decision_journal.specs.declared.journal.JournalFault.{JournalFault}
 use Rattle.decision_journal.specs.declared.journal.JournalFault.TheVariants.{DiskFault, Full, BadHeader, BadRecord, LivesSpent, Memory}
 use Rattle.resource_end.specs.declared.fault.EndFault.{EndFault}
@@ -33,3 +35,13 @@ refused_write false fault = Unwritten (write_fault fault)
 abbrev pub written_by : Result ℕ JournalFault → Bool → Written
 written_by (Ok place) failed = StandsAt place
 written_by (Err fault) failed = refused_write failed fault
+
+-- why a load was refused: memory was wanted, or the journal was refused for that cause
+abbrev pub IsLoadCause : ℕ → ℕ → Option DiskState → ℕ → ℕ → EndFault → Type 0
+IsLoadCause area service told before after (faults.Transient number) = ⊥
+IsLoadCause area service told before after faults.Inactive = ⊥
+IsLoadCause area service told before after faults.ObjectNotExist = ⊥
+IsLoadCause area service told before after faults.PersistStore = ⊥
+IsLoadCause area service told before after faults.NoResources = ⊥
+IsLoadCause area service told before after (faults.Start fault) = IsLoadFault area service told before after fault
+IsLoadCause area service told before after faults.Memory = Unit {0}

@@ -5,6 +5,8 @@ pub mod Cells
 pub mod End
 pub mod Recall
 pub mod Calls
+pub mod Inside
+pub mod Journaling
 pub mod Faults
 pub mod TableByState
 pub mod Plays

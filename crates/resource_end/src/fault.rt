@@ -1,7 +1,9 @@
 ghost use Rattle.std.specs.Prelude.{◌≡◌};
+ghost use Rattle.resource_end.specs.declared.fault.EndFault.TheVariants.{Memory};
 ghost use Rattle.resource_end.specs.Faults.{load_fault, write_fault};
 
 use decision_journal::JournalFault;
+use std::alloc::AllocError;
 
 /// Why a call of a resource end was refused.
 #[derive(Clone, Copy)]
@@ -45,5 +47,13 @@ impl EndFault {
             JournalFault::Memory => EndFault::Memory,
             other => EndFault::Start(other),
         }
+    }
+}
+
+impl From<AllocError> for EndFault {
+    ghost from_gives = { λ _ fault. fault ≡ Memory };
+
+    fn from(_: AllocError) -> Self {
+        EndFault::Memory
     }
 }

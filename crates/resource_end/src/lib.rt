@@ -1,6 +1,7 @@
 //! Resources with cells that outlive a crash: how each stands, what it answers, and what each call makes of them.
 #![tactic(auto)]
 
+pub use end::ResourceEnd;
 pub use fault::EndFault;
 pub use laws::{
     changes_store_once, choices_stay, ends_play, held_cells_are_held, puts_are_stored,
@@ -8,6 +9,13 @@ pub use laws::{
 };
 pub use state::{Row, State, Word};
 
+mod cells;
+mod contents;
+mod end;
 mod fault;
+mod kept;
 mod laws;
+mod loading;
+mod puts;
+mod standing;
 mod state;

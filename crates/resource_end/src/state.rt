@@ -1,11 +1,12 @@
 ghost use Rattle.std.specs.Prelude.{◌≡◌};
 ghost use Rattle.resource_end.specs.States.{end_of, holds, is_unfinished, learnt, made, state_of, stores};
+ghost use Rattle.resource_end.specs.Calls.{choice, is_fresh, is_open};
 ghost use Rattle.resource_end.specs.Table.{on_commit, on_commit_one_phase, on_forget, on_prepare, on_rollback, row};
 
 use crate::fault::EndFault;
 use decision_journal::CellsEnd;
 use ots_model::tree::Heard;
-use ots_model::{Disposition, Status, Vote};
+use ots_model::{Decision, Disposition, Status, Vote};
 
 /// How a resource stands.
 #[derive(Clone, Copy)]
@@ -46,6 +47,30 @@ impl State {
         ensures { result ≡ holds self }
     {
         matches!(self, State::Working | State::Prepared)
+    }
+
+    /// Whether nothing was put.
+    pub(crate) fn is_fresh(self) -> bool
+        ensures { result ≡ is_fresh self }
+    {
+        matches!(self, State::Fresh)
+    }
+
+    /// Whether it can put.
+    pub(crate) fn is_open(self) -> bool
+        ensures { result ≡ is_open self }
+    {
+        matches!(self, State::Fresh | State::Working)
+    }
+
+    /// What a choice of its own makes of it.
+    pub(crate) fn of_choice(d: Decision) -> State
+        ensures { result ≡ choice d }
+    {
+        match d {
+            Decision::Commit => State::ChoseCommit,
+            Decision::Rollback => State::ChoseRollback,
+        }
     }
 
     /// Whether a change into another state stores its puts.

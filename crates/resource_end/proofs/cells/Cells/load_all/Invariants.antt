@@ -1,0 +1,12 @@
+use Rattle.std.proofs.Common.{ℕ, ◌≡◌, ◌≤◌, length, drop}
+use Rattle.resource_end.specs.Cells.{with_puts}
+use Rattle.resource_end.specs.Inside as inside
+use Rattle.resource_end.proofs.cells.Cells.load_all.Given as goal
+
+abbrev pub invariant-loop-left : goal.invariant-loop-left
+invariant-loop-left l =
+    (l.left ≤ length l.puts)
+    × (inside.stored_cells l.self ≡ with_puts (drop l.left l.puts) (inside.stored_cells l.initial.self))
+
+abbrev pub decreases-loop-left : goal.decreases-loop-left
+decreases-loop-left l = l.left

@@ -1,0 +1,252 @@
+-- How an end keeps its resources and cells: both by their keys, so that one is found by halving. Of all this the contracts of an
+-- end speak not at all.
+use Rattle.std.specs.Prelude.{◌≡◌, ℕ, ◌<◌, ◌≤◌, ◌⊎◌, ◌==◌, Bool, true, false, not, ◌&&◌, ◌||◌, if◌then◌else◌, List, [], map, filter, find, length, slice_index_or, Option, Some, None, IfSome, IsSome, is_some}
+use Rattle.std.specs.BTreeMap.{is_at}
+use Rattle.std.specs.List.{filter_map}
+use Rattle.std.specs.Map.{lookup}
+use Rattle.std.specs.Option.{option_and_then, option_map}
+use Rattle.std.specs.declared.cmp.Ordering.{Ordering}
+use Rattle.std.specs.Ordering.{nat_cmp, ordering_then}
+use Rattle.ots_model.specs.declared.tree.Outward.{Outward}
+use Rattle.decision_journal.specs.Layout.{Fits}
+use Rattle.decision_journal.specs.declared.journal.Standing.{Standing}
+use Rattle.decision_journal.specs.declared.record.JournalRecord.{JournalRecord}
+use Rattle.decision_journal.specs.declared.record.JournalRecord.TheVariants.{Life, Decision, Done, Prepared, CellsPrepared, CellsOutcome, CellsOnePhase}
+use Rattle.decision_journal.specs.declared.record.Put.{Put}
+use Rattle.resource_end.specs.declared.cells.Cell.{Cell}
+use Rattle.resource_end.specs.declared.kept.Kept.{Kept}
+use Rattle.resource_end.specs.declared.state.State.{State}
+use Rattle.resource_end.specs.declared.state.State.TheVariants.{Fresh, Working}
+use Rattle.resource_end.specs.States.{holds, is_prepared, is_unfinished, stores}
+use Rattle.resource_end.specs.Cells.{value_at, with_puts}
+use Rattle.resource_end.specs.End.{End, Resource, is_numbered, kept, moved, with_place}
+use Rattle.resource_end.specs.Recall.{is_recorded_at}
+use Rattle.resource_end.specs.Calls.{ask_of}
+
+-- ---- resources, by life and then by number
+
+abbrev pub Id : Type 0
+Id = ℕ × ℕ
+
+abbrev pub id_cmp : Id → Id → Ordering
+id_cmp a b = ordering_then (nat_cmp a.0 b.0) (nat_cmp a.1 b.1)
+
+-- the resource that is kept under this life and number
+abbrev pub resource_at : Id → Kept → Resource
+resource_at id kept = record {
+  life = id.0;
+  number = id.1;
+  kind = kept.kind;
+  state = kept.state;
+  recovery = kept.recovery;
+  puts = kept.puts.items;
+  record_place = kept.record_place;
+}
+
+abbrev pub resources_of : List (Id × Kept) → List Resource
+resources_of entries = map (λ e. resource_at e.0 e.1) entries
+
+-- an unfinished one counts
+abbrev pub weight : Kept → ℕ
+weight kept = if is_unfinished kept.state then 1 else 0
+
+-- the resource of this life and number
+abbrev pub numbered : Id → List Resource → Option Resource
+numbered id resources = find (is_numbered id.0 id.1) resources
+
+abbrev pub without : Id → List Resource → List Resource
+without id resources = filter (λ r. not (is_numbered id.0 id.1 r)) resources
+
+-- of these resources none but that of this life and number passes a test
+abbrev pub PassesAlone : (Resource → Bool) → Id → List Resource → Type 0
+PassesAlone test id resources = (other : Id) → IfSome (numbered other resources) (λ r. test r ≡ true → other ≡ id)
+
+-- it holds the cell
+abbrev pub holds_cell : ℕ → Resource → Bool
+holds_cell cell r = holds r.state && is_some (value_at cell r.puts)
+
+-- it, where it passes
+abbrev pub if_passes : (Resource → Bool) → Option Resource → Option Resource
+if_passes test None = None
+if_passes test (Some r) = if test r then Some r else None
+
+-- none but this one holds the cell
+abbrev pub HoldsAlone : ℕ → Option Id → List Resource → Type 0
+HoldsAlone cell holder resources = (id : Id) → IfSome (numbered id resources) (λ r. holds_cell cell r ≡ true → holder ≡ Some id)
+
+-- the record of none but this one stands at the place
+abbrev pub RecordedAlone : ℕ → Option Id → List Resource → Type 0
+RecordedAlone place own resources = (id : Id) → IfSome (numbered id resources) (λ r. is_recorded_at place r ≡ true → own ≡ Some id)
+
+-- one was found, and it has this number; or there is none
+abbrev pub IsFoundAs : Option Resource → List Resource → Option Id → Type 0
+IsFoundAs found resources None = found ≡ None
+IsFoundAs found resources (Some id) = (found ≡ numbered id resources) × IsSome found
+
+-- it is another one, and holds the cell
+abbrev pub is_other_holder : Id → ℕ → Resource → Bool
+is_other_holder id cell r = not (is_numbered id.0 id.1 r) && holds r.state && is_some (value_at cell r.puts)
+
+-- with the place of its record, where one was written
+abbrev pub placed : State → Option ℕ → Resource → Resource
+placed s (Some place) r = with_place s place r
+placed s None r = r
+
+-- a new one
+abbrev pub fresh_one : Id → ℕ → Resource
+fresh_one id letter = record {
+  life = id.0;
+  number = id.1;
+  kind = Some letter;
+  state = Fresh;
+  recovery = [];
+  puts = [];
+  record_place = None;
+}
+
+-- its own put of a cell, which it sees
+abbrev pub own : ℕ → Resource → Option ℕ
+own cell r = if holds r.state then value_at cell r.puts else None
+
+-- the asks of those that wait for an outcome
+abbrev pub asks_of : List Resource → List Outward
+asks_of resources = map ask_of (filter (λ r. is_prepared r.state) resources)
+
+-- the puts that a change stores
+abbrev pub puts_stored : State → Resource → List Put
+puts_stored s r = if stores r.state s then r.puts else []
+
+-- ---- cells
+
+-- what is stored in a cell, where anything is
+abbrev pub stored_of : ℕ × Cell → Option Put
+stored_of e = option_map (λ v. record { cell = e.0; value = v }) e.1.stored
+
+abbrev pub stored_cells : List (ℕ × Cell) → List Put
+stored_cells entries = filter_map stored_of entries
+
+-- which resource put a cell last, where the cell is known
+abbrev pub holder_in : ℕ → List (ℕ × Cell) → Option (Option Id)
+holder_in cell entries = option_map (λ c. c.holder) (lookup (is_at (nat_cmp cell)) entries)
+
+-- the same cells are known, and each was put last by whom it was
+abbrev pub HoldersStay : List (ℕ × Cell) → List (ℕ × Cell) → Type 0
+HoldersStay before after = (cell : ℕ) → holder_in cell after ≡ holder_in cell before
+
+-- ---- puts
+
+-- the first put whose cell isn't below this one stands at this index
+pub record IsGap (cell index : ℕ) (puts : List Put) : Type 0 where
+  pub within : index ≤ length puts
+  pub below : (k : ℕ) (d : Put) → k < index → (slice_index_or puts k d).cell < cell
+  pub at : (d : Put) → index < length puts → cell ≤ (slice_index_or puts index d).cell
+
+-- two numbers are one
+abbrev pub is_same : Id → Id → Bool
+is_same one other = one.0 == other.0 && one.1 == other.1
+
+-- that was another resource than this one
+abbrev pub is_another : Option Id → Id → Bool
+is_another (Some other) id = not (is_same other id)
+is_another None id = false
+
+-- what the puts of a resource say, each cell is known, and was put last by that resource, where no two hold one cell
+abbrev pub IsHeldBy : Bool → Id → Option (Option Id) → Type 0
+IsHeldBy contested id None = ⊥
+IsHeldBy true id (Some holder) = Unit {0}
+IsHeldBy false id (Some holder) = holder ≡ Some id
+
+-- who held a cell holds it still, where nobody else came to hold it
+abbrev pub Keeps : Bool → List (ℕ × Cell) → List (ℕ × Cell) → Type 0
+Keeps contested before after =
+    (id : Id) (cell : ℕ) (was : Bool) → IsHeldBy was id (holder_in cell before) → IsHeldBy (contested || was) id (holder_in cell after)
+
+-- each cell that a resource holds is held by it
+abbrev pub HoldsItsCells : Bool → List (ℕ × Cell) → Id → Resource → Type 0
+HoldsItsCells contested cells id r = (cell : ℕ) → holds_cell cell r ≡ true → IsHeldBy contested id (holder_in cell cells)
+
+abbrev pub AreHeld : Bool → List (ℕ × Cell) → List Resource → Type 0
+AreHeld contested cells resources = (id : Id) → IfSome (numbered id resources) (HoldsItsCells contested cells id)
+
+-- a change leaves no puts that weren't its own before
+abbrev pub MayHold : State → State → Type 0
+MayHold next before = holds next ≡ true → holds before ≡ true
+
+-- it holds what it put, or has put nothing
+abbrev pub HasOwnPuts : Resource → Type 0
+HasOwnPuts r = (holds r.state ≡ true) ⊎ (r.puts ≡ [])
+
+-- ---- both
+
+-- the resources of an end, and the cells that are stored
+pub record ContentsState : Type 0 where
+  pub resources : List Resource
+  pub cells : List Put
+
+abbrev pub contents_of : List Resource → List (ℕ × Cell) → ContentsState
+contents_of resources cells = record { resources = resources; cells = stored_cells cells }
+
+abbrev pub no_contents : ContentsState
+no_contents = record { resources = []; cells = [] }
+
+-- an end with other contents
+abbrev pub with_contents : ContentsState → End → End
+with_contents c e = record e { resources = c.resources; cells = c.cells }
+
+-- a resource is in another state
+abbrev pub changed : State → Resource → ContentsState → ContentsState
+changed s r c = record {
+  resources = kept (moved s r) c.resources;
+  cells = if stores r.state s then with_puts r.puts c.cells else c.cells;
+}
+
+-- what becomes of the resource that ended, where there is one
+abbrev pub ended : State → Option Resource → ContentsState → ContentsState
+ended s (Some r) c = changed s r c
+ended s None c = c
+
+-- ---- records
+
+-- the resource that a record prepared
+abbrev pub prepared_id : JournalRecord → Option Id
+prepared_id (Life life) = None
+prepared_id (Decision life slot generation key asked regs) = None
+prepared_id (Done done) = None
+prepared_id (Prepared life slot generation recovery regs) = None
+prepared_id (CellsPrepared life number recovery puts) = Some (life, number)
+prepared_id (CellsOutcome done how) = None
+prepared_id (CellsOnePhase life number puts) = None
+
+abbrev pub prepared_at : ℕ → List Standing → Option Id
+prepared_at place standing = option_and_then (λ s. prepared_id s.item) (find (λ s. s.place == place) standing)
+
+-- each resource with a record has it among those that stand
+abbrev pub IsRecorded : List Standing → Id → Resource → Type 0
+IsRecorded standing id r = IfSome r.record_place (λ place. prepared_at place standing ≡ Some id)
+
+abbrev pub AreRecorded : List Standing → List Resource → Type 0
+AreRecorded standing resources = (id : Id) → IfSome (numbered id resources) (IsRecorded standing id)
+
+-- a resource that a test can tell from each other one is found by its number
+abbrev pub AreApart : List Resource → Type 0
+AreApart resources = (test : Resource → Bool) (id : Id) → PassesAlone test id resources → find test resources ≡ if_passes test (numbered id resources)
+
+-- what a resource that has put something would write fits a record
+abbrev pub IsWritable : State → Resource → Type 0
+IsWritable Working r = Fits (CellsPrepared r.life r.number r.recovery r.puts)
+IsWritable _ r = Unit {0}
+
+abbrev pub AreWritable : List Resource → Type 0
+AreWritable resources = (id : Id) → IfSome (numbered id resources) (λ r. IsWritable r.state r)
+
+-- a resource that a record told
+abbrev pub put_by_record : State → Id → List ℕ → List Put → Option ℕ → List Resource → Resource
+put_by_record s id recovery puts place resources = record {
+  life = id.0;
+  number = id.1;
+  kind = option_and_then (λ r. r.kind) (numbered id resources);
+  state = s;
+  recovery = recovery;
+  puts = puts;
+  record_place = place;
+}

@@ -1,0 +1,454 @@
+ghost use Rattle.std.specs.Prelude.{◌≡◌, ℕ, ◌∷◌, ◌++◌, ◌||◌, find, is_some, IfSome, IfOk, OnOk, OnErr, IsSome, Some, None, [], if◌then◌else◌};
+ghost use Rattle.std.specs.List.{count_by};
+ghost use Rattle.std.specs.Option.{option_copied, option_map, unwrap_or};
+ghost use Rattle.resource_end.specs.States.{holds, is_unfinished};
+ghost use Rattle.resource_end.specs.End as end;
+ghost use Rattle.resource_end.specs.Calls as calls;
+ghost use Rattle.resource_end.specs.Recall.{is_recorded_at};
+ghost use Rattle.resource_end.specs.Inside as inside;
+
+use crate::cells::Cells;
+use crate::puts::{copy_puts, set_put, value_at};
+use crate::state::State;
+use decision_journal::{JournalRecord, Put, Puts};
+use ior_refs::ObjectKey;
+use ots_model::RefBytes;
+use std::alloc::{AllocError, Global};
+use std::collections::BTreeMap;
+use std::marker::Model;
+
+/// The letter of a resource's key.
+pub(crate) const RESOURCE_KIND: u8 = b'R';
+
+/// The letter of the key of one that is aware of subtransactions.
+pub(crate) const AWARE_KIND: u8 = b'A';
+
+/// The life that made a resource, and its number in it.
+pub(crate) type Id = (u32, u64);
+
+/// What is kept of a resource beside its life and its number.
+#[derive(Drop)]
+pub(crate) struct Kept {
+    /// The letter of its key, which a record doesn't tell.
+    pub(crate) kind: Option<u8>,
+    pub(crate) state: State,
+    /// Its recovery coordinator.
+    pub(crate) recovery: RefBytes,
+    /// What it put, while that is its own, by rising cell.
+    pub(crate) puts: Vec<Put>,
+    /// The place of its record, once it has prepared.
+    pub(crate) record_place: Option<u32>,
+}
+
+/// How many cells one resource may put.
+const CELL_LIMIT: usize = 1024;
+
+impl Kept {
+    /// A new resource with a key of this letter.
+    pub(crate) fn fresh(alloc: Global, letter: u8) -> Kept
+        ensures { (id : ℕ × ℕ) → inside.resource_at id result ≡ inside.fresh_one id letter }
+    {
+        Kept {
+            kind: Some(letter),
+            state: State::Fresh,
+            recovery: RefBytes::from_vec(Vec::new(alloc)),
+            puts: Vec::new(alloc),
+            record_place: None,
+        }
+    }
+
+    /// Its own put of a cell, which it sees.
+    pub(crate) fn own(&self, cell: u64) -> Option<u64>
+        ensures { (id : ℕ × ℕ) → result ≡ inside.own cell (inside.resource_at id self.now) }
+    {
+        if self.state.holds() {
+            return value_at(self.puts.as_slice(), cell);
+        }
+        None
+    }
+
+    /// Whether it has put a cell, or there is room for one more.
+    pub(crate) fn has_room(&self, cell: u64) -> bool
+        ensures { (id : ℕ × ℕ) → result ≡ calls.has_room cell (inside.resource_at id self.now) }
+    {
+        value_at(self.puts.as_slice(), cell).is_some() || self.puts.len() < CELL_LIMIT
+    }
+
+    /// Whether a key with this letter may be its own.
+    fn has_letter(&self, letter: u8) -> bool
+        ensures { result ≡ end.has_letter self.now.kind letter }
+    {
+        match self.kind {
+            Some(own) => own == letter,
+            None => letter == RESOURCE_KIND || letter == AWARE_KIND,
+        }
+    }
+
+    /// Whether its record stands at this place.
+    fn is_recorded_at(&self, place: u32) -> bool
+        ensures { (id : ℕ × ℕ) → result ≡ is_recorded_at place (inside.resource_at id self.now) }
+    {
+        match self.record_place {
+            Some(own) => own == place,
+            None => false,
+        }
+    }
+
+    /// Whether it holds a cell.
+    fn holds_cell(&self, cell: u64) -> bool
+        ensures { (id : ℕ × ℕ) → result ≡ inside.holds_cell cell (inside.resource_at id self.now) }
+    {
+        self.state.holds() && value_at(self.puts.as_slice(), cell).is_some()
+    }
+
+    /// The record that has to stand before it changes its state.
+    pub(crate) fn record_for(
+        &self,
+        alloc: Global,
+        id: Id,
+        next: State,
+    ) -> Result<Option<JournalRecord>, AllocError>
+        ensures { IfOk result (λ item. item ≡ end.record_for next (inside.resource_at id self.now)) }
+    {
+        match (self.record_place, self.state, next) {
+            (Some(place), _, _) => match next.end() {
+                Some(end) => Ok(Some(JournalRecord::CellsOutcome(place, end))),
+                None => Ok(None),
+            },
+            (None, State::Working, State::Prepared) => Ok(Some(JournalRecord::CellsPrepared(
+                id.0,
+                id.1,
+                self.recovery.copy(alloc)?,
+                self.copy_puts(alloc)?,
+            ))),
+            (None, State::Working, State::Applied) => Ok(Some(JournalRecord::CellsOnePhase(
+                id.0,
+                id.1,
+                self.copy_puts(alloc)?,
+            ))),
+            _ => Ok(None),
+        }
+    }
+
+    fn copy_puts(&self, alloc: Global) -> Result<Puts, AllocError>
+        ensures { IfOk result (λ copy. copy ≡ self.now.puts.items) }
+    {
+        Ok(Puts::from_vec(copy_puts(alloc, self.puts.as_slice())?))
+    }
+
+    /// Each cell that it put is held by it. The result tells whether another one held one of them.
+    fn hold_all(&self, id: Id, cells: &mut Cells) -> Result<bool, AllocError>
+        ensures held { IfOk result (λ contested.
+            inside.HoldsItsCells contested cells.new id (inside.resource_at id self.now)) }
+        ensures others { IfOk result (λ contested. inside.Keeps contested cells.old cells.new) }
+        ensures stored { inside.stored_cells cells.new ≡ inside.stored_cells cells.old }
+    {
+        let mut contested = false;
+        for put in &self.puts {
+            let before = cells.hold(put.cell, id)?;
+            contested = either(is_another(before, id), contested);
+        }
+        Ok(contested)
+    }
+
+    /// It puts a cell. Want of memory leaves it as it was.
+    fn put(&mut self, put: Put) -> Result<(), AllocError>
+        ensures ok { OnOk result ((id : ℕ × ℕ) → inside.resource_at id self.new
+            ≡ calls.with_cell put.cell put.value (inside.resource_at id self.old)) }
+        ensures err { OnErr result ((id : ℕ × ℕ) → inside.resource_at id self.new ≡ inside.resource_at id self.old) }
+    {
+        set_put(&mut self.puts, put)?;
+        self.state = State::Working;
+        Ok(())
+    }
+
+    /// Its recovery coordinator is this one, where it hasn't prepared. The result is the one before.
+    fn bind(&mut self, recovery: RefBytes) -> Option<RefBytes>
+        ensures after { (id : ℕ × ℕ) → inside.resource_at id self.new ≡ calls.bound recovery (inside.resource_at id self.old) }
+        ensures before { IfSome result (λ before. before ≡ self.old.recovery) }
+        ensures state { self.new.state ≡ self.old.state }
+    {
+        if self.record_place.is_some() {
+            return None;
+        }
+        Some(std::mem::replace(&mut self.recovery, recovery))
+    }
+
+    /// It changes its state. The result is what that stores.
+    fn change(&mut self, alloc: Global, next: State, place: Option<u32>) -> Vec<Put>
+        ensures after { (id : ℕ × ℕ) → inside.resource_at id self.new
+            ≡ end.moved next (inside.placed next place (inside.resource_at id self.old)) }
+        ensures puts { (id : ℕ × ℕ) → result.items ≡ inside.puts_stored next (inside.resource_at id self.old) }
+        ensures state { self.new.state ≡ next }
+    {
+        let stores = self.state.stores(next);
+        self.state = next;
+        if let (State::Prepared, Some(_)) = (next, place) {
+            self.record_place = place;
+        }
+        if !next.is_unfinished() {
+            self.recovery = RefBytes::from_vec(Vec::new(alloc));
+        }
+        if next.holds() {
+            return Vec::new(alloc);
+        }
+        let puts = std::mem::replace(&mut self.puts, Vec::new(alloc));
+        if stores {
+            return puts;
+        }
+        Vec::new(alloc)
+    }
+}
+
+/// The resources of an end. Contracts see them as a list, by life and then by number.
+#[derive(Drop)]
+pub(crate) struct Resources {
+    pub(crate) alloc: Global,
+    pub(crate) map: BTreeMap<Id, Kept>,
+    unfinished: usize,
+}
+
+impl Model for Resources {
+    ghost use Rattle.std.specs.Prelude.{◌≡◌, List};
+    ghost use Rattle.std.specs.BTreeMap.{IsOrdered, values};
+    ghost use Rattle.std.specs.List.{sum_by};
+    ghost use Rattle.resource_end.specs.End.{Resource};
+    ghost use Rattle.resource_end.specs.Inside.{id_cmp, resources_of, weight};
+
+    ghost Value = { List Resource };
+
+    ghost view = { λ r. resources_of r.map.entries };
+
+    ghost invariant = { λ r. IsOrdered id_cmp r.map × (r.unfinished ≡ sum_by weight (values r.map)) };
+}
+
+impl Resources {
+    /// No resources.
+    pub(crate) fn new(alloc: Global) -> Resources
+        ensures { result ≡ [] }
+    {
+        Resources {
+            alloc,
+            map: BTreeMap::new(alloc),
+            unfinished: 0,
+        }
+    }
+
+    /// How many are unfinished.
+    pub(crate) fn unfinished(&self) -> usize
+        ensures { result ≡ count_by (λ r. is_unfinished r.state) self.now }
+    {
+        self.unfinished
+    }
+
+    /// The resource of this life and number.
+    pub(crate) fn numbered(&self, id: Id) -> Option<&Kept>
+        ensures found { option_map (inside.resource_at id) (option_copied result) ≡ inside.numbered id self.now }
+        ensures apart { inside.AreApart self.now }
+    {
+        self.map.get(&id)
+    }
+
+    /// The resource that a key of this service names.
+    pub(crate) fn named(&self, service: u64, key: &ObjectKey) -> Option<&Kept>
+        ensures { option_map (inside.resource_at (key.now.life, key.now.generation)) (option_copied result)
+            ≡ find (end.is_named service key.now) self.now }
+    {
+        if key.service != service || key.slot != 0 || key.index != 0 {
+            return None;
+        }
+        match self.map.get(&(key.life, key.generation)) {
+            Some(kept) if kept.has_letter(key.kind) => Some(kept),
+            _ => None,
+        }
+    }
+
+    /// This resource, where its record stands at this place. No other one's does.
+    pub(crate) fn recorded(&self, id: Option<Id>, place: u32) -> Option<Id>
+        requires { inside.RecordedAlone place id self.now }
+        ensures { inside.IsFoundAs (find (is_recorded_at place) self.now) self.now result }
+    {
+        let map = &self.map;
+        let id = match id {
+            Some(id) => id,
+            None => return None,
+        };
+        match map.get(&id) {
+            Some(kept) if kept.is_recorded_at(place) => Some(id),
+            _ => None,
+        }
+    }
+
+    /// The number of the resource that holds a cell, where it is another than this one. No one else holds it.
+    pub(crate) fn other_holder(&self, id: Id, holder: Option<Id>, cell: u64) -> Option<u64>
+        requires { inside.HoldsAlone cell holder self.now }
+        ensures { result ≡ option_map (λ r. r.number) (find (inside.is_other_holder id cell) self.now) }
+    {
+        match holder {
+            Some(holder) => self.holder_beside(id, holder, cell),
+            None => self.holder_beside(id, id, cell),
+        }
+    }
+
+    fn holder_beside(&self, id: Id, holder: Id, cell: u64) -> Option<u64>
+        requires { inside.PassesAlone (inside.holds_cell cell) holder self.now }
+        ensures { result ≡ option_map (λ r. r.number) (find (inside.is_other_holder id cell) self.now) }
+    {
+        match self.map.get(&holder) {
+            Some(kept) if !is_same(holder, id) && kept.holds_cell(cell) => Some(holder.1),
+            _ => None,
+        }
+    }
+
+    /// The number of the first resource other than this one that holds a cell.
+    pub(crate) fn first_other_holder(&self, id: Id, cell: u64) -> Option<u64>
+        ensures { result ≡ option_map (λ r. r.number) (find (inside.is_other_holder id cell) self.now) }
+    {
+        for (other, kept) in &self.map {
+            if !is_same(*other, id) && kept.holds_cell(cell) {
+                return Some(other.1);
+            }
+        }
+        None
+    }
+
+    /// Puts a resource into its turn, or in the place of the one that has its number.
+    pub(crate) fn insert(&mut self, id: Id, kept: Kept) -> Result<(), AllocError>
+        ensures ok { OnOk result (self.new ≡ end.with_resource (inside.resource_at id kept) self.old) }
+        ensures err { OnErr result (self.new ≡ self.old) }
+    {
+        let after = weight(kept.state);
+        let _fits = self.map.len();
+        let before = weight_of(self.map.insert(id, kept)?);
+        self.unfinished = self.unfinished + after - before;
+        Ok(())
+    }
+
+    /// A resource changes its state. The result is what that stores.
+    pub(crate) fn change(&mut self, id: Id, next: State, place: Option<u32>) -> Vec<Put>
+        requires known { IsSome (inside.numbered id self.old) }
+        ensures after { IfSome (inside.numbered id self.old)
+            (λ r. self.new ≡ end.kept (end.moved next (inside.placed next place r)) self.old) }
+        ensures puts { IfSome (inside.numbered id self.old) (λ r. result.items ≡ inside.puts_stored next r) }
+    {
+        if let State::Forgotten = next {
+            self.remove(id);
+            return Vec::new(self.alloc);
+        }
+        self.alter(id, next, place)
+    }
+
+    /// A resource changes into another state in which it is known.
+    fn alter(&mut self, id: Id, next: State, place: Option<u32>) -> Vec<Put>
+        requires known { IsSome (inside.numbered id self.old) }
+        ensures after { IfSome (inside.numbered id self.old)
+            (λ r. self.new ≡ end.with_resource (end.moved next (inside.placed next place r)) self.old) }
+        ensures puts { IfSome (inside.numbered id self.old) (λ r. result.items ≡ inside.puts_stored next r) }
+    {
+        let _fits = self.map.len();
+        match self.map.get_mut(&id) {
+            Some(kept) => {
+                let before = weight(kept.state);
+                let puts = kept.change(self.alloc, next, place);
+                self.unfinished = self.unfinished + weight(next) - before;
+                puts
+            }
+            None => Vec::new(self.alloc),
+        }
+    }
+
+    /// A resource is kept no more.
+    fn remove(&mut self, id: Id)
+        ensures { self.new ≡ inside.without id self.old }
+    {
+        let before = weight_of(self.map.remove(&id));
+        self.unfinished -= before;
+    }
+
+    /// A resource puts a cell. Want of memory leaves it as it was.
+    pub(crate) fn put(&mut self, id: Id, put: Put) -> Result<(), AllocError>
+        ensures ok { OnOk result (IfSome (inside.numbered id self.old)
+            (λ r. self.new ≡ end.with_resource (calls.with_cell put.cell put.value r) self.old)) }
+        ensures err { OnErr result (self.new ≡ self.old) }
+    {
+        let _fits = self.map.len();
+        match self.map.get_mut(&id) {
+            Some(kept) => {
+                let before = weight(kept.state);
+                kept.put(put)?;
+                self.unfinished = self.unfinished + 1 - before;
+                Ok(())
+            }
+            None => Ok(()),
+        }
+    }
+
+    /// A resource's recovery coordinator is this one, where it hasn't prepared. The result is the one before.
+    pub(crate) fn bind(&mut self, id: Id, recovery: RefBytes) -> Option<RefBytes>
+        ensures after { IfSome (inside.numbered id self.old)
+            (λ r. self.new ≡ end.with_resource (calls.bound recovery r) self.old) }
+        ensures before { IfSome result (λ before.
+            option_map (λ r. r.recovery) (inside.numbered id self.old) ≡ Some before) }
+    {
+        match self.map.get_mut(&id) {
+            Some(kept) => kept.bind(recovery),
+            None => None,
+        }
+    }
+
+    /// Each resource that holds its puts has their cells. The result tells whether two of them have one cell.
+    pub(crate) fn hold_all(&self, cells: &mut Cells) -> Result<bool, AllocError>
+        ensures held { IfOk result (λ contested. inside.AreHeld contested cells.new self.now) }
+        ensures stored { inside.stored_cells cells.new ≡ inside.stored_cells cells.old }
+    {
+        let mut contested = false;
+        for (id, kept) in &self.map {
+            let more = kept.hold_all(*id, cells)?;
+            contested = either(more, contested);
+        }
+        Ok(contested)
+    }
+}
+
+/// Whether both are one resource.
+fn is_same(one: Id, other: Id) -> bool
+    ensures { result ≡ inside.is_same one other }
+{
+    one.0 == other.0 && one.1 == other.1
+}
+
+/// Whether that is another resource than this one.
+fn is_another(before: Option<Id>, id: Id) -> bool
+    ensures { result ≡ inside.is_another before id }
+{
+    match before {
+        Some(other) => !is_same(other, id),
+        None => false,
+    }
+}
+
+fn either(one: bool, other: bool) -> bool
+    ensures { result ≡ (one || other) }
+{
+    one || other
+}
+
+/// How much a resource in this state counts among those that are unfinished.
+fn weight(state: State) -> usize
+    ensures { result ≡ (if is_unfinished state then 1 else 0) }
+{
+    if state.is_unfinished() {
+        return 1;
+    }
+    0
+}
+
+/// How much that counts which was kept, where anything was.
+fn weight_of(old: Option<Kept>) -> usize
+    ensures { result ≡ unwrap_or (option_map inside.weight old) 0 }
+{
+    match old {
+        Some(old) => weight(old.state),
+        None => 0,
+    }
+}
