@@ -78,8 +78,9 @@ pub fn call_in(alloc: Global, octets: &[u8]) -> Option<(Called, &[u8])> {
 
 /// The Request that these octets begin with, and what stands behind it.
 fn request_in(alloc: Global, octets: &[u8]) -> Option<(Request, &[u8])> {
-    match front(alloc, octets) {
-        Some((Message::Request(request), behind)) => Some((request, behind)),
+    let (message, behind) = front(alloc, octets)?;
+    match message {
+        Message::Request(request) => Some((request, behind)),
         _ => None,
     }
 }
