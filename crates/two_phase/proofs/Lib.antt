@@ -13,4 +13,5 @@ pub mod Rests
 pub mod Stays
 pub mod OneWay
 pub mod Once
+pub mod Own
 pub mod Causes

@@ -16,7 +16,7 @@ use Rattle.resource_votes.specs.History.{times}
 use Rattle.two_phase.specs.Poll.{same_number}
 use Rattle.two_phase.specs.Course.{Course, decides_alone, outcome, outcome_word, first_word, errand, next_word, word_of, after_next, answered, heard_at, wants_decision, is_doubtful, is_outside, may_roll_back, after_rollback}
 use Rattle.two_phase.specs.CourseInside.{IsOpen, OpenAt, answer_at}
-use Rattle.two_phase.specs.LawsOfReached.{TreeBecomes, IsReached, TreeGoesOn, numbers}
+use Rattle.two_phase.specs.LawsOfReached.{TreeBecomes, IsReached, TreeGoesOn, HaveOwnNumbers, numbers}
 use Rattle.two_phase.specs.LawsOfReached.TreeBecomes.{by_word, by_answer, by_record as by_stood, by_reread as by_found, by_rollback}
 use Rattle.two_phase.specs.LawsOfReached.IsReached.{goes_on}
 use Rattle.two_phase.specs.LawsOfReached.TreeGoesOn.{still, further}
@@ -181,7 +181,7 @@ answered_number c n now None = refl
 answered_number c n now (Some e) =
     if_case (λ x. numbers x ≡ numbers c) (same_number n c.number) (answered now c e) c (λ _. heard_number c now e (slice_get c.parties e.place) refl) refl
 
-numbers_by : (c later : Course) → TreeBecomes c later → numbers later ≡ numbers c
+pub numbers_by : (c later : Course) → TreeBecomes c later → numbers later ≡ numbers c
 numbers_by _ _ (by_word c) = if_case (λ x. numbers x ≡ numbers c) (is_some c.out) c (record c { out = errand c }) (λ _. refl) refl
 numbers_by _ _ (by_answer c n now) = answered_number c n now c.out
 numbers_by _ _ (by_stood c stood) = if_case (λ x. numbers x ≡ numbers c) (wants_decision c) (record c { stood = Some stood }) c (λ _. refl) refl
@@ -282,7 +282,7 @@ now_out c e free is = by_free c.out free
 number_at : (c : Course) (o : Outward) (s : Sent c o) → slice_get (numbers c) s.task.place ≡ Some o.registration
 number_at c o s = slice_get-map (λ (p : Party). p.index) c.parties s.task.place ∙ ap (option_map (λ (p : Party). p.index)) s.there ∙ ap (λ i. Some i) (sym s.registration)
 
-pub no_word_twice : (c later : Course) (first second : Outward) → IsReached c → ((i : ℕ) → times i (numbers c) ≤ 1) → next_word c ≡ Some first
+pub no_word_twice : (c later : Course) (first second : Outward) → IsReached c → HaveOwnNumbers c → next_word c ≡ Some first
     → TreeGoesOn (after_next c) later → next_word later ≡ Some second → second.word ≡ first.word → second.registration ≡ first.registration → ⊥
 no_word_twice c later first second r once out on out_later word registration =
     let s = sent c first out in

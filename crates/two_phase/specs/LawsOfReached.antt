@@ -58,7 +58,11 @@ NoCommitAfterRollback = (c later : Course) (first second : Outward) → IsReache
 abbrev pub numbers : Course → List ℕ
 numbers c = map (λ (p : Party). p.index) c.parties
 
--- where each participant has a number of its own, no word goes out to one of them twice
+-- each participant has a number of its own
+abbrev pub HaveOwnNumbers : Course → Type 0
+HaveOwnNumbers c = (i : ℕ) → times i (numbers c) ≤ 1
+
+-- where that is so, no word goes out to one of them twice
 abbrev pub NoWordTwice : Type 0
-NoWordTwice = (c later : Course) (first second : Outward) → IsReached c → ((i : ℕ) → times i (numbers c) ≤ 1) → next_word c ≡ Some first
+NoWordTwice = (c later : Course) (first second : Outward) → IsReached c → HaveOwnNumbers c → next_word c ≡ Some first
     → TreeGoesOn (after_next c) later → next_word later ≡ Some second → second.word ≡ first.word → second.registration ≡ first.registration → ⊥

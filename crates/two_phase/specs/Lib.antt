@@ -17,4 +17,5 @@ pub mod Stages
 pub mod StandingInside
 pub mod LawsOfCourses
 pub mod LawsOfReached
+pub mod LawsOfParticipants
 pub mod LawsOfOutcomes

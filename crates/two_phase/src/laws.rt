@@ -1,8 +1,12 @@
-// Laws of the definitions: these functions do nothing, and their contracts are the laws.
+// Laws of the definitions: these functions do nothing, and their contracts are the laws. A body calls the laws of registrations
+// that its own law follows from.
 ghost use Rattle.two_phase.specs.LawsOfCourses.{TreeWordsGoRightly};
 ghost use Rattle.two_phase.specs.LawsOfOutcomes.{OutcomesHaveCauses};
+ghost use Rattle.two_phase.specs.LawsOfParticipants.{NoParticipantHearsTwice, ParticipantsHaveNumbers};
 ghost use Rattle.two_phase.specs.LawsOfReached.{NoCommitAfterRollback, NoRollbackAfterCommit, NoWordTwice, TreeOutcomeStays};
 ghost use Rattle.two_phase.specs.LawsOfPolls.{OutcomeAwaitsAll, OutcomeStays, WordsGoRightly};
+
+use resource_votes::participants_are_committed_up;
 
 /// An outcome that is fixed stays, whatever goes out, is answered or is recorded.
 pub fn an_outcome_stays()
@@ -44,6 +48,15 @@ pub fn a_tree_goes_one_way()
 pub fn a_tree_word_goes_out_once()
     ensures { NoWordTwice }
 {}
+
+/// In the completion of a top-level transaction each participant has a number of its own, whatever calls came before it, and
+/// no word goes out to one of them twice.
+pub fn a_participant_hears_once()
+    ensures numbers { ParticipantsHaveNumbers }
+    ensures once { NoParticipantHearsTwice }
+{
+    participants_are_committed_up();
+}
 
 /// In a completion of a tree there stands behind each outcome what it names: the record and each consent, the answer of the
 /// only participant, or votes that are all read-only; and behind each reason of a rollback the answer, what the record

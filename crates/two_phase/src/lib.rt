@@ -5,8 +5,9 @@ pub use completion::Completion;
 pub use dispositions::Dispositions;
 pub use flat_completion::FlatCompletion;
 pub use laws::{
-    a_tree_goes_one_way, a_tree_outcome_stays, a_tree_word_goes_out_once, an_outcome_awaits_all,
-    an_outcome_stays, tree_outcomes_have_causes, tree_words_go_rightly, words_go_rightly,
+    a_participant_hears_once, a_tree_goes_one_way, a_tree_outcome_stays, a_tree_word_goes_out_once,
+    an_outcome_awaits_all, an_outcome_stays, tree_outcomes_have_causes, tree_words_go_rightly,
+    words_go_rightly,
 };
 pub use room::Blank;
 
