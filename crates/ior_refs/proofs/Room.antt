@@ -1,5 +1,6 @@
 -- The octets of the profile that is made for an object.
-use Rattle.std.proofs.Common.{◌≡◌, ℕ, ◌+◌, ◌-◌, ◌≤◌, ◌%◌, ◌⊎◌, inl, inr, false, Some, List, [], ◌∷◌, ◌++◌, length, sym, ap, ◌∙◌, arith, length-append, replicate}
+use Rattle.std.proofs.Common.{◌≡◌, ℕ, ◌+◌, ◌-◌, ◌≤◌, ◌%◌, ◌⊎◌, inl, inr, false, Some, Result, Ok, Err, List, [], ◌∷◌, ◌++◌, length, sym, ap, ◌∙◌, arith, length-append, replicate}
+use Rattle.std.specs.Prelude.{IfErr, OnOk}
 use Rattle.std.proofs.lemmas.List.{length-replicate}
 use Rattle.cdr_values.specs.declared.order.Order.{Order}
 use Rattle.cdr_values.specs.declared.order.Order.TheVariants.{Big}
@@ -8,7 +9,7 @@ use Rattle.cdr_values.specs.declared.fault.CdrFault.TheVariants as cdr
 use Rattle.cdr_values.specs.Value.{Value, Octet, UShort, Text, alignment, bare_of, canonical, gap, octets_of}
 use Rattle.cdr_values.specs.Values.{canonical_all, with_values}
 use Rattle.cdr_values.specs.Encapsulation.{begun}
-use Rattle.cdr_values.specs.Writing.{Writing, with_value, is_bad, refusal}
+use Rattle.cdr_values.specs.Writing.{Writing, WritesValue, with_value, is_bad, refusal}
 use Rattle.ots_model.specs.declared.service.Endpoint.{Endpoint}
 use Rattle.ior_refs.specs.Iiop.{iiop_values}
 use Rattle.ior_refs.specs.Making.{iiop_to}
@@ -52,6 +53,13 @@ has_room value others fault w whole good is small (inr refused) =
     let many = full_if value fault w good refused in
     let size = ap (λ (x : Writing). length x.octets) is in
     absurd (omega (arith, many, size, small, grows (with_value w value) others))
+
+-- the last value is written, or memory is wanted
+pub last_written : (value : Value) (result : Result (Unit {0}) CdrFault) (w new before : Writing) → is_bad value ≡ false → w ≡ before → length (with_value before value).octets ≤ 2048
+    → WritesValue value result w new → OnOk result (new ≡ with_value before value) × IfErr result (λ fault. fault ≡ cdr.Memory)
+last_written value (Ok nothing) w new before good is small h = (h.ok ∙ ap (λ (x : Writing). with_value x value) is, tt)
+last_written value (Err fault) w new before good is small h =
+    (tt, has_room value [] fault w (with_value before value) good (ap (λ (x : Writing). with_value x value) is) small h.refused)
 
 -- one more value is written
 pub one_behind : (w middle new : Writing) (xs : List Value) (value : Value) → middle ≡ with_values w xs → new ≡ with_value middle value → new ≡ with_values w (xs ++ value ∷ [])

@@ -43,6 +43,10 @@ unfoldable pub components_at : Bool → Read (Unit {0}) IorFault
 components_at true r = passed (each_tagged_at r)
 components_at false r = Ok (tt, r)
 
+-- a profile of this version that says these
+abbrev pub iiop_said : ℕ × ℕ → List ℕ → ℕ → List ℕ → Iiop
+iiop_said version host port key = record { major = version.0; minor = version.1; host = host; port = port; key = key }
+
 -- what a profile says
 unfoldable pub iiop_at : Read Iiop IorFault
 iiop_at r = do

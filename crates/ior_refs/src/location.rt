@@ -1,6 +1,6 @@
-ghost use Rattle.std.specs.Prelude.{◌≡◌, ◌^◌, ◌<◌, length, None, Err};
+ghost use Rattle.std.specs.Prelude.{◌≡◌, ◌^◌, ◌<◌, length, IfErr, IfOk, None, Err};
 ghost use Rattle.ior_refs.specs.Fault.{Finds, Gives};
-ghost use Rattle.ior_refs.specs.Iiop.{components_at, first_iiop, has_components, iiop_at, iiop_in, iiop_in_octets};
+ghost use Rattle.ior_refs.specs.Iiop.{components_at, first_iiop, has_components, iiop_at, iiop_in, iiop_in_octets, iiop_said};
 
 use crate::fault::IorFault;
 use crate::profile::Iiop;
@@ -45,12 +45,29 @@ fn read_iiop(alloc: Global, reader: &mut Reader) -> Result<Iiop, IorFault>
     let port = reader.ushort()?;
     let key = reader.octets()?;
     skip_components(reader, has_components(major, minor))?;
+    copied(alloc, (major, minor), host, port, key)
+}
+
+/// What a profile of this version says, with copies of its host and its key.
+fn copied(
+    alloc: Global,
+    version: (u8, u8),
+    host: &[u8],
+    port: u16,
+    key: &[u8],
+) -> Result<Iiop, IorFault>
+    ensures found { IfOk result (λ i. i ≡ iiop_said version host.now port key.now) }
+    ensures memory { IfErr result (λ fault. fault ≡ IorFault.Memory) }
+{
+    let (major, minor) = version;
+    let host = Octets::new(alloc, host)?;
+    let key = Octets::new(alloc, key)?;
     Ok(Iiop {
         major,
         minor,
-        host: Octets::new(alloc, host)?,
+        host,
         port,
-        key: Octets::new(alloc, key)?,
+        key,
     })
 }
 

@@ -1,8 +1,12 @@
-ghost use Rattle.std.specs.Prelude.{◌≡◌, ◌⊎◌, ◌+◌, ◌<◌, ◌≤◌, length, false, IsOk, IfOk, IfErr, IfSome, Some, None, Err};
+ghost use Rattle.std.specs.Prelude.{◌≡◌, ◌⊎◌, ◌+◌, ◌<◌, ◌≤◌, length, false, [], IsOk, IfOk, IfErr, IfSome, OnOk, Some, None, Err};
 ghost use Rattle.ots_model.specs.Limits.{reference_limit};
 ghost use Rattle.cdr_values.specs.Value.{has_nul};
 ghost use Rattle.cdr_values.specs.declared.fault.CdrFault.TheVariants as cdr;
-ghost use Rattle.ior_refs.specs.Making.{nul_in, profile_to, reference_to, refusal_to};
+ghost use Rattle.cdr_values.specs.declared.order.Order.TheVariants.{Big};
+ghost use Rattle.cdr_values.specs.Encapsulation.{begun};
+ghost use Rattle.cdr_values.specs.Values.{with_values};
+ghost use Rattle.ior_refs.specs.Iiop.{iiop_values};
+ghost use Rattle.ior_refs.specs.Making.{iiop_to, nul_in, profile_to, reference_to, refusal_to};
 
 use crate::fault::IorFault;
 use crate::key::{ObjectKey, key_octets};
@@ -60,11 +64,22 @@ fn profile_octets(alloc: Global, at: &Endpoint, key: &ObjectKey) -> Result<Octet
     ensures memory { IfErr result (λ fault. fault ≡ cdr.Memory) }
 {
     let mut writer = Writer::encapsulation(alloc, Order::Big)?;
+    write_profile(&mut writer, at, key)?;
+    Ok(writer.finish())
+}
+
+/// Writes the profile of an object behind the octet that tells its byte order.
+fn write_profile(writer: &mut Writer, at: &Endpoint, key: &ObjectKey) -> Result<(), CdrFault>
+    requires front { writer.old ≡ begun Big }
+    requires short { length at.now.host ≤ reference_limit }
+    requires text { has_nul at.now.host ≡ false }
+    ensures ok { OnOk result (writer.new ≡ with_values (begun Big) (iiop_values (iiop_to at.now key.now) [])) }
+    ensures memory { IfErr result (λ fault. fault ≡ cdr.Memory) }
+{
     writer.octet(1)?;
     writer.octet(2)?;
     writer.string(at.host.bytes())?;
     writer.ushort(at.port)?;
     writer.octets(&key_octets(key))?;
-    writer.ulong(0)?;
-    Ok(writer.finish())
+    writer.ulong(0)
 }

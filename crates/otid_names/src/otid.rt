@@ -1,5 +1,6 @@
 ghost use Rattle.std.specs.Prelude.{◌≡◌, ◌≤◌, ◌^◌, ◌<◌, ◌↔◌, ◌++◌, length, IsOk, IfOk, IsErrOf, SomeIff};
 ghost use Rattle.byteorder.specs.Endian.{big_bytes, big_number};
+ghost use Rattle.otid_names.specs.Limits.{own_length};
 ghost use Rattle.otid_names.specs.Otid.{HasLengths, IsOtid};
 ghost use Rattle.otid_names.specs.Own.{is_own, IsOwn, own, tid_of, numbers_in};
 
@@ -122,16 +123,24 @@ impl Otid {
     pub fn own_numbers(&self) -> Option<OwnNumbers>
         ensures { SomeIff result (IsOwn self.now) (numbers_in self.now.tid) }
     {
-        if !self.is_own() {
-            return None;
+        if self.is_own() {
+            Some(numbers_in(self.tid()))
+        } else {
+            None
         }
-        let tid = self.tid();
-        Some(OwnNumbers {
-            service: BigEndian::read_u64(tid),
-            life: BigEndian::read_u32(&tid[8..]),
-            generation: BigEndian::read_u64(&tid[12..]),
-            branch: BigEndian::read_u32(&tid[20..]),
-        })
+    }
+}
+
+/// The four numbers of the tid of one of our own otids.
+fn numbers_in(tid: &[u8]) -> OwnNumbers
+    requires { length tid.now ≡ own_length }
+    ensures { result ≡ numbers_in tid.now }
+{
+    OwnNumbers {
+        service: BigEndian::read_u64(tid),
+        life: BigEndian::read_u32(&tid[8..]),
+        generation: BigEndian::read_u64(&tid[12..]),
+        branch: BigEndian::read_u32(&tid[20..]),
     }
 }
 

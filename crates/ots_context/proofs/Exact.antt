@@ -25,7 +25,7 @@ use Rattle.ots_context.specs.declared.context.Context.{Context}
 use Rattle.ots_context.specs.declared.context.AnyTail.{AnyTail}
 use Rattle.ots_context.specs.Fault.{fault_of, of_reference, too_many}
 use Rattle.ots_context.specs.Identity.{Fields, otid_values, fields_values, has_lengths, allows_fields, otid_of, identity_of}
-use Rattle.ots_context.specs.Reading.{otid_at, identity_at, parents_at, context_at, context_in}
+use Rattle.ots_context.specs.Reading.{otid_at, identity_at, identity_behind, parents_at, context_at, context_behind, context_in}
 use Rattle.ots_context.specs.Tail.{IsTail, tail_at}
 use Rattle.ots_context.specs.Context.{IsContext, StandsAsContext}
 use Rattle.ots_context.specs.Laws.{ContextsAreReadExactly, ContextsStandExactly}
@@ -91,7 +91,7 @@ abbrev identity : Reference → Reference → OtidParts → Identity
 identity coord term otid = record { coord = coord; term = term; otid = otid }
 
 pub identity_found : ReferencesAreReadExactly → ReadingLaws → (r : Reading) (i : Identity) (behind : Reading) → identity_at r ≡ Ok (i, behind) → Stands r i behind
-unfolding identity_at
+unfolding identity_at identity_behind
 identity_found refs laws r i behind e =
     let a = bind_ok (of_reference (short_reference_at r)) (λ coord. of_reference (short_reference_at coord.1) >>= (λ term. otid_at term.1 >>= (λ otid. Ok (identity coord.0 term.0 otid.0, otid.1)))) (i, behind) e in
     let b = bind_ok (of_reference (short_reference_at a.0.1)) (λ term. otid_at term.1 >>= (λ otid. Ok (identity a.0.0 term.0 otid.0, otid.1))) (i, behind) a.2 in
@@ -113,7 +113,7 @@ identity_found refs laws r i behind e =
     }
 
 pub identity_only : ReferencesAreReadExactly → ReadingLaws → (f : Fields) (r behind : Reading) → ReadsAll r (fields_values f) behind → allows_fields f ≡ true → identity_at r ≡ Ok (identity_of f, behind)
-unfolding identity_at
+unfolding identity_at identity_behind
 identity_only refs laws f r behind h allowed =
     let both = and_parts (is_short f.coord) (is_short f.term && has_lengths f.bqual f.tid) allowed in
     let two = and_parts (is_short f.term) (has_lengths f.bqual f.tid) both.1 in
@@ -231,7 +231,7 @@ abbrev context : ℕ → Identity → List Identity → AnyTail → Context
 context timeout current parents tail = record { timeout = timeout; current = current; parents = parents; tail = tail }
 
 context_at_found : ReferencesAreReadExactly → ReadingLaws → (reader : Reading) (c : Context) → context_at reader ≡ Ok c → StandsAsContext c reader
-unfolding context_at
+unfolding context_at context_behind
 context_at_found refs laws reader c e =
     let t = bind_ok (fault_as fault_of (ulong_at reader)) (λ timeout. identity_at timeout.1 >>= (λ current. parents_at current.1 >>= (λ parents. Ok (context timeout.0 current.0 parents.0 (tail_at parents.1))))) c e in
     let i = bind_ok (identity_at t.0.1) (λ current. parents_at current.1 >>= (λ parents. Ok (context t.0.0 current.0 parents.0 (tail_at parents.1)))) c t.2 in
@@ -268,7 +268,7 @@ context_found refs laws octets c e =
 -- a context stands there, which is all that is left
 pub context_at_only : ReferencesAreReadExactly → ReadingLaws → (c : Context) (current : Fields) (parents : List Fields) (reader behind : Reading) → c.current ≡ identity_of current → c.parents ≡ map identity_of parents → allows_fields current ≡ true → list_all allows_fields parents ≡ true → length parents ≤ 16
     → ReadsAll reader (ULong c.timeout ∷ (fields_values current ++ sequence_values fields_values parents)) behind → IsTail c.tail behind → context_at reader ≡ Ok c
-unfolding context_at
+unfolding context_at context_behind
 context_at_only refs laws c current parents reader behind is are allowed all few s tail =
     let p = reads_apart (fields_values current) (sequence_values fields_values parents) s.0 behind s.2 in
     rw (laws.ulong.only reader c.timeout s.0 s.1, identity_only refs laws current s.0 p.0 p.1 allowed, parents_only refs laws parents p.0 behind p.2 all few, tail_only laws c.tail behind tail)

@@ -4,7 +4,7 @@ ghost use Rattle.cdr_values.specs.Sequence.{each_at};
 ghost use Rattle.ots_context.specs.Context.{IsContext};
 ghost use Rattle.ots_context.specs.declared.context.Context.{Context};
 ghost use Rattle.ots_context.specs.Fault.{Finds, Gives};
-ghost use Rattle.ots_context.specs.Reading.{context_at, context_in, identity_at, parents_at};
+ghost use Rattle.ots_context.specs.Reading.{context_at, context_behind, context_in, identity_at, parents_at};
 ghost use Rattle.ots_context.specs.Finding.{context_in_first, first_context};
 
 use crate::context::{Context, Identities, Identity};
@@ -66,6 +66,19 @@ pub fn read_context(alloc: Global, reader: &mut Reader) -> Result<Context, Conte
 {
     let timeout = reader.ulong()?;
     let current = read_identity(alloc, reader)?;
+    read_behind(alloc, reader, timeout, current)
+}
+
+/// Reads what stands behind the current identity.
+#[tactic(auto, unfolding(crate::specs::Reading::context_behind))]
+fn read_behind(
+    alloc: Global,
+    reader: &mut Reader,
+    timeout: u32,
+    current: Identity,
+) -> Result<Context, ContextFault>
+    ensures { Finds (λ c. c) result (context_behind timeout current reader.old) }
+{
     let parents = read_parents(alloc, reader)?;
     let tail = read_tail(alloc, reader)?;
     Ok(Context {

@@ -1,4 +1,4 @@
-ghost use Rattle.std.specs.Prelude.{◌≡◌, ◌+◌, ◌≤◌, Err, IfErr, OnOk, length};
+ghost use Rattle.std.specs.Prelude.{◌≡◌, ◌+◌, ◌≤◌, Err, IfErr, OnOk, false, length};
 ghost use Rattle.std.specs.Int.{w32, cast_unsigned};
 ghost use Rattle.cdr_values.specs.Limits.{output_limit};
 ghost use Rattle.cdr_values.specs.Tagged.{reference_values};
@@ -6,10 +6,10 @@ ghost use Rattle.cdr_values.specs.Values.{with_values};
 ghost use Rattle.cdr_values.specs.declared.fault.CdrFault.TheVariants as cdr;
 ghost use Rattle.ior_refs.specs.Reference.{IsReference};
 ghost use Rattle.otid_names.specs.Otid.{IsOtid};
-ghost use Rattle.ots_context.specs.Fault.{Gives};
-ghost use Rattle.ots_context.specs.Identity.{IsIdentity, identity_values, otid_values};
+ghost use Rattle.ots_context.specs.Fault.{Finds, Gives};
+ghost use Rattle.ots_context.specs.Identity.{IsIdentity, has_lengths, identity_values, otid_values};
 ghost use Rattle.ots_context.specs.RoomInside.{identity_size, otid_size, reference_size};
-ghost use Rattle.ots_context.specs.Reading.{identity_at, otid_at};
+ghost use Rattle.ots_context.specs.Reading.{identity_at, identity_behind, otid_at, otid_in};
 
 use crate::context::Identity;
 use crate::fault::ContextFault;
@@ -25,6 +25,18 @@ pub fn read_identity(alloc: Global, reader: &mut Reader) -> Result<Identity, Con
     ensures { Gives (λ identity. identity) result reader.new (identity_at reader.old) }
 {
     let coord = read_ref(alloc, reader)?;
+    read_behind_coordinator(alloc, reader, coord)
+}
+
+/// Reads what stands behind the reference to the coordinator.
+#[tactic(auto, unfolding(crate::specs::Reading::identity_behind))]
+fn read_behind_coordinator(
+    alloc: Global,
+    reader: &mut Reader,
+    coord: ObjectRef,
+) -> Result<Identity, ContextFault>
+    ensures { Gives (λ identity. identity) result reader.new (identity_behind coord reader.old) }
+{
     let term = read_ref(alloc, reader)?;
     let otid = read_otid(alloc, reader)?;
     Ok(Identity { coord, term, otid })
@@ -38,6 +50,14 @@ fn read_otid(alloc: Global, reader: &mut Reader) -> Result<Otid, ContextFault>
     let format = reader.ulong()?.cast_signed();
     let bqual = reader.ulong()?;
     let tid = reader.octets()?;
+    otid_of(alloc, format, bqual, tid)
+}
+
+/// The otid of these fields.
+fn otid_of(alloc: Global, format: i32, bqual: u32, tid: &[u8]) -> Result<Otid, ContextFault>
+    ensures exact { Finds (λ otid. otid) result (otid_in format bqual tid.now) }
+    ensures lengths { has_lengths bqual tid.now ≡ false → result ≡ Err ContextFault.Otid }
+{
     match Otid::new(alloc, format, bqual, tid) {
         Ok(otid) => Ok(otid),
         Err(OtidFault::BadLength) => Err(ContextFault::Otid),
