@@ -1,6 +1,6 @@
 -- What may become of a world, as few kinds of change, and any number of them. Whatever a line does is made of these; so a fact that
 -- each of them keeps holds of every world that a script reaches (our profile).
-use Rattle.std.specs.Prelude.{◌≡◌, ℕ, ◌≤◌, true, List, Option, Some, None, slice_get}
+use Rattle.std.specs.Prelude.{◌≡◌, ℕ, ◌+◌, min, true, List, Option, Some, None, find, slice_get}
 use Rattle.ior_refs.specs.declared.key.ObjectKey.{ObjectKey}
 use Rattle.ots_model.specs.declared.completion.Stood.{Stood}
 use Rattle.ots_outside.specs.Disk.{DiskState, at_first}
@@ -11,6 +11,7 @@ use Rattle.resource_end.specs.Table.{row}
 use Rattle.resource_end.specs.declared.state.State.{State}
 use Rattle.resource_end.specs.declared.state.Word.{Word}
 use Rattle.coordinator.specs.declared.event.Event.{Event}
+use Rattle.coordinator.specs.Limits.{last_moment}
 use Rattle.coordinator.specs.Node.{Node, load}
 use Rattle.coordinator.specs.NodeCalls.{applies, call_wants}
 use Rattle.coordinator.specs.NodeSlots.{creates}
@@ -21,7 +22,7 @@ use Rattle.nodes_world.specs.declared.thing.Thing.{Thing}
 use Rattle.nodes_world.specs.Disks.{Stop}
 use Rattle.nodes_world.specs.Journals.{Asked, Answers, Stops, asks, records_on}
 use Rattle.nodes_world.specs.Objects.{service_at}
-use Rattle.nodes_world.specs.World.{World, Seat, OfNode, OfEnd, FlatEnd, FlatResource, thing, with_seat, with_new_seat, with_sent, with_message, with_name}
+use Rattle.nodes_world.specs.World.{World, Seat, OfNode, OfEnd, FlatEnd, FlatResource, has_number, thing, with_seat, with_new_seat, with_sent, with_message, with_name}
 use Rattle.nodes_world.specs.Ends.{closed_by, drawn_once, put_into, refusing, with_fresh, with_resource}
 use Rattle.nodes_world.specs.Lives.{new_end, new_seat}
 use Rattle.nodes_world.specs.Resolve.{resolve}
@@ -37,7 +38,8 @@ pub data ResourceBecomes : FlatResource → FlatResource → Type 0 where
 pub data EndBecomes : FlatEnd → FlatEnd → Type 0 where
   by_drawing : (e : FlatEnd) → EndBecomes e (drawn_once e)
   by_making : (e : FlatEnd) (key : ObjectKey) → EndBecomes e (with_fresh key e)
-  by_change : (e : FlatEnd) (r later : FlatResource) → ResourceBecomes r later → EndBecomes e (with_resource later e)
+  by_change : (e : FlatEnd) (key : ObjectKey) (r later : FlatResource) → find (has_number key) e.resources ≡ Some r
+      → ResourceBecomes r later → EndBecomes e (with_resource later e)
 
 -- what the journal of a node answers to what a call wants of it
 abbrev pub asked_of : Seat → Node → ObjectKey → Event → Asked
@@ -50,7 +52,7 @@ left_with image s = record s { disk = at_first image; stop = None; server = OfNo
 -- the seat at a place
 pub data SeatBecomes (place : ℕ) : Seat → Seat → Type 0 where
   -- its clock goes on, or a stop is to come
-  by_clock : (s : Seat) (later : ℕ) → s.clock ≤ later → SeatBecomes place s (record s { clock = later })
+  by_clock : (s : Seat) (seconds : ℕ) → SeatBecomes place s (record s { clock = min (s.clock + seconds) last_moment })
   by_stop : (s : Seat) (stop : Stop) → SeatBecomes place s (record s { stop = Some stop })
   -- its node makes a family, a call comes to it which its journal has answered, or time passes for it
   by_family : (s : Seat) (n : Node) (seconds : ℕ) → s.server ≡ OfNode (Some n)

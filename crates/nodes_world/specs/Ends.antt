@@ -26,7 +26,7 @@ use Rattle.coordinator.specs.declared.said.Said.{Said}
 use Rattle.coordinator.specs.declared.said.Said.TheVariants as said
 use Rattle.nodes_world.specs.Objects.{place_of}
 use Rattle.nodes_world.specs.Told.{Known, Refused}
-use Rattle.nodes_world.specs.World.{World, FlatResource, FlatEnd, OfEnd, end_at, has_number, resource_at, referred, with_server}
+use Rattle.nodes_world.specs.World.{World, FlatResource, FlatEnd, NamedKey, OfEnd, end_at, has_number, resource_at, referred, with_server}
 use Rattle.nodes_world.specs.Happenings.{Done, nothing, tells, changes, ◌▹◌, replies}
 
 -- ---- an end
@@ -53,8 +53,9 @@ in_place_of r s = if has_number r.key s then r else s
 abbrev pub with_resource : FlatResource → FlatEnd → FlatEnd
 with_resource r e = record e { resources = map (in_place_of r) e.resources }
 
-unfoldable pub with_resource_at : FlatResource → World → World
-with_resource_at r w = with_end (place_of r.key) (with_resource r) w
+-- so it is at the end of a key, which has its number
+unfoldable pub with_resource_at : ObjectKey → FlatResource → World → World
+with_resource_at key r w = with_end (place_of key) (with_resource r) w
 
 -- ---- what a script does with a resource
 
@@ -70,9 +71,9 @@ closed_by states.Forgotten = Some said.ObjectNotExist
 closed_by _ = Some said.Inactive
 
 -- a resource as a script leaves it, where its state lets the script do so
-abbrev pub does_by : Option Said → List ℕ → FlatResource → World → Done
-does_by None word r w = changes (with_resource_at r w)
-does_by (Some answer) word r w = refuses word answer w
+abbrev pub does_by : Option Said → List ℕ → ObjectKey → FlatResource → World → Done
+does_by None word key r w = changes (with_resource_at key r w)
+does_by (Some answer) word key r w = refuses word answer w
 
 -- a value was put
 abbrev pub put_into : ℕ → ℕ → FlatResource → FlatResource
@@ -85,14 +86,14 @@ refusing r = record r { state = states.Refused; refused = true }
 -- `put G C V`
 unfoldable pub puts : ObjectKey → ℕ → ℕ → World → Done
 puts key cell value w = elim (resource_at w key) [
-  | Some r ↦ does_by (closed_by r.state) (codes "put") (put_into cell value r) w
+  | Some r ↦ does_by (closed_by r.state) (codes "put") key (put_into cell value r) w
   | None ↦ nothing w
 ]
 
 -- `refuse G`
 unfoldable pub refuses_to : ObjectKey → World → Done
 refuses_to key w = elim (resource_at w key) [
-  | Some r ↦ does_by (closed_by r.state) (codes "refuse") (refusing r) w
+  | Some r ↦ does_by (closed_by r.state) (codes "refuse") key (refusing r) w
   | None ↦ nothing w
 ]
 
@@ -146,32 +147,32 @@ state_lines name (Some s) w = tells (Known (lines.State name s) ∷ []) w
 state_lines name None w = nothing w
 
 -- it comes into another state, or stays as it is
-abbrev pub moves : List ℕ → FlatResource → Option State → World → Done
-moves name r (Some s) w = changes (with_resource_at (record r { state = s }) w) ▹ state_lines name (shown_state s)
-moves name r None w = nothing w
+abbrev pub moves : NamedKey → FlatResource → Option State → World → Done
+moves named r (Some s) w = changes (with_resource_at named.key (record r { state = s }) w) ▹ state_lines named.name (shown_state s)
+moves named r None w = nothing w
 
 abbrev pub answers : ℕ → Option Said → World → Done
 answers request (Some answer) w = replies request answer w
 answers request None w = nothing w
 
-abbrev pub obeys_row : ℕ → List ℕ → FlatResource → Row → World → Done
-obeys_row request name r by w = moves name r by.next w ▹ answers request (answer_of_row by.said)
+abbrev pub obeys_row : ℕ → NamedKey → FlatResource → Row → World → Done
+obeys_row request named r by w = moves named r by.next w ▹ answers request (answer_of_row by.said)
 
 -- the other words change nothing there
 abbrev pub hears_only : ℕ → FlatResource → World → Done
 hears_only request r w = replies request (if is_forgotten r.state then said.ObjectNotExist else said.Plain) w
 
-abbrev pub obeys_word : Option Told → ℕ → List ℕ → FlatResource → World → Done
-obeys_word (Some word) request name r w = obeys_row request name r (row word r.state) w
-obeys_word None request name r w = hears_only request r w
+abbrev pub obeys_word : Option Told → ℕ → NamedKey → FlatResource → World → Done
+obeys_word (Some word) request named r w = obeys_row request named r (row word r.state) w
+obeys_word None request named r w = hears_only request r w
 
 -- a resource is told a word by a request, and answers; nobody else knows of it
-abbrev pub obeys_as : Option FlatResource → ℕ → List ℕ → Word → World → Done
-obeys_as (Some r) request name word w = obeys_word (told_word word) request name r w
-obeys_as None request name word w = replies request said.ObjectNotExist w
+abbrev pub obeys_as : Option FlatResource → ℕ → NamedKey → Word → World → Done
+obeys_as (Some r) request named word w = obeys_word (told_word word) request named r w
+obeys_as None request named word w = replies request said.ObjectNotExist w
 
 unfoldable pub obeys : ℕ → Outward → World → Done
 obeys request o w = elim (referred w o.to) [
-  | Some r ↦ obeys_as (resource_at w r.key) request r.name o.word w
+  | Some named ↦ obeys_as (resource_at w named.key) request named o.word w
   | None ↦ nothing w
 ]
