@@ -1,18 +1,20 @@
 -- Agreement: the lines of every world that a script can reach are safe, through crashes too (Transaction Service, the two phases of
 -- interfaces Terminator, Coordinator and Resource). What is known of a family is said by lines, and by the records that its node's
 -- disk holds: a family in memory is gone after a crash. The statements of this file are not proved yet.
-use Rattle.std.specs.Prelude.{◌≡◌, ℕ, ◌+◌, ◌<◌, ◌⊎◌, ◌==◌, ◌&&◌, Bool, false, not, List, [], ◌∷◌, ◌++◌, bytes_eq, slice_get, Contains, Option, Some, None, IsTrue}
+use Rattle.std.specs.Prelude.{◌≡◌, ℕ, ◌+◌, ◌<◌, ◌⊎◌, ◌==◌, ◌&&◌, ◌↔◌, Bool, false, not, List, [], ◌∷◌, ◌++◌, bytes_eq, slice_get, Contains, Option, Some, None, is_some, IsTrue}
 use Rattle.std.specs.List.{list_any}
 use Rattle.std.specs.Option.{option_and_then, option_map_or}
 use Rattle.ior_refs.specs.declared.key.ObjectKey.{ObjectKey}
-use Rattle.ots_model.specs.Safe.{AreSafe, Stands, IsRegistered, IsSent, IsToldCommit}
+use Rattle.ots_model.specs.Safe.{AreSafe, Stands, HasConsented, IsRegistered, IsSent, IsToldCommit, TakesPart}
 use Rattle.ots_model.specs.declared.completion.Ground.TheVariants.{Record}
 use Rattle.ots_model.specs.declared.completion.Outcome.TheVariants as outcomes
 use Rattle.ots_model.specs.declared.completion.Reason.{Reason}
+use Rattle.ots_model.specs.declared.completion.Vote.{Vote}
 use Rattle.ots_model.specs.declared.completion.Vote.TheVariants.{VoteCommit}
 use Rattle.ots_model.specs.declared.completion.Word.TheVariants as phases
 use Rattle.ots_model.specs.declared.line.Line.{Line}
 use Rattle.ots_model.specs.declared.line.Line.TheVariants as lines
+use Rattle.ots_model.specs.declared.service.RetryKey.{RetryKey}
 use Rattle.ots_model.specs.declared.tree.Outward.{Outward}
 use Rattle.ots_model.specs.declared.tree.Word.TheVariants as words
 use Rattle.ots_world.specs.declared.script.ScriptEvent.{ScriptEvent}
@@ -21,8 +23,10 @@ use Rattle.decision_journal.specs.declared.journal.Standing.{Standing}
 use Rattle.decision_journal.specs.declared.record.JournalRecord.{JournalRecord}
 use Rattle.decision_journal.specs.declared.record.JournalRecord.TheVariants.{Life, Decision, Done, Prepared, CellsPrepared, CellsOutcome, CellsOnePhase}
 use Rattle.decision_journal.specs.declared.record.Registration.{Registration}
+use Rattle.recovery_coord.specs.Limits.{retold_slot}
 use Rattle.resource_end.specs.declared.state.State.{State}
 use Rattle.resource_end.specs.declared.state.State.TheVariants as states
+use Rattle.coordinator.specs.Names.{coordinator_kind}
 use Rattle.coordinator.specs.declared.said.Said.TheVariants as said
 use Rattle.nodes_world.specs.declared.deed.Deed.{Deed}
 use Rattle.nodes_world.specs.declared.message.Content.TheVariants as contents
@@ -119,23 +123,72 @@ abbrev pub LivesRise : List Told → Type 0
 LivesRise told = (before behind : List Line) (server : List ℕ) (life earlier : ℕ) → known told ≡ before ++ (lines.Up server life ∷ behind)
     → Stands (lines.Up server earlier) before → earlier < life
 
--- the node or the end at a place has sent this word
-abbrev pub HasSent : World → ℕ → Outward → Type 0
-HasSent w place o = (number : ℕ) × (m : Message) × (slice_get w.messages number ≡ Some m) × (m.content ≡ contents.Request place o)
+-- what was sent so-many-th, counted from 0, is this word of the node or the end at a place
+abbrev pub IsWord : World → ℕ → ℕ → Outward → Type 0
+IsWord w nth place o = (m : Message) × (slice_get w.messages nth ≡ Some m) × (m.content ≡ contents.Request place o)
 
--- a call number of one service names one object for good
-abbrev pub NumbersAreOnce : World → Type 0
-NumbersAreOnce w = (place : ℕ) (o other : Outward) → HasSent w place o → HasSent w place other → o.number ≡ other.number → o.to ≡ other.to
+-- that one has sent this word
+abbrev pub HasSent : World → ℕ → Outward → Type 0
+HasSent w place o = (nth : ℕ) × IsWord w nth place o
+
+-- A call number of one service names one object for good. No word is sent under the number of another one, unless both are told
+-- again for one record.
+pub record NumbersAreOnce (w : World) : Type 0 where
+  pub one_object : (place : ℕ) (o other : Outward) → HasSent w place o → HasSent w place other → o.number ≡ other.number → o.to ≡ other.to
+  pub one_word : (first second place : ℕ) (o other : Outward) → IsWord w first place o → IsWord w second place other
+      → o.number ≡ other.number → (first ≡ second) ⊎ (o.number.slot ≡ retold_slot)
+
+-- each word goes to an object that has a name, so a line tells it
+abbrev pub WordsAreNamed : World → Type 0
+WordsAreNamed w = (place : ℕ) (o : Outward) → HasSent w place o → IsTrue (is_some (referred w o.to))
+
+-- a subtransaction ends once
+abbrev pub SubtransactionsEndOnce : List Told → Type 0
+SubtransactionsEndOnce told = (before behind : List Line) (t : List ℕ) (committed earlier : Bool)
+    → known told ≡ before ++ (lines.SubDone t committed ∷ behind) → Stands (lines.SubDone t earlier) before → ⊥
+
+-- a decision that a line tells is a record of its node's disk
+abbrev pub DecisionsAreRecorded : World → List Told → Type 0
+DecisionsAreRecorded w told = (name : List ℕ) (key : ObjectKey) → IsTransaction w name key → key.index ≡ 0
+    → Stands (lines.Decide name (outcomes.Commit Record)) (known told) → IsTrue (has_record w (place_of key) (is_decision_of key))
 
 -- no family is both decided and closed
 abbrev pub NoneIsBoth : World → List Told → Type 0
 NoneIsBoth w told = (name : List ℕ) (key : ObjectKey) → IsTransaction w name key → key.index ≡ 0
     → IsDecided w told key name → IsClosed w told key name → ⊥
 
--- a record is a decision that names this object
+-- the key of the family whose decision a record of the node at a place is
+abbrev pub recorded_key : ℕ → ℕ → ℕ → ℕ → ObjectKey
+recorded_key place life slot generation = record {
+  kind = coordinator_kind;
+  service = service_at place;
+  life = life;
+  slot = slot;
+  generation = generation;
+  index = 0;
+}
+
+-- a registration is of the object to which a reference leads
 abbrev pub is_registration_of : List ℕ → Registration → Bool
 is_registration_of to r = bytes_eq r.reference to
 
+-- The decision of a family rests on votes: the family has a name, each of its participants has consented, and the registrations are
+-- exactly those that have voted commit.
+pub record RestsOnVotes (w : World) (told : List Told) (family : ObjectKey) (regs : List Registration) : Type 0 where
+  pub name : List ℕ
+  pub of_name : IsTransaction w name family
+  pub consented : (p : List ℕ) → TakesPart p name (known told) → HasConsented p (known told)
+  pub named : (to : List ℕ) → IsTrue (list_any (is_registration_of to) regs) → IsTrue (is_some (referred w to))
+  pub voters : (to : List ℕ) (r : NamedKey) → referred w to ≡ Some r → IsTrue (list_any (is_registration_of to) regs)
+      ↔ (TakesPart r.name name (known told) × Stands (lines.Voted r.name VoteCommit) (known told))
+
+-- so does each decision on a disk, from the moment at which a crash may leave it there
+abbrev pub RecordsRestOnVotes : World → List Told → Type 0
+RecordsRestOnVotes w told = (place life slot generation : ℕ) (by : Option RetryKey) (asked : Bool) (regs : List Registration)
+    (rs : List JournalRecord) → records_at w place ≡ Some rs → Contains rs (Decision life slot generation by asked regs)
+    → RestsOnVotes w told (recorded_key place life slot generation) regs
+
+-- a record is a decision that names this object
 abbrev pub names_object : List ℕ → JournalRecord → Bool
 names_object to (Life life) = false
 names_object to (Decision life slot generation by asked regs) = list_any (is_registration_of to) regs
@@ -183,6 +236,25 @@ VotesAreBound w = (number place from : ℕ) (m request : Message) (o : Outward) 
     → slice_get w.messages place ≡ Some request → request.content ≡ contents.Request from o
     → referred w o.to ≡ Some name → resource_at w name.key ≡ Some r → IsBound r.state
 
+-- the resource of this name was asked, and has answered this vote
+pub record HasGiven (w : World) (name : List ℕ) (vote : Vote) : Type 0 where
+  pub request : ℕ
+  pub from : ℕ
+  pub asked : Outward
+  pub sent : IsWord w request from asked
+  pub prepare : asked.word ≡ words.Prepare
+  pub resource : NamedKey
+  pub object : referred w asked.to ≡ Some resource
+  pub same_name : resource.name ≡ name
+  pub reply : ℕ
+  pub answer : Message
+  pub answered : slice_get w.messages reply ≡ Some answer
+  pub says : answer.content ≡ contents.Reply (request + 1) (said.Voted vote)
+
+-- a vote that is counted was given
+abbrev pub VotesWereGiven : World → List Told → Type 0
+VotesWereGiven w told = (name : List ℕ) (vote : Vote) → Stands (lines.Voted name vote) (known told) → HasGiven w name vote
+
 -- it is over for a resource
 abbrev pub IsOver : State → Type 0
 IsOver states.Fresh = ⊥
@@ -220,12 +292,29 @@ pub record IsKnown (w : World) (told : List Told) : Type 0 where
   pub keys : KeysAreOnce w
   pub lives : LivesRise told
   pub numbers : NumbersAreOnce w
+  pub words : WordsAreNamed w
+  pub ends : SubtransactionsEndOnce told
+  pub recorded : DecisionsAreRecorded w told
   pub one_outcome : NoneIsBoth w told
+  pub records : RecordsRestOnVotes w told
   pub commits : CommitsAreRecorded w
   pub rollbacks : RollbacksAreClosed w told
   pub votes : VotesAreBound w
+  pub given : VotesWereGiven w told
   pub dones : DonesAreComplete w
   pub states : StatesFollowWords w told
 
 abbrev pub ReachedIsKnown : Type 0
 ReachedIsKnown = (w : World) (told : List Told) → Reaches w told → IsKnown w told
+
+-- what is decided in a world, and what is closed, is so in a later one
+pub record OutcomesLast (w later : World) (told all : List Told) : Type 0 where
+  pub decided : (name : List ℕ) (key : ObjectKey) → IsTransaction w name key → key.index ≡ 0
+      → IsDecided w told key name → IsDecided later all key name
+  pub closed : (name : List ℕ) (key : ObjectKey) → IsTransaction w name key → key.index ≡ 0
+      → IsClosed w told key name → IsClosed later all key name
+
+-- so it is, whatever a script does
+abbrev pub ReachedOutcomesLast : Type 0
+ReachedOutcomesLast = (w : World) (told : List Told) (event : ScriptEvent) (deed : Deed) → Reaches w told → resolve event w ≡ Some deed
+    → limit_before deed w ≡ None → OutcomesLast w (carried_out deed w).world told (told ++ (carried_out deed w).lines)
