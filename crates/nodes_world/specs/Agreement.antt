@@ -19,6 +19,7 @@ use Rattle.ots_model.specs.declared.tree.Outward.{Outward}
 use Rattle.ots_model.specs.declared.tree.Word.TheVariants as words
 use Rattle.ots_world.specs.declared.script.ScriptEvent.{ScriptEvent}
 use Rattle.decision_journal.specs.Journal.{found_in}
+use Rattle.decision_journal.specs.Laws.{IsSettled}
 use Rattle.decision_journal.specs.declared.journal.Standing.{Standing}
 use Rattle.decision_journal.specs.declared.record.JournalRecord.{JournalRecord}
 use Rattle.decision_journal.specs.declared.record.JournalRecord.TheVariants.{Life, Decision, Done, Prepared, CellsPrepared, CellsOutcome, CellsOnePhase}
@@ -27,6 +28,7 @@ use Rattle.recovery_coord.specs.Limits.{retold_slot}
 use Rattle.resource_end.specs.declared.state.State.{State}
 use Rattle.resource_end.specs.declared.state.State.TheVariants as states
 use Rattle.coordinator.specs.Names.{coordinator_kind}
+use Rattle.coordinator.specs.Node.{Node}
 use Rattle.coordinator.specs.declared.said.Said.TheVariants as said
 use Rattle.nodes_world.specs.declared.deed.Deed.{Deed}
 use Rattle.nodes_world.specs.declared.message.Content.TheVariants as contents
@@ -36,7 +38,7 @@ use Rattle.nodes_world.specs.declared.thing.Thing.TheVariants as things
 use Rattle.nodes_world.specs.Journals.{records_on}
 use Rattle.nodes_world.specs.Objects.{place_of, service_at}
 use Rattle.nodes_world.specs.Told.{Told, RolledBack, RolledBackBy, known}
-use Rattle.nodes_world.specs.World.{World, Seat, FlatResource, NamedKey, empty, referred, resource_at, seat_name, thing}
+use Rattle.nodes_world.specs.World.{World, Seat, OfNode, FlatResource, NamedKey, empty, referred, resource_at, seat_name, thing}
 use Rattle.nodes_world.specs.Resolve.{resolve}
 use Rattle.nodes_world.specs.Run.{run}
 use Rattle.nodes_world.specs.Step.{carried_out, limit_before}
@@ -122,6 +124,18 @@ KeysAreOnce w = (name other : List ℕ) (named : Thing) → thing w name ≡ Som
 abbrev pub LivesRise : List Told → Type 0
 LivesRise told = (before behind : List Line) (server : List ℕ) (life earlier : ℕ) → known told ≡ before ++ (lines.Up server life ∷ behind)
     → Stands (lines.Up server earlier) before → earlier < life
+
+-- a node that is up goes by the records that its disk holds, and all that the disk reads is synced
+pub record FollowsDisk (place : ℕ) (s : Seat) (n : Node) : Type 0 where
+  pub service : n.service ≡ service_at place
+  pub records : List JournalRecord
+  pub held : records_on (service_at place) s.disk ≡ Some records
+  pub found : n.found ≡ found_in records
+  pub settled : IsSettled s.disk
+
+abbrev pub NodesFollowDisks : World → Type 0
+NodesFollowDisks w = (place : ℕ) (s : Seat) (n : Node) → slice_get w.seats place ≡ Some s → s.server ≡ OfNode (Some n)
+    → FollowsDisk place s n
 
 -- what was sent so-many-th, counted from 0, is this word of the node or the end at a place
 abbrev pub IsWord : World → ℕ → ℕ → Outward → Type 0
@@ -291,6 +305,7 @@ StatesFollowWords w told = (name : List ℕ) (key : ObjectKey) (r : FlatResource
 pub record IsKnown (w : World) (told : List Told) : Type 0 where
   pub keys : KeysAreOnce w
   pub lives : LivesRise told
+  pub disks : NodesFollowDisks w
   pub numbers : NumbersAreOnce w
   pub words : WordsAreNamed w
   pub ends : SubtransactionsEndOnce told
