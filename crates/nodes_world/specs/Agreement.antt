@@ -216,6 +216,19 @@ names_object to (CellsOnePhase life number puts) = false
 abbrev pub CommitsAreRecorded : World → Type 0
 CommitsAreRecorded w = (place : ℕ) (o : Outward) → HasSent w place o → o.word ≡ words.Commit → IsTrue (has_record w place (names_object o.to))
 
+-- the resource of this name is the only participant of its family, and the family isn't decided by a record
+pub record IsAlone (w : World) (told : List Told) (name : List ℕ) : Type 0 where
+  pub family : List ℕ
+  pub key : ObjectKey
+  pub of_name : IsTransaction w family key
+  pub participant : TakesPart name family (known told)
+  pub only : (p : List ℕ) → TakesPart p family (known told) → p ≡ name
+  pub unrecorded : IsDecided w told key family → ⊥
+
+-- commit_one_phase is told to those alone
+abbrev pub OnePhaseIsAlone : World → List Told → Type 0
+OnePhaseIsAlone w told = (name : List ℕ) → IsSent phases.CommitOnePhase name (known told) → IsAlone w told name
+
 -- the resource of this name is one that rollback may be told: its family is closed, or its transaction is cut off
 pub record MayBeRolledBack (w : World) (told : List Told) (name : List ℕ) : Type 0 where
   pub transaction : List ℕ
@@ -313,6 +326,7 @@ pub record IsKnown (w : World) (told : List Told) : Type 0 where
   pub one_outcome : NoneIsBoth w told
   pub records : RecordsRestOnVotes w told
   pub commits : CommitsAreRecorded w
+  pub one_phase : OnePhaseIsAlone w told
   pub rollbacks : RollbacksAreClosed w told
   pub votes : VotesAreBound w
   pub given : VotesWereGiven w told
