@@ -14,6 +14,7 @@ use Rattle.ots_model.specs.declared.completion.Vote.TheVariants.{VoteCommit}
 use Rattle.ots_model.specs.declared.completion.Word.TheVariants as phases
 use Rattle.ots_model.specs.declared.line.Line.{Line}
 use Rattle.ots_model.specs.declared.line.Line.TheVariants as lines
+use Rattle.ots_model.specs.declared.line.ResourceState.TheVariants as shown_states
 use Rattle.ots_model.specs.declared.service.RetryKey.{RetryKey}
 use Rattle.ots_model.specs.declared.tree.Outward.{Outward}
 use Rattle.ots_model.specs.declared.tree.Word.TheVariants as words
@@ -335,6 +336,15 @@ abbrev pub StatesFollowWords : World → List Told → Type 0
 StatesFollowWords w told = (name : List ℕ) (key : ObjectKey) (r : FlatResource) → thing w name ≡ Some (things.Resource key)
     → resource_at w key ≡ Some r → StatesFollow r.state name (known told)
 
+-- lines tell which resources have stored their updates, and which have dropped them
+pub record StateIsTold (name : List ℕ) (state : State) (all : List Line) : Type 0 where
+  pub applied : Stands (lines.State name shown_states.Applied) all ↔ (state ≡ states.Applied)
+  pub undone : Stands (lines.State name shown_states.Undone) all ↔ (state ≡ states.Undone)
+
+abbrev pub StatesAreTold : World → List Told → Type 0
+StatesAreTold w told = (name : List ℕ) (key : ObjectKey) (r : FlatResource) → thing w name ≡ Some (things.Resource key)
+    → resource_at w key ≡ Some r → StateIsTold name r.state (known told)
+
 -- what is known together
 pub record IsKnown (w : World) (told : List Told) : Type 0 where
   pub keys : KeysAreOnce w
@@ -354,6 +364,7 @@ pub record IsKnown (w : World) (told : List Told) : Type 0 where
   pub given : VotesWereGiven w told
   pub dones : DonesAreComplete w
   pub states : StatesFollowWords w told
+  pub shown : StatesAreTold w told
 
 abbrev pub ReachedIsKnown : Type 0
 ReachedIsKnown = (w : World) (told : List Told) → Reaches w told → IsKnown w told
