@@ -1,6 +1,7 @@
 -- What an append leaves of a journal that is kept.
 use Rattle.std.proofs.Common.{◌≡◌, inl, inr, ℕ, ◌+◌, ◌<◌, ◌≤◌, Bool, true, false, ◌-◌, List, [], ◌∷◌, ◌++◌, length, take, drop, Option, Some, None, refl, sym, ap, subst, ◌∙◌, arith, append_assoc, length-append, length-drop}
 use Rattle.std.specs.Prelude.{IsTrue, IfSome}
+use Rattle.std.specs.Option.{ForSome}
 use Rattle.ots_outside.specs.Disk.{DiskState, LeavesOnly, LeavesOnlySince, Tells}
 use Rattle.decision_journal.specs.declared.record.JournalRecord.{JournalRecord}
 use Rattle.decision_journal.specs.Limits.{area_limit}
@@ -12,7 +13,7 @@ use Rattle.decision_journal.specs.State.{LeavesFound, used, AppendIsDone, Append
 use Rattle.decision_journal.proofs.Append.{append_safe, body, front_more}
 use Rattle.decision_journal.proofs.Scans.{more_records}
 use Rattle.decision_journal.proofs.Since.{image_of, leaves_now, since_weaker}
-use Rattle.decision_journal.proofs.Ways.{on_the_way}
+use Rattle.decision_journal.proofs.Ways.{none_some, on_the_way, some_same}
 
 pub stands_from : (service : ℕ) (octets c : List ℕ) (found : Found) (rs : List JournalRecord) → AreRecords service octets found rs → StandsAt octets c → StandsFor service c rs
 stands_from service octets c found rs a at = record {
@@ -114,6 +115,11 @@ pub at_rest : (failed : Bool) (octets : List ℕ) (doubted : Option JournalRecor
 at_rest true octets doubted told e kept = absurd cc
 at_rest false octets None told e kept = kept
 at_rest false octets (Some r) told e kept = absurd kept
+
+-- a gate stands behind what is known
+pub gate_within : (told : Option DiskState) (octets : List ℕ) → IfSome told (IsAtRest octets) → ForSome told (λ s. length octets + 1 ≤ length s.reads)
+gate_within None octets rest = λ t e. absurd (none_some t e)
+gate_within (Some s) octets rest = λ t e. subst (λ (t : DiskState). length octets + 1 ≤ length t.reads) (some_same s t e) (omega (arith, ap length rest.stands.octets_are, length-append octets (rest.stands.gate ∷ rest.stands.behind)))
 
 pub no_doubt : (failed : Bool) (octets : List ℕ) (doubted : Option JournalRecord) (told : Option DiskState) → failed ≡ false → IsKept failed octets doubted told → doubted ≡ None
 no_doubt true octets doubted told e kept = absurd cc

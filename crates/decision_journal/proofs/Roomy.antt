@@ -28,6 +28,12 @@ module _ (area capacity piece : ℕ) (stock : Stock) where
   roomy_doubt room left (CellsOutcome place end) is few r = record { octets = r.octets; pieces = r.pieces; spare = omega (arith, r.spare, is); records = omega (arith, r.records, is) }
   roomy_doubt room left (CellsOnePhase life number ps) is few r = record { octets = r.octets; pieces = r.pieces; spare = omega (arith, r.spare, is); records = omega (arith, r.records, is) }
 
+  -- a record is in doubt where none was, and there is more room for octets
+  pub roomy_unsure : (more : ℕ) (doubted d : Option JournalRecord) (room left : ℕ) (item : JournalRecord) → capacity ≤ more → doubted ≡ None → d ≡ Some item → left + cells_in item ≡ room
+      → (IsTrue (is_decision item) → decisions stock.found < standing_limit) → IsRoomy area capacity piece stock doubted room → IsRoomy area more piece stock d left
+  roomy_unsure more doubted d room left item le none some is few r = subst (λ (d : Option JournalRecord). IsRoomy area more piece stock d left) (sym some)
+      (roomy_more (Some item) left more piece le r.pieces (roomy_doubt room left item is few (subst (λ (d : Option JournalRecord). IsRoomy area capacity piece stock d room) none r)))
+
   -- it was added
   pub roomy_added : (room : ℕ) (item : JournalRecord) (after : Stock) (d : Option JournalRecord) → d ≡ None → stock.spare ≤ after.spare + stands_in item → decisions stock.found + stock.spare ≤ decisions after.found + after.spare + cells_in item
       → IsRoomy area capacity piece stock (Some item) room → IsRoomy area capacity piece after d room

@@ -27,39 +27,6 @@ tells_reading None (Some t) R S f i x = absurd x
 tells_reading (Some s) None R S f i x = absurd x
 tells_reading (Some s) (Some t) R S f i x = f s t i x
 
--- the disk before each of the four calls, and its end
-module _ (gate : ℕ) (behind : List ℕ) where
-  abbrev pub wrote : DiskState → DiskState
-  wrote s = written (gate + 1) behind s
-
-  abbrev pub opened : DiskState → DiskState
-  opened s = written gate (1 ∷ []) (synced (wrote s))
-
-  abbrev pub Way : DiskState → DiskState → Type 0
-  Way s t = IsOnTheWay s (appended gate behind s) t
-
-  refused_at : (s before done t : DiskState) (early late : ℕ) → early + length (moments s) ≤ length (moments (appended gate behind s)) → late + length (moments s) ≤ length (moments (appended gate behind s))
-      → moments before ≡ drop early (moments (appended gate behind s)) → moments done ≡ drop late (moments (appended gate behind s)) → IsAfterRefusal before done t → Way s t
-  refused_at s before done t early late le1 le2 m1 m2 h = elim h.moments [
-    | inl same ↦ record { left = early; within = le1; moments_are = same ∙ m1 }
-    | inr same ↦ record { left = late; within = le2; moments_are = same ∙ m2 }
-  ]
-
-  pub way_1 : (s t : DiskState) → IsAfterRefusal s (wrote s) t → Way s t
-  way_1 s t h = refused_at s s (wrote s) t 4 3 (omega arith) (omega arith) refl refl h
-
-  pub way_2 : (s m t : DiskState) → m ≡ wrote s → IsAfterRefusal m (synced m) t → Way s t
-  way_2 s m t e h = refused_at s m (synced m) t 3 2 (omega arith) (omega arith) (ap moments e) (ap (λ (m : DiskState). moments (synced m)) e) h
-
-  pub way_3 : (s m t : DiskState) → m ≡ synced (wrote s) → IsAfterRefusal m (written gate (1 ∷ []) m) t → Way s t
-  way_3 s m t e h = refused_at s m (written gate (1 ∷ []) m) t 2 1 (omega arith) (omega arith) (ap moments e) (ap (λ (m : DiskState). moments (written gate (1 ∷ []) m)) e) h
-
-  pub way_4 : (s m t : DiskState) → m ≡ opened s → IsAfterRefusal m (synced m) t → Way s t
-  way_4 s m t e h = refused_at s m (synced m) t 1 0 (omega arith) (omega arith) (ap moments e) (ap (λ (m : DiskState). moments (synced m)) e) h
-
-  pub way_5 : (s t : DiskState) → t ≡ appended gate behind s → Way s t
-  way_5 s t e = record { left = 0; within = omega arith; moments_are = ap moments e }
-
 -- what a crash leaves on the way to an end, it leaves up to the end
 each_dropped : (P : List ℕ → Type 0) (n : ℕ) (more : List Moment) → EachLeavesOnly P more → EachLeavesOnly P (drop n more)
 each_dropped P zero more each = each
@@ -107,6 +74,22 @@ module _ (place : ℕ) (octets : List ℕ) where
 pub way_behind : (s m end t : DiskState) → length (moments s) ≤ length (moments m) → IsOnTheWay m end t → IsOnTheWay s end t
 way_behind s m end t longer way = record { left = way.left; within = omega (arith, way.within, longer); moments_are = way.moments_are }
 
+-- an append: on the way to the octets behind the gate, and to the open gate
+module _ (gate : ℕ) (behind : List ℕ) where
+  abbrev pub Way : DiskState → DiskState → Type 0
+  Way s t = IsOnTheWay s (appended gate behind s) t
+
+  pub way_filled : (a b : Option DiskState) → Tells a b (λ s t. IsOnTheWay s (wrote_synced (gate + 1) behind s) t) → Tells a b Way
+  way_filled a b h =
+      tells_weaker a b (λ s t. IsOnTheWay s (wrote_synced (gate + 1) behind s) t) Way (λ s t h. way_before gate (1 ∷ []) s (wrote_synced (gate + 1) behind s) t h) h
+
+  pub way_opened : (a b c : Option DiskState) → Tells a b (λ s t. t ≡ wrote_synced (gate + 1) behind s) → Tells b c (λ s t. IsOnTheWay s (wrote_synced gate (1 ∷ []) s) t) → Tells a c Way
+  way_opened a b c filled h =
+      tells_weaker a c _ Way (λ s u h.
+      let at : IsOnTheWay (wrote_synced (gate + 1) behind s) (appended gate behind s) u = subst (λ (m : DiskState). IsOnTheWay m (wrote_synced gate (1 ∷ []) m) u) h.1 h.2 in
+      way_behind s (wrote_synced (gate + 1) behind s) (appended gate behind s) u (omega arith) at)
+      (tells_then a b c (λ s t. t ≡ wrote_synced (gate + 1) behind s) (λ s t. IsOnTheWay s (wrote_synced gate (1 ∷ []) s) t) filled h)
+
 cleared_by_longer : (b : Bool) (s : DiskState) → length (moments s) ≤ length (moments (cond b (synced (written 0 (0 ∷ []) s)) s))
 cleared_by_longer true s = omega arith
 cleared_by_longer false s = omega arith
@@ -131,10 +114,10 @@ cleared_by_some false s e = some_octets s.reads e
 pub cleared_some : (s : DiskState) → 1 ≤ length (cleared s).reads
 cleared_some s = cleared_by_some (is_letter_due s.reads) s refl
 
-none_some : (t : DiskState) → None ≡ Some t → ⊥
+pub none_some : (t : DiskState) → None ≡ Some t → ⊥
 none_some t e = absurd cc
 
-some_same : (t u : DiskState) → Some t ≡ Some u → t ≡ u
+pub some_same : (t u : DiskState) → Some t ≡ Some u → t ≡ u
 some_same t u e = cc
 
 -- a state of a disk that tells its states

@@ -1,12 +1,15 @@
-ghost use Rattle.std.specs.Prelude.{◌≡◌, ◌<◌, ◌≤◌, ◌+◌, ◌^◌, length, IsErrOf, IsTrue, OnOk, IfOk, IfSome};
+ghost use Rattle.std.specs.Prelude.{◌≡◌, ◌<◌, ◌≤◌, ◌+◌, ◌^◌, ◌++◌, length, vec_capacity, IsErrOf, IsTrue, OnErr, OnOk, IfOk, IfSome};
 ghost use Rattle.std.specs.Option.{ForSome};
 ghost use Rattle.ots_outside.specs.declared.disk.DiskRefusal.TheVariants.{Failed, Memory};
 ghost use Rattle.ots_outside.specs.Disk.{IsAfterRefusal, ReadsImage, Tells, synced, written};
 ghost use Rattle.ots_outside.specs.Source.{HasRisen};
-ghost use Rattle.decision_journal.specs.Laws.{IsOnTheWay, appended, cleared, created, is_letter_due};
+ghost use Rattle.decision_journal.specs.Layout.{Fits, record_octets};
+ghost use Rattle.decision_journal.specs.Laws.{IsOnTheWay, appended, behind_gate, cleared, created, is_letter_due};
 ghost use Rattle.decision_journal.specs.Journal.{IsAlong};
 
-use crate::scan::{Along, FIRST_LETTER, behind_letter_of};
+use crate::record::JournalRecord;
+use crate::room::put_closed_record;
+use crate::scan::{Along, FIRST_LETTER, OPEN, behind_letter_of};
 use ots_outside::{Disk, DiskRefusal};
 use std::alloc::Global;
 
@@ -22,10 +25,41 @@ pub(crate) fn append_at<D: Disk>(disk: &mut D, gate: u64, behind: &[u8]) -> Resu
     ensures cause { IsErrOf result Failed → HasRisen (D.faults disk.old) (D.faults disk.new) }
     ensures later { D.faults disk.old ≤ D.faults disk.new }
 {
-    disk.write_at(gate + 1, behind)?;
-    disk.sync()?;
-    disk.write_at(gate, &[1])?;
-    disk.sync()
+    write_and_sync(disk, gate + 1, behind)?;
+    write_and_sync(disk, gate, &[OPEN])
+}
+
+/// Appends a record to a disk that reads these octets and then a gate that isn't open, and puts it behind the octets. Where
+/// the disk refuses that, they are as before.
+pub(crate) fn append_record<D: Disk>(
+    disk: &mut D,
+    octets: &mut Vec<u8>,
+    item: &JournalRecord,
+) -> Result<(), DiskRefusal>
+    requires fits { Fits item.now }
+    requires small { length octets.old.items < 2 ^ 32 }
+    requires room { length octets.old.items + length (record_octets item.now) + 1 ≤ vec_capacity octets.old }
+    requires within { ForSome (D.told disk.old) (λ s. length octets.old.items + 1 ≤ length s.reads) }
+    ensures more { OnOk result (octets.new.items ≡ octets.old.items ++ record_octets item.now) }
+    ensures same { OnErr result (octets.new.items ≡ octets.old.items) }
+    ensures room { vec_capacity octets.old ≤ vec_capacity octets.new }
+    ensures ok { OnOk result (Tells (D.told disk.old) (D.told disk.new)
+        (λ s t. t ≡ appended (length octets.old.items) (behind_gate item.now) s)) }
+    ensures way { Tells (D.told disk.old) (D.told disk.new)
+        (λ s t. IsOnTheWay s (appended (length octets.old.items) (behind_gate item.now) s) t) }
+    ensures want { IsErrOf result Memory → IsTrue D.wants_memory }
+    ensures cause { IsErrOf result Failed → HasRisen (D.faults disk.old) (D.faults disk.new) }
+    ensures later { D.faults disk.old ≤ D.faults disk.new }
+{
+    let gate = octets.len();
+    put_closed_record(octets, item);
+    if let Err(refusal) = append_at(disk, gate as u64, &octets[gate + 1..]) {
+        octets.truncate(gate);
+        return Err(refusal);
+    }
+    let end = octets.len() - 1;
+    octets.truncate(end);
+    Ok(())
 }
 
 /// Writes octets from a place on, and syncs.
@@ -35,6 +69,7 @@ fn write_and_sync<D: Disk>(disk: &mut D, place: u64, octets: &[u8]) -> Result<()
         (Tells (D.told disk.old) (D.told disk.new) (λ s t. t ≡ synced (written place octets.now s))) }
     ensures way { Tells (D.told disk.old) (D.told disk.new)
         (λ s t. IsOnTheWay s (synced (written place octets.now s)) t) }
+    ensures want { IsErrOf result Memory → IsTrue D.wants_memory }
     ensures cause { IsErrOf result Failed → HasRisen (D.faults disk.old) (D.faults disk.new) }
     ensures later { D.faults disk.old ≤ D.faults disk.new }
 {

@@ -3,6 +3,7 @@ ghost use Rattle.std.specs.List.{list_any};
 ghost use Rattle.decision_journal.specs.Limits.{standing_limit};
 ghost use Rattle.decision_journal.specs.Journal.{are_cells_at, can_follow, is_cells_prepared, is_decision, is_decision_at, nothing_found, taken_away, with_record};
 ghost use Rattle.decision_journal.specs.Index.{AreBefore, AreInOrder, IsIndexed, is_left, left};
+ghost use Rattle.decision_journal.specs.Loading.{last_life};
 ghost use Rattle.decision_journal.specs.Room.{stands_in};
 ghost use Rattle.decision_journal.specs.State.{cells_in, decisions};
 
@@ -53,6 +54,14 @@ impl Index {
         ensures { result ≡ self.now.found.life }
     {
         self.life
+    }
+
+    /// The life behind the last.
+    pub(crate) fn next_life(&self) -> u32
+        requires { self.now.found.life < last_life }
+        ensures { result ≡ self.now.found.life + 1 }
+    {
+        self.life + 1
     }
 
     pub(crate) fn standing(&self) -> &[Standing]

@@ -8,12 +8,12 @@ ghost use Rattle.decision_journal.specs.Limits.{area_limit, standing_limit};
 ghost use Rattle.decision_journal.specs.Journal.{can_follow, is_decision, is_decision_at, with_record};
 ghost use Rattle.decision_journal.specs.Index.{AreInOrder};
 
-use crate::disk_calls::{append_at, read_along};
+use crate::disk_calls::{append_record, read_along};
 use crate::found::Index;
 use crate::journal::{JournalFault, Standing, fault_of};
 use crate::loading::{misread, start_within};
 use crate::record::JournalRecord;
-use crate::room::{count_cells, find, has_room, put_closed, put_closed_record, put_doubted};
+use crate::room::{count_cells, doubt, find, has_room, put_closed, put_doubted};
 use ots_outside::{Back, Disk};
 use std::alloc::{AllocError, Global};
 use std::marker::Model;
@@ -242,21 +242,16 @@ impl<D: Disk> Journal<D> {
         ensures safe { Tells (D.told self.old.disk) (D.told self.new.disk) (AppendIsSafe self.old.service item) }
         ensures room { self.old.room ≡ self.new.room + cells_in item }
     {
-        let gate = self.octets.len();
+        let gate = self.octets.len() as u32;
         self.failed = true;
         self.room -= count_cells(&item);
-        put_closed_record(&mut self.octets, &item);
-        let written = append_at(&mut self.disk, gate as u64, &self.octets[gate + 1..]);
-        if let Err(refusal) = written {
-            self.octets.truncate(gate);
-            self.doubted = Some(item);
+        if let Err(refusal) = append_record(&mut self.disk, &mut self.octets, &item) {
+            doubt(&mut self.doubted, item);
             return Err(fault_of(refusal));
         }
-        let end = self.octets.len() - 1;
-        self.octets.truncate(end);
-        self.index.add(gate as u32, item);
+        self.index.add(gate, item);
         self.failed = false;
-        Ok(gate as u32)
+        Ok(gate)
     }
 
     /// Appends a record, and tells the place of its gate. Where a call has failed, the disk is read again first. A record of
@@ -375,7 +370,7 @@ impl<D: Disk> Journal<D> {
             Ok(start) => start,
             Err(fault) => return Err(Back { value: disk, fault }),
         };
-        let life = JournalRecord::Life(start.index.life() + 1);
+        let life = JournalRecord::Life(start.index.next_life());
         let mut journal = Journal {
             alloc,
             disk,

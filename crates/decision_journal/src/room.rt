@@ -1,4 +1,4 @@
-ghost use Rattle.std.specs.Prelude.{◌≡◌, ◌⊎◌, ℕ, List, ◌<◌, ◌≤◌, ◌+◌, ◌*◌, ◌^◌, ◌++◌, ◌∷◌, [], length, take, vec_capacity, false, IsTrue, IfErr, IfSome, OnOk, OnErr, None};
+ghost use Rattle.std.specs.Prelude.{◌≡◌, ◌⊎◌, ℕ, List, ◌<◌, ◌≤◌, ◌+◌, ◌*◌, ◌^◌, ◌++◌, ◌∷◌, [], length, take, vec_capacity, false, IsTrue, IfErr, IfSome, OnOk, OnErr, None, Some};
 ghost use Rattle.decision_journal.specs.Limits.{area_limit};
 ghost use Rattle.decision_journal.specs.Layout.{Fits, record_octets};
 ghost use Rattle.decision_journal.specs.Index.{AreBefore};
@@ -96,6 +96,13 @@ pub(crate) fn put_doubted(octets: &mut Vec<u8>, doubted: &Option<JournalRecord>)
     if let Some(item) = doubted {
         put_record(octets, item);
     }
+}
+
+/// Leaves a record in doubt.
+pub(crate) fn doubt(doubted: &mut Option<JournalRecord>, item: JournalRecord)
+    ensures { doubted.new ≡ Some item }
+{
+    *doubted = Some(item);
 }
 
 /// Adds the record in doubt, whose gate is at this place.
