@@ -1,9 +1,11 @@
 -- A reading of a disk, and then a write of a record.
-use Rattle.std.proofs.Common.{◌≡◌, inl, inr, ℕ, ◌≤◌, Bool, List, Option, Some, None, Result, Ok, Err, subst, arith}
-use Rattle.std.specs.Prelude.{IfErr}
+use Rattle.std.proofs.Common.{◌≡◌, inl, inr, ℕ, ◌≤◌, Bool, List, Option, Some, None, Result, Ok, Err, refl, sym, subst, arith}
+use Rattle.std.specs.Prelude.{IfErr, IsErrOf}
 use Rattle.std.proofs.lemmas.Bool.{cases_lt}
 use Rattle.ots_outside.specs.Disk.{DiskState, Tells}
 use Rattle.ots_outside.specs.Source.{HasRisen}
+use Rattle.ots_outside.specs.declared.disk.DiskRefusal.{DiskRefusal}
+use Rattle.ots_outside.specs.declared.disk.DiskRefusal.TheVariants.{Failed as DiskFailed, Memory as DiskMemory}
 use Rattle.decision_journal.specs.declared.record.JournalRecord.{JournalRecord}
 use Rattle.decision_journal.specs.declared.record.JournalRecord.TheVariants.{Done}
 use Rattle.decision_journal.specs.declared.journal.JournalFault.{JournalFault}
@@ -74,6 +76,12 @@ known_now o octets f found (Some r) e may = absurd cc
 pub if_err_weaker : {T E : Type 0} (r : Result T E) (P Q : E → Type 0) → ((e : E) → P e → Q e) → IfErr r P → IfErr r Q
 if_err_weaker (Ok x) P Q f h = tt
 if_err_weaker (Err e) P Q f h = f e h
+
+-- the fault of a refusal
+pub refused_as : {T : Type 0} (P : JournalFault → Type 0) (refusal : DiskRefusal) (fault : JournalFault) → (refusal ≡ DiskFailed → fault ≡ DiskFault) → (refusal ≡ DiskMemory → fault ≡ Memory)
+    → (IsErrOf {T = T} (Err refusal) DiskFailed → P DiskFault) → (IsErrOf {T = T} (Err refusal) DiskMemory → P Memory) → P fault
+refused_as P DiskFailed fault failed memory cause want = subst P (sym (failed refl)) (cause refl)
+refused_as P DiskMemory fault failed memory cause want = subst P (sym (memory refl)) (want refl)
 
 pub risen_later : (before mid after : ℕ) → before ≤ mid → mid ≤ after → HasRisen mid after → HasRisen before after
 risen_later before mid after first second (inl rose) = inl (omega arith)

@@ -7,11 +7,11 @@ use Rattle.decision_journal.specs.declared.record.JournalRecord.{JournalRecord}
 use Rattle.decision_journal.specs.declared.record.JournalRecord.TheVariants.{Life}
 use Rattle.decision_journal.specs.declared.journal.JournalFault.{JournalFault}
 use Rattle.decision_journal.specs.declared.journal.JournalFault.TheVariants.{DiskFault, Full, BadHeader, BadRecord, LivesSpent, Memory}
-use Rattle.decision_journal.specs.Journal.{Found, Holds, IsFresh, IsOfDisk, IsScanFault, first_letter, found_in, front, is_fresh}
+use Rattle.decision_journal.specs.Journal.{Found, Holds, IsBroken, IsFresh, IsOfDisk, IsOtherHeader, IsScanFault, first_letter, found_in, front, is_fresh}
 use Rattle.decision_journal.specs.Laws.{IsOnTheWay, appended, behind_gate, cleared, created}
 use Rattle.decision_journal.specs.State.{HasNoRoom, IsAppendFault, JournalState, used}
 use Rattle.decision_journal.specs.Calls.{HasDoubt, IsReady, IsRefusedAppend, IsUnready, IsUnwritten, reread}
-use Rattle.decision_journal.specs.Loading.{HasBegunLoad, IsDiskFault, IsLoadFault, IsRefusedLoad, IsStarted, last_life, loaded, next_life, readied}
+use Rattle.decision_journal.specs.Loading.{HasBegunLoad, IsDiskFault, IsLoadFault, IsStartFault, IsRefusedLoad, IsStarted, last_life, loaded, next_life, readied}
 use Rattle.decision_journal.proofs.Calls.{fine_then}
 use Rattle.decision_journal.proofs.Joined.{known_now, risen_later}
 use Rattle.decision_journal.proofs.Loads.{fresh_test, stands_test}
@@ -94,6 +94,29 @@ of_disk wants n m (BadHeader place) f = absurd f
 of_disk wants n m (BadRecord place) f = absurd f
 of_disk wants n m LivesSpent f = absurd f
 of_disk wants n m Memory f = tt
+
+pub start_fault : (area service : ℕ) (told : Option DiskState) (n m : ℕ) (fault : JournalFault) → IsStartFault service told n m fault → IsLoadFault area service told n m fault
+start_fault area service told n m DiskFault f = f
+start_fault area service told n m (Full u k) f = absurd f
+start_fault area service told n m (BadHeader place) f = f
+start_fault area service told n m (BadRecord place) f = f
+start_fault area service told n m LivesSpent f = absurd f
+start_fault area service told n m Memory f = tt
+
+-- what holds of the octets that were read, of a disk that told them before its sync
+if_read : (octets : List ℕ) (a b : Option DiskState) (P : List ℕ → Type 0) → P octets → Tells a b (λ s t. t ≡ synced s) → IfSome b (λ t. octets ≡ t.reads) → IfSome a (λ s. P s.reads)
+if_read octets None b P p read known = tt
+if_read octets (Some s) None P p read known = absurd read
+if_read octets (Some s) (Some t) P p read known = subst P (known ∙ ap (λ (d : DiskState). d.reads) read) p
+
+pub scan_start : (service : ℕ) (octets : List ℕ) (a b : Option DiskState) (n m : ℕ) → Tells a b (λ s t. t ≡ synced s) → IfSome b (λ t. octets ≡ t.reads) → (IsFresh octets → ⊥)
+    → (fault : JournalFault) → IsScanFault service octets fault → IsStartFault service a n m fault
+scan_start service octets a b n m read known old DiskFault f = absurd f
+scan_start service octets a b n m read known old (Full u k) f = absurd f
+scan_start service octets a b n m read known old (BadHeader place) f = if_read octets a b (λ l. (IsFresh l → ⊥) × IsOtherHeader service l place) (old, f) read known
+scan_start service octets a b n m read known old (BadRecord place) f = if_read octets a b (λ l. (IsFresh l → ⊥) × IsBroken service l place) (old, f) read known
+scan_start service octets a b n m read known old LivesSpent f = absurd f
+scan_start service octets a b n m read known old Memory f = tt
 
 pub refused_scan : (service : ℕ) (a b : Option DiskState) (octets : List ℕ) → Tells a b (λ s t. t ≡ synced s) → Tells a b IsUnwritten → (fault : JournalFault) → IsScanFault service octets fault → Tells a b (IsRefusedLoad service fault)
 refused_scan service a b octets read way DiskFault f = absurd f

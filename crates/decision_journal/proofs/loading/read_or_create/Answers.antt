@@ -1,9 +1,10 @@
 use Rattle.std.proofs.Common.{subst, sym}
 use Rattle.decision_journal.specs.Journal.{IsFresh}
+use Rattle.decision_journal.specs.Loading.{IsStartFault}
 use Rattle.std.proofs.lemmas.Result.{IfOk-weaker, err_from_is_err_and, on_ok_weaker}
 use Rattle.decision_journal.proofs.Starts.{told_unread, told_read, told_behind, told_started}
-use Rattle.decision_journal.proofs.Joined.{if_err_weaker}
-use Rattle.decision_journal.proofs.Refused.{is_old, made_begun, made_readied, of_disk, read_readied, refused_begun, refused_scan, unwritten_begun}
+use Rattle.decision_journal.proofs.Joined.{if_err_weaker, refused_as}
+use Rattle.decision_journal.proofs.Refused.{is_old, made_begun, made_readied, of_disk, read_readied, refused_begun, refused_scan, scan_start, unwritten_begun}
 use Rattle.decision_journal.proofs.loading.read_or_create.Goals as goal
 
 pub returns-in-Err-clause-safe : goal.returns-in-Err-clause-safe
@@ -47,3 +48,12 @@ returns-in_err-index-clause-refused g c =
 pub returns-clause-readied : goal.returns-clause-readied
 returns-clause-readied g c =
     read_readied c.args.service (g.D.Disk.told c.args.disk.now) (g.D.Disk.told c.read_whole.new.disk) c.read_whole.ensures.image _ c.in-Ok.ensures.settled c.in-Ok.ensures.octets (λ fresh. is_old _ _ c.is_fresh.ensures.1 c.if-is_fresh.false (subst IsFresh (sym c.deref.ensures.value) fresh))
+
+pub returns-in-Err-clause-fault : goal.returns-in-Err-clause-fault
+returns-in-Err-clause-fault g c =
+    refused_as (IsStartFault c.args.service (g.D.Disk.told c.args.disk.now) (g.D.Disk.faults c.args.disk.now) (g.D.Disk.faults c.read_whole.new.disk)) c.in-Err.refusal c.fault_of.result c.fault_of.ensures.failed c.fault_of.ensures.memory c.in-Err.ensures.cause (λ e. tt)
+
+pub returns-in_err-index-clause-fault : goal.returns-in_err-index-clause-fault
+returns-in_err-index-clause-fault g c =
+    let p = err_from_is_err_and c.from_residual.result c.from_residual.ensures.1 in
+    rw (p.1, p.2) (scan_start c.args.service _ (g.D.Disk.told c.args.disk.now) (g.D.Disk.told c.read_whole.new.disk) _ _ c.in-Ok.ensures.settled c.in-Ok.ensures.octets (λ fresh. is_old _ _ c.is_fresh.ensures.1 c.if-is_fresh.false (subst IsFresh (sym c.deref.ensures.value) fresh)) _ c.in_err-index.ensures.fault)

@@ -6,7 +6,7 @@ use Rattle.decision_journal.specs.Journal.{Found, IsFilled}
 use Rattle.decision_journal.specs.Loading.{IsStarted, last_life}
 use Rattle.std.proofs.lemmas.Result.{err_from_is_err_and}
 use Rattle.decision_journal.proofs.Starts.{at_same, spent_told, full_told}
-use Rattle.decision_journal.proofs.Refused.{idle_begun, spent_unwritten}
+use Rattle.decision_journal.proofs.Refused.{idle_begun, spent_unwritten, start_fault}
 use Rattle.decision_journal.proofs.loading.start_within.Goals as goal
 
 pub used_of-used-requires-clause-few : goal.used_of-used-requires-clause-few
@@ -44,3 +44,13 @@ pub returns-in_err-make_room-clause-refused : goal.returns-in_err-make_room-clau
 returns-in_err-make_room-clause-refused g c =
     let p = err_from_is_err_and c.from_residual-in_err-make_room.result c.from_residual-in_err-make_room.ensures.1 in
     rw (p.1, p.2) (idle_begun c.args.service c.in_ok-start.start.octets.items c.in_ok-start.start.index.found (g.D.Disk.told c.args.disk.now) (g.D.Disk.told c.read_or_create.new.disk) c.in_ok-start.ensures.started c.in_ok-start.ensures.readied)
+
+pub returns-in_err-start-clause-fault : goal.returns-in_err-start-clause-fault
+returns-in_err-start-clause-fault g c =
+    let p = err_from_is_err_and c.from_residual.result c.from_residual.ensures.1 in
+    rw (p.1, p.2) (start_fault c.args.area c.args.service _ _ _ _ c.in_err-start.ensures.fault)
+
+pub returns-in_err-start-clause-refused : goal.returns-in_err-start-clause-refused
+returns-in_err-start-clause-refused g c =
+    let p = err_from_is_err_and c.from_residual.result c.from_residual.ensures.1 in
+    rw (p.1, p.2) c.in_err-start.ensures.refused

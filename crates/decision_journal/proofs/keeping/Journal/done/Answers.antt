@@ -2,7 +2,7 @@ use Rattle.std.proofs.Common.{◌∙◌, ap, inl, inr, not, sym}
 use Rattle.std.proofs.lemmas.Result.{err_from_is_err_and}
 use Rattle.decision_journal.specs.declared.record.JournalRecord.TheVariants.{Done}
 use Rattle.decision_journal.specs.State.{AppendIsDone, AppendIsSafe}
-use Rattle.decision_journal.proofs.Joined.{read_only, safe_then, done_then, done_written, at_service}
+use Rattle.decision_journal.proofs.Joined.{read_only, safe_then, done_then, done_unwritten, done_written, at_service}
 use Rattle.decision_journal.proofs.Calls.{done_fault_then, ready_of, refused_doubt, refused_unready}
 use Rattle.decision_journal.proofs.keeping.Journal.done.Goals as goal
 
@@ -56,3 +56,7 @@ pub returns-in_err-write-clause-refused : goal.returns-in_err-write-clause-refus
 returns-in_err-write-clause-refused g c =
     let p = err_from_is_err_and c.from_residual-in_err-write.result c.from_residual-in_err-write.ensures.1 in
     rw (p.1, p.2) (refused_doubt g.D.Disk.told c.args.self.now c.ready.new.self c.in_ok-ready.ensures.read c.in_ok-ready.ensures.disk c.in_ok-ready.ensures.current (Done c.args.place) c.write.new.self c.in_err-write.ensures.unsure c.in_err-write.ensures.way _ _ _ _ c.in_err-write.ensures.fault)
+
+pub returns-then-not-stands-clause-done : goal.returns-then-not-stands-clause-done
+returns-then-not-stands-clause-done g c =
+    done_unwritten c.args.self.now.service c.args.place _ _ c.ready.ensures.safe c.in_ok-ready.ensures.done

@@ -3,11 +3,12 @@ use Rattle.std.specs.Prelude.{vec_capacity, vec_len}
 use Rattle.decision_journal.specs.Calls.{IsUnwritten}
 use Rattle.decision_journal.specs.Index.{AreBefore}
 use Rattle.decision_journal.specs.Room.{Stock}
-use Rattle.decision_journal.specs.State.{IsSound, ReadIsSafe}
+use Rattle.decision_journal.specs.State.{IsReadFault, IsSound, ReadIsSafe}
 use Rattle.decision_journal.proofs.Below.{before_end}
 use Rattle.decision_journal.proofs.Kept.{within_now}
 use Rattle.decision_journal.proofs.Rereads.{doubted_fits, found_sound, front_of, known_small, may_found, misread_fault, misread_sound, none_told, other_none, read_done, read_safe, read_unread, sound_same, whole_of}
 use Rattle.decision_journal.proofs.Roomy.{roomy_more}
+use Rattle.decision_journal.proofs.Joined.{refused_as}
 use Rattle.decision_journal.proofs.Calls.{current_of}
 use Rattle.decision_journal.proofs.keeping.Journal.reopen.Goals as goal
 
@@ -107,3 +108,20 @@ returns-then-not-find-clause-safe g c =
 pub returns-then-not-find-clause-fault : goal.returns-then-not-find-clause-fault
 returns-then-not-find-clause-fault g c =
     rw (← c.self.view_is) (misread_fault g.D.Disk.wants_memory _ _ _ _ c.read_along.ensures.later c.misread.ensures.none c.misread.ensures.later _ c.misread.ensures.fault)
+
+pub returns-in-Err-clause-fault : goal.returns-in-Err-clause-fault
+returns-in-Err-clause-fault g c =
+    rw (← c.self.view_is) (refused_as (IsReadFault g.D.Disk.wants_memory (g.D.Disk.told c.read_along.new.disk) (g.D.Disk.faults c.self.inside.disk) (g.D.Disk.faults c.read_along.new.disk)) c.in-Err.refusal c.fault_of.result c.fault_of.ensures.failed c.fault_of.ensures.memory c.in-Err.ensures.cause c.in-Err.ensures.want)
+
+pub returns-in-Err-clause-unread : goal.returns-in-Err-clause-unread
+returns-in-Err-clause-unread g c =
+    let gate : c.len-gate.result ≡ length c.self.inside.octets.items = omega (arith, c.len-gate.ensures) in
+    let front = c.truncate.ensures.items ∙ front_of c.self.inside.octets.items _ c.put_doubted.new.octets.items c.len-gate.result c.put_doubted.ensures.octets gate in
+    rw (← c.self.view_is) (record { area = refl; service = refl; octets = front; found = refl; doubted = refl; failed = refl })
+
+pub returns-then-not-find-clause-unread : goal.returns-then-not-find-clause-unread
+returns-then-not-find-clause-unread g c =
+    let gate : c.len-gate.result ≡ length c.self.inside.octets.items = omega (arith, c.len-gate.ensures) in
+    let same = c.find.ensures.same c.if-not-find.true in
+    let front = same.0 ∙ front_of c.self.inside.octets.items _ c.put_doubted.new.octets.items c.len-gate.result c.put_doubted.ensures.octets gate in
+    rw (← c.self.view_is) (record { area = refl; service = refl; octets = front; found = ap (λ (s : Stock). s.found) same.1; doubted = same.2; failed = refl })

@@ -4,8 +4,10 @@ use Rattle.decision_journal.specs.Journal.{with_record}
 use Rattle.decision_journal.specs.Index.{AreBefore}
 use Rattle.decision_journal.proofs.Kept.{no_doubt, within_now}
 use Rattle.decision_journal.proofs.Below.{before_end}
+use Rattle.decision_journal.proofs.Joined.{refused_as}
+use Rattle.decision_journal.specs.Loading.{IsDiskFault}
 use Rattle.decision_journal.proofs.Roomy.{roomy_added, roomy_unsure}
-use Rattle.decision_journal.proofs.Writes.{CanWrite, write_safe, write_done, write_disk, write_records, write_unsure, write_sound}
+use Rattle.decision_journal.proofs.Writes.{CanWrite, write_safe, write_done, write_disk, write_records, write_unsure, write_sound, write_within, write_small}
 use Rattle.decision_journal.proofs.Calls.{current_of}
 use Rattle.decision_journal.proofs.keeping.Journal.write.Goals as goal
 
@@ -72,3 +74,29 @@ pub add-requires-clause-behind : goal.add-requires-clause-behind
 add-requires-clause-behind g c =
     let now = within_now _ _ _ _ _ _ _ c.self.invariant.0 in
     subst (λ (n : ℕ). AreBefore n c.self.inside.index.found.standing) (sym (omega (arith, c.len-gate.ensures))) (before_end c.self.inside.service c.self.inside.octets.items c.self.inside.index.found now.filled)
+
+pub append_record-requires-clause-within : goal.append_record-requires-clause-within
+append_record-requires-clause-within g c =
+    let can = subst (λ (j : JournalState g.row.D.Denot). CanWrite j c.args.item) (sym c.self.view_is) (record { kept = c.requires.kept; follows = c.requires.follows; within = c.requires.within; few = c.requires.few; room = c.requires.room }) in
+    write_within _ _ _ _ _ _ _ c.args.item c.self.invariant.0 can.kept c.requires.fits can.follows can.within
+
+pub append_record-requires-clause-small : goal.append_record-requires-clause-small
+append_record-requires-clause-small g c =
+    let can = subst (λ (j : JournalState g.row.D.Denot). CanWrite j c.args.item) (sym c.self.view_is) (record { kept = c.requires.kept; follows = c.requires.follows; within = c.requires.within; few = c.requires.few; room = c.requires.room }) in
+    write_small _ _ _ _ _ _ _ c.args.item c.self.invariant.0 can.kept c.requires.fits can.follows can.within
+
+pub returns-in-Err-clause-fault : goal.returns-in-Err-clause-fault
+returns-in-Err-clause-fault g c =
+    rw (← c.self.view_is) (refused_as (IsDiskFault g.D.Disk.wants_memory (g.D.Disk.faults c.self.inside.disk) (g.D.Disk.faults c.append_record.new.disk)) c.in-Err.refusal c.fault_of.result c.fault_of.ensures.failed c.fault_of.ensures.memory c.in-Err.ensures.cause c.in-Err.ensures.want)
+
+pub returns-in-Err-clause-unsure : goal.returns-in-Err-clause-unsure
+returns-in-Err-clause-unsure g c =
+    rw (← c.self.view_is) (record { area = refl; service = refl; octets = c.in-Err.ensures.same; found = refl; doubted = c.doubt.ensures; failed = refl })
+
+pub returns-in-Err-clause-way : goal.returns-in-Err-clause-way
+returns-in-Err-clause-way g c = rw (← c.self.view_is) c.append_record.ensures.way
+
+pub returns-clause-disk : goal.returns-clause-disk
+returns-clause-disk g c =
+    let can = subst (λ (j : JournalState g.row.D.Denot). CanWrite j c.args.item) (sym c.self.view_is) (record { kept = c.requires.kept; follows = c.requires.follows; within = c.requires.within; few = c.requires.few; room = c.requires.room }) in
+    rw (← c.self.view_is) (write_disk _ _ _ _ _ _ _ c.args.item c.self.invariant.0 can.kept c.requires.fits can.follows can.within (g.D.Disk.told c.append_record.new.disk) c.len-gate.result (omega (arith, c.len-gate.ensures)) c.in_default.ensures.ok)
