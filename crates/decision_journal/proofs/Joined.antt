@@ -1,5 +1,5 @@
 -- A reading of a disk, and then a write of a record.
-use Rattle.std.proofs.Common.{◌≡◌, inl, inr, ℕ, ◌≤◌, Bool, List, Option, Some, None, Result, Ok, Err, refl, sym, subst, arith}
+use Rattle.std.proofs.Common.{◌≡◌, inl, inr, ℕ, ◌≤◌, Bool, true, List, Option, Some, None, Result, Ok, Err, refl, sym, subst, arith}
 use Rattle.std.specs.Prelude.{IfErr, IsErrOf}
 use Rattle.std.proofs.lemmas.Bool.{cases_lt}
 use Rattle.ots_outside.specs.Disk.{DiskState, Tells}
@@ -11,7 +11,7 @@ use Rattle.decision_journal.specs.declared.record.JournalRecord.TheVariants.{Don
 use Rattle.decision_journal.specs.declared.journal.JournalFault.{JournalFault}
 use Rattle.decision_journal.specs.declared.journal.JournalFault.TheVariants.{DiskFault, Full, BadHeader, BadRecord, LivesSpent, Memory}
 use Rattle.decision_journal.specs.Journal.{Found, StandsFor}
-use Rattle.decision_journal.specs.State.{AppendIsDone, AppendIsSafe, DoneIsDone, IsAppendFault, IsOld, IsOldOrMore, IsReadFault, MayFind, MayHold, ReadIsDone, ReadIsSafe}
+use Rattle.decision_journal.specs.State.{AppendIsDone, AppendIsSafe, DoneIsDone, IsAppendFault, IsOld, IsOldOrMore, IsReadFault, IsRoomFault, MayFind, MayHold, ReadIsDone, ReadIsSafe}
 use Rattle.decision_journal.proofs.Images.{image_settled}
 use Rattle.decision_journal.proofs.OneList.{one_list}
 use Rattle.decision_journal.proofs.Since.{since_then, since_weaker}
@@ -94,3 +94,20 @@ append_fault wants told before after (BadHeader place) h = h
 append_fault wants told before after (BadRecord place) h = h
 append_fault wants told before after LivesSpent h = absurd h
 append_fault wants told before after Memory h = h
+
+pub room_fault : (area : ℕ) (octets : List ℕ) (found : Found) (r : JournalRecord) (wants : Bool) (told : Option DiskState) (before after : ℕ) (fault : JournalFault) → IsRoomFault area octets found r fault → IsAppendFault wants told before after fault
+room_fault area octets found r wants told before after DiskFault h = absurd h
+room_fault area octets found r wants told before after (Full u n) h = tt
+room_fault area octets found r wants told before after (BadHeader place) h = absurd h
+room_fault area octets found r wants told before after (BadRecord place) h = absurd h
+room_fault area octets found r wants told before after LivesSpent h = absurd h
+room_fault area octets found r wants told before after Memory h = absurd h
+
+-- where memory may be wanted
+pub wanting_fault : (wants : Bool) (told : Option DiskState) (before after : ℕ) (fault : JournalFault) → IsReadFault wants told before after fault → IsReadFault true told before after fault
+wanting_fault wants told before after DiskFault h = h
+wanting_fault wants told before after (Full u n) h = absurd h
+wanting_fault wants told before after (BadHeader place) h = h
+wanting_fault wants told before after (BadRecord place) h = h
+wanting_fault wants told before after LivesSpent h = absurd h
+wanting_fault wants told before after Memory h = refl

@@ -27,6 +27,15 @@ tells_reading None (Some t) R S f i x = absurd x
 tells_reading (Some s) None R S f i x = absurd x
 tells_reading (Some s) (Some t) R S f i x = f s t i x
 
+-- a disk that was synced, and then told the same
+pub synced_way : (a b c : Option DiskState) → c ≡ b → Tells a b (λ s t. t ≡ synced s) → ReadsImage b → Tells a c (λ s t. IsAfterRefusal s (synced s) t)
+synced_way a b c same whole image =
+    subst (λ (c : Option DiskState). Tells a c (λ s t. IsAfterRefusal s (synced s) t)) (sym same)
+    (tells_reading a b (λ s t. t ≡ synced s) (λ s t. IsAfterRefusal s (synced s) t) (λ s t i e. record { moments = inr (ap moments e); image = i }) image whole)
+
+pub synced_told : (a b c : Option DiskState) → c ≡ b → Tells a b (λ s t. t ≡ synced s) → Tells a c (λ s t. t ≡ synced s)
+synced_told a b c same whole = subst (λ (c : Option DiskState). Tells a c (λ s t. t ≡ synced s)) (sym same) whole
+
 -- what a crash leaves on the way to an end, it leaves up to the end
 each_dropped : (P : List ℕ → Type 0) (n : ℕ) (more : List Moment) → EachLeavesOnly P more → EachLeavesOnly P (drop n more)
 each_dropped P zero more each = each

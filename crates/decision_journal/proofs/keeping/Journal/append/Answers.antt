@@ -1,6 +1,6 @@
 use Rattle.std.proofs.lemmas.Result.{err_from_is_err_and, on_ok_weaker}
 use Rattle.decision_journal.specs.State.{AppendIsDone, AppendIsSafe}
-use Rattle.decision_journal.proofs.Joined.{read_only, safe_then, done_then, at_service, if_err_weaker}
+use Rattle.decision_journal.proofs.Joined.{append_fault, read_only, room_fault, safe_then, done_then, at_service, if_err_weaker}
 use Rattle.decision_journal.proofs.Calls.{append_fault_then, appended_write, refused_ready, refused_unready, refused_write}
 use Rattle.decision_journal.proofs.keeping.Journal.append.Goals as goal
 
@@ -41,3 +41,13 @@ returns-in_err-has_room-clause-refused g c =
 pub returns-clause-refused : goal.returns-clause-refused
 returns-clause-refused g c =
     refused_write g.D.Disk.told c.args.self.now c.ready.new.self c.in_ok-ready.ensures.read c.in_ok-ready.ensures.disk c.in_ok-ready.ensures.current c.args.item c.write.result c.write.new.self _ _ _ c.write.ensures.fault c.write.ensures.unsure c.write.ensures.way
+
+pub returns-in_err-ready-clause-fault : goal.returns-in_err-ready-clause-fault
+returns-in_err-ready-clause-fault g c =
+    let p = err_from_is_err_and c.from_residual.result c.from_residual.ensures.1 in
+    rw (p.1, p.2) (append_fault _ _ _ _ _ c.in_err-ready.ensures.fault)
+
+pub returns-in_err-has_room-clause-fault : goal.returns-in_err-has_room-clause-fault
+returns-in_err-has_room-clause-fault g c =
+    let p = err_from_is_err_and c.from_residual-in_err-has_room.result c.from_residual-in_err-has_room.ensures.1 in
+    rw (p.1, p.2) (room_fault c.ready.new.self.area c.ready.new.self.octets c.ready.new.self.found c.args.item _ _ _ _ _ c.in_err-has_room.ensures.fault)

@@ -1,5 +1,6 @@
 use Rattle.std.proofs.Common.{inr}
 use Rattle.std.proofs.lemmas.Result.{err_from_is_err_and}
+use Rattle.decision_journal.proofs.Joined.{wanting_fault}
 use Rattle.decision_journal.proofs.Calls.{ready_of, unready_reading}
 use Rattle.decision_journal.proofs.keeping.Journal.bytes.Goals as goal
 
@@ -16,3 +17,8 @@ pub returns-in_err-put_bytes-clause-refused : goal.returns-in_err-put_bytes-clau
 returns-in_err-put_bytes-clause-refused g c =
     let p = err_from_is_err_and c.from_residual-in_err-put_bytes.result c.from_residual-in_err-put_bytes.ensures.1 in
     rw (p.1, p.2) (inr (ready_of g.D.Disk.told c.args.self.now c.ready.new.self c.in_ok-ready.ensures.read c.in_ok-ready.ensures.disk c.in_ok-ready.ensures.current))
+
+pub returns-in_err-ready-clause-fault : goal.returns-in_err-ready-clause-fault
+returns-in_err-ready-clause-fault g c =
+    let p = err_from_is_err_and c.from_residual.result c.from_residual.ensures.1 in
+    rw (p.1, p.2) (wanting_fault _ _ _ _ _ c.in_err-ready.ensures.fault)
