@@ -2,12 +2,12 @@
 use Rattle.std.proofs.Common.{◌≡◌, ◌≢◌, ℕ, ◌+◌, ◌-◌, ◌<◌, ◌≤◌, List, [], ◌∷◌, ◌++◌, length, get_or, take, drop, refl, sym, ap, subst, ◌∙◌, arith, append_assoc, length-append}
 use Rattle.std.specs.Prelude.{IsTrue}
 use Rattle.std.specs.List.{flat_map}
-use Rattle.std.proofs.lemmas.List.{append-nil, take_all}
+use Rattle.std.proofs.lemmas.List.{append-nil, take_all, take_at}
 use Rattle.std.proofs.lemmas.List.Concat.{flat_map-cons}
 use Rattle.decision_journal.specs.declared.record.JournalRecord.{JournalRecord}
 use Rattle.decision_journal.specs.Limits.{area_limit}
 use Rattle.decision_journal.specs.Layout.{record_octets, Fits}
-use Rattle.decision_journal.specs.Journal.{AreRecords, Found, nothing_found, first_gate, with_record, with_records, found_in, can_follow, front, header, IsFilled, IsStep, HasNoStep, IsBroken, IsScanned}
+use Rattle.decision_journal.specs.Journal.{AreRecords, Found, nothing_found, first_gate, with_record, with_records, found_in, can_follow, front, header, IsFilled, IsStep, HasNoStep, IsBroken, IsScanned, StandsAt}
 use Rattle.decision_journal.proofs.Append.{fit_more, in_turn_more, front_more}
 
 pub with_records-more : (found : Found) (place : ℕ) (rs : List JournalRecord) (r : JournalRecord) → with_records found place (rs ++ r ∷ []) ≡ with_record (with_records found place rs) (place + length (flat_map record_octets rs)) r
@@ -94,3 +94,22 @@ behind_first (g ∷ rest) n some first is = ap (λ (h : ℕ). h ∷ rest) first 
 pub first_and_rest : (rest : List ℕ) → 0 < length rest → rest ≡ get_or rest 0 0 ∷ drop 1 rest
 first_and_rest [] some = absurd (omega arith)
 first_and_rest (g ∷ rest) some = refl
+
+-- octets that were scanned, and what is left of them before the rest
+module _ (service : ℕ) (octets read new : List ℕ) (found : Found) (rest : List ℕ) (n : ℕ) (read_is : read ≡ octets) (scanned : IsScanned service read found rest) (n_is : n ≡ length octets - length rest) (new_is : new ≡ take n octets) where
+  are : octets ≡ scanned.before ++ rest
+  are = sym read_is ∙ scanned.octets_are
+
+  scanned_front : new ≡ scanned.before
+  scanned_front = new_is ∙ ap (take n) are ∙ take_at scanned.before rest n (omega (arith, ap length are, length-append scanned.before rest, n_is))
+
+  pub scanned_filled : (after : Found) → after ≡ found → IsFilled service new after
+  scanned_filled after after_is = subst (λ (l : List ℕ). IsFilled service l after) (sym scanned_front) (subst (λ (f : Found). IsFilled service scanned.before f) (sym after_is) scanned.filled)
+
+  pub scanned_stands : StandsAt new octets
+  scanned_stands = record {
+    gate = scanned.gate;
+    behind = scanned.behind;
+    octets_are = are ∙ ap (λ (l : List ℕ). scanned.before ++ l) scanned.rest_is ∙ ap (λ (l : List ℕ). l ++ scanned.gate ∷ scanned.behind) (sym scanned_front);
+    closed = scanned.closed;
+  }
