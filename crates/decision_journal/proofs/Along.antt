@@ -1,12 +1,12 @@
 -- How far octets that are read a piece at a time go along with those that are known.
-use Rattle.std.proofs.Common.{◌≡◌, ◌≢◌, ◌⊎◌, inl, inr, ℕ, ◌+◌, ◌-◌, ◌<◌, ◌≤◌, Bool, true, false, List, [], ◌∷◌, ◌++◌, length, get_or, take, drop, Option, Some, None, refl, sym, ap, subst, ◌∙◌, arith, length-append, length-drop, length-take, slice_range}
+use Rattle.std.proofs.Common.{◌≡◌, ◌⊎◌, inl, inr, ℕ, ◌+◌, ◌-◌, ◌<◌, ◌≤◌, Bool, false, List, [], ◌∷◌, ◌++◌, length, get_or, take, drop, Option, Some, None, refl, sym, ap, subst, ◌∙◌, arith, length-append, length-drop, length-take, slice_range}
 use Rattle.std.specs.Prelude.{IsTrue}
 use Rattle.std.proofs.lemmas.Bool.{cases_lt}
 use Rattle.std.proofs.lemmas.List.{get_or_append_left, append-nil, take_at}
 use Rattle.std.proofs.Math.Seq.{get_or-append_right, get_or-append_seam, get_or-drop}
 use Rattle.decision_journal.specs.declared.record.JournalRecord.{JournalRecord}
 use Rattle.decision_journal.specs.Layout.{record_octets}
-use Rattle.decision_journal.specs.Journal.{IsAlong, IsFirstOther, StandsAt}
+use Rattle.decision_journal.specs.Journal.{IsAlong, StandsAt}
 use Rattle.decision_journal.specs.State.{BeginsWithEither, doubted_octets}
 use Rattle.decision_journal.proofs.Begins.{stands_by}
 use Rattle.decision_journal.proofs.Images.{begins_with}

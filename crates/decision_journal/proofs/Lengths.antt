@@ -1,13 +1,12 @@
 -- How many octets records have.
-use Rattle.std.proofs.Common.{◌≡◌, ℕ, zero, suc, ◌+◌, ◌*◌, ◌<◌, ◌≤◌, Bool, List, [], ◌∷◌, ◌++◌, length, get_or, take, Option, Some, None, refl, sym, ap, ◌∙◌, arith, length-append}
+use Rattle.std.proofs.Common.{◌≡◌, ℕ, zero, suc, ◌+◌, ◌*◌, ◌<◌, ◌≤◌, Bool, List, [], ◌∷◌, ◌++◌, length, get_or, take, Option, Some, None, refl, ap, arith, length-append}
 use Rattle.std.specs.List.{concat, flat_map}
 use Rattle.std.proofs.lemmas.List.Concat.{flat_map-cons}
 use Rattle.ots_model.specs.declared.service.RetryKey.{RetryKey}
 use Rattle.decision_journal.specs.declared.record.Registration.{Registration}
 use Rattle.decision_journal.specs.declared.record.Put.{Put}
-use Rattle.decision_journal.specs.declared.record.CellsEnd.{CellsEnd}
 use Rattle.decision_journal.specs.declared.record.JournalRecord.{JournalRecord}
-use Rattle.decision_journal.specs.declared.record.JournalRecord.TheVariants.{Life, Decision, Done, Prepared, CellsPrepared, CellsOutcome, CellsOnePhase}
+use Rattle.decision_journal.specs.declared.record.JournalRecord.TheVariants.{Decision, Prepared, CellsPrepared, CellsOnePhase}
 use Rattle.decision_journal.specs.Layout.{eight, fields, flag, four, key, one, put, puts, record_octets, reference, registration, registrations, two}
 use Rattle.decision_journal.proofs.Steps.{length_record}
 

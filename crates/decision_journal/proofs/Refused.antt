@@ -2,7 +2,7 @@
 use Rattle.std.proofs.Common.{◌≡◌, inl, inr, ℕ, ◌+◌, ◌≤◌, Bool, true, false, cond, get_or, List, [], ◌∷◌, length, Option, Some, None, refl, sym, ap, subst, ◌∙◌, arith}
 use Rattle.std.specs.Prelude.{IfSome}
 use Rattle.std.proofs.lemmas.Bool.{cases_eq, cases_lt}
-use Rattle.ots_outside.specs.Disk.{DiskState, ReadsImage, Tells, moments, synced}
+use Rattle.ots_outside.specs.Disk.{DiskState, ReadsImage, Tells, synced}
 use Rattle.decision_journal.specs.declared.record.JournalRecord.{JournalRecord}
 use Rattle.decision_journal.specs.declared.record.JournalRecord.TheVariants.{Life}
 use Rattle.decision_journal.specs.declared.journal.JournalFault.{JournalFault}
@@ -10,7 +10,7 @@ use Rattle.decision_journal.specs.declared.journal.JournalFault.TheVariants.{Dis
 use Rattle.decision_journal.specs.Journal.{Found, Holds, IsBroken, IsFresh, IsOfDisk, IsOtherHeader, IsScanFault, first_letter, found_in, front, is_fresh}
 use Rattle.decision_journal.specs.Laws.{IsOnTheWay, appended, behind_gate, cleared, created}
 use Rattle.decision_journal.specs.State.{HasNoRoom, IsAppendFault, JournalState, used}
-use Rattle.decision_journal.specs.Calls.{HasDoubt, IsReady, IsRefusedAppend, IsUnready, IsUnwritten, reread}
+use Rattle.decision_journal.specs.Calls.{HasDoubt, IsReady, IsRefusedAppend, IsUnready, IsUnwritten}
 use Rattle.decision_journal.specs.Loading.{HasBegunLoad, IsDiskFault, IsLoadFault, IsStartFault, IsRefusedLoad, IsStarted, last_life, loaded, next_life, readied}
 use Rattle.decision_journal.proofs.Calls.{fine_then}
 use Rattle.decision_journal.proofs.Joined.{known_now, risen_later}

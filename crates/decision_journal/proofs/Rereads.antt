@@ -7,7 +7,7 @@ use Rattle.decision_journal.specs.declared.record.JournalRecord.{JournalRecord}
 use Rattle.decision_journal.specs.declared.journal.JournalFault.{JournalFault}
 use Rattle.decision_journal.specs.declared.journal.JournalFault.TheVariants.{DiskFault, Full, BadHeader, BadRecord, LivesSpent, Memory}
 use Rattle.decision_journal.specs.Limits.{area_limit}
-use Rattle.decision_journal.specs.Layout.{Fits, record_octets}
+use Rattle.decision_journal.specs.Layout.{record_octets}
 use Rattle.decision_journal.specs.Journal.{Found, IsAlong, IsFilled, IsOther, IsScanFault, StandsAt, with_record}
 use Rattle.decision_journal.specs.State.{BeginsWithEither, IsAtRest, IsKept, IsOld, doubted_octets, IsReadFault, IsSound, IsWithinArea, MayFind, ReadIsDone, ReadIsSafe}
 use Rattle.decision_journal.proofs.Along.{along_neither, along_stands}

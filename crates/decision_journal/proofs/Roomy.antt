@@ -1,12 +1,12 @@
 -- The room that a journal keeps, in its calls.
-use Rattle.std.proofs.Common.{◌≡◌, ℕ, ◌+◌, ◌<◌, ◌≤◌, Bool, true, Option, Some, None, refl, sym, subst, arith}
-use Rattle.std.specs.Prelude.{IsTrue, IfSome}
+use Rattle.std.proofs.Common.{◌≡◌, ℕ, ◌+◌, ◌<◌, ◌≤◌, Option, Some, None, refl, sym, subst, arith}
+use Rattle.std.specs.Prelude.{IsTrue}
 use Rattle.decision_journal.specs.declared.record.JournalRecord.{JournalRecord}
 use Rattle.decision_journal.specs.declared.record.JournalRecord.TheVariants.{Life, Decision, Done, Prepared, CellsPrepared, CellsOutcome, CellsOnePhase}
 use Rattle.decision_journal.specs.Limits.{standing_limit}
 use Rattle.decision_journal.specs.Journal.{is_decision}
 use Rattle.decision_journal.specs.State.{cells_in, decisions}
-use Rattle.decision_journal.specs.Room.{IsRoomy, Stock, cells_in_doubt, stands_in, stands_in_doubt}
+use Rattle.decision_journal.specs.Room.{IsRoomy, Stock, stands_in}
 
 module _ (area capacity piece : ℕ) (stock : Stock) where
   -- with more room for octets, and a piece

@@ -11,10 +11,10 @@ use Rattle.decision_journal.specs.declared.journal.JournalFault.TheVariants.{Dis
 use Rattle.decision_journal.specs.Journal.{Found, Holds, IsBroken, IsFilled, IsFresh, IsOtherHeader, IsScanFault, StandsAt, StandsFor, found_in, front, header, first_letter, is_fresh, nothing_found}
 use Rattle.decision_journal.specs.Laws.{IsOnTheWay, IsSettled, appended, behind_gate, behind_letter, cleared, created}
 use Rattle.decision_journal.specs.State.{AppendIsDone, AppendIsSafe, IsOldOrMore, MayHold, used}
-use Rattle.decision_journal.specs.Loading.{HasBegunLoad, IsDiskFault, IsHeld, IsHeldOrBegun, IsLoadFault, IsStartFault, IsStarted, LoadIsDone, LoadIsSafe, last_life, loaded, next_life, readied}
+use Rattle.decision_journal.specs.Loading.{HasBegunLoad, IsHeld, IsHeldOrBegun, IsLoadFault, IsStartFault, IsStarted, LoadIsDone, LoadIsSafe, last_life, loaded, next_life, readied}
 use Rattle.decision_journal.proofs.Creation.{creation_safe}
 use Rattle.decision_journal.proofs.Images.{image_settled}
-use Rattle.decision_journal.proofs.Joined.{risen_later, tells_both}
+use Rattle.decision_journal.proofs.Joined.{tells_both}
 use Rattle.decision_journal.proofs.Kept.{stands_back, stands_from}
 use Rattle.decision_journal.proofs.OneList.{one_list}
 use Rattle.decision_journal.proofs.Since.{image_of, leaves_settled, since_refused, since_synced, since_then, since_weaker}

@@ -1,4 +1,4 @@
-use Rattle.std.proofs.Common.{◌∙◌, ◌+◌, ◌++◌, arith, drop, length, length-append, length-drop, length-take, take}
+use Rattle.std.proofs.Common.{◌∙◌, ◌++◌, arith, drop, length, length-append, length-drop, length-take, take}
 use Rattle.decision_journal.proofs.Along.{along_piece, piece_front}
 use Rattle.decision_journal.proofs.Pieces.{some_step}
 use Rattle.decision_journal.proofs.disk_calls.go_along.Goals as goal

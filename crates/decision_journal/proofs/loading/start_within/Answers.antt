@@ -2,7 +2,7 @@ use Rattle.std.proofs.Common.{◌∙◌, ◌+◌, ◌<◌, ◌≤◌, ℕ, List,
 use Rattle.decision_journal.specs.State.{used}
 use Rattle.decision_journal.proofs.Few.{few}
 use Rattle.ots_outside.specs.Disk.{Tells}
-use Rattle.decision_journal.specs.Journal.{Found, IsFilled}
+use Rattle.decision_journal.specs.Journal.{IsFilled}
 use Rattle.decision_journal.specs.Loading.{IsStarted, last_life}
 use Rattle.std.proofs.lemmas.Result.{err_from_is_err_and}
 use Rattle.decision_journal.proofs.Starts.{at_same, spent_told, full_told}

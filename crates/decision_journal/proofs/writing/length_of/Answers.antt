@@ -1,4 +1,4 @@
-use Rattle.std.proofs.Common.{◌∙◌, ap, arith, length, sym}
+use Rattle.std.proofs.Common.{ap, arith, length}
 use Rattle.std.specs.List.{concat}
 use Rattle.decision_journal.specs.Layout.{fields}
 use Rattle.decision_journal.proofs.Lengths.{cells_length, one_phase_length}

@@ -1,4 +1,4 @@
-use Rattle.std.proofs.Common.{◌≡◌, ◌∙◌, ◌+◌, List, ap, sym, subst, arith}
+use Rattle.std.proofs.Common.{◌∙◌, ◌+◌, List, ap, sym, subst, arith}
 use Rattle.decision_journal.specs.declared.journal.Standing.{Standing}
 use Rattle.decision_journal.specs.Journal.{Found, with_record}
 use Rattle.decision_journal.specs.Index.{AreBefore, left}
