@@ -1,4 +1,4 @@
-ghost use Rattle.std.specs.Prelude.{◌≡◌, ◌<◌, ◌≤◌, ◌+◌, ◌++◌, ◌∷◌, [], length, false, true, None, IsTrue, IfOk, IfErr, OnOk, OnErr};
+ghost use Rattle.std.specs.Prelude.{◌≡◌, ℕ, ◌<◌, ◌≤◌, ◌+◌, ◌++◌, ◌∷◌, [], length, false, true, None, IsTrue, Err, IfOk, IfErr, OnOk, OnErr};
 ghost use Rattle.std.specs.List.{list_any};
 ghost use Rattle.std.specs.Option.{ForSome};
 ghost use Rattle.ots_outside.specs.Disk.{Tells, synced};
@@ -121,8 +121,8 @@ impl<D: Disk> Journal<D> {
         Ok(())
     }
 
-    /// Syncs the disk, and reads it again. Where a call had failed, this tells whether its record is there. It takes no memory,
-    /// but what the disk takes.
+    /// Syncs the disk, and reads it again. Where a call had failed, this tells whether its record is there. Want of
+    /// memory refuses it over a disk alone that may want some.
     pub fn reopen(&mut self) -> Result<(), JournalFault>
         ensures read { OnOk result (HasReread self.old self.new) }
         ensures current { OnOk result (IsCurrent D.told self.new) }
@@ -255,7 +255,7 @@ impl<D: Disk> Journal<D> {
     }
 
     /// Appends a record, and tells the place of its gate. Where a call has failed, the disk is read again first. A record of
-    /// cells needs the room that `reserve` takes, and uses it. It takes no memory, but what the disk takes.
+    /// cells needs the room that `reserve` takes, and uses it. Want of memory refuses it over a disk alone that may want some.
     pub fn append(&mut self, item: JournalRecord) -> Result<u32, JournalFault>
         requires fits { Fits item }
         requires follows { MayFollow self.old item }
@@ -270,6 +270,7 @@ impl<D: Disk> Journal<D> {
         ensures later { D.faults self.old.disk ≤ D.faults self.new.disk }
         ensures safe { Tells (D.told self.old.disk) (D.told self.new.disk) (AppendIsSafe self.old.service item) }
         ensures room { self.old.room ≤ self.new.room + cells_in item }
+        ensures full { (used need : ℕ) → result ≡ Err (JournalFault.Full used need) → self.old.room ≤ self.new.room }
     {
         self.ready()?;
         self.has_room(&item)?;
@@ -277,7 +278,7 @@ impl<D: Disk> Journal<D> {
     }
 
     /// Appends a Done of the decision or prepared record at this place, where one stands; else it writes nothing. Where a
-    /// call has failed, the disk is read again first. It takes no memory, but what the disk takes.
+    /// call has failed, the disk is read again first. Want of memory refuses it over a disk alone that may want some.
     pub fn done(&mut self, place: u32) -> Result<(), JournalFault>
         ensures after { OnOk result (IsAfterDone D.told self.old self.new place) }
         ensures current { OnOk result (IsCurrent D.told self.new) }
