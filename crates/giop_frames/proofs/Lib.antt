@@ -13,6 +13,7 @@ pub mod Numbered
 pub mod Followed
 pub mod Walking
 pub mod Near
+pub mod Finished
 pub mod Judging
 pub mod Holding
 pub mod Further

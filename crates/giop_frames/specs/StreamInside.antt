@@ -9,7 +9,7 @@ use Rattle.giop_frames.specs.declared.header.Header.{Header}
 use Rattle.giop_frames.specs.declared.layout.Version.{Version}
 use Rattle.giop_frames.specs.Limits.{size_limit}
 use Rattle.giop_frames.specs.Header.{content_behind}
-use Rattle.giop_frames.specs.Stream.{Judgement, Unfinished, message_by, part_at, part_of, so_far, without_id}
+use Rattle.giop_frames.specs.Stream.{Judgement, Unfinished, message_by, part_at, part_of, so_far, whole_by, without_id}
 
 -- a whole part with this header stands in front
 pub record IsInFront (versions : List Version) (header : Header) (octets : List ℕ) : Type 0 where
@@ -36,6 +36,11 @@ WantsRoom capacity content octets =
 abbrev pub limited_so_far : Header → List ℕ → Judgement
 limited_so_far header content =
     if nat_lt size_limit (length content) then Err (TooLarge (length content)) else so_far (message_by header content)
+
+-- what they say once its last part has come
+abbrev pub limited_whole : ℕ → Header → List ℕ → Judgement
+limited_whole place header content =
+    if nat_lt size_limit (length content) then Err (TooLarge (length content)) else whole_by place header content
 
 -- the unfinished message of this request_id is at this index, the first one that has it
 pub record IsAt (id : ℕ) (messages : List Unfinished) (index : ℕ) : Type 0 where

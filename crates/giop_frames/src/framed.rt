@@ -1,11 +1,17 @@
-ghost use Rattle.std.specs.Prelude.{◌≡◌, Ok, Some};
-ghost use Rattle.giop_frames.specs.Stream.{whole};
+ghost use Rattle.std.specs.Prelude.{◌≡◌, ◌≤◌, length, IfErr, IsOk, Ok, Some};
+ghost use Rattle.giop_frames.specs.Limits.{size_limit};
+ghost use Rattle.giop_frames.specs.Fault.{Finds};
+ghost use Rattle.giop_frames.specs.Stream.{message_by, whole, whole_by};
+ghost use Rattle.giop_frames.specs.Walk.{IsAsFar, IsWalked};
 
-use crate::content::Content;
+use crate::content::{Content, finish_message};
+use crate::fault::FrameFault;
 use crate::header::Header;
 use crate::layout::Version;
 use crate::message::Message;
+use crate::walk::Walk;
 use cdr_values::Order;
+use std::alloc::Global;
 
 /// A message of a stream, and what the header of its first part says.
 #[derive(Drop)]
@@ -37,4 +43,23 @@ pub fn frame(place: u64, header: Header, found: Content) -> Framed
         start: found.start,
         message: found.message,
     }
+}
+
+/// The whole message whose first part has this place and header, with this content, over which a walk has gone as far
+/// as it can.
+pub fn finish_framed(
+    alloc: Global,
+    place: u64,
+    header: Header,
+    content: &[u8],
+    walk: Walk,
+) -> Result<Framed, FrameFault>
+    requires short { length content.now ≤ size_limit }
+    requires walked { IsWalked header content.now walk }
+    requires far { IsAsFar header content.now walk }
+    ensures whole { Finds (λ framed. Some framed) result (whole_by place header content.now) }
+    ensures memory { IfErr result (λ fault. fault ≡ FrameFault.Memory → IsOk (message_by header content.now)) }
+{
+    let found = finish_message(alloc, header, content, walk)?;
+    Ok(frame(place, header, found))
 }

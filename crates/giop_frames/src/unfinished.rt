@@ -1,14 +1,13 @@
-ghost use Rattle.std.specs.Prelude.{◌≡◌, ◌<◌, ◌≤◌, ◌++◌, true, false, IfErr, IfOk, OnErr, OnOk, Ok, None, Some, length, vec_capacity};
+ghost use Rattle.std.specs.Prelude.{◌≡◌, ◌≢◌, ◌<◌, ◌≤◌, ◌++◌, true, false, IfErr, IfOk, OnErr, OnOk, Ok, Err, None, Some, length, take, vec_capacity};
 ghost use Rattle.giop_frames.specs.Limits.{size_limit};
 ghost use Rattle.giop_frames.specs.Fault.{Fails};
 ghost use Rattle.giop_frames.specs.Header.{is_fragment};
 ghost use Rattle.giop_frames.specs.Walk.{IsAsFar, IsWalked, wants_octets};
 ghost use Rattle.giop_frames.specs.Stream.{begun_as, joined, message_by, part_of, so_far, with_more};
-ghost use Rattle.giop_frames.specs.StreamInside.{WantsRoom, limited_so_far};
+ghost use Rattle.giop_frames.specs.StreamInside.{WantsRoom, limited_so_far, limited_whole};
 
-use crate::content::finish_message;
 use crate::fault::{FrameFault, SIZE_LIMIT};
-use crate::framed::{Framed, frame};
+use crate::framed::{Framed, finish_framed};
 use crate::header::Header;
 use crate::walk::Walk;
 use cdr_values::CdrFault;
@@ -113,13 +112,44 @@ impl Unfinished {
         ensures err { OnErr result (self.new ≡ self.old) }
     {
         let before = self.content.len();
-        let header = self.header;
-        let mut walk = self.walk;
-        go_so_far(&mut walk, header, &mut self.content, octets)?;
-        let finished = finish_message(alloc, header, &self.content, walk);
+        let finished = finish_joined(
+            alloc,
+            self.place,
+            self.header,
+            self.walk,
+            &mut self.content,
+            octets,
+        );
         self.content.truncate(before);
-        Ok(frame(self.place, header, finished?))
+        finished
     }
+}
+
+/// The last octets of a message have come behind its content, and a walk that stood where octets were wanting goes on
+/// over them. The content has them behind it then, or is as it was.
+fn finish_joined(
+    alloc: Global,
+    place: u64,
+    header: Header,
+    mut walk: Walk,
+    content: &mut Vec<u8>,
+    octets: &[u8],
+) -> Result<Framed, FrameFault>
+    requires content { length content.old.items ≤ size_limit }
+    requires octets { length octets.now ≤ size_limit }
+    requires first { is_fragment header.kind ≡ false }
+    requires walked { IsWalked header content.old.items walk }
+    requires far { IsAsFar header content.old.items walk }
+    ensures says { IfOk result (λ framed.
+        limited_whole place header (content.old.items ++ octets.now) ≡ Ok (Some framed)) }
+    ensures refused { IfErr result (λ fault.
+        Fails fault (limited_whole place header (content.old.items ++ octets.now))) }
+    ensures memory { IfErr result (λ fault. fault ≡ FrameFault.Memory →
+        length (content.old.items ++ octets.now) ≤ size_limit) }
+    ensures front { take (length content.old.items) content.new.items ≡ content.old.items }
+{
+    go_so_far(&mut walk, header, content, octets)?;
+    finish_framed(alloc, place, header, content, walk)
 }
 
 /// More octets of a message have come behind its content, and a walk that stood where octets were wanting goes on over
@@ -147,16 +177,47 @@ fn go_so_far(
     ensures err { OnErr result (content.new.items ≡ content.old.items) }
 {
     let before = content.len();
-    let joined = before + octets.len();
+    join(content, octets)?;
+    if let Err(fault) = walk_so_far(walk, header, content) {
+        content.truncate(before);
+        return Err(fault);
+    }
+    Ok(())
+}
+
+/// Appends more octets of a message to its content, which then has at most 65,536 (our profile).
+fn join(content: &mut Vec<u8>, octets: &[u8]) -> Result<(), FrameFault>
+    requires content { length content.old.items ≤ size_limit }
+    requires octets { length octets.now ≤ size_limit }
+    ensures joined { OnOk result (content.new.items ≡ content.old.items ++ octets.now) }
+    ensures short { length content.new.items ≤ size_limit }
+    ensures refused { (header : Header) → IfErr result (λ fault.
+        Fails fault (limited_so_far header (content.old.items ++ octets.now))) }
+    ensures memory { IfErr result (λ fault. fault ≡ FrameFault.Memory →
+        WantsRoom (vec_capacity content.old) content.old.items octets.now) }
+    ensures err { OnErr result (content.new.items ≡ content.old.items) }
+{
+    let joined = content.len() + octets.len();
     if joined > SIZE_LIMIT {
         return Err(FrameFault::TooLarge(joined as u32));
     }
     content.extend_from_slice(octets)?;
+    Ok(())
+}
+
+/// A walk goes on over a content behind which more octets are to come: that octets are wanting is no fault.
+fn walk_so_far(walk: &mut Walk, header: Header, content: &[u8]) -> Result<(), FrameFault>
+    requires short { length content.now ≤ size_limit }
+    requires first { is_fragment header.kind ≡ false }
+    requires walked { IsWalked header content.now walk.old }
+    ensures walked { IsWalked header content.now walk.new }
+    ensures far { IsAsFar header content.now walk.new }
+    ensures says { OnOk result (so_far (message_by header content.now) ≡ Ok None) }
+    ensures refused { IfErr result (λ fault. so_far (message_by header content.now) ≡ Err fault) }
+    ensures memory { IfErr result (λ fault. fault ≢ FrameFault.Memory) }
+{
     match walk.go_on(header, content) {
-        Err(fault) if !wants_octets(fault) => {
-            content.truncate(before);
-            Err(fault)
-        }
+        Err(fault) if !wants_octets(fault) => Err(fault),
         _ => Ok(()),
     }
 }

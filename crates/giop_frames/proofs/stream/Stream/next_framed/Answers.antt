@@ -1,4 +1,8 @@
-use Rattle.std.proofs.Common.{◌∙◌, refl, inl, inr, rules, arith}
+use Rattle.std.proofs.Common.{◌≡◌, ◌∙◌, ◌⊎◌, ap, sym, refl, inl, inr, None, Some, arith}
+use Rattle.giop_frames.specs.declared.fault.FrameFault.{FrameFault}
+use Rattle.giop_frames.specs.declared.fault.FrameFault.TheVariants as faults
+use Rattle.giop_frames.specs.Held.{Held}
+use Rattle.giop_frames.specs.HeldInside.{remembering}
 use Rattle.giop_frames.proofs.Holding.{holds_part, holds_piece, holds_stream, kept_by, memory_is, part_of, refused_by, shorter}
 use Rattle.giop_frames.proofs.stream.Stream.next_framed.Goals as goal
 
@@ -14,8 +18,21 @@ loop-framed-preserved c =
       shorter = omega (arith, c.loop-framed.invariant.shorter, shorter c.loop-framed.self c.take_part.new.self _ t);
     }
 
+-- a refusal other than want of memory is remembered
+remembers : (old now : Held) (fault : FrameFault) → now ≡ remembering old fault → (fault ≡ faults.Memory) ⊎ (now.refused ≡ Some fault)
+remembers old now faults.BadMagic is = inr (ap (λ (h : Held). h.refused) is)
+remembers old now faults.BadVersion is = inr (ap (λ (h : Held). h.refused) is)
+remembers old now faults.BadType is = inr (ap (λ (h : Held). h.refused) is)
+remembers old now (faults.TooLarge n) is = inr (ap (λ (h : Held). h.refused) is)
+remembers old now faults.BadFragment is = inr (ap (λ (h : Held). h.refused) is)
+remembers old now (faults.Body place cdr) is = inr (ap (λ (h : Held). h.refused) is)
+remembers old now faults.Short is = inr (ap (λ (h : Held). h.refused) is)
+remembers old now faults.NotWritten is = inr (ap (λ (h : Held). h.refused) is)
+remembers old now faults.Memory is = inl refl
+
 pub returns-in-Ok-Nothing : goal.returns-in-Ok-Nothing
 returns-in-Ok-Nothing c =
+    let none : c.args.self.now.refused ≡ None = sym (ap (λ (h : Held). h.refused) c.self.view_is) ∙ c.in_default.is in
     let t = rw c.in-Ok-Nothing.field-0-is at c.in-Ok-Nothing.ensures in
     record {
       message = tt;
@@ -26,14 +43,15 @@ returns-in-Ok-Nothing c =
       keeps = tt;
       memory = λ none e. absurd cc;
       remembered = tt;
-      again = search rules;
-      accepts = search rules;
+      again = rw none tt;
+      accepts = ap (λ (h : Held). h.refused) t.0 ∙ c.loop-framed.invariant.accepts;
       partial = λ e. rw t.0 t.1;
       shorter = λ some. absurd cc;
     }
 
 pub returns-in-Ok-Whole : goal.returns-in-Ok-Whole
 returns-in-Ok-Whole c =
+    let none : c.args.self.now.refused ≡ None = sym (ap (λ (h : Held). h.refused) c.self.view_is) ∙ c.in_default.is in
     let t = rw c.in-Ok-Whole.field-0-is at c.in-Ok-Whole.ensures in
     record {
       message = λ versions octets messages h.
@@ -43,27 +61,29 @@ returns-in-Ok-Whole c =
       keeps = tt;
       memory = λ none e. absurd cc;
       remembered = tt;
-      again = search rules;
-      accepts = search rules;
+      again = rw none tt;
+      accepts = t.refused ∙ c.loop-framed.invariant.accepts;
       partial = λ e. absurd cc;
       shorter = λ some. omega (arith, c.loop-framed.invariant.shorter, shorter c.loop-framed.self c.take_part.new.self _ t);
     }
 
 pub returns-in-Err : goal.returns-in-Err
-returns-in-Err c = record {
-  message = tt;
-  nothing = λ e. absurd cc;
-  refused =
-      elim (refused_by c.loop-framed.self c.take_part.new.self c.remember.new.self c.in-Err.fault c.in-Err.ensures c.remember.ensures) [
-        | inl memory ↦ inl memory
-        | inr refused ↦ inr (λ versions octets messages h. refused versions octets messages (c.loop-framed.invariant.goes_on versions octets messages h))
-      ];
-  keeps = λ versions octets messages h.
-      kept_by versions octets messages c.loop-framed.self c.take_part.new.self c.remember.new.self c.in-Err.fault c.in-Err.ensures c.remember.ensures (c.loop-framed.invariant.goes_on versions octets messages h);
-  memory = λ none e. part_of c.loop-framed.self c.take_part.new.self c.remember.new.self c.in-Err.fault c.in-Err.ensures c.remember.ensures (memory_is c.in-Err.fault _ refl e);
-  remembered = search rules;
-  again = search rules;
-  accepts = tt;
-  partial = λ e. absurd cc;
-  shorter = tt;
-}
+returns-in-Err c =
+    let none : c.args.self.now.refused ≡ None = sym (ap (λ (h : Held). h.refused) c.self.view_is) ∙ c.in_default.is in
+    record {
+      message = tt;
+      nothing = λ e. absurd cc;
+      refused =
+          elim (refused_by c.loop-framed.self c.take_part.new.self c.remember.new.self c.in-Err.fault c.in-Err.ensures c.remember.ensures) [
+            | inl memory ↦ inl memory
+            | inr refused ↦ inr (λ versions octets messages h. refused versions octets messages (c.loop-framed.invariant.goes_on versions octets messages h))
+          ];
+      keeps = λ versions octets messages h.
+          kept_by versions octets messages c.loop-framed.self c.take_part.new.self c.remember.new.self c.in-Err.fault c.in-Err.ensures c.remember.ensures (c.loop-framed.invariant.goes_on versions octets messages h);
+      memory = λ none e. part_of c.loop-framed.self c.take_part.new.self c.remember.new.self c.in-Err.fault c.in-Err.ensures c.remember.ensures (memory_is c.in-Err.fault _ refl e);
+      remembered = remembers c.take_part.new.self c.remember.new.self c.in-Err.fault c.remember.ensures;
+      again = rw none tt;
+      accepts = tt;
+      partial = λ e. absurd cc;
+      shorter = tt;
+    }
