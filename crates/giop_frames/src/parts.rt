@@ -1,4 +1,4 @@
-ghost use Rattle.std.specs.Prelude.{◌≡◌, ℕ, true, false, ◌≢◌, ◌↔◌, ◌==◌, ◌<◌, ◌≤◌, ◌+◌, length, None, Err, IsTrue, IfNone, IfSome, Ok, IfErr, IfOk, OnErr, OnOk};
+ghost use Rattle.std.specs.Prelude.{◌≡◌, ℕ, true, false, ◌≢◌, ◌↔◌, ◌==◌, ◌<◌, ◌≤◌, ◌+◌, length, drop, None, Err, IsTrue, IfNone, IfSome, Ok, IfErr, IfOk, OnErr, OnOk};
 ghost use Rattle.std.specs.List.{position as position_of};
 ghost use Rattle.giop_frames.specs.Limits.{size_limit, unfinished_limit};
 ghost use Rattle.giop_frames.specs.Fault.{Fails};
@@ -143,6 +143,22 @@ fn begin(
         (λ fault. Fails fault (opening unfinished.old.items (part_of header content.now))) }
     ensures err { OnErr result (unfinished.new.items ≡ unfinished.old.items) }
 {
+    let id = free_id(unfinished, header, content)?;
+    unfinished.push(Unfinished::new(alloc, id, place, header, content)?)?;
+    Ok(())
+}
+
+/// The request_id of a first part whose message goes on, where it is that of no unfinished message, and there is room
+/// for one more.
+fn free_id(unfinished: &[Unfinished], header: Header, content: &[u8]) -> Result<u32, FrameFault>
+    requires content { length content.now ≤ size_limit }
+    ensures id { IfOk result (λ id. id ≡ id_of (part_of header content.now)) }
+    ensures long { OnOk result (4 ≤ length content.now) }
+    ensures free { OnOk result (numbered (id_of (part_of header content.now)) unfinished.now ≡ None) }
+    ensures room { OnOk result (length unfinished.now < unfinished_limit) }
+    ensures refused { IfErr result (λ fault. opening unfinished.now (part_of header content.now) ≡ Err fault) }
+    ensures memory { IfErr result (λ fault. fault ≢ FrameFault.Memory) }
+{
     let id = read_id(header.order, content)?;
     if let Some(_) = position(unfinished, id) {
         return Err(FrameFault::BadFragment);
@@ -150,9 +166,7 @@ fn begin(
     if unfinished.len() >= UNFINISHED_LIMIT {
         return Err(FrameFault::BadFragment);
     }
-    let begun = Unfinished::new(alloc, id, place, header, content)?;
-    unfinished.push(begun)?;
-    Ok(())
+    Ok(id)
 }
 
 /// A Fragment, which goes on with a message.
@@ -169,18 +183,60 @@ fn go_on(
         result unfinished.old.items unfinished.new.items }
 {
     let id = read_id(header.order, content)?;
-    let Some(index) = position(unfinished, id) else {
-        return Err(FrameFault::BadFragment);
-    };
-    let first = &mut unfinished[index];
-    let octets = behind(content, 4);
-    if header.more {
-        first.go_on(octets)?;
-        return Ok(None);
+    match position(unfinished, id) {
+        None => Err(FrameFault::BadFragment),
+        Some(index) if header.more => extend(unfinished, index, header, content),
+        Some(index) => end(alloc, unfinished, index, header, content),
     }
-    let framed = first.finish(alloc, octets)?;
+}
+
+/// A Fragment of the message at this index, behind which more of them come.
+fn extend(
+    unfinished: &mut Vec<Unfinished>,
+    index: usize,
+    header: Header,
+    content: &[u8],
+) -> Result<Option<Framed>, FrameFault>
+    requires unfinished { AreShort unfinished.old.items }
+    requires content { length content.now ≤ size_limit }
+    requires fragment { is_fragment header.kind ≡ true }
+    requires more { header.more ≡ true }
+    requires long { 4 ≤ length content.now }
+    requires at { IsAt (id_of (part_of header content.now)) unfinished.old.items index }
+    ensures { (place : ℕ) → Judges place (part_of header content.now)
+        result unfinished.old.items unfinished.new.items }
+{
+    unfinished[index].go_on(behind_id(content))?;
+    Ok(None)
+}
+
+/// The last Fragment of the message at this index.
+fn end(
+    alloc: Global,
+    unfinished: &mut Vec<Unfinished>,
+    index: usize,
+    header: Header,
+    content: &[u8],
+) -> Result<Option<Framed>, FrameFault>
+    requires unfinished { AreShort unfinished.old.items }
+    requires content { length content.now ≤ size_limit }
+    requires fragment { is_fragment header.kind ≡ true }
+    requires more { header.more ≡ false }
+    requires long { 4 ≤ length content.now }
+    requires at { IsAt (id_of (part_of header content.now)) unfinished.old.items index }
+    ensures { (place : ℕ) → Judges place (part_of header content.now)
+        result unfinished.old.items unfinished.new.items }
+{
+    let framed = unfinished[index].finish(alloc, behind_id(content))?;
     let _ = unfinished.remove(index);
     Ok(Some(framed))
+}
+
+/// The octets that a Fragment has behind its request_id.
+fn behind_id(content: &[u8]) -> &[u8]
+    ensures { result.now ≡ drop 4 content.now }
+{
+    behind(content, 4)
 }
 
 /// Where the unfinished message of this request_id is.

@@ -1,7 +1,7 @@
 ghost use Rattle.giop_frames.specs.EncodeInside.{Tells, TellsNothing};
 
 use crate::header::Kind;
-use crate::message::{Message, ServiceContext, Target};
+use crate::message::{Locate, Located, Message, Reply, Request, ServiceContext, Target};
 use cdr_values::Order;
 
 /// What a message tells where it is written. What it doesn't have is 0 or empty.
@@ -30,41 +30,65 @@ impl<'a> Told<'a> {
         ensures { Tells result message.now }
     {
         match message {
-            Message::Request(request) => Told {
-                order: request.order,
-                id: request.id,
-                flags: request.flags,
-                target: Some(&request.target),
-                operation: request.operation.bytes(),
-                contexts: request.contexts.items(),
-                behind: request.body.bytes(),
-                ..Told::nothing(Kind::Request)
-            },
-            Message::Reply(reply) => Told {
-                order: reply.order,
-                id: reply.id,
-                status: reply.status,
-                contexts: reply.contexts.items(),
-                behind: reply.body.bytes(),
-                ..Told::nothing(Kind::Reply)
-            },
+            Message::Request(request) => Told::of_request(request),
+            Message::Reply(reply) => Told::of_reply(reply),
             Message::Cancel(id) => Told {
                 id: *id,
                 ..Told::nothing(Kind::CancelRequest)
             },
-            Message::Locate(locate) => Told {
-                id: locate.id,
-                target: Some(&locate.target),
-                ..Told::nothing(Kind::LocateRequest)
-            },
-            Message::LocateReply(located) => Told {
-                id: located.id,
-                status: located.status,
-                behind: located.rest.bytes(),
-                ..Told::nothing(Kind::LocateReply)
-            },
+            Message::Locate(locate) => Told::of_locate(locate),
+            Message::LocateReply(located) => Told::of_located(located),
             Message::Close => Told::nothing(Kind::CloseConnection),
             Message::Error => Told::nothing(Kind::MessageError),
+        }
+    }
+
+    fn of_request(request: &'a Request) -> Told<'a>
+        ensures { Tells result (Message.Request request.now) }
+    {
+        Told {
+            order: request.order,
+            id: request.id,
+            flags: request.flags,
+            target: Some(&request.target),
+            operation: request.operation.bytes(),
+            contexts: request.contexts.items(),
+            behind: request.body.bytes(),
+            ..Told::nothing(Kind::Request)
+        }
+    }
+
+    fn of_reply(reply: &'a Reply) -> Told<'a>
+        ensures { Tells result (Message.Reply reply.now) }
+    {
+        Told {
+            order: reply.order,
+            id: reply.id,
+            status: reply.status,
+            contexts: reply.contexts.items(),
+            behind: reply.body.bytes(),
+            ..Told::nothing(Kind::Reply)
+        }
+    }
+
+    fn of_locate(locate: &'a Locate) -> Told<'a>
+        ensures { Tells result (Message.Locate locate.now) }
+    {
+        Told {
+            id: locate.id,
+            target: Some(&locate.target),
+            ..Told::nothing(Kind::LocateRequest)
+        }
+    }
+
+    fn of_located(located: &'a Located) -> Told<'a>
+        ensures { Tells result (Message.LocateReply located.now) }
+    {
+        Told {
+            id: located.id,
+            status: located.status,
+            behind: located.rest.bytes(),
+            ..Told::nothing(Kind::LocateReply)
         }
     }
 
