@@ -6,6 +6,7 @@ pub mod Exact
 pub mod Headers
 pub mod Whole
 pub mod Ends
+pub mod Appended
 pub mod Putting
 pub mod Refused
 pub mod Canonical
