@@ -30,7 +30,7 @@ pub fn heard(alloc: Global, a: &Answer) -> Result<Heard, AllocError>
 
 /// What the caller of an outward call hears in the reply to it. A reply that is no answer is heard as Other, and want of
 /// memory as Starved. Where no reply came the caller has to say Lost itself.
-#[tactic(auto, using(crate::proofs::Replies::reference_held, crate::proofs::Replies::not_starved, crate::proofs::Replies::not_lost))]
+#[tactic(auto, using(crate::proofs::Replies::reference_held))]
 pub fn heard_in_reply(alloc: Global, c: &Call, r: &Reply) -> Heard
     requires { length r.now.body < 2 ^ 31 }
     ensures heard { (result ≡ Heard.Starved) ⊎ (result ≡ heard_in_reply c.now r.now) }
@@ -38,12 +38,26 @@ pub fn heard_in_reply(alloc: Global, c: &Call, r: &Reply) -> Heard
     ensures came { result ≢ Heard.Lost }
 {
     match read_answer(alloc, c, r) {
-        Ok(answer) => match heard(alloc, &answer) {
-            Ok(heard) => heard,
-            Err(_) => Heard::Starved,
-        },
+        Ok(answer) => {
+            let heard = heard_or_starved(alloc, &answer);
+            drop(answer);
+            heard
+        }
         Err(CallFault::Memory) => Heard::Starved,
         Err(_) => Heard::Other,
+    }
+}
+
+/// What the caller hears in its answer, and want of memory as Starved.
+#[tactic(auto, using(crate::proofs::Replies::not_starved, crate::proofs::Replies::not_lost))]
+fn heard_or_starved(alloc: Global, a: &Answer) -> Heard
+    ensures heard { (result ≡ Heard.Starved) ⊎ (result ≡ heard_in a.now) }
+    ensures memory { result ≡ Heard.Starved → GivesReference a.now }
+    ensures came { result ≢ Heard.Lost }
+{
+    match heard(alloc, a) {
+        Ok(heard) => heard,
+        Err(_) => Heard::Starved,
     }
 }
 
