@@ -6,6 +6,7 @@ pub mod Call
 pub mod Reading
 pub mod Retry
 pub mod Request
+pub mod RequestInside
 pub mod Writing
 pub mod WritingInside
 pub mod Exception

@@ -1,21 +1,31 @@
 ghost use Rattle.std.specs.Prelude.{◌≡◌, ◌≢◌, ◌⊎◌, ◌^◌, ◌<◌, All, IfErr, IfOk, Err, Ok, length};
+ghost use Rattle.cdr_values.specs.Again.{standing};
 ghost use Rattle.ots_calls.specs.Fault.{Finds};
+ghost use Rattle.ots_calls.specs.Reading.{IsHeld, call_at};
 ghost use Rattle.ots_calls.specs.Request.{IsFor, Refuses, WantsMemory, WantsMemoryFor, called_with};
+ghost use Rattle.ots_calls.specs.RequestInside.{HoldsArguments, WantsMemoryAs, called_as, called_within, said_by};
 ghost use Rattle.ots_calls.specs.Retry.{first_retry, retry_in, retry_in_first};
 
-use crate::call::Called;
+use crate::call::{Call, Called};
 use crate::fault::CallFault;
 use crate::operation::Operation;
 use crate::reading::read_arguments;
 use cdr_values::Reader;
 use giop_frames::{Request, ServiceContext, Target};
 use ior_refs::{ObjectKey, key_of};
-use ots_context::find_context;
+use ots_context::{Context, find_context};
 use ots_model::RetryKey;
 use std::alloc::Global;
 
 /// The context_id of a retry key (our profile): the letters OTR and a zero.
 pub(crate) const RETRY_CONTEXT: u32 = 0x4F54_5200;
+
+/// A call and its retry key, where it has one.
+#[derive(Drop)]
+pub(crate) struct Said {
+    call: Call,
+    retry: Option<RetryKey>,
+}
 
 /// The call that a request is.
 pub fn read_call(alloc: Global, r: &Request) -> Result<Called, CallFault>
@@ -44,19 +54,74 @@ fn read_for(alloc: Global, key: ObjectKey, r: &Request) -> Result<Called, CallFa
     ensures exact { Finds (λ c. c) result (called_with key r.now) }
     ensures memory { result ≡ Err CallFault.Memory → WantsMemoryFor key r.now }
 {
-    let Some(operation) = Operation::named(key.kind, r.operation.bytes()) else {
-        return Err(CallFault::BadOperation);
-    };
+    match Operation::named(key.kind, r.operation.bytes()) {
+        Some(operation) => read_named(alloc, key, operation, r),
+        None => Err(CallFault::BadOperation),
+    }
+}
+
+/// The call of this operation that a request is.
+fn read_named(
+    alloc: Global,
+    key: ObjectKey,
+    operation: Operation,
+    r: &Request,
+) -> Result<Called, CallFault>
+    requires body { length r.now.body < 2 ^ 31 }
+    requires contexts { All (λ context. length context.bytes < 2 ^ 31) r.now.contexts }
+    ensures key { IfOk result (λ c. c.key ≡ key) }
+    ensures exact { Finds (λ c. c) result (called_as key operation r.now) }
+    ensures memory { result ≡ Err CallFault.Memory → WantsMemoryAs operation r.now }
+{
     let context = find_context(alloc, r)?;
+    read_within(alloc, key, operation, context, r)
+}
+
+/// The call of this operation that a request is, which belongs to a transaction with this context, or to none.
+fn read_within(
+    alloc: Global,
+    key: ObjectKey,
+    operation: Operation,
+    context: Option<Context>,
+    r: &Request,
+) -> Result<Called, CallFault>
+    requires body { length r.now.body < 2 ^ 31 }
+    requires contexts { All (λ context. length context.bytes < 2 ^ 31) r.now.contexts }
+    ensures key { IfOk result (λ c. c.key ≡ key) }
+    ensures exact { Finds (λ c. c) result (called_within key operation context r.now) }
+    ensures memory { result ≡ Err CallFault.Memory → HoldsArguments operation r.now }
+{
+    match read_said(alloc, operation, r) {
+        Ok(said) => Ok(Called {
+            key,
+            call: said.call,
+            retry: said.retry,
+            context,
+        }),
+        Err(fault) => Err(fault),
+    }
+}
+
+/// What a request for this operation says beside its transaction.
+fn read_said(alloc: Global, operation: Operation, r: &Request) -> Result<Said, CallFault>
+    requires body { length r.now.body < 2 ^ 31 }
+    requires contexts { All (λ context. length context.bytes < 2 ^ 31) r.now.contexts }
+    ensures exact { Finds (λ said. said) result (said_by operation r.now) }
+    ensures memory { result ≡ Err CallFault.Memory → HoldsArguments operation r.now }
+{
     let retry = find_retry(r.contexts.items())?;
+    let call = read_body(alloc, operation, r)?;
+    Ok(Said { call, retry })
+}
+
+/// The call of this operation in the body of a request.
+fn read_body(alloc: Global, operation: Operation, r: &Request) -> Result<Call, CallFault>
+    requires { length r.now.body < 2 ^ 31 }
+    ensures exact { Finds (λ call. call) result (call_at operation (standing r.now.order 0 r.now.body)) }
+    ensures memory { result ≡ Err CallFault.Memory → IsHeld operation }
+{
     let mut reader = Reader::new(r.body.bytes(), r.order, 0);
-    let call = read_arguments(alloc, operation, &mut reader)?;
-    Ok(Called {
-        key,
-        call,
-        retry,
-        context,
-    })
+    read_arguments(alloc, operation, &mut reader)
 }
 
 /// The retry key of a request with these service contexts, or None where it has none.
