@@ -1,13 +1,14 @@
 ghost use Rattle.std.specs.Prelude.{◌≡◌, ◌≢◌, Err};
 ghost use Rattle.ots_calls.specs.Fault.{Finds};
-ghost use Rattle.ots_calls.specs.Reading.{IsHeld, call_at, ended, status_of};
+ghost use Rattle.ots_calls.specs.Reading.{IsHeld, call_at, ended, status_of, with_object};
+ghost use Rattle.ots_calls.specs.declared.call.Call.TheVariants as calls;
 ghost use Rattle.ots_calls.specs.declared.operation.Operation.TheVariants as operations;
 
 use crate::call::Call;
 use crate::fault::CallFault;
 use crate::operation::{Handing, Operation};
 use cdr_values::Reader;
-use ior_refs::read_ref;
+use ior_refs::{ObjectRef, read_ref};
 use ots_context::read_context;
 use ots_model::{Octets, Status};
 use std::alloc::Global;
@@ -54,17 +55,23 @@ pub(crate) fn read_arguments(
     }
 }
 
-#[tactic(auto, unfolding(crate::specs::Reading::call_at, crate::specs::Reading::with_object))]
+#[tactic(auto, unfolding(crate::specs::Reading::call_at, crate::specs::Reading::ended))]
 fn read_handing(alloc: Global, handing: Handing, reader: &mut Reader) -> Result<Call, CallFault>
     ensures { Finds (λ call. call) result (call_at (operations.Handing handing) reader.old) }
 {
     let reference = read_ref(alloc, reader)?;
-    let is_nil = reference.is_nil();
-    let call = ended(reader, Call::Handing(handing, reference))?;
-    if is_nil {
+    handed(handing, ended(reader, reference)?)
+}
+
+/// The call that hands over this reference, which has to name an object.
+#[tactic(auto, unfolding(crate::specs::Reading::with_object))]
+fn handed(handing: Handing, reference: ObjectRef) -> Result<Call, CallFault>
+    ensures { Finds (λ call. call) result (with_object reference (calls.Handing handing reference)) }
+{
+    if reference.is_nil() {
         return Err(CallFault::BadParam);
     }
-    Ok(call)
+    Ok(Call::Handing(handing, reference))
 }
 
 #[tactic(auto, using(crate::proofs::Frugal::ulong_frugal), unfolding(crate::specs::Reading::call_at))]
