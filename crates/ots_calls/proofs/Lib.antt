@@ -10,6 +10,7 @@ pub mod Contexts
 pub mod Exceptions
 pub mod Answers
 pub mod Sizes
+pub mod Refusals
 pub mod Shapes
 pub mod Frugal
 pub mod Replies

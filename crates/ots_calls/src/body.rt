@@ -1,4 +1,4 @@
-ghost use Rattle.std.specs.Prelude.{◌≡◌, ◌^◌, ◌<◌, ◌≤◌, IfOk, Ok, IsTrue, false, length};
+ghost use Rattle.std.specs.Prelude.{◌≡◌, ◌^◌, ◌<◌, ◌≤◌, [], ◌∷◌, IfOk, Ok, IsTrue, false, length};
 ghost use Rattle.cdr_values.specs.Limits.{output_limit};
 ghost use Rattle.cdr_values.specs.Again.{standing};
 ghost use Rattle.cdr_values.specs.Tagged.{reference_values};
@@ -49,17 +49,17 @@ pub(crate) fn body_of(alloc: Global, call: &Call) -> Result<Octets, CallFault>
     match call {
         Call::Bare(_) => values_body(alloc, &[]),
         Call::Handing(_, reference) => reference_body(alloc, reference),
-        Call::Create(time_out) => values_body(alloc, &[Piece::Number(*time_out)]),
+        Call::Create(time_out) => value_body(alloc, Piece::Number(*time_out)),
         Call::Recreate(context) => context_body(alloc, context),
         Call::CommitTransaction(report_heuristics) => {
-            values_body(alloc, &[Piece::Flag(*report_heuristics)])
+            value_body(alloc, Piece::Flag(*report_heuristics))
         }
         Call::AfterCompletion(status) => {
-            values_body(alloc, &[Piece::Number(status_number(*status))])
+            value_body(alloc, Piece::Number(status_number(*status)))
         }
         Call::Put(cell, value) => values_body(alloc, &[Piece::Long(*cell), Piece::Long(*value)]),
-        Call::Get(cell) => values_body(alloc, &[Piece::Long(*cell)]),
-        Call::IsA(id) => values_body(alloc, &[Piece::Text(id.bytes())]),
+        Call::Get(cell) => value_body(alloc, Piece::Long(*cell)),
+        Call::IsA(id) => value_body(alloc, Piece::Text(id.bytes())),
     }
 }
 
@@ -79,6 +79,16 @@ pub(crate) fn status_number(status: Status) -> u32
         Status::Committing => 8,
         Status::RollingBack => 9,
     }
+}
+
+/// The body of this value.
+pub(crate) fn value_body(alloc: Global, piece: Piece) -> Result<Octets, CallFault>
+    requires { IsPiece piece }
+    ensures exact { Finds (λ octets. octets) result (octets_with blank (values_of (piece.entry ∷ []))) }
+    ensures left { IfOk result (λ octets. AreLeft (values_of (piece.entry ∷ [])) (standing Big 0 octets)) }
+    ensures short { IfOk result (λ octets. length octets ≤ output_limit) }
+{
+    values_body(alloc, &[piece])
 }
 
 /// The body of these values.

@@ -15,7 +15,7 @@ ghost use Rattle.ots_calls.specs.declared.answer.Answer.TheVariants as answers;
 ghost use Rattle.ots_calls.specs.declared.fault.CallFault.TheVariants.{Memory};
 
 use crate::answer::{Answer, Completed, Given};
-use crate::body::{Piece, context_body, reference_body, status_number, values_body};
+use crate::body::{Piece, context_body, reference_body, status_number, value_body, values_body};
 use crate::call::Call;
 use crate::fault::CallFault;
 use crate::laws::answers_are_read_exactly;
@@ -74,7 +74,7 @@ fn answer_body(alloc: Global, answer: &Answer) -> Result<Octets, CallFault>
 {
     match answer {
         Answer::Plain(given) => given_body(alloc, given),
-        Answer::User(exception) => values_body(alloc, &[Piece::Text(exception.id())]),
+        Answer::User(exception) => value_body(alloc, Piece::Text(exception.id())),
         Answer::System(exception, minor, completed) => {
             let number = completed_number(*completed);
             let pieces = [
@@ -96,12 +96,12 @@ fn given_body(alloc: Global, given: &Given) -> Result<Octets, CallFault>
 {
     match given {
         Given::Nothing => values_body(alloc, &[]),
-        Given::Flag(flag) => values_body(alloc, &[Piece::Flag(*flag)]),
-        Given::Number(number) => values_body(alloc, &[Piece::Number(*number)]),
+        Given::Flag(flag) => value_body(alloc, Piece::Flag(*flag)),
+        Given::Number(number) => value_body(alloc, Piece::Number(*number)),
         Given::Reference(reference) => reference_body(alloc, reference),
-        Given::State(status) => values_body(alloc, &[Piece::Number(status_number(*status))]),
-        Given::Ballot(vote) => values_body(alloc, &[Piece::Number(vote_number(*vote))]),
-        Given::Word(text) => values_body(alloc, &[Piece::Text(text.bytes())]),
+        Given::State(status) => value_body(alloc, Piece::Number(status_number(*status))),
+        Given::Ballot(vote) => value_body(alloc, Piece::Number(vote_number(*vote))),
+        Given::Word(text) => value_body(alloc, Piece::Text(text.bytes())),
         Given::Transaction(context) => context_body(alloc, context),
         Given::Found(Some(value)) => values_body(alloc, &[Piece::Flag(true), Piece::Long(*value)]),
         Given::Found(None) => values_body(alloc, &[Piece::Flag(false), Piece::Long(0)]),

@@ -10,7 +10,8 @@ ghost use Rattle.ots_context.specs.Writing.{kept_length};
 ghost use Rattle.ots_calls.specs.Fault.{Finds};
 ghost use Rattle.ots_calls.specs.Request.{AreBoth, IsCall, called_with};
 ghost use Rattle.ots_calls.specs.Retry.{IsRetry, first_retry};
-ghost use Rattle.ots_calls.specs.Writing.{LacksObject, LacksOperation, OnlySizeRefuses, carried_length, contexts_of, handed_length, request_of, retry_octets, size_of_contexts, with_retry, with_transaction};
+ghost use Rattle.ots_calls.specs.Writing.{LacksObject, LacksOperation, OnlySizeRefuses, carried_length, contexts_of, handed_length, request_of, request_with, retry_octets, size_of_contexts, with_retry, with_transaction};
+ghost use Rattle.ots_calls.specs.WritingInside.{IsAllowed, refusal, written_request};
 
 use crate::body::body_of;
 use crate::call::Called;
@@ -31,7 +32,7 @@ const KINDS: &[u8; 10] = b"FCTKVRUYAD";
 const TRANSACTION_SERVICE: u32 = 0;
 
 /// The request of a call, with this request_id. It is big endian, and a reply is wanted.
-#[tactic(auto, using(crate::proofs::Sizes::key_length, crate::proofs::Words::word_short), unfolding(crate::specs::Writing::request_of))]
+#[tactic(auto, using(crate::proofs::Refusals::refused, crate::proofs::Refusals::allowed), unfolding(crate::specs::Writing::request_of))]
 pub fn write_call(alloc: Global, id: u32, c: &Called) -> Result<Request, CallFault>
     requires call { handed_length c.now.call < 2 ^ 31 }
     requires context { carried_length c.now.context < 2 ^ 31 }
@@ -46,23 +47,59 @@ pub fn write_call(alloc: Global, id: u32, c: &Called) -> Result<Request, CallFau
     ensures object { LacksObject c.now → result ≡ Err CallFault.BadParam }
 {
     requests_are_read_exactly();
-    let operation = c.call.operation();
+    match refusal_of(c) {
+        Some(fault) => Err(fault),
+        None => request_of(alloc, id, c),
+    }
+}
+
+/// Why no request is written, whatever its body and its contexts.
+fn refusal_of(c: &Called) -> Option<CallFault>
+    ensures { result ≡ refusal c.now }
+{
     if !KINDS.contains(&c.key.kind) {
-        return Err(CallFault::BadKey);
+        Some(CallFault::BadKey)
+    } else if !c.call.operation().serves(c.key.kind) {
+        Some(CallFault::BadOperation)
+    } else if c.call.lacks_object() {
+        Some(CallFault::BadParam)
+    } else {
+        None
     }
-    if !operation.serves(c.key.kind) {
-        return Err(CallFault::BadOperation);
-    }
-    if c.call.lacks_object() {
-        return Err(CallFault::BadParam);
-    }
+}
+
+/// The request of a call that is allowed.
+#[tactic(auto, using(crate::proofs::Sizes::key_length, crate::proofs::Words::word_short))]
+fn request_of(alloc: Global, id: u32, c: &Called) -> Result<Request, CallFault>
+    requires call { handed_length c.now.call < 2 ^ 31 }
+    requires context { carried_length c.now.context < 2 ^ 31 }
+    requires allowed { IsAllowed c.now }
+    ensures exact { Finds (λ request. request) result (written_request id c.now) }
+    ensures call { IfOk result (λ request. IsCall c.now request) }
+    ensures big { IfOk result (λ request. request.order ≡ Big) }
+    ensures short { IfOk result (λ request. octets_in (messages.Request request) < 2 ^ 31) }
+    ensures framed { IfOk result (λ request. OnlySizeRefuses (messages.Request request)) }
+{
     let contexts = contexts_of(alloc, c)?;
     let body = body_of(alloc, &c.call)?;
+    addressed(alloc, id, c, contexts, body)
+}
+
+/// The request of a call with these contexts and this body.
+fn addressed(
+    alloc: Global,
+    id: u32,
+    c: &Called,
+    contexts: Contexts,
+    body: Octets,
+) -> Result<Request, CallFault>
+    ensures { Finds (λ request. request) result (Ok (request_with id c.now contexts body)) }
+{
     Ok(Request {
         id,
         flags: 3,
         target: Target::Key(Octets::new(alloc, &key_octets(&c.key))?),
-        operation: Octets::new(alloc, operation.row().word)?,
+        operation: Octets::new(alloc, c.call.operation().row().word)?,
         contexts,
         order: Order::Big,
         body,
