@@ -1,4 +1,5 @@
 ghost use Rattle.std.specs.Prelude.{◌≡◌, ◌≢◌, Err, ◌^◌, ◌<◌, IfOk, length};
+ghost use Rattle.cdr_values.specs.Again.{standing};
 ghost use Rattle.ots_calls.specs.Answer.{IsAnswer};
 ghost use Rattle.ots_calls.specs.Answering.{IsHeld, WantsMemory, answer_at, answer_with, completed_of, garbled, given_at, raised_at, system_at, vote_of};
 ghost use Rattle.ots_calls.specs.Call.{operation_of};
@@ -41,11 +42,17 @@ fn read_with(alloc: Global, c: &Call, r: &Reply) -> Result<Answer, CallFault>
     ensures exact { Finds (λ answer. answer) result (answer_with c.now r.now) }
     ensures memory { result ≡ Err CallFault.Memory → WantsMemory (operation_of c.now) r.now.status }
 {
+    read_reply(alloc, c.operation(), r).map_err(garbled)
+}
+
+/// The answer to a call of this operation that a reply is.
+fn read_reply(alloc: Global, operation: Operation, r: &Reply) -> Result<Answer, CallFault>
+    requires { length r.now.body < 2 ^ 31 }
+    ensures exact { Finds (λ answer. answer) result (answer_at operation r.now.status (standing r.now.order 0 r.now.body)) }
+    ensures memory { result ≡ Err CallFault.Memory → WantsMemory operation r.now.status }
+{
     let mut reader = Reader::new(r.body.bytes(), r.order, 0);
-    match read_status(alloc, c.operation(), r.status, &mut reader) {
-        Ok(answer) => Ok(answer),
-        Err(fault) => Err(garbled(fault)),
-    }
+    read_status(alloc, operation, r.status, &mut reader)
 }
 
 /// A fault of a reply.
