@@ -15,3 +15,4 @@ pub mod OneWay
 pub mod Once
 pub mod Own
 pub mod Causes
+pub mod Silence

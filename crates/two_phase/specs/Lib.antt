@@ -18,4 +18,5 @@ pub mod StandingInside
 pub mod LawsOfCourses
 pub mod LawsOfReached
 pub mod LawsOfParticipants
+pub mod LawsOfSilence
 pub mod LawsOfOutcomes

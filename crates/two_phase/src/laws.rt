@@ -3,6 +3,7 @@
 ghost use Rattle.two_phase.specs.LawsOfCourses.{TreeWordsGoRightly};
 ghost use Rattle.two_phase.specs.LawsOfOutcomes.{OutcomesHaveCauses};
 ghost use Rattle.two_phase.specs.LawsOfParticipants.{NoParticipantHearsTwice, ParticipantsHaveNumbers};
+ghost use Rattle.two_phase.specs.LawsOfSilence.{NoWordIsLeftOut};
 ghost use Rattle.two_phase.specs.LawsOfReached.{NoCommitAfterRollback, NoRollbackAfterCommit, NoWordTwice, TreeOutcomeStays};
 ghost use Rattle.two_phase.specs.LawsOfPolls.{OutcomeAwaitsAll, OutcomeStays, WordsGoRightly};
 
@@ -29,6 +30,12 @@ pub fn words_go_rightly()
 /// heuristic exception; and nothing else goes out.
 pub fn tree_words_go_rightly()
     ensures { TreeWordsGoRightly }
+{}
+
+/// No word of the completion of a tree is left out. Where none goes out, one is out, the journal is to be asked, nobody knows
+/// whether the record stands, or all have answered the outcome; and forget then waits, or all have answered that too.
+pub fn no_tree_word_is_left_out()
+    ensures { NoWordIsLeftOut }
 {}
 
 /// In a completion of a tree an outcome that is fixed stays, whatever goes out, is answered, is recorded, or comes from

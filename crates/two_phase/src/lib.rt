@@ -6,8 +6,8 @@ pub use dispositions::Dispositions;
 pub use flat_completion::FlatCompletion;
 pub use laws::{
     a_participant_hears_once, a_tree_goes_one_way, a_tree_outcome_stays, a_tree_word_goes_out_once,
-    an_outcome_awaits_all, an_outcome_stays, tree_outcomes_have_causes, tree_words_go_rightly,
-    words_go_rightly,
+    an_outcome_awaits_all, an_outcome_stays, no_tree_word_is_left_out, tree_outcomes_have_causes,
+    tree_words_go_rightly, words_go_rightly,
 };
 pub use room::Blank;
 
