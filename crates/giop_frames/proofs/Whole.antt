@@ -1,7 +1,7 @@
 -- What the whole gives where its steps give what they do, and what they give where the whole gives a message.
-use Rattle.std.proofs.Common.{◌≡◌, ℕ, ◌+◌, ◌≤◌, ◌||◌, false, ltb, List, ◌∷◌, ◌++◌, length, take, drop, Result, Ok, Err, refl, sym, ap, subst, ◌∙◌, append_assoc, arith}
+use Rattle.std.proofs.Common.{◌≡◌, ℕ, ◌+◌, ◌<◌, ◌≤◌, ◌||◌, true, false, ltb, List, ◌∷◌, ◌++◌, length, take, drop, Result, Ok, Err, refl, sym, ap, subst, ◌∙◌, append_assoc, arith}
 use Rattle.std.specs.Prelude.{IfOk, IfErr}
-use Rattle.std.proofs.lemmas.Bool.{le-ltb, ltb-false, or_parts}
+use Rattle.std.proofs.lemmas.Bool.{le-ltb, lt-ltb, ltb-false, or_parts}
 use Rattle.std.proofs.lemmas.List.{take_at, drop_at, length-append}
 use Rattle.cdr_values.specs.Reading.{◌>>=◌}
 use Rattle.giop_frames.specs.declared.fault.FrameFault.{FrameFault}
@@ -26,6 +26,21 @@ pub decoded_content : (versions : List Version) → (octets : List ℕ) (h : Hea
     → decoded versions octets ≡ (message_of h.version h.order h.kind (take h.size (drop 12 octets)) >>= λ message. Ok (message, 12 + h.size))
 unfolding decoded
 decoded_content versions octets h e whole long = rw (e, whole, le-ltb (length octets) (12 + h.size) long) refl
+
+-- a header that is refused
+pub decoded_headless : (versions : List Version) → (octets : List ℕ) (fault : FrameFault) → header_at versions octets ≡ Err fault → decoded versions octets ≡ Err fault
+unfolding decoded
+decoded_headless versions octets fault e = rw e refl
+
+-- a part that is not a message
+pub decoded_part : (versions : List Version) → (octets : List ℕ) (h : Header) → header_at versions octets ≡ Ok h → (h.more || is_fragment h.kind) ≡ true → decoded versions octets ≡ Err BadFragment
+unfolding decoded
+decoded_part versions octets h e part = rw (e, part) refl
+
+-- a content that has not come
+pub decoded_short : (versions : List Version) → (octets : List ℕ) (h : Header) → header_at versions octets ≡ Ok h → (h.more || is_fragment h.kind) ≡ false → length octets < 12 + h.size → decoded versions octets ≡ Err Short
+unfolding decoded
+decoded_short versions octets h e whole short = rw (e, whole, lt-ltb (length octets) (12 + h.size) short) refl
 
 -- a fault of the content is the fault of the whole
 pub decoded_fault : (versions : List Version) → (octets : List ℕ) (h : Header) (fault : FrameFault) → header_at versions octets ≡ Ok h → (h.more || is_fragment h.kind) ≡ false → 12 + h.size ≤ length octets
