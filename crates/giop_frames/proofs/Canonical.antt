@@ -35,12 +35,12 @@ use Rattle.giop_frames.proofs.Refused.{fields_pass, or_none, size_is_small, test
 -- ---- the fields
 
 -- where the fields begin
-abbrev pub begun : Message → Writing
-begun m = record { order = order_of m; start = 12; octets = [] }
+abbrev pub begun : Order → Writing
+begun order = record { order = order; start = 12; octets = [] }
 
--- what was written there is the fields
-pub fields_written : (version : Version) (m : Message) → (with_values (begun m) (values_of version m)).octets ≡ fields_of version m
-fields_written version m = ap (λ (w : Writing). w.octets) (with_values-is (begun m) (values_of version m))
+-- what was written there is their octets
+pub fields_written : (order : Order) (values : List Value) → (with_values (begun order) values).octets ≡ canonical_all order 12 values
+fields_written order values = ap (λ (w : Writing). w.octets) (with_values-is (begun order) values)
 
 -- ---- values
 

@@ -2,8 +2,11 @@
 use Rattle.std.proofs.Common.{◌≡◌, ℕ, ◌+◌, ◌-◌, ◌<◌, ◌≤◌, Bool, true, false, cond, ltb, List, [], ◌∷◌, length, Option, Some, None, Ok, Err, refl, sym, ap, ◌∙◌, arith, length-append}
 use Rattle.std.specs.List.{flat_map}
 use Rattle.std.proofs.lemmas.Bool.{ltb-false, lt-ltb, le-ltb}
+use Rattle.std.proofs.lemmas.List.{length-replicate}
+use Rattle.cdr_values.specs.Values.{canonical_all}
 use Rattle.giop_frames.specs.declared.fault.FrameFault.{FrameFault}
 use Rattle.giop_frames.specs.declared.fault.FrameFault.TheVariants.{TooLarge}
+use Rattle.giop_frames.specs.declared.header.Kind.{Kind}
 use Rattle.giop_frames.specs.declared.header.Kind.TheVariants as kinds
 use Rattle.giop_frames.specs.declared.layout.Version.{Version}
 use Rattle.giop_frames.specs.declared.layout.Version.TheVariants.{V1_2}
@@ -11,11 +14,11 @@ use Rattle.giop_frames.specs.declared.message.Message.{Message}
 use Rattle.giop_frames.specs.declared.message.Message.TheVariants as messages
 use Rattle.giop_frames.specs.declared.told.Told.{Told}
 use Rattle.giop_frames.specs.Limits.{size_limit}
-use Rattle.giop_frames.specs.Layout.{body_alignment, layout}
+use Rattle.giop_frames.specs.Layout.{body_alignment, layout, tail_gap}
 use Rattle.giop_frames.specs.Message.{kind_of}
 use Rattle.giop_frames.specs.Sizes.{end_of}
 use Rattle.giop_frames.specs.Encode.{◌or◌, content_of, field_values, fields_of, fields_refusal, octets_in, order_of, padded_body, refusal_of, size_refusal, spelling, tail_at, tail_of, told_of, values_of}
-use Rattle.giop_frames.specs.EncodeInside.{Tells, behind_of, fields_told, octets_in_table, padded_behind, padding_at, parts_of, unless}
+use Rattle.giop_frames.specs.EncodeInside.{Tells, behind_of, fields_told, octets_in_table, octets_told, padded_behind, padding_at, parts_of, unless, values_told}
 use Rattle.giop_frames.proofs.Ends.{end_of-is}
 
 -- ---- the size
@@ -73,15 +76,38 @@ pub spelled_by : (version : Version) (m : Message) (t : Told) (size : ℕ) (octe
 unfolding spelling
 spelled_by version m t size octets h is fields = rw (h.kind, h.order, h.behind, is, fields, ← tail_is version (12 + length (fields_of version m)) m) refl
 
--- the lists of the fields are among those of the message
-pub table_is_small : (version : Version) (m : Message) → octets_in_table (told_of m) (layout version (kind_of m)) ≤ octets_in m
-table_is_small V1_2 (messages.Request r) = omega arith
-table_is_small V1_2 (messages.Reply r) = omega arith
-table_is_small V1_2 (messages.Cancel id) = omega arith
-table_is_small V1_2 (messages.Locate l) = omega arith
-table_is_small V1_2 (messages.LocateReply l) = omega arith
-table_is_small V1_2 messages.Close = omega arith
-table_is_small V1_2 messages.Error = omega arith
+-- the lists of its fields, and what it keeps behind them, are those of the message
+lists_are_small : (version : Version) (m : Message) → octets_in_table (told_of m) (layout version (kind_of m)) + length (behind_of m) ≤ octets_in m
+lists_are_small V1_2 (messages.Request r) = omega arith
+lists_are_small V1_2 (messages.Reply r) = omega arith
+lists_are_small V1_2 (messages.Cancel id) = omega arith
+lists_are_small V1_2 (messages.Locate l) = omega arith
+lists_are_small V1_2 (messages.LocateReply l) = omega arith
+lists_are_small V1_2 messages.Close = omega arith
+lists_are_small V1_2 messages.Error = omega arith
+
+-- so is what is told of it
+pub told_is_small : (version : Version) (m : Message) (t : Told) → Tells t m → octets_told version t ≤ octets_in m
+told_is_small version m t h = rw (h.fields, h.kind, h.behind) (lists_are_small version m)
+
+-- padding is short
+gap_is_short : (version : Version) (kind : Kind) (at : ℕ) → tail_gap version kind at < 8
+gap_is_short V1_2 kinds.Request at = omega arith
+gap_is_short V1_2 kinds.Reply at = omega arith
+gap_is_short V1_2 kinds.CancelRequest at = omega arith
+gap_is_short V1_2 kinds.LocateRequest at = omega arith
+gap_is_short V1_2 kinds.LocateReply at = omega arith
+gap_is_short V1_2 kinds.CloseConnection at = omega arith
+gap_is_short V1_2 kinds.MessageError at = omega arith
+gap_is_short V1_2 kinds.Fragment at = omega arith
+
+pub padding_is_short : (version : Version) (kind : Kind) (at : ℕ) (behind : List ℕ) → length (padding_at version kind at behind) < 8
+padding_is_short version kind at [] = omega arith
+padding_is_short version kind at (x ∷ xs) = omega (arith, length-replicate {A = ℕ} (tail_gap version kind at) 0, gap_is_short version kind at)
+
+-- the octets of the fields are those of the message
+pub fields_alike : (version : Version) (m : Message) (t : Told) → Tells t m → canonical_all t.order 12 (values_told version t) ≡ fields_of version m
+fields_alike version m t h = rw (h.order, h.fields, h.kind) refl
 
 -- ---- a refusal, or the size
 

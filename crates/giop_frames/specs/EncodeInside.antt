@@ -1,7 +1,9 @@
 -- What a message tells where it is written, and how large its fields are.
 use Rattle.std.specs.Prelude.{◌≡◌, ℕ, ◌+◌, List, [], ◌∷◌, ◌++◌, length, replicate, sum_by, Option, Some, None, Result, Ok, Err}
 use Rattle.std.specs.Borrow.{Bor}
+use Rattle.std.specs.List.{flat_map}
 use Rattle.cdr_values.specs.declared.order.Order.TheVariants.{Big}
+use Rattle.cdr_values.specs.Value.{Value}
 use Rattle.giop_frames.specs.declared.fault.FrameFault.{FrameFault}
 use Rattle.giop_frames.specs.declared.header.Kind.{Kind}
 use Rattle.giop_frames.specs.declared.layout.Version.{Version}
@@ -13,9 +15,9 @@ use Rattle.giop_frames.specs.declared.message.Target.{Target}
 use Rattle.giop_frames.specs.declared.message.Target.TheVariants.{Reference}
 use Rattle.giop_frames.specs.declared.told.Told.{Told}
 use Rattle.giop_frames.specs.Header.{header_octets}
-use Rattle.giop_frames.specs.Layout.{Fields, tail_gap}
+use Rattle.giop_frames.specs.Layout.{Fields, layout, tail_gap}
 use Rattle.giop_frames.specs.Message.{kind_of}
-use Rattle.giop_frames.specs.Encode.{octets_in_contexts, octets_in_target, order_of, told_of}
+use Rattle.giop_frames.specs.Encode.{field_values, fields_refusal, octets_in_contexts, octets_in_target, order_of, told_of}
 
 -- ---- what a message tells
 
@@ -90,3 +92,17 @@ octets_in_field f _ = 0
 
 abbrev pub octets_in_table : Fields → List Field → ℕ
 octets_in_table f table = sum_by (octets_in_field f) table
+
+-- ---- what is written of what is told
+
+-- the values of its fields
+abbrev pub values_told : Version → Told → List Value
+values_told version t = flat_map (field_values (fields_told t)) (layout version t.kind)
+
+-- what refuses them first
+abbrev pub refusal_told : Version → Told → Option FrameFault
+refusal_told version t = fields_refusal (fields_told t) 12 (layout version t.kind)
+
+-- how many octets and members its lists have
+abbrev pub octets_told : Version → Told → ℕ
+octets_told version t = octets_in_table (fields_told t) (layout version t.kind) + length t.behind.now

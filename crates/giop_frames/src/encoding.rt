@@ -1,12 +1,16 @@
-ghost use Rattle.std.specs.Prelude.{◌≡◌, ◌+◌, ◌<◌, ◌≤◌, ◌^◌, length, None, IfErr, IfOk, OnOk};
+ghost use Rattle.std.specs.Prelude.{◌≡◌, ◌+◌, ◌<◌, ◌≤◌, ◌^◌, length, None, Some, IfErr, IfOk, OnOk};
 ghost use Rattle.cdr_values.specs.Value.{octets_of};
+ghost use Rattle.cdr_values.specs.Values.{canonical_all};
 ghost use Rattle.cdr_values.specs.Appending.{Appends, AppendsSome};
 ghost use Rattle.giop_frames.specs.declared.fault.FrameFault.TheVariants.{Memory};
 ghost use Rattle.giop_frames.specs.declared.layout.Version.TheVariants.{V1_2};
 ghost use Rattle.giop_frames.specs.Header.{header_octets, flags_of};
-ghost use Rattle.giop_frames.specs.Encode.{Encodes, content_of, fields_of, octets_in, refusal_of, values_of};
-ghost use Rattle.giop_frames.specs.EncodeInside.{padding_at, parts_of, unless};
+ghost use Rattle.giop_frames.specs.Encode.{Encodes, content_of, octets_in, refusal_of};
+ghost use Rattle.giop_frames.specs.EncodeInside.{Tells, fields_told, octets_in_table, octets_told, padding_at, parts_of, refusal_told, unless, values_told};
+ghost use Rattle.giop_frames.specs.Limits.{size_limit};
+ghost use Rattle.giop_frames.specs.Layout.{layout};
 ghost use Rattle.giop_frames.specs.Put.{ArePlain};
+ghost use Rattle.giop_frames.specs.Sizes.{end_of};
 
 use crate::fault::{FrameFault, SIZE_LIMIT};
 use crate::fields::put_fields;
@@ -44,52 +48,76 @@ pub fn encode_as(
     requires { octets_in message.now < 2 ^ 31 }
     ensures { Encodes version message.now result into.old.items into.new.items }
 {
+    encode_told(alloc, version, &Told::of(message), into)
+}
+
+/// Appends the octets of a message that tells this.
+fn encode_told(
+    alloc: Global,
+    version: Version,
+    told: &Told,
+    into: &mut Vec<u8>,
+) -> Result<(), FrameFault>
+    requires { octets_told version told.now < 2 ^ 31 }
+    ensures { (message : Message) → Tells told.now message
+        → Encodes version message result into.old.items into.new.items }
+{
     cdr_values::canonical_octets_spell();
-    let size = content_size(version, message)?;
-    let fields = fields_octets(alloc, version, message)?;
-    append(
-        version,
-        &Told::of(message),
-        size as u32,
-        fields.bytes(),
-        into,
-    )?;
+    let size = content_size(version, told)?;
+    let fields = fields_octets(alloc, version, told)?;
+    append(version, told, size as u32, fields.bytes(), into)?;
     Ok(())
 }
 
-/// How many octets stand behind the header of a message, or why it is not written.
-fn content_size(version: Version, message: &Message) -> Result<usize, FrameFault>
-    requires { octets_in message.now < 2 ^ 31 }
-    ensures { result ≡ unless (refusal_of version message.now) (length (content_of version message.now)) }
+/// How many octets stand behind the header of a message that tells this, or why it is not written.
+fn content_size(version: Version, told: &Told) -> Result<usize, FrameFault>
+    requires { octets_told version told.now < 2 ^ 31 }
+    ensures size { (message : Message) → Tells told.now message
+        → result ≡ unless (refusal_of version message) (length (content_of version message)) }
+    ensures passes { OnOk result (refusal_told version told.now ≡ None) }
+    ensures fields { IfOk result (λ size. end_of 12 (values_told version told.now) ≤ 12 + size) }
+    ensures small { IfOk result (λ size. size ≤ size_limit) }
 {
-    let told = Told::of(message);
-    let mut sink = Sink {
-        end: HEADER_LENGTH,
-        writer: None,
-    };
-    put_fields(&mut sink, version, &told)?;
-    let fields = sink.end - HEADER_LENGTH;
-    let size = fields + padding(version, &told, sink.end).len() + told.behind.len();
+    let end = fields_end(version, told)?;
+    let fields = end - HEADER_LENGTH;
+    let size = fields + padding(version, told, end).len() + told.behind.len();
     if size > SIZE_LIMIT {
         return Err(FrameFault::TooLarge(size as u32));
     }
     Ok(size)
 }
 
-/// The octets of the fields of a message that is not refused.
-fn fields_octets(alloc: Global, version: Version, message: &Message) -> Result<Octets, FrameFault>
-    requires small { octets_in message.now < 2 ^ 31 }
-    requires written { refusal_of version message.now ≡ None }
-    ensures ok { IfOk result (λ octets. octets ≡ fields_of version message.now) }
-    ensures plain { OnOk result (ArePlain (values_of version message.now)) }
+/// The offset behind the fields of a message that tells this, or what refuses them first.
+fn fields_end(version: Version, told: &Told) -> Result<usize, FrameFault>
+    requires { octets_told version told.now < 2 ^ 31 }
+    ensures end { IfOk result (λ end. end ≡ end_of 12 (values_told version told.now)) }
+    ensures within { IfOk result
+        (λ end. end ≤ 2060 + octets_in_table (fields_told told.now) (layout version told.now.kind)) }
+    ensures passes { OnOk result (refusal_told version told.now ≡ None) }
+    ensures refused { IfErr result (λ fault. refusal_told version told.now ≡ Some fault) }
+{
+    let mut sink = Sink {
+        end: HEADER_LENGTH,
+        writer: None,
+    };
+    put_fields(&mut sink, version, told)?;
+    Ok(sink.end)
+}
+
+/// The octets of the fields of a message that tells this, where no field is refused.
+fn fields_octets(alloc: Global, version: Version, told: &Told) -> Result<Octets, FrameFault>
+    requires small { octets_told version told.now < 2 ^ 31 }
+    requires passes { refusal_told version told.now ≡ None }
+    ensures ok { IfOk result
+        (λ octets. octets ≡ canonical_all told.now.order 12 (values_told version told.now)) }
+    ensures plain { OnOk result (ArePlain (values_told version told.now)) }
     ensures memory { IfErr result (λ fault. fault ≡ Memory) }
 {
-    let told = Told::of(message);
     let mut sink = Sink {
         end: HEADER_LENGTH,
         writer: Some(Writer::new(alloc, told.order, HEADER_LENGTH as u32)),
     };
-    put_fields(&mut sink, version, &told)?;
+    put_fields(&mut sink, version, told)?;
     match sink.writer {
         Some(writer) => Ok(writer.finish()),
         None => Err(FrameFault::Memory),
