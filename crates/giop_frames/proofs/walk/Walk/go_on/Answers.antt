@@ -55,3 +55,28 @@ returns-clause-far c =
 
 pub returns-clause-forward : goal.returns-clause-forward
 returns-clause-forward c = omega (arith, c.fields.invariant.forward, c.in_default.ensures.place)
+
+pub overflow_sub-start : goal.overflow_sub-start
+overflow_sub-start c = omega (arith, c.requires.walked.behind_header)
+
+pub make_step-requires : goal.make_step-requires
+make_step-requires c = rw c.in-Some.ensures.step at (c.in-Some.ensures.room c.fields.invariant.walked.room)
+
+pub returns-in_err-self-clause-walked : goal.returns-in_err-self-clause-walked
+returns-in_err-self-clause-walked c =
+    let walked = walked_before c.args.header c.args.content.now c.fields.self c.next_step.new.self (Some c.in-Some.step) c.fields.invariant.walked c.in-Some.ensures in
+    rw c.in_err-self.ensures.1 walked
+
+pub returns-in_err-self-clause-done : goal.returns-in_err-self-clause-done
+returns-in_err-self-clause-done c =
+    let p = err_from_is_err_and c.from_residual.result c.from_residual.ensures.1 in
+    rw p.1 tt
+
+pub returns-clause-walked : goal.returns-clause-walked
+returns-clause-walked c = walked_before c.args.header c.args.content.now c.fields.self c.next_step.new.self None c.fields.invariant.walked c.in_default.ensures
+
+pub returns-clause-done : goal.returns-clause-done
+returns-clause-done c = record { step = c.in_default.ensures.step; fields = c.in_default.ensures.ended refl }
+
+pub returns-clause-fault : goal.returns-clause-fault
+returns-clause-fault c = tt
