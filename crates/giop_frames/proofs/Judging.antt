@@ -1,21 +1,24 @@
 -- What a part says, case by case.
-use Rattle.std.proofs.Common.{◌≡◌, ℕ, ◌<◌, ◌≤◌, arith, Bool, true, false, cond, ltb, List, [], ◌∷◌, ◌++◌, length, length-append, get_or, drop, set, Some, None, Result, Ok, Err, refl, sym, ap, ◌∙◌}
+use Rattle.std.proofs.Common.{◌≡◌, ℕ, ◌<◌, ◌≤◌, arith, Bool, true, false, cond, ltb, List, [], ◌∷◌, ◌++◌, length, length-append, get_or, drop, set, Some, None, Result, Ok, Err, refl, sym, ap, subst, ◌∙◌}
 use Rattle.std.proofs.lemmas.Bool.{lt-ltb, le-ltb, lt-leb, ltb-true}
 use Rattle.cdr_values.specs.declared.order.Order.{Order}
 use Rattle.cdr_values.specs.declared.fault.CdrFault.{CdrFault}
 use Rattle.cdr_values.specs.declared.fault.CdrFault.TheVariants as cdr
 use Rattle.cdr_values.specs.Value.{number_in}
 use Rattle.cdr_values.specs.Reading.{Reading, ◌>>=◌, number_at, sized_at}
-use Rattle.giop_frames.specs.Fault.{fault_of}
+use Rattle.giop_frames.specs.Fault.{Fails, fault_of}
 use Rattle.std.specs.Prelude.{IsOk, remove}
 use Rattle.std.specs.List.{AllByRecursion}
-use Rattle.giop_frames.specs.declared.fault.FrameFault.TheVariants.{BadFragment}
+use Rattle.giop_frames.specs.declared.fault.FrameFault.{FrameFault}
+use Rattle.giop_frames.specs.declared.fault.FrameFault.TheVariants.{BadFragment, Memory}
 use Rattle.giop_frames.specs.Header.{is_fragment}
 use Rattle.giop_frames.specs.Content.{message_of}
 use Rattle.giop_frames.specs.Stream.{Part, Unfinished, after, begun_by, id_of, joined, judged, message_by, numbered, opening, so_far, whole_by, with_begun, without_id}
 use Rattle.giop_frames.specs.Held.{AreShort, MayWantMemory}
+use Rattle.giop_frames.specs.HeldInside.{Judges}
 use Rattle.giop_frames.specs.StreamInside.{IsAt}
 use Rattle.giop_frames.specs.Limits.{size_limit, unfinished_limit}
+use Rattle.giop_frames.proofs.Loops.{fails_on}
 use Rattle.giop_frames.proofs.Numbered.{numbered_at, extended_at, without_at}
 
 abbrev failing : {X E : Type 0} → E → Result X E
@@ -138,3 +141,16 @@ wants_fragment messages p i first octets fragment at is behind fits =
       free = λ f m. let both : true ≡ false = sym fragment ∙ f in absurd cc;
       goes_on = λ f. rw (found, ← behind) fits;
     }
+
+-- a refusal of a fragment is that of the message which goes on
+pub fragment_fails : (messages : List Unfinished) (p : Part) (i : ℕ) (first : Unfinished) (octets : List ℕ) (more : Bool) (fault : FrameFault) (new : List Unfinished) → is_fragment p.header.kind ≡ true → 4 ≤ length p.content → IsAt (id_of p) messages i
+    → first ≡ get_or messages i first → octets ≡ drop 4 p.content → p.header.more ≡ more → Fails fault (joined more octets first) → (fault ≡ Memory → length (first.content ++ octets) ≤ size_limit) → new ≡ messages → AreShort messages
+    → (place : ℕ) → Judges place p (Err fault) messages new
+fragment_fails messages p i first octets more fault new fragment long at is behind m fails fits same short place = record {
+  says = tt;
+  after = tt;
+  refused = fails_on fault (joined more octets first) (judged messages place p) (λ e. fragment_says messages place p i first octets more fragment long at is behind m ∙ e) fails;
+  memory = λ e. wants_fragment messages p i first octets fragment at is behind (fits e);
+  err = same;
+  short = subst AreShort (sym same) short;
+}
