@@ -3,16 +3,24 @@ use Rattle.std.specs.Prelude.{◌≡◌, ◌⊎◌, Option, None, IsOk, Result, 
 use Rattle.cdr_values.specs.Again.{standing}
 use Rattle.cdr_values.specs.Reading.{◌>>=◌}
 use Rattle.giop_frames.specs.declared.message.Request.{Request}
+use Rattle.giop_frames.specs.declared.message.Target.{Target}
 use Rattle.ior_refs.specs.declared.key.ObjectKey.{ObjectKey}
 use Rattle.ots_context.specs.Finding.{context_in_first, first_context}
 use Rattle.ots_context.specs.declared.context.Context.{Context}
 use Rattle.ots_calls.specs.Fault.{fault_of_context, told_as}
 use Rattle.ots_calls.specs.Reading.{IsHeld, call_at}
+use Rattle.ots_calls.specs.Request.{HasForeignKey, HasNoKey}
 use Rattle.ots_calls.specs.Retry.{first_retry, retry_in_first}
 use Rattle.ots_calls.specs.declared.call.Called.{Called}
 use Rattle.ots_calls.specs.declared.fault.CallFault.{CallFault}
+use Rattle.ots_calls.specs.declared.fault.CallFault.TheVariants.{BadKey, BadTarget}
 use Rattle.ots_calls.specs.declared.request.Said.{Said}
 use Rattle.ots_calls.specs.declared.operation.Operation.{Operation}
+
+-- why this target is none of our keys
+abbrev pub RefusesTarget : CallFault → Target → Type 0
+RefusesTarget fault target =
+    ((fault ≡ BadTarget) × HasNoKey target) ⊎ ((fault ≡ BadKey) × HasForeignKey target)
 
 -- the call of this operation and the retry key
 abbrev pub said_by : Operation → Request → Result Said CallFault

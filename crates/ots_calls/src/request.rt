@@ -3,7 +3,7 @@ ghost use Rattle.cdr_values.specs.Again.{standing};
 ghost use Rattle.ots_calls.specs.Fault.{Finds};
 ghost use Rattle.ots_calls.specs.Reading.{IsHeld, call_at};
 ghost use Rattle.ots_calls.specs.Request.{IsFor, Refuses, WantsMemory, WantsMemoryFor, called_with};
-ghost use Rattle.ots_calls.specs.RequestInside.{HoldsArguments, WantsMemoryAs, called_as, called_within, said_by};
+ghost use Rattle.ots_calls.specs.RequestInside.{HoldsArguments, RefusesTarget, WantsMemoryAs, called_as, called_within, said_by};
 ghost use Rattle.ots_calls.specs.Retry.{first_retry, retry_in, retry_in_first};
 
 use crate::call::{Call, Called};
@@ -36,13 +36,24 @@ pub fn read_call(alloc: Global, r: &Request) -> Result<Called, CallFault>
     ensures refused { IfErr result (λ fault. (fault ≡ CallFault.Memory) ⊎ Refuses fault r.now) }
     ensures memory { result ≡ Err CallFault.Memory → WantsMemory r.now }
 {
-    let Target::Key(octets) = &r.target else {
+    match target_key(&r.target) {
+        Ok(key) => read_for(alloc, key, r),
+        Err(fault) => Err(fault),
+    }
+}
+
+/// The key of ours that a target is.
+fn target_key(target: &Target) -> Result<ObjectKey, CallFault>
+    ensures key { IfOk result (λ key. IsFor key target.now) }
+    ensures refused { IfErr result (λ fault. RefusesTarget fault target.now) }
+{
+    let Target::Key(octets) = target else {
         return Err(CallFault::BadTarget);
     };
-    let Some(key) = key_of(octets.bytes()) else {
-        return Err(CallFault::BadKey);
-    };
-    read_for(alloc, key, r)
+    match key_of(octets.bytes()) {
+        Some(key) => Ok(key),
+        None => Err(CallFault::BadKey),
+    }
 }
 
 /// The call that a request for this key is.
