@@ -48,7 +48,8 @@ fn read_with(alloc: Global, c: &Call, r: &Reply) -> Result<Answer, CallFault>
 /// The answer to a call of this operation that a reply is.
 fn read_reply(alloc: Global, operation: Operation, r: &Reply) -> Result<Answer, CallFault>
     requires { length r.now.body < 2 ^ 31 }
-    ensures exact { Finds (λ answer. answer) result (answer_at operation r.now.status (standing r.now.order 0 r.now.body)) }
+    ensures exact { Finds (λ answer. answer) result
+        (answer_at operation r.now.status (standing r.now.order 0 r.now.body)) }
     ensures memory { result ≡ Err CallFault.Memory → WantsMemory operation r.now.status }
 {
     let mut reader = Reader::new(r.body.bytes(), r.order, 0);
