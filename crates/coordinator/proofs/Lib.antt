@@ -1,4 +1,9 @@
 mod Unroomed
+mod Moving
+mod Kept
+mod Closes
+mod Rested
+mod Going
 mod Seated
 mod Among
 mod Kin

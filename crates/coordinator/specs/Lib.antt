@@ -9,6 +9,9 @@ pub mod Running
 pub mod Hearing
 pub mod Names
 pub mod Table
+pub mod Changes
+pub mod DraftInside
+pub mod Going
 pub mod History
 pub mod Step
 pub mod StateInside

@@ -1,4 +1,8 @@
 // Calls under way, which end transactions of a family.
+ghost use Rattle.std.specs.Prelude.{◌≡◌};
+ghost use Rattle.coordinator.specs.Calls.{said_of};
+
+use crate::said::Said;
 use otid_names::Otid;
 use ots_model::RefBytes;
 use std::collections::VecDeque;
@@ -68,6 +72,23 @@ pub(crate) enum Reply {
     CommFailure,
     PersistStore,
     NoMemory,
+}
+
+impl Reply {
+    /// As it is said.
+    pub fn said(self) -> Said
+        ensures { result ≡ said_of self }
+    {
+        match self {
+            Reply::Plain => Said::Plain,
+            Reply::RolledBack => Said::TransactionRolledBack,
+            Reply::Mixed => Said::HeuristicMixed,
+            Reply::Hazard => Said::HeuristicHazard,
+            Reply::CommFailure => Said::CommFailure,
+            Reply::PersistStore => Said::PersistStore,
+            Reply::NoMemory => Said::NoMemory,
+        }
+    }
 }
 
 /// What a call is for.

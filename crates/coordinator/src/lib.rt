@@ -16,12 +16,15 @@ pub use phase::{Column, Phase};
 pub use said::{Answers, Entry, Finished, Said, StepAnswer};
 
 mod call;
+mod closing;
 mod copies;
+mod draft;
 mod effect;
 mod event;
 mod family;
 mod history;
 mod laws;
+mod motion;
 mod names;
 mod node;
 mod phase;

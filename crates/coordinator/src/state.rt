@@ -15,7 +15,7 @@ use crate::call::{Seat, Stage, Superior};
 use crate::copies::copy_event;
 use crate::event::Event;
 use crate::history::kept;
-use crate::phase::Phase;
+use crate::phase::{Column, Phase};
 use crate::said::{Entry, Said};
 use ior_refs::ObjectKey;
 use ots_model::tree::Outcome;
@@ -62,7 +62,7 @@ impl Model for State {
 
 impl State {
     /// The top-level transaction of a root alone.
-    #[tactic(auto, unfolding(crate::specs::Calls::all_seated))]
+    #[tactic(auto, using(crate::proofs::Kept::none_few), unfolding(crate::specs::Calls::all_seated))]
     pub fn new(alloc: Global, key: ObjectKey, deadline: Option<u64>) -> Result<State, AllocError>
         ensures made { IfOk result (λ s. s.family ≡ new_family key deadline) }
     {
@@ -119,7 +119,7 @@ impl State {
     }
 
     /// Takes memory for one more entry, subtransaction and registration.
-    #[tactic(auto, using(crate::proofs::Unroomed::unroomed_reserved, crate::proofs::Unroomed::spare_reserved))]
+    #[tactic(auto, using(crate::proofs::Unroomed::unroomed_reserved, crate::proofs::Unroomed::spare_reserved, crate::proofs::Kept::places_reserved))]
     fn make_room(&mut self) -> Result<(), AllocError>
         ensures same { self.new.family ≡ self.old.family }
         ensures room { OnOk result (0 < self.new.room) }
@@ -234,6 +234,42 @@ impl State {
         self.status_of(self.tree.parent_at(branch).unwrap_or(branch))
     }
 
+    /// How a transaction stands for a client's calls.
+    #[tactic(auto, unfolding(crate::specs::Phases::column))]
+    pub fn column(&self, branch: u32) -> Column
+        ensures { result ≡ phases.column self.now.family branch }
+    {
+        if branch == TOP {
+            self.phase().column()
+        } else if self.is_ending(branch) {
+            Column::Past
+        } else {
+            live_column(self.tree.status_at(branch))
+        }
+    }
+
+    /// Whether the parent of a transaction has ended.
+    pub fn has_parent_ended(&self, branch: u32) -> bool
+        ensures { result ≡ phases.has_parent_ended self.now.family branch }
+    {
+        match self.tree.parent_at(branch) {
+            Some(parent) => self.has_ended(parent),
+            None => false,
+        }
+    }
+
+    /// Whether it has ended as a parent: it was rolled back, or the top-level transaction has gone past its commit's
+    /// beginning.
+    fn has_ended(&self, parent: u32) -> bool
+        ensures { result ≡ phases.has_ended self.now.family parent }
+    {
+        if parent == TOP {
+            matches!(self.stage, Stage::Completing | Stage::Over)
+        } else {
+            !self.tree.is_live_at(parent)
+        }
+    }
+
     /// Whether the top-level transaction has ended, and no call is under way.
     pub fn is_finished(&self) -> bool
         ensures { result ≡ steps.is_finished self.now.family }
@@ -274,4 +310,16 @@ fn has_no_call(seats: &[Seat]) -> bool
     ensures { result ≡ list_all (λ (s : Seated). is_none s.call) seats.now }
 {
     seats.iter().all(|s| s.call.is_none())
+}
+
+/// How a subtransaction with this status stands, whose commit isn't under way.
+fn live_column(status: Option<Status>) -> Column
+    ensures { result ≡ phases.live_column status }
+{
+    match status {
+        Some(Status::Active) => Column::Active,
+        Some(Status::MarkedRollback) => Column::Marked,
+        Some(Status::RolledBack) => Column::RolledBack,
+        _ => Column::Past,
+    }
 }
