@@ -1,8 +1,11 @@
 mod Unroomed
 mod Moving
 mod Kept
+mod Duties
 mod Closes
 mod Rested
+mod AtSeat
+mod Posted
 mod Going
 mod Seated
 mod Among

@@ -37,6 +37,10 @@ so_far f d = record { family = f; words = d.changes.words; finished = d.changes.
 abbrev pub nothing_yet : ℕ → ℕ → DraftParts
 nothing_yet room tasks_room = record { changes = record { words = []; finished = []; effects = []; tasks = [] }; room = room; tasks_room = tasks_room }
 
+-- the same, with these tasks
+abbrev pub with_tasks : List Task → DraftParts → DraftParts
+with_tasks tasks d = record d { changes = record d.changes { tasks = tasks } }
+
 -- a word to a registration or a synchronization
 abbrev pub word_to : CallNumber → Word → Registration → Outward
 word_to number word to = record { number = number; registration = to.index; to = to.to; word = word; receipt = None }

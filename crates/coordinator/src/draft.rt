@@ -71,6 +71,22 @@ impl Draft {
         self.effects.push_reserved(effect);
     }
 
+    /// Something happened, and a call that waits for its answer is given it.
+    pub fn show_answered(&mut self, effect: Effect, caller: Option<u32>, reply: Reply)
+        requires room { 0 < self.old.room }
+        ensures shown { self.new.changes ≡ record self.old.changes {
+          finished = self.old.changes.finished ++ answer_to caller (said_of reply);
+          effects = self.old.changes.effects ++ effect ∷ [];
+        } }
+        ensures room { self.old.room ≤ self.new.room + 1 }
+        ensures tasks_room { self.new.tasks_room ≡ self.old.tasks_room }
+    {
+        self.effects.push_reserved(effect);
+        if let Some(position) = caller {
+            self.finished.push_reserved(Told { position, reply });
+        }
+    }
+
     /// An outcome is told that wasn't fixed before.
     pub fn show_fixed(&mut self, before: Option<Outcome>, after: Option<Outcome>)
         requires room { 0 < self.old.room }

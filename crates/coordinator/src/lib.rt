@@ -30,3 +30,4 @@ mod node;
 mod phase;
 mod said;
 mod state;
+mod tasks;

@@ -1,0 +1,19 @@
+use Rattle.std.proofs.Common.{◌≡◌, ◌∙◌, sym, ap, subst, List, Option, refl}
+use Rattle.coordinator.specs.Calls.{Sees, call_kept}
+use Rattle.coordinator.specs.Family.{call_at}
+use Rattle.coordinator.specs.Room.{StateParts}
+use Rattle.coordinator.specs.StateInside.{shown}
+use Rattle.coordinator.specs.declared.call.Call.{Call}
+use Rattle.coordinator.specs.declared.call.Seat.{Seat}
+use Rattle.coordinator.proofs.AtSeat.{sees}
+use Rattle.coordinator.proofs.state.State.call_of.Goals as goal
+
+pub returns : goal.returns
+returns c =
+    let rs = c.self.inside.votes.ballots.registrations in
+    let seats = c.self.inside.seats.items in
+    let at = c.args.branch in
+    let is : c.kept_call.result ≡ call_kept seats at = c.kept_call.ensures ∙ ap (λ (xs : List Seat). call_kept xs at) c.deref.ensures.value in
+    subst (λ (v : StateParts). Sees c.kept_call.result (call_at v.family at)) c.self.view_is
+    (subst (λ (o : Option Call). Sees o (call_at (shown c.self.inside).family at)) (sym is)
+    (sees (shown c.self.inside).family rs seats at refl))
