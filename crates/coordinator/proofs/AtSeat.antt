@@ -3,7 +3,8 @@ use Rattle.std.proofs.Common.{◌≡◌, ◌∙◌, refl, ap, sym, subst, ℕ, z
 use Rattle.std.specs.Prelude.{nat_lt}
 use Rattle.std.specs.List.{slice_get, prefix_len, position_or_len}
 use Rattle.std.proofs.lemmas.Bool.Decides.{nat_tests}
-use Rattle.std.specs.Option.{option_map, option_map_or, option_and_then}
+use Rattle.std.specs.Option.{option_map, option_map_or, option_and_then, IsSome, IfSome}
+use Rattle.resource_votes.specs.Ballots.{numbered}
 use Rattle.std.proofs.lemmas.List.{set-get_or, length-map, length-set, get_or-set_same}
 use Rattle.std.proofs.lemmas.Option.{slice_get-get_or}
 use Rattle.ots_model.specs.declared.completion.CallNumber.{CallNumber}
@@ -173,6 +174,16 @@ first_is f rs seats b s t of all is within has =
     ap (λ (x : Option Task). option_and_then (duty_in rs) x) of
     ∙ (first_duty rs (owed s) (tasks_owed rs s.left.items s.call all)
     ∙ sym (ap (λ (ds : List Duty). slice_get ds 0) (left_is f rs seats b s is within has)))
+
+first_there : (rs : List Registration) (tasks : List Task) → AreTasks rs tasks
+    → IfSome (slice_get tasks 0) (λ (t : Task). IsSome (numbered rs t.registration))
+first_there rs [] all = tt
+first_there rs (t ∷ tasks) all = all.0
+
+pub first_task_there : (rs : List Registration) (s : Seat) (t : Option Task) → t ≡ slice_get (owed s) 0 → AreTasks rs s.left.items
+    → IfSome t (λ (x : Task). IsSome (numbered rs x.registration))
+first_task_there rs s t of all =
+    subst (λ (o : Option Task). IfSome o (λ (x : Task). IsSome (numbered rs x.registration))) (sym of) (first_there rs (owed s) (tasks_owed rs s.left.items s.call all))
 
 tasks_dropped : (rs : List Registration) (left : List Task) → AreTasks rs left → AreTasks rs (drop 1 left)
 tasks_dropped rs [] all = tt

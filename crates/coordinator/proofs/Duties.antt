@@ -9,7 +9,7 @@ use Rattle.std.proofs.lemmas.List.Elements.{filter_map-append, filter-append}
 use Rattle.resource_votes.specs.Ballots.{numbered}
 use Rattle.resource_votes.specs.declared.registration.Registration.{Registration}
 use Rattle.coordinator.specs.declared.call.Task.{Task}
-use Rattle.coordinator.specs.Calls.{AreTasks, duty_in, duties_in, task_to}
+use Rattle.coordinator.specs.Calls.{AreTasks, duty_in, duties_in, has_tasks, task_to}
 use Rattle.coordinator.specs.StateInside.{AreInOrder}
 use Rattle.coordinator.specs.Family.{Duty, Ending}
 use Rattle.coordinator.specs.Running.{has_some, duty_to}
@@ -176,3 +176,24 @@ pub found_tasks : (rs : List Registration) (ending : Ending) (ns : List ℕ) →
 found_tasks rs ending [] order = tt
 found_tasks rs ending (n ∷ ns) order =
     there_at rs n (numbered rs n) ending (filter_map (numbered rs) ns) order refl (found_tasks rs ending ns order)
+
+-- ---- whether there are any
+
+pub nothing_there : (tasks : List Task) → has_tasks tasks ≡ false → tasks ≡ []
+nothing_there [] h = refl
+nothing_there (t ∷ tasks) h = absurd (cc (h))
+
+pub record IsMore (ds : List Duty) : Type 0 where
+  pub duty : Duty
+  pub others : List Duty
+  pub is : ds ≡ duty ∷ others
+
+pub something_there : (rs : List Registration) (tasks : List Task) → AreTasks rs tasks → has_tasks tasks ≡ true → IsMore (duties_in rs tasks)
+something_there rs [] all h = absurd (cc (h))
+something_there rs (t ∷ tasks) all h =
+    let d = duty_of rs t tasks all.0 in
+    record { duty = d.duty; others = duties_in rs tasks; is = d.first }
+
+pub some_there : (tasks : List Task) → has_tasks tasks ≡ true → 0 < length tasks
+some_there [] h = absurd (cc (h))
+some_there (t ∷ tasks) h = omega arith

@@ -6,6 +6,7 @@ mod Closes
 mod Rested
 mod AtSeat
 mod Posted
+mod RunsOn
 mod Going
 mod Seated
 mod Among

@@ -1,5 +1,6 @@
 // What a step brings, in memory that was taken before it.
 ghost use Rattle.std.specs.Prelude.{◌≡◌, ◌<◌, ◌≤◌, ◌+◌, ◌∷◌, ◌++◌, [], length, Some, IfOk};
+ghost use Rattle.coordinator.specs.Calls as calls;
 ghost use Rattle.coordinator.specs.Calls.{said_of};
 ghost use Rattle.coordinator.specs.Changes.{nothing_yet, word_to};
 ghost use Rattle.coordinator.specs.Moves.{answer_to, fixed_now};
@@ -58,6 +59,13 @@ impl Draft {
             effects: Vec::with_capacity(alloc, room)?,
             tasks: VecDeque::with_capacity(alloc, tasks)?,
         })
+    }
+
+    /// Whether tasks were gathered.
+    pub fn has_tasks(&self) -> bool
+        ensures { result ≡ calls.has_tasks self.now.changes.tasks }
+    {
+        !self.tasks.is_empty()
     }
 
     /// Something happened.

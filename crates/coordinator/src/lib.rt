@@ -28,6 +28,7 @@ mod motion;
 mod names;
 mod node;
 mod phase;
+mod running;
 mod said;
 mod state;
 mod tasks;

@@ -1,5 +1,5 @@
 // What a call has to tell: it is gathered when a subtransaction ends, and told one by one.
-ghost use Rattle.std.specs.Prelude.{◌≡◌, ◌<◌, ◌≤◌, ◌+◌, ◌*◌, ◌++◌, ◌∷◌, [], List, ℕ, length, map, position, Some, None, IsSome};
+ghost use Rattle.std.specs.Prelude.{◌≡◌, ◌<◌, ◌≤◌, ◌+◌, ◌*◌, ◌++◌, ◌∷◌, [], List, ℕ, length, map, position, Some, None, IsSome, IfSome};
 ghost use Rattle.std.specs.List.{slice_get};
 ghost use Rattle.std.specs.Option.{option_and_then};
 ghost use Rattle.std.specs.VecDeque.{deque_capacity, deque_len};
@@ -194,6 +194,8 @@ impl State {
             ≡ slice_get (calls.left_at self.old.family branch) 0 }
         ensures rest { self.new.family
             ≡ calls.told_in (families.call_at self.old.family branch) branch self.old.family }
+        ensures there { IfSome result (λ t.
+            IsSome (numbered (self.old.family).ballots.registrations t.registration)) }
     {
         take_task(&mut self.seats[branch as usize])
     }

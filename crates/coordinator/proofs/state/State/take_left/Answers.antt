@@ -4,9 +4,11 @@ use Rattle.coordinator.specs.Family.{call_at}
 use Rattle.coordinator.specs.Room.{StateParts}
 use Rattle.coordinator.specs.StateInside.{shown}
 use Rattle.std.specs.List.{slice_get}
-use Rattle.std.specs.Option.{option_and_then}
+use Rattle.std.specs.Option.{option_and_then, IfSome, IsSome}
+use Rattle.resource_votes.specs.Ballots.{numbered}
+use Rattle.coordinator.specs.declared.call.Task.{Task}
 use Rattle.coordinator.specs.Calls.{duty_in}
-use Rattle.coordinator.proofs.AtSeat.{first_is, still_tasks, tells_first}
+use Rattle.coordinator.proofs.AtSeat.{first_is, first_task_there, still_tasks, tells_first}
 use Rattle.coordinator.proofs.Kept.{tasks_at, tasks_set}
 use Rattle.coordinator.proofs.state.State.take_left.Goals as goal
 
@@ -53,3 +55,15 @@ returns-clause-rest c =
     let all : AreTasks rs s.left.items = tasks_at rs seats b s within c.self.invariant.tasks c.index_mut.ensures.value in
     tells_first (shown c.self.inside).family rs seats b s c.take_task.new.seat c.take_task.ensures.call c.take_task.ensures.left all refl within c.index_mut.ensures.value
     ∙ ap (λ (v : StateParts). told_in (call_at v.family b) b v.family) c.self.view_is
+
+pub returns-clause-there : goal.returns-clause-there
+returns-clause-there c =
+    let rs = c.self.inside.votes.ballots.registrations in
+    let seats = c.self.inside.seats.items in
+    let b = c.args.branch in
+    let rows = ap (λ (v : StateParts). length v.family.rows) c.self.view_is in
+    let within : b < length seats = omega (arith, c.requires.there, rows, c.self.invariant.seats, c.self.inside.seats.ok.0) in
+    let s = c.index_mut.result.now in
+    let all : AreTasks rs s.left.items = tasks_at rs seats b s within c.self.invariant.tasks c.index_mut.ensures.value in
+    subst (λ (v : StateParts). IfSome c.take_task.result (λ (t : Task). IsSome (numbered v.family.ballots.registrations t.registration))) c.self.view_is
+    (first_task_there rs s c.take_task.result c.take_task.ensures.first all)

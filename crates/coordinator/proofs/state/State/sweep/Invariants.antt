@@ -1,0 +1,15 @@
+use Rattle.std.proofs.Common.{◌≡◌, ◌-◌, ◌+◌, length}
+use Rattle.coordinator.specs.Calls.{plain_call}
+use Rattle.coordinator.specs.Changes.{so_far}
+use Rattle.coordinator.specs.Going.{CanGo}
+use Rattle.coordinator.specs.Moves.{◌▹◌}
+use Rattle.coordinator.specs.Running.{sweeps}
+use Rattle.coordinator.proofs.state.State.sweep.Given as goal
+
+abbrev pub invariant-loop-so_many : goal.invariant-loop-so_many
+invariant-loop-so_many l = record {
+  same : (so_far l.self.family l.out ▹ sweeps (length l.initial.self.family.rows - l._so_many) l.branch (plain_call l.call))
+      ≡ (so_far l.initial.self.family l.initial.out ▹ sweeps (length l.initial.self.family.rows) l.branch (plain_call l.call));
+  rows : length l.self.family.rows ≡ length l.initial.self.family.rows;
+  can : CanGo (length l.initial.self.family.rows - l._so_many + 3) l.self.family l.out;
+}
