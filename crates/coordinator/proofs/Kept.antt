@@ -5,6 +5,9 @@ use Rattle.std.specs.List.{filter_map}
 use Rattle.std.proofs.lemmas.Grind.{common_steps}
 use Rattle.std.proofs.lemmas.List.{get_or-set_other}
 use Rattle.std.proofs.lemmas.List.Sums.{sum_by-cons}
+use Rattle.ots_model.specs.declared.completion.CallNumber.{CallNumber}
+use Rattle.ots_model.specs.declared.completion.Heard.{Heard}
+use Rattle.ots_model.specs.declared.completion.Stood.{Stood}
 use Rattle.resource_votes.specs.Ballots.{Ballots, numbered, participants}
 use Rattle.resource_votes.specs.Lists.{list_at, added_to, handed_lists}
 use Rattle.resource_votes.specs.declared.registration.Registration.{Registration}
@@ -82,3 +85,15 @@ has_room (Waiting room) b places few is =
     let all = within_total b.lists 0 in
     omega (arith, found, all, places, few)
 has_room (UnderWay c) b places few is = absurd (cc (is))
+
+pub places_answered : (n : CallNumber) (h : Heard) (s : Standing) (count : ℕ) → HasPlaces s count → HasPlaces (stages.after_answer n h s) count
+places_answered n h (Waiting room) count places = places
+places_answered n h (UnderWay c) count places = tt
+
+pub places_decided : (stood : Stood) (s : Standing) (count : ℕ) → HasPlaces s count → HasPlaces (stages.after_decided stood s) count
+places_decided stood (Waiting room) count places = places
+places_decided stood (UnderWay c) count places = tt
+
+pub places_reread : (found : Option ℕ) (s : Standing) (count : ℕ) → HasPlaces s count → HasPlaces (stages.after_reread found s) count
+places_reread found (Waiting room) count places = places
+places_reread found (UnderWay c) count places = tt

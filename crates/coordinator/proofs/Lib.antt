@@ -4,6 +4,8 @@ mod Kept
 mod Duties
 mod Closes
 mod Rested
+mod Marks
+mod Settled
 mod AtSeat
 mod Posted
 mod RunsOn

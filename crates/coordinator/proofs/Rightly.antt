@@ -347,9 +347,9 @@ unfolding told_commit
 told_end_quiet (Commits asked) b h f = either_quiet f.completion _ _ _ (only_quiet f) (marks_parent_quiet (parent f.rows b) f)
 told_end_quiet (RollsBack says) b h f = only_quiet f
 
-told_before_quiet : (called : ℕ) (c : Call) (h : Heard) (f : Family) → Quiet f.completion (told_before called c h f)
+told_before_quiet : (b called : ℕ) (c : Call) (h : Heard) (f : Family) → Quiet f.completion (told_before b called c h f)
 unfolding told_before
-told_before_quiet called c h f = either_quiet f.completion (is_plain h) _ _ (only_quiet f)
+told_before_quiet b called c h f = either_quiet f.completion (is_plain h) _ _ (only_quiet f)
     (rolls_quiet (asked_of c.aim) (reason_of called h) (with_call 0 (record c { leg = Deciding }) f))
 
 hears_answer : (s : Standing) (n : CallNumber) (h : ParticipantHeard) → Proceeds s (stages.after_answer n h s)
@@ -380,7 +380,7 @@ told_participant_quiet n h f =
 told_quiet : (leg : Leg) (n : CallNumber) (b : ℕ) (c : Call) (h : Heard) (f : Family) → Quiet f.completion (told leg n b c h f)
 told_quiet Below n b c h f = only_quiet f
 told_quiet Own n b c h f = told_end_quiet c.aim b h f
-told_quiet (Before called) n b c h f = told_before_quiet called c h f
+told_quiet (Before called) n b c h f = told_before_quiet b called c h f
 told_quiet Deciding n b c h f = told_participant_quiet n h f
 told_quiet (After called) n b c h f = only_quiet f
 

@@ -74,9 +74,9 @@ reason_of index hears.Starved = reasons.SyncStarved index
 reason_of index _ = reasons.SyncLost index
 
 -- a synchronization was called: where it didn't answer plainly, the commit is given up
-unfoldable pub told_before : ℕ → Call → Heard → Family → Moved
-told_before called c h f =
-    if is_plain h then only f else gives_up (reason_of called h) c (with_call 0 (record c { leg = Deciding }) f)
+unfoldable pub told_before : ℕ → ℕ → Call → Heard → Family → Moved
+told_before b called c h f =
+    if is_plain h then only f else gives_up (reason_of called h) c (with_call b (record c { leg = Deciding }) f)
 
 -- a vote is counted: what the registration has answered that was asked
 abbrev pub vote_effects : ParticipantHeard → Option ℕ → List Effect
@@ -98,7 +98,7 @@ told_participant n h f =
 abbrev pub told : Leg → CallNumber → ℕ → Call → Heard → Family → Moved
 told Below n b c h f = only f
 told Own n b c h f = told_end c.aim b h f
-told (Before called) n b c h f = told_before called c h f
+told (Before called) n b c h f = told_before b called c h f
 told Deciding n b c h f = told_participant n h f
 told (After called) n b c h f = only f
 

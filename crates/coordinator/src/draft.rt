@@ -1,5 +1,6 @@
 // What a step brings, in memory that was taken before it.
 ghost use Rattle.std.specs.Prelude.{◌≡◌, ◌<◌, ◌≤◌, ◌+◌, ◌∷◌, ◌++◌, [], length, Some, IfOk};
+ghost use Rattle.std.specs.Option.{option_to_list};
 ghost use Rattle.coordinator.specs.Calls as calls;
 ghost use Rattle.coordinator.specs.Calls.{said_of};
 ghost use Rattle.coordinator.specs.Changes.{nothing_yet, word_to};
@@ -77,6 +78,19 @@ impl Draft {
         ensures tasks_room { self.new.tasks_room ≡ self.old.tasks_room }
     {
         self.effects.push_reserved(effect);
+    }
+
+    /// Something happened, if it did.
+    pub fn show_vote(&mut self, effect: Option<Effect>)
+        requires room { 0 < self.old.room }
+        ensures shown { self.new.changes
+            ≡ record self.old.changes { effects = self.old.changes.effects ++ option_to_list effect } }
+        ensures room { self.old.room ≤ self.new.room + 1 }
+        ensures tasks_room { self.new.tasks_room ≡ self.old.tasks_room }
+    {
+        if let Some(effect) = effect {
+            self.show(effect);
+        }
     }
 
     /// Something happened, and a call that waits for its answer is given it.

@@ -22,6 +22,7 @@ mod draft;
 mod effect;
 mod event;
 mod family;
+mod hearing;
 mod history;
 mod laws;
 mod motion;
