@@ -13,3 +13,9 @@ mod Holding
 mod Claims
 mod Told
 mod Seen
+mod Again
+mod Writing
+mod Rereading
+mod Moving
+mod Frames
+mod Making

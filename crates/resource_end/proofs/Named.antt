@@ -1,13 +1,13 @@
 -- Which resource a key names, which has its record at a place, and which holds a cell: where it is known that one alone may.
 use Rattle.std.proofs.Common.{◌≡◌, ◌∙◌, ℕ, Bool, true, false, cond, not, ◌&&◌, List, [], ◌∷◌, Option, Some, None, refl, sym, ap, subst, arith}
 use Rattle.std.specs.Prelude.{◌==◌, find, IfSome, is_some}
-use Rattle.std.proofs.lemmas.Bool.{and_parts, and_from, and_left, and_right, eq-eqb, eqb-true, ne_eqb, not_from_false, not_from_true}
+use Rattle.std.proofs.lemmas.Bool.{and_parts, and_from, and_left, and_right, both_ways, eq-eqb, eqb-true, ne_eqb, not_from_false, not_from_true}
 use Rattle.std.proofs.lemmas.Bool.Decides.{nat_tests}
 use Rattle.ior_refs.specs.declared.key.ObjectKey.{ObjectKey}
 use Rattle.resource_end.specs.States.{holds}
 use Rattle.resource_end.specs.Cells.{value_at}
 use Rattle.resource_end.specs.End.{Resource, has_letter, is_named, is_numbered}
-use Rattle.resource_end.specs.Inside.{Id, PassesAlone, holds_cell, is_other_holder, numbered}
+use Rattle.resource_end.specs.Inside.{AreApart, Id, PassesAlone, holds_cell, if_passes, is_other_holder, numbered}
 
 -- what holds of each resource of a number holds of that which is found by it
 pub of_found : (k : Id) (rs : List Resource) (P : Resource → Type 0) → ((r : Resource) → is_numbered k.0 k.1 r ≡ true → P r) → IfSome (numbered k rs) P
@@ -86,3 +86,19 @@ holds_not id cell r h = by (not (is_numbered id.0 id.1 r)) (holds r.state) (is_s
     by : (a b c : Bool) → (b && c) ≡ false → (a && b && c) ≡ false
     by true b c h = h
     by false b c h = refl
+
+-- ---- one that a key names is found by its number
+
+if_passed : (test : Resource → Bool) (o : Option Resource) (r : Resource) → if_passes test o ≡ Some r → o ≡ Some r
+if_passed test None r h = h
+if_passed test (Some x) r h = by (test x) refl h
+  where
+    by : (b : Bool) → test x ≡ b → cond b (Some x) None ≡ Some r → Some x ≡ Some r
+    by true t k = k
+    by false t k = absurd (both_ways _ refl (ap is_some k))
+
+pub number_of_named : (service : ℕ) (key : ObjectKey) (rs : List Resource) (r : Resource) → AreApart rs → find (is_named service key) rs ≡ Some r
+    → numbered (key.life, key.generation) rs ≡ Some r
+number_of_named service key rs r apart is =
+    if_passed (is_named service key) (numbered (key.life, key.generation) rs) r
+    (sym (apart (is_named service key) (key.life, key.generation) (named_alone service key rs)) ∙ is)

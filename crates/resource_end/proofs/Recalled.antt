@@ -23,7 +23,7 @@ abbrev IsThere : Option JournalRecord → Type 0
 IsThere (Some item) = Unit {0}
 IsThere None = ⊥
 
-nothing_is : (item : JournalRecord) → None ≡ Some item → ⊥
+pub nothing_is : (item : JournalRecord) → None ≡ Some item → ⊥
 nothing_is item h = subst IsThere (sym h) tt
 
 -- the record that is told of, where it is known which one

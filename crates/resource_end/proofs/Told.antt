@@ -236,13 +236,15 @@ recalls_whole (x ∷ xs) (suc i) le = ap (λ ys. x ∷ ys) (recalls_whole xs i (
 
 -- ---- what a record leaves is no resource that has put something
 
-outcome_writable : (how : CellsEnd) (r : Resource) → IsWritable (state_of how) r
-outcome_writable ends.Applied r = tt
-outcome_writable ends.Undone r = tt
-outcome_writable ends.ChoseCommit r = tt
-outcome_writable ends.ChoseRollback r = tt
-outcome_writable ends.Forgotten r = tt
+outcome_writable : (drawn : ℕ) (how : CellsEnd) (r : Resource) → IsWritable drawn (state_of how) r
+outcome_writable drawn ends.Applied r = tt
+outcome_writable drawn ends.Undone r = tt
+outcome_writable drawn ends.ChoseCommit r = tt
+outcome_writable drawn ends.ChoseRollback r = tt
+outcome_writable drawn ends.Forgotten r = tt
 
-pub ended_writable : (how : CellsEnd) (o : Option Resource) (c : ContentsState) → AreWritable c.resources → AreWritable (ended (state_of how) o c).resources
-ended_writable how None c all = all
-ended_writable how (Some r) c all = all_kept (λ id s. IsWritable s.state s) c.resources (moved (state_of how) r) all (outcome_writable how (moved (state_of how) r))
+pub ended_writable : (drawn : ℕ) (how : CellsEnd) (o : Option Resource) (c : ContentsState) → AreWritable drawn c.resources
+    → AreWritable drawn (ended (state_of how) o c).resources
+ended_writable drawn how None c all = all
+ended_writable drawn how (Some r) c all =
+    all_kept (λ id s. IsWritable drawn s.state s) c.resources (moved (state_of how) r) all (outcome_writable drawn how (moved (state_of how) r))

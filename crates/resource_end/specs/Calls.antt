@@ -19,7 +19,7 @@ use Rattle.resource_end.specs.Limits.{unfinished_limit, cell_limit, object_limit
 use Rattle.resource_end.specs.States.{holds, is_prepared, learnt, made}
 use Rattle.resource_end.specs.Table.{row}
 use Rattle.resource_end.specs.Cells.{value_at, with_put}
-use Rattle.resource_end.specs.End.{End, Resource, changes, kept, named, other_holder, record_for, stored, unfinished_count, with_place}
+use Rattle.resource_end.specs.End.{End, Resource, changes, kept, named, other_holder, record_for, stored, unfinished_count, with_place, with_resource}
 use Rattle.resource_end.specs.Recall.{Reread, reread}
 
 -- what a call answers, and the end behind it
@@ -128,7 +128,7 @@ abbrev pub bound : List ℕ → Resource → Resource
 bound recovery r = if is_some r.record_place then r else record r { recovery = recovery }
 
 unfoldable pub bind : ObjectKey → List ℕ → End → Called (Unit {0})
-bind key recovery e = on (named key e) e (λ r. done (record e { resources = kept (bound recovery r) e.resources }))
+bind key recovery e = on (named key e) e (λ r. done (record e { resources = with_resource (bound recovery r) e.resources }))
 
 abbrev pub unmakes : Option Resource → End → End
 unmakes (Some r) e = if is_fresh r.state then changes states.Forgotten r e else e
@@ -194,6 +194,14 @@ chooses d written e r = if is_prepared r.state then changing written (Ok tt) (ch
 unfoldable pub choose_heuristic : ObjectKey → Decision → Journaled → End → Called (Unit {0})
 choose_heuristic key d j e = behind (reread j.reread e) e (λ later. on (named key later) later (chooses d j.written later))
 
+-- the record that a choice has to write
+abbrev pub chosen_of : Decision → Option Resource → Option JournalRecord
+chosen_of d (Some r) = if is_prepared r.state then record_for (choice d) r else None
+chosen_of d None = None
+
+unfoldable pub wanted_by_choice : Decision → ObjectKey → End → Option JournalRecord
+wanted_by_choice d key e = chosen_of d (named key e)
+
 -- what a word or an answer made of its resource is shown: nothing, where the call was refused
 abbrev pub shown_by : {A : Type 0} → Result A EndFault → State → Option Status
 shown_by (Ok answer) s = made s
@@ -252,6 +260,14 @@ learns_by None written e r = done e
 abbrev pub learns_in : Option Resource → Heard → Written → End → Called (Unit {0})
 learns_in (Some r) h written e = learns_by (learnt r.state h) written e r
 learns_in None h written e = done e
+
+-- the record that an answer has to write
+abbrev pub learnt_of : Heard → Option Resource → Option JournalRecord
+learnt_of h (Some r) = wanted_for (learnt r.state h) r
+learnt_of h None = None
+
+unfoldable pub wanted_by_answer : Heard → ObjectKey → End → Option JournalRecord
+wanted_by_answer h key e = learnt_of h (named key e)
 
 -- the answer to its ask: one that isn't there, or waits for nothing, learns nothing
 unfoldable pub learn : ObjectKey → Heard → Journaled → End → Called (Unit {0})

@@ -1,12 +1,13 @@
 -- How an end keeps its resources and cells: both by their keys, so that one is found by halving. Of all this the contracts of an
 -- end speak not at all.
-use Rattle.std.specs.Prelude.{◌≡◌, ℕ, ◌<◌, ◌≤◌, ◌⊎◌, ◌==◌, Bool, true, false, not, ◌&&◌, ◌||◌, if◌then◌else◌, List, [], map, filter, find, length, slice_index_or, Option, Some, None, IfSome, IsSome, is_some}
+use Rattle.std.specs.Prelude.{◌≡◌, ℕ, ◌-◌, ◌<◌, ◌≤◌, ◌⊎◌, ◌==◌, Bool, true, false, not, ◌&&◌, ◌||◌, if◌then◌else◌, List, [], map, filter, find, length, slice_index_or, Option, Some, None, IfSome, IsSome, is_some, Result, Ok, Err}
 use Rattle.std.specs.BTreeMap.{is_at}
-use Rattle.std.specs.List.{filter_map}
+use Rattle.std.specs.List.{filter_map, slice_get}
 use Rattle.std.specs.Map.{lookup}
 use Rattle.std.specs.Option.{option_and_then, option_map}
 use Rattle.std.specs.declared.cmp.Ordering.{Ordering}
 use Rattle.std.specs.Ordering.{nat_cmp, ordering_then}
+use Rattle.ior_refs.specs.declared.key.ObjectKey.{ObjectKey}
 use Rattle.ots_model.specs.declared.tree.Outward.{Outward}
 use Rattle.decision_journal.specs.Layout.{Fits}
 use Rattle.decision_journal.specs.declared.journal.Standing.{Standing}
@@ -19,9 +20,14 @@ use Rattle.resource_end.specs.declared.state.State.{State}
 use Rattle.resource_end.specs.declared.state.State.TheVariants.{Fresh, Working}
 use Rattle.resource_end.specs.States.{holds, is_prepared, is_unfinished, stores}
 use Rattle.resource_end.specs.Cells.{value_at, with_puts}
-use Rattle.resource_end.specs.End.{End, Resource, is_numbered, kept, moved, with_place}
-use Rattle.resource_end.specs.Recall.{is_recorded_at}
-use Rattle.resource_end.specs.Calls.{ask_of}
+use Rattle.resource_end.specs.End.{End, Resource, is_named, is_numbered, kept, moved, named, record_for, with_place}
+use Rattle.resource_end.specs.Recall.{Reread, is_recorded_at, recalls, reread}
+use Rattle.ots_outside.specs.Disk.{DiskState}
+use Rattle.decision_journal.specs.State.{JournalState}
+use Rattle.resource_end.specs.declared.fault.EndFault.{EndFault}
+use Rattle.resource_end.specs.declared.fault.EndFault.TheVariants as faults
+use Rattle.resource_end.specs.Calls.{Called, Written, StandsAt, Unwritten, InDoubt, ask_of, changing, done, is_open, refused}
+use Rattle.resource_end.specs.Journaling.{Comes, EndState, IsRereadWhere, IsWrittenWhere}
 
 -- ---- resources, by life and then by number
 
@@ -133,6 +139,10 @@ holder_in cell entries = option_map (λ c. c.holder) (lookup (is_at (nat_cmp cel
 abbrev pub HoldersStay : List (ℕ × Cell) → List (ℕ × Cell) → Type 0
 HoldersStay before after = (cell : ℕ) → holder_in cell after ≡ holder_in cell before
 
+-- each other cell was put last by whom it was
+abbrev pub OthersStay : ℕ → List (ℕ × Cell) → List (ℕ × Cell) → Type 0
+OthersStay cell before after = (other : ℕ) → (other ≡ cell → ⊥) → holder_in other after ≡ holder_in other before
+
 -- ---- puts
 
 -- the first put whose cell isn't below this one stands at this index
@@ -171,6 +181,11 @@ AreHeld contested cells resources = (id : Id) → IfSome (numbered id resources)
 -- a change leaves no puts that weren't its own before
 abbrev pub MayHold : State → State → Type 0
 MayHold next before = holds next ≡ true → holds before ≡ true
+
+-- there is one, and this holds of it
+abbrev pub IsSomeSo : Option Resource → (Resource → Type 0) → Type 0
+IsSomeSo (Some r) P = P r
+IsSomeSo None P = ⊥
 
 -- it holds what it put, or has put nothing
 abbrev pub HasOwnPuts : Resource → Type 0
@@ -231,13 +246,143 @@ AreRecorded standing resources = (id : Id) → IfSome (numbered id resources) (I
 abbrev pub AreApart : List Resource → Type 0
 AreApart resources = (test : Resource → Bool) (id : Id) → PassesAlone test id resources → find test resources ≡ if_passes test (numbered id resources)
 
--- what a resource that has put something would write fits a record
-abbrev pub IsWritable : State → Resource → Type 0
-IsWritable Working r = Fits (CellsPrepared r.life r.number r.recovery r.puts)
-IsWritable _ r = Unit {0}
+-- a key of this service names the resource, which is found by its number and stands so
+pub record IsNamed (service : ℕ) (key : ObjectKey) (resources : List Resource) (state : State) (r : Resource) : Type 0 where
+  pub named : find (is_named service key) resources ≡ Some r
+  pub numbered : numbered (key.life, key.generation) resources ≡ Some r
+  pub stands : r.state ≡ state
 
-abbrev pub AreWritable : List Resource → Type 0
-AreWritable resources = (id : Id) → IfSome (numbered id resources) (λ r. IsWritable r.state r)
+-- so the resource stands that a key names, where it names one
+abbrev pub StandsSo : ℕ → ObjectKey → List Resource → Option State → Type 0
+StandsSo service key resources None = find (is_named service key) resources ≡ None
+StandsSo service key resources (Some state) = (r : Resource) × IsNamed service key resources state r
+
+-- what a resource would write when it prepares fits a record, and its number was drawn
+pub record CanPrepare (drawn : ℕ) (r : Resource) : Type 0 where
+  pub fits : Fits (CellsPrepared r.life r.number r.recovery r.puts)
+  pub number : r.number ≤ drawn
+
+-- this holds of one that can put; one that has put nothing has no puts
+abbrev pub IsWritable : ℕ → State → Resource → Type 0
+IsWritable drawn Fresh r = CanPrepare drawn r × (r.puts ≡ [])
+IsWritable drawn Working r = CanPrepare drawn r
+IsWritable drawn _ r = Unit {0}
+
+abbrev pub AreWritable : ℕ → List Resource → Type 0
+AreWritable drawn resources = (id : Id) → IfSome (numbered id resources) (λ r. IsWritable drawn r.state r)
+
+-- ---- recalling a record without memory
+
+-- the last one
+abbrev pub last_of : List Standing → Option Standing
+last_of standing = slice_get standing (length standing - 1)
+
+-- it has put something, and no record of it stands
+pub record IsUnrecorded (r : Resource) : Type 0 where
+  pub works : r.state ≡ Working
+  pub unrecorded : r.record_place ≡ None
+
+-- it has the recovery coordinator and the place of a record
+abbrev pub with_record_of : List ℕ → ℕ → Resource → Resource
+with_record_of recovery place r = record r { recovery = recovery; record_place = Some place }
+
+-- there is a resource that has put just this, and no record of it stands
+pub record IsUnrecordedWith (puts : List Put) (r : Resource) : Type 0 where
+  pub unrecorded : IsUnrecorded r
+  pub puts_are : r.puts ≡ puts
+
+abbrev pub HasUnrecorded : Id → List Put → List Resource → Type 0
+HasUnrecorded id puts resources = IsSomeSo (numbered id resources) (IsUnrecordedWith puts)
+
+-- what a record of cells tells can be done without memory: the resource that wrote it is as it was, and the recovery
+-- coordinator that it names is at hand
+abbrev pub IsRecallable : JournalRecord → List ℕ → List Resource → Type 0
+IsRecallable (Life life) recovery resources = ⊥
+IsRecallable (Decision life slot generation key asked regs) recovery resources = ⊥
+IsRecallable (Done done) recovery resources = ⊥
+IsRecallable (Prepared life slot generation superior regs) recovery resources = ⊥
+IsRecallable (CellsPrepared life number said puts) recovery resources = (recovery ≡ said) × HasUnrecorded (life, number) puts resources
+IsRecallable (CellsOutcome done how) recovery resources = Unit {0}
+IsRecallable (CellsOnePhase life number puts) recovery resources = HasUnrecorded (life, number) puts resources
+
+-- resources and cells became what a record tells, whatever else an end has
+abbrev pub IsToldBy : Standing → ContentsState → ContentsState → Type 0
+IsToldBy s before after = (e : End) → recalls s (with_contents before e) ≡ with_contents after e
+
+-- what each that can put would write still fits a record
+abbrev pub StayWritable : List Resource → List Resource → Type 0
+StayWritable before after = (drawn : ℕ) → AreWritable drawn before → AreWritable drawn after
+
+-- ---- an end
+
+-- a key names a resource that can put, and it is found by its number
+pub record IsOpen (key : ObjectKey) (e : End) : Type 0 where
+  pub resource : Resource
+  pub is_named : named key e ≡ Some resource
+  pub is_numbered : numbered (key.life, key.generation) e.resources ≡ Some resource
+  pub can_put : is_open resource.state ≡ true
+
+-- a key names none, or one that can't put
+abbrev pub IsNotOpen : ObjectKey → End → EndFault → Type 0
+IsNotOpen key e fault =
+    ((fault ≡ faults.ObjectNotExist) × (named key e ≡ None))
+    ⊎ ((fault ≡ faults.Inactive) × ((r : Resource) × (named key e ≡ Some r) × (is_open r.state ≡ false)))
+
+-- What holds of an end: the records of its resources stand, what those that can put would write fits a record, and where a
+-- record is in doubt, it can be recalled with the recovery coordinator that is at hand
+pub record IsWhole {D : Type 0} (journal : JournalState D) (drawn : ℕ) (recovery : List ℕ) (resources : List Resource) : Type 0 where
+  pub recorded : AreRecorded journal.found.standing resources
+  pub writable : AreWritable drawn resources
+  pub recallable : IfSome journal.doubted (λ item. IsRecallable item recovery resources)
+  pub failed : journal.failed ≡ is_some journal.doubted
+
+-- a change may come out of a call on it: it makes nothing that can put, and no holder of what held nothing
+pub record CanMove (before after : State) : Type 0 where
+  pub closed : is_open after ≡ false
+  pub holds_not : MayHold after before
+
+-- the recovery coordinator that a record of cells names, where it names one
+abbrev pub named_by : JournalRecord → List ℕ
+named_by (Life life) = []
+named_by (Decision life slot generation key asked regs) = []
+named_by (Done done) = []
+named_by (Prepared life slot generation superior regs) = []
+named_by (CellsPrepared life number recovery puts) = recovery
+named_by (CellsOutcome done how) = []
+named_by (CellsOnePhase life number puts) = []
+
+-- a record that was written tells what becomes of its resource
+abbrev pub told_by_record : Written → JournalRecord → End → Called (Unit {0})
+told_by_record (StandsAt place) item e = done (recalls (record { place = place; item = item }) e)
+told_by_record (Unwritten fault) item e = refused fault e
+told_by_record (InDoubt fault) item e = refused fault (record e { doubted = Some item })
+
+-- an end writes a record
+pub record HasWritten {A D : Type 0} (told : D → Option DiskState) (before after : EndState D) (answer : Result A EndFault)
+    (wanted : Option JournalRecord) (called : Written → End → Called A) : Type 0 where
+  pub written : Written
+  pub wrote : IsWrittenWhere wanted told before.journal after.journal written
+  pub comes : Comes after answer (called written before.end)
+
+abbrev pub HasWrittenRecord : {D : Type 0} → (D → Option DiskState) → EndState D → EndState D → Result (Unit {0}) EndFault → JournalRecord → Type 0
+HasWrittenRecord told before after answer item =
+    HasWritten told before after answer (Some item) (λ written. told_by_record written item)
+
+-- a resource changes its state
+abbrev pub HasMoved : {D : Type 0} → (D → Option DiskState) → EndState D → EndState D → Result (Unit {0}) EndFault → State → Resource → Type 0
+HasMoved told before after answer next r =
+    HasWritten told before after answer (record_for next r) (λ written. changing written (Ok tt) next r)
+
+-- an answer of a reread, and the end behind it
+abbrev pub AnswersSo : {D : Type 0} → Result End EndFault → EndState D → EndState D → Result (Unit {0}) EndFault → Type 0
+AnswersSo (Ok later) before after answer = (after.end ≡ later) × (answer ≡ Ok tt)
+AnswersSo (Err fault) before after answer = (after.end ≡ before.end) × (answer ≡ Err fault)
+
+-- an end reads its journal again where that is due
+pub record HasReadAgain {D : Type 0} (told : D → Option DiskState) (before after : EndState D) (answer : Result (Unit {0}) EndFault) : Type 0 where
+  pub found : Reread
+  pub read : IsRereadWhere before.journal.failed told before.journal after.journal found
+  pub answers : AnswersSo (reread found before.end) before after answer
 
 -- a resource that a record told
 abbrev pub put_by_record : State → Id → List ℕ → List Put → Option ℕ → List Resource → Resource

@@ -71,7 +71,7 @@ impl Cells {
     pub(crate) fn hold(&mut self, cell: u64, id: Id) -> Result<Option<Id>, AllocError>
         ensures before { IfOk result (λ before. before ≡ unwrap_or (inside.holder_in cell self.old) None) }
         ensures held { OnOk result (inside.holder_in cell self.new ≡ Some (Some id)) }
-        ensures others { OnOk result ((other : ℕ) → (other ≡ cell → ⊥) → inside.holder_in other self.new ≡ inside.holder_in other self.old) }
+        ensures others { OnOk result (inside.OthersStay cell self.old self.new) }
         ensures stored { inside.stored_cells self.new ≡ inside.stored_cells self.old }
         ensures err { OnErr result (self.new ≡ self.old) }
     {
@@ -113,7 +113,8 @@ impl Cells {
 
     /// Stores what a record says that was put. It needs memory for cells that aren't known.
     pub(crate) fn load_all(&mut self, puts: &[Put]) -> Result<(), AllocError>
-        ensures stored { OnOk result (inside.stored_cells self.new ≡ with_puts puts.now (inside.stored_cells self.old)) }
+        ensures stored { OnOk result
+            (inside.stored_cells self.new ≡ with_puts puts.now (inside.stored_cells self.old)) }
     {
         let mut left = puts.len();
         while left > 0 {

@@ -1,17 +1,20 @@
 // The resources and cells of an end that is loaded.
-ghost use Rattle.std.specs.Prelude.{◌≡◌, ℕ, find, is_some, IfSome, IfOk, OnOk, OnErr, IsSome, Some, None};
-ghost use Rattle.std.specs.List.{count_by};
+ghost use Rattle.std.specs.Prelude.{◌≡◌, ℕ, ◌<◌, ◌^◌, find, is_some, IfSome, IfOk, OnOk, OnErr, IsSome, Some, None};
+ghost use Rattle.std.specs.List.{Contains, count_by};
 ghost use Rattle.std.specs.Option.{option_copied, option_map};
-ghost use Rattle.resource_end.specs.States.{is_unfinished};
+ghost use Rattle.decision_journal.specs.Index.{AreInOrder};
+ghost use Rattle.resource_end.specs.States.{is_unfinished, state_of};
 ghost use Rattle.resource_end.specs.Cells.{value_at};
+ghost use Rattle.resource_end.specs.Recall.{is_recorded_at};
 ghost use Rattle.resource_end.specs.End as end;
 ghost use Rattle.resource_end.specs.Calls as calls;
 ghost use Rattle.resource_end.specs.Inside as inside;
 
 use crate::cells::Cells;
 use crate::kept::{Id, Kept, Resources};
+use crate::standing::prepared_at;
 use crate::state::State;
-use decision_journal::{JournalRecord, Put};
+use decision_journal::{CellsEnd, JournalRecord, Put, Standing};
 use ior_refs::ObjectKey;
 use ots_model::RefBytes;
 use std::alloc::{AllocError, Global};
@@ -61,6 +64,16 @@ impl Contents {
             ≡ find (end.is_named service key.now) self.now.resources }
     {
         self.resources.named(service, key)
+    }
+
+    /// How the resource stands that a key of this service names.
+    pub(crate) fn state_of(&self, service: u64, key: &ObjectKey) -> Option<State>
+        ensures { inside.StandsSo service key.now self.now.resources result }
+    {
+        match self.resources.named(service, key) {
+            Some(kept) => Some(kept.state),
+            None => None,
+        }
     }
 
     /// What is stored in a cell.
@@ -144,11 +157,78 @@ impl Contents {
         requires known { IsSome (inside.numbered id self.now.resources) }
         ensures item { IfOk result (λ item. Some item
             ≡ option_map (end.record_for next) (inside.numbered id self.now.resources)) }
+        ensures wanting { OnErr result (IfSome (inside.numbered id self.now.resources)
+            (λ r. IsSome (end.record_for next r))) }
+        ensures place { IfSome (inside.numbered id self.now.resources)
+            (λ r. IfSome r.record_place (λ place. place < 2 ^ 32)) }
         ensures apart { inside.AreApart self.now.resources }
     {
         match self.resources.numbered(id) {
             Some(kept) => kept.record_for(self.alloc, id, next),
             None => Ok(None),
+        }
+    }
+
+    /// The last record tells what was to become of a resource, which becomes it. Where it prepares, the recovery coordinator
+    /// that the record names is handed in. It needs no memory.
+    pub(crate) fn recall_last(&mut self, standing: &[Standing], recovery: RefBytes)
+        requires order { AreInOrder standing.now }
+        requires recorded { inside.AreRecorded standing.now self.old.resources }
+        requires last { IfSome (inside.last_of standing.now)
+            (λ s. inside.IsRecallable s.item recovery self.old.resources) }
+        ensures told { IfSome (inside.last_of standing.now) (λ s. inside.IsToldBy s self.old self.new) }
+        ensures recorded { inside.AreRecorded standing.now self.new.resources }
+        ensures writable { inside.StayWritable self.old.resources self.new.resources }
+    {
+        if let Some(last) = standing.last() {
+            self.recall(standing, last, recovery);
+        }
+    }
+
+    /// One of the records tells what was to become of a resource.
+    fn recall(&mut self, standing: &[Standing], each: &Standing, recovery: RefBytes)
+        requires order { AreInOrder standing.now }
+        requires among { Contains standing.now each.now }
+        requires recorded { inside.AreRecorded standing.now self.old.resources }
+        requires recallable { inside.IsRecallable each.now.item recovery self.old.resources }
+        ensures told { inside.IsToldBy each.now self.old self.new }
+        ensures recorded { inside.AreRecorded standing.now self.new.resources }
+        ensures writable { inside.StayWritable self.old.resources self.new.resources }
+    {
+        match &each.item {
+            JournalRecord::CellsPrepared(life, number, _, _) => {
+                self.recall_prepared((*life, *number), recovery, each.place);
+            }
+            JournalRecord::CellsOutcome(place, end) => self.recall_end(standing, *place, *end),
+            JournalRecord::CellsOnePhase(life, number, _) => {
+                self.change((*life, *number), State::Applied, None);
+            }
+            _ => {}
+        }
+    }
+
+    /// A resource prepared by the record at this place, which names this recovery coordinator.
+    fn recall_prepared(&mut self, id: Id, recovery: RefBytes, place: u32)
+        requires known { IsSome (inside.numbered id self.old.resources) }
+        requires works { IfSome (inside.numbered id self.old.resources) inside.IsUnrecorded }
+        ensures { IfSome (inside.numbered id self.old.resources)
+            (λ r. self.new ≡ inside.changed State.Prepared (inside.with_record_of recovery place r) self.old) }
+    {
+        self.bind(id, recovery);
+        self.change(id, State::Prepared, Some(place));
+    }
+
+    /// The resource ended that prepared by the record at this place, where there is one.
+    fn recall_end(&mut self, standing: &[Standing], place: u32, end: CellsEnd)
+        requires order { AreInOrder standing.now }
+        requires recorded { inside.AreRecorded standing.now self.old.resources }
+        ensures after { self.new
+            ≡ inside.ended (state_of end) (find (is_recorded_at place) self.old.resources) self.old }
+        ensures recorded { inside.AreRecorded standing.now self.new.resources }
+    {
+        let recorded = self.resources.recorded(prepared_at(standing, place), place);
+        if let Some(id) = recorded {
+            self.change(id, State::of_end(end), None);
         }
     }
 }

@@ -1,33 +1,54 @@
-ghost use Rattle.std.specs.Prelude.{◌≡◌, ◌≤◌, false, None, IfOk, IfErr};
+ghost use Rattle.std.specs.Prelude.{◌≡◌, ◌+◌, ◌^◌, ◌<◌, ◌≤◌, false, None, Some, IfOk, IfErr, IfSome, IsSome, IsTrue, OnOk};
 ghost use Rattle.ots_outside.specs.Disk.{Tells};
 ghost use Rattle.decision_journal.specs.Limits.{area_limit};
 ghost use Rattle.decision_journal.specs.Calls.{IsCurrent};
+ghost use Rattle.decision_journal.specs.Journal.{can_follow};
+ghost use Rattle.decision_journal.specs.Layout.{Fits};
+ghost use Rattle.decision_journal.specs.State.{cells_in};
 ghost use Rattle.decision_journal.specs.Loading.{LoadIsDone, LoadIsSafe};
+ghost use Rattle.resource_end.specs.Limits.{object_limit};
 ghost use Rattle.resource_end.specs.Recall.{loaded};
 ghost use Rattle.resource_end.specs.End as end;
 ghost use Rattle.resource_end.specs.Calls as calls;
 ghost use Rattle.resource_end.specs.Faults.{IsLoadCause};
+ghost use Rattle.resource_end.specs.Inside as inside;
+ghost use Rattle.resource_end.specs.Journaling as journaling;
 
 use crate::contents::Contents;
 use crate::fault::EndFault;
+use crate::kept::Id;
 use crate::loading::load_all;
-use decision_journal::Journal;
+use crate::state::State;
+use decision_journal::{Journal, JournalRecord};
 use ior_refs::ObjectKey;
-use ots_model::Status;
+use ots_model::{RefBytes, Status};
 use ots_outside::{Back, Disk};
-use std::alloc::Global;
+use std::alloc::{AllocError, Global};
 use std::marker::Model;
+
+/// The letter of a synchronization's key.
+const SYNCHRONIZATION_KIND: u8 = b'Y';
+
+/// How many objects may be made in one life.
+const OBJECT_LIMIT: u64 = 1 << 48;
+
+/// How many resources may be unfinished at once.
+const UNFINISHED_LIMIT: usize = 4096;
 
 /// Resources with cells that outlive a crash, over a disk. Contracts see the end as its definition has it, and its journal.
 #[derive(Drop)]
 pub struct ResourceEnd<D: Disk> {
+    alloc: Global,
     journal: Journal<D>,
     drawn: u64,
     contents: Contents,
+    /// The recovery coordinator that the record in doubt names, where it names one.
+    recovery: RefBytes,
     changed: Option<Status>,
 }
 
 impl<D: Disk> Model for ResourceEnd<D> {
+    ghost use Rattle.resource_end.specs.Inside.{IsWhole};
     ghost use Rattle.resource_end.specs.Journaling.{EndState};
 
     ghost Value = { EndState D };
@@ -44,6 +65,8 @@ impl<D: Disk> Model for ResourceEnd<D> {
       };
       journal = e.journal;
     } };
+
+    ghost invariant = { λ e. IsWhole e.journal e.drawn e.recovery e.contents.resources };
 }
 
 impl<D: Disk> ResourceEnd<D> {
@@ -83,9 +106,11 @@ impl<D: Disk> ResourceEnd<D> {
         };
         match load_all(alloc, journal.standing()) {
             Ok(contents) => Ok(ResourceEnd {
+                alloc,
                 journal,
                 drawn: 0,
                 contents,
+                recovery: RefBytes::from_vec(Vec::new(alloc)),
                 changed: None,
             }),
             Err(_) => Err(Back {
@@ -129,5 +154,168 @@ impl<D: Disk> ResourceEnd<D> {
             Some(value) => Ok(Some(value)),
             None => Ok(self.contents.stored(cell)),
         }
+    }
+
+    /// Makes an object with a key of this letter, R, A or Y. A synchronization, Y, is no resource. It is refused where 2^48
+    /// objects of this life were made, or 4,096 resources are unfinished (NoResources).
+    pub fn fresh(&mut self, kind: u8) -> Result<ObjectKey, EndFault>
+        ensures { journaling.IsAloneOrStarved self.old self.new result (calls.fresh kind self.old.end) }
+    {
+        if self.is_spent(kind) {
+            return Err(EndFault::NoResources);
+        }
+        let key = self.next_key(kind);
+        if kind == SYNCHRONIZATION_KIND {
+            self.drawn += 1;
+            return Ok(key);
+        }
+        self.contents.add((key.life, key.generation), kind)?;
+        self.drawn += 1;
+        Ok(key)
+    }
+
+    /// Whether no further object with a key of this letter can be made.
+    fn is_spent(&self, kind: u8) -> bool
+        ensures spent { result ≡ calls.is_spent kind self.now.end }
+        ensures left { result ≡ false → self.now.end.drawn < object_limit }
+    {
+        if self.drawn >= OBJECT_LIMIT {
+            return true;
+        }
+        if kind == SYNCHRONIZATION_KIND {
+            return false;
+        }
+        self.contents.unfinished() >= UNFINISHED_LIMIT
+    }
+
+    /// The next key of this letter.
+    fn next_key(&self, kind: u8) -> ObjectKey
+        requires { self.now.end.drawn < object_limit }
+        ensures key { result ≡ calls.key_of kind (self.now.end.drawn + 1) self.now.end }
+        ensures life { result.life < 2 ^ 32 }
+    {
+        ObjectKey {
+            kind,
+            service: self.journal.service(),
+            life: self.journal.life(),
+            slot: 0,
+            generation: self.drawn + 1,
+            index: 0,
+        }
+    }
+
+    /// A resource's recovery coordinator is this one from now on. One that has prepared keeps that of its record. It is
+    /// refused where the key names no resource (ObjectNotExist).
+    pub fn bind(&mut self, key: &ObjectKey, recovery: RefBytes) -> Result<(), EndFault>
+        ensures { journaling.IsAlone self.old self.new result (calls.bind key.now recovery self.old.end) }
+    {
+        match self.contents.state_of(self.journal.service(), key) {
+            Some(_) => {
+                let _fits = recovery.bytes().len();
+                self.contents.bind((key.life, key.generation), recovery);
+                Ok(())
+            }
+            None => Err(EndFault::ObjectNotExist),
+        }
+    }
+
+    /// Forgets a resource that has put nothing, where the key names one.
+    pub fn unmake(&mut self, key: &ObjectKey)
+        ensures { self.new ≡ record self.old { end = calls.unmake key.now self.old.end } }
+    {
+        let state = match self.contents.state_of(self.journal.service(), key) {
+            Some(state) => state,
+            None => return,
+        };
+        if !state.is_fresh() {
+            return;
+        }
+        self.contents
+            .change((key.life, key.generation), State::Forgotten, None);
+    }
+
+    /// Reads the journal again where a call has failed. Where the record in doubt stands, its resource changes as it says.
+    fn reread(&mut self) -> Result<(), EndFault>
+        ensures rereads { inside.HasReadAgain D.told self.old self.new result }
+        ensures ready { OnOk result (self.new.journal.failed ≡ false) }
+        ensures fault { IfErr result (journaling.IsCause (D.told self.new.journal.disk)
+            (D.faults self.old.journal.disk) (D.faults self.new.journal.disk)) }
+        ensures later { D.faults self.old.journal.disk ≤ D.faults self.new.journal.disk }
+        ensures shown { self.new.end.changed ≡ self.old.end.changed }
+    {
+        if !self.journal.failed() {
+            return Ok(());
+        }
+        let known = self.journal.standing().len();
+        if let Err(fault) = self.journal.reopen() {
+            return Err(EndFault::of_write(fault));
+        }
+        let recovery = std::mem::replace(
+            &mut self.recovery,
+            RefBytes::from_vec(Vec::new(self.alloc)),
+        );
+        if self.journal.standing().len() > known {
+            self.contents.recall_last(self.journal.standing(), recovery);
+        }
+        Ok(())
+    }
+
+    /// A resource changes its state. Where a record has to stand first, it is written.
+    fn moves(&mut self, id: Id, next: State) -> Result<(), EndFault>
+        requires known { IsSome (inside.numbered id self.old.end.resources) }
+        requires can { IfSome (inside.numbered id self.old.end.resources)
+            (λ r. inside.CanMove r.state next) }
+        requires ready { self.old.journal.failed ≡ false }
+        ensures moves { IfSome (inside.numbered id self.old.end.resources)
+            (inside.HasMoved D.told self.old self.new result next) }
+        ensures fault { IfErr result (journaling.IsCause (D.told self.new.journal.disk)
+            (D.faults self.old.journal.disk) (D.faults self.new.journal.disk)) }
+        ensures later { D.faults self.old.journal.disk ≤ D.faults self.new.journal.disk }
+        ensures shown { self.new.end.changed ≡ self.old.end.changed }
+    {
+        match self.contents.record_for(id, next)? {
+            Some(item) => self.write(item),
+            None => {
+                self.contents.change(id, next, None);
+                Ok(())
+            }
+        }
+    }
+
+    /// Writes a record of a resource, which then changes as it says. Nothing is written where memory is wanting.
+    fn write(&mut self, item: JournalRecord) -> Result<(), EndFault>
+        requires fits { Fits item }
+        requires follows { IsTrue (can_follow self.old.journal.found item) }
+        requires cells { cells_in item ≡ 1 }
+        requires recallable { inside.IsRecallable item (inside.named_by item) self.old.end.resources }
+        requires ready { self.old.journal.failed ≡ false }
+        ensures writes { inside.HasWrittenRecord D.told self.old self.new result item }
+        ensures fault { IfErr result (journaling.IsCause (D.told self.new.journal.disk)
+            (D.faults self.old.journal.disk) (D.faults self.new.journal.disk)) }
+        ensures later { D.faults self.old.journal.disk ≤ D.faults self.new.journal.disk }
+        ensures shown { self.new.end.changed ≡ self.old.end.changed }
+    {
+        let recovery = named_by(self.alloc, &item)?;
+        self.journal.reserve()?;
+        match self.journal.append(item) {
+            Ok(_) => {
+                self.contents.recall_last(self.journal.standing(), recovery);
+                Ok(())
+            }
+            Err(fault) => {
+                self.recovery = recovery;
+                Err(EndFault::of_write(fault))
+            }
+        }
+    }
+}
+
+/// A copy of the recovery coordinator that a record of cells names, or of none.
+fn named_by(alloc: Global, item: &JournalRecord) -> Result<RefBytes, AllocError>
+    ensures { IfOk result (λ recovery. recovery ≡ inside.named_by item.now) }
+{
+    match item {
+        JournalRecord::CellsPrepared(_, _, recovery, _) => recovery.copy(alloc),
+        _ => Ok(RefBytes::from_vec(Vec::new(alloc))),
     }
 }

@@ -1,4 +1,4 @@
-ghost use Rattle.std.specs.Prelude.{◌≡◌, ℕ, ◌∷◌, ◌++◌, ◌||◌, find, is_some, IfSome, IfOk, OnOk, OnErr, IsSome, Some, None, [], if◌then◌else◌};
+ghost use Rattle.std.specs.Prelude.{◌≡◌, ℕ, ◌<◌, ◌^◌, ◌∷◌, ◌++◌, ◌||◌, find, is_some, IfSome, IfOk, OnOk, OnErr, IsSome, Some, None, [], if◌then◌else◌};
 ghost use Rattle.std.specs.List.{count_by};
 ghost use Rattle.std.specs.Option.{option_copied, option_map, unwrap_or};
 ghost use Rattle.resource_end.specs.States.{holds, is_unfinished};
@@ -108,7 +108,9 @@ impl Kept {
         id: Id,
         next: State,
     ) -> Result<Option<JournalRecord>, AllocError>
-        ensures { IfOk result (λ item. item ≡ end.record_for next (inside.resource_at id self.now)) }
+        ensures item { IfOk result (λ item. item ≡ end.record_for next (inside.resource_at id self.now)) }
+        ensures wanting { OnErr result (IsSome (end.record_for next (inside.resource_at id self.now))) }
+        ensures place { IfSome self.now.record_place (λ place. place < 2 ^ 32) }
     {
         match (self.record_place, self.state, next) {
             (Some(place), _, _) => match next.end() {
@@ -164,7 +166,8 @@ impl Kept {
 
     /// Its recovery coordinator is this one, where it hasn't prepared. The result is the one before.
     fn bind(&mut self, recovery: RefBytes) -> Option<RefBytes>
-        ensures after { (id : ℕ × ℕ) → inside.resource_at id self.new ≡ calls.bound recovery (inside.resource_at id self.old) }
+        ensures after { (id : ℕ × ℕ) → inside.resource_at id self.new
+            ≡ calls.bound recovery (inside.resource_at id self.old) }
         ensures before { IfSome result (λ before. before ≡ self.old.recovery) }
         ensures state { self.new.state ≡ self.old.state }
     {
@@ -251,13 +254,15 @@ impl Resources {
 
     /// The resource that a key of this service names.
     pub(crate) fn named(&self, service: u64, key: &ObjectKey) -> Option<&Kept>
-        ensures { option_map (inside.resource_at (key.now.life, key.now.generation)) (option_copied result)
+        ensures found { option_map (inside.resource_at (key.now.life, key.now.generation)) (option_copied result)
             ≡ find (end.is_named service key.now) self.now }
+        ensures apart { inside.AreApart self.now }
     {
+        let map = &self.map;
         if key.service != service || key.slot != 0 || key.index != 0 {
             return None;
         }
-        match self.map.get(&(key.life, key.generation)) {
+        match map.get(&(key.life, key.generation)) {
             Some(kept) if kept.has_letter(key.kind) => Some(kept),
             _ => None,
         }

@@ -7,7 +7,7 @@ ghost use Rattle.resource_end.specs.States.{state_of};
 ghost use Rattle.resource_end.specs.Cells.{with_puts};
 ghost use Rattle.resource_end.specs.End.{End, with_resource};
 ghost use Rattle.resource_end.specs.Inside as inside;
-ghost use Rattle.resource_end.specs.Recall.{is_recorded_at, recalls, recalls_all};
+ghost use Rattle.resource_end.specs.Recall.{is_recorded_at, recalls_all};
 
 use crate::cells::Cells;
 use crate::contents::Contents;
@@ -33,7 +33,7 @@ pub(crate) fn load_all(alloc: Global, standing: &[Standing]) -> Result<Contents,
     ensures contents { IfOk result (λ c. (e : End)
         → recalls_all standing.now (inside.with_contents inside.no_contents e) ≡ inside.with_contents c e) }
     ensures recorded { IfOk result (λ c. inside.AreRecorded standing.now c.resources) }
-    ensures writable { IfOk result (λ c. inside.AreWritable c.resources) }
+    ensures writable { IfOk result (λ c. inside.AreWritable 0 c.resources) }
 {
     let mut loading = Loading {
         alloc,
@@ -52,11 +52,12 @@ impl Loading {
         requires order { AreInOrder standing.now }
         requires among { Contains standing.now each.now }
         requires recorded { inside.AreRecorded standing.now self.old.resources }
-        requires writable { inside.AreWritable self.old.resources }
-        ensures told { OnOk result ((e : End) → recalls each.now (inside.with_contents (inside.contents_of self.old.resources self.old.cells) e)
-            ≡ inside.with_contents (inside.contents_of self.new.resources self.new.cells) e) }
+        requires writable { inside.AreWritable 0 self.old.resources }
+        ensures told { OnOk result (inside.IsToldBy each.now
+            (inside.contents_of self.old.resources self.old.cells)
+            (inside.contents_of self.new.resources self.new.cells)) }
         ensures recorded { OnOk result (inside.AreRecorded standing.now self.new.resources) }
-        ensures writable { OnOk result (inside.AreWritable self.new.resources) }
+        ensures writable { OnOk result (inside.AreWritable 0 self.new.resources) }
     {
         match &each.item {
             JournalRecord::CellsPrepared(life, number, recovery, puts) => {
@@ -113,7 +114,8 @@ impl Loading {
     fn apply(&mut self, id: Id, puts: &Puts) -> Result<(), AllocError>
         ensures resources { OnOk result (self.new.resources ≡ with_resource
             (inside.put_by_record State.Applied id [] [] None self.old.resources) self.old.resources) }
-        ensures cells { OnOk result (inside.stored_cells self.new.cells ≡ with_puts puts.now (inside.stored_cells self.old.cells)) }
+        ensures cells { OnOk result
+            (inside.stored_cells self.new.cells ≡ with_puts puts.now (inside.stored_cells self.old.cells)) }
     {
         let kept = Kept {
             kind: self.letter_of(id),

@@ -1,5 +1,5 @@
 ghost use Rattle.std.specs.Prelude.{◌≡◌};
-ghost use Rattle.resource_end.specs.States.{end_of, holds, is_unfinished, learnt, made, state_of, stores};
+ghost use Rattle.resource_end.specs.States.{end_of, holds, is_prepared, is_unfinished, learnt, made, state_of, stores};
 ghost use Rattle.resource_end.specs.Calls.{choice, is_fresh, is_open};
 ghost use Rattle.resource_end.specs.Table.{on_commit, on_commit_one_phase, on_forget, on_prepare, on_rollback, row};
 
@@ -54,6 +54,13 @@ impl State {
         ensures { result ≡ is_fresh self }
     {
         matches!(self, State::Fresh)
+    }
+
+    /// Whether it waits for an outcome.
+    pub(crate) fn is_prepared(self) -> bool
+        ensures { result ≡ is_prepared self }
+    {
+        matches!(self, State::Prepared)
     }
 
     /// Whether it can put.

@@ -10,7 +10,7 @@ pub loop-each-init : goal.loop-each-init
 loop-each-init c = (
   (λ e i. with_contents (contents_of (sym c.new.ensures i) (sym c.new-2.ensures i)) e),
   (λ id. subst (λ rs. IfSome (numbered id rs) (IsRecorded c.args.standing.now id)) (sym c.new.ensures) tt),
-  (λ id. subst (λ rs. IfSome (numbered id rs) (λ r. IsWritable r.state r)) (sym c.new.ensures) tt),
+  (λ id. subst (λ rs. IfSome (numbered id rs) (λ r. IsWritable 0 r.state r)) (sym c.new.ensures) tt),
 )
 
 pub loop-each-preserved : goal.loop-each-preserved
@@ -42,4 +42,4 @@ pub returns-clause-recorded : goal.returns-clause-recorded
 returns-clause-recorded c = if_ok c.of.result _ _ c.of.ensures (λ x is. subst (λ s. AreRecorded c.args.standing.now s.resources) (sym is) c.loop-each.invariant.1)
 
 pub returns-clause-writable : goal.returns-clause-writable
-returns-clause-writable c = if_ok c.of.result _ _ c.of.ensures (λ x is. subst (λ s. AreWritable s.resources) (sym is) c.loop-each.invariant.2)
+returns-clause-writable c = if_ok c.of.result _ _ c.of.ensures (λ x is. subst (λ s. AreWritable 0 s.resources) (sym is) c.loop-each.invariant.2)

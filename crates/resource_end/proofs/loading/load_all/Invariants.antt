@@ -8,4 +8,4 @@ abbrev pub invariant-loop-each : goal.invariant-loop-each
 invariant-loop-each l =
     ((e : End) → recalls_all (take l.each-index l.standing) (inside.with_contents inside.no_contents e) ≡ inside.with_contents (inside.contents_of l.loading.resources l.loading.cells) e)
     × inside.AreRecorded l.standing l.loading.resources
-    × inside.AreWritable l.loading.resources
+    × inside.AreWritable 0 l.loading.resources

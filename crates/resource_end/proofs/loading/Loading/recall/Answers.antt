@@ -49,22 +49,22 @@ returns-in_default c = record {
 pub returns-in-CellsPrepared-clause-writable : goal.returns-in-CellsPrepared-clause-writable
 returns-in-CellsPrepared-clause-writable c =
     on_ok c.prepare.result _ _ c.prepare.ensures.resources
-    (λ p. subst AreWritable (sym p)
-    (all_with (λ id r. IsWritable r.state r) c.args.self.now.resources
+    (λ p. subst (AreWritable 0) (sym p)
+    (all_with (λ id r. IsWritable 0 r.state r) c.args.self.now.resources
     (put_by_record states.Prepared (c.in-CellsPrepared.life, c.in-CellsPrepared.number) c.in-CellsPrepared.recovery c.in-CellsPrepared.puts (Some c.args.each.now.place) c.args.self.now.resources)
     c.requires.writable tt))
 
 pub returns-in-CellsOutcome-clause-writable : goal.returns-in-CellsOutcome-clause-writable
 returns-in-CellsOutcome-clause-writable c =
     on_ok c.end.result _ _ c.end.ensures.after
-    (λ p. subst (λ s. AreWritable s.resources) (sym p)
-    (ended_writable c.in-CellsOutcome.end (find (is_recorded_at c.in-CellsOutcome.place) c.args.self.now.resources)
+    (λ p. subst (λ s. AreWritable 0 s.resources) (sym p)
+    (ended_writable 0 c.in-CellsOutcome.end (find (is_recorded_at c.in-CellsOutcome.place) c.args.self.now.resources)
     (contents_of c.args.self.now.resources c.args.self.now.cells) c.requires.writable))
 
 pub returns-in-CellsOnePhase-clause-writable : goal.returns-in-CellsOnePhase-clause-writable
 returns-in-CellsOnePhase-clause-writable c =
     on_ok c.apply.result _ _ c.apply.ensures.resources
-    (λ p. subst AreWritable (sym p)
-    (all_with (λ id r. IsWritable r.state r) c.args.self.now.resources
+    (λ p. subst (AreWritable 0) (sym p)
+    (all_with (λ id r. IsWritable 0 r.state r) c.args.self.now.resources
     (put_by_record states.Applied (c.in-CellsOnePhase.life, c.in-CellsOnePhase.number) [] [] None c.args.self.now.resources)
     c.requires.writable tt))

@@ -1,0 +1,79 @@
+use Rattle.std.proofs.Common.{◌≡◌, ◌∙◌, ◌∷◌, [], false, Some, refl, ap, sym, subst}
+use Rattle.std.specs.Prelude.{Ok, Err}
+use Rattle.decision_journal.specs.Calls.{HasAppended, IsRefusedAppend}
+use Rattle.decision_journal.specs.Journal.{Found}
+use Rattle.resource_end.specs.declared.fault.EndFault.TheVariants as faults
+use Rattle.resource_end.specs.Faults.{write_fault}
+use Rattle.resource_end.specs.Inside.{AreRecorded, HasWritten, IsRecallable, last_of, told_by_record}
+use Rattle.resource_end.proofs.Writing.{appended_found, doubts_nothing, last_appended, last_recallable, last_told, memory_err, more_recorded, refused, seen, starved, wrote}
+use Rattle.resource_end.proofs.end.ResourceEnd.write.Goals as goal
+
+pub returns-in_err-recovery-clause-writes : goal.returns-in_err-recovery-clause-writes
+returns-in_err-recovery-clause-writes g c =
+    subst (λ x. HasWritten g.D.Disk.told c.args.self.now c.args.self.now x (Some c.args.item) (λ written. told_by_record written c.args.item))
+    (sym (memory_err c.from_residual.result c.from_residual.ensures.1))
+    (subst (λ s. HasWritten g.D.Disk.told s s (Err faults.Memory) (Some c.args.item) (λ written. told_by_record written c.args.item)) c.self.view_is
+    (starved g.D.Disk.told c.self.inside.journal c.self.inside.journal c.self.inside.journal.room c.self.inside.drawn c.self.inside.contents c.self.inside.changed
+    c.args.item (doubts_nothing c.self.inside.journal.failed c.self.inside.journal.doubted
+    (subst (λ s. s.journal.failed ≡ false) (sym c.self.view_is) c.requires.ready) c.self.invariant.failed) refl))
+
+pub returns-in_err-reserve-clause-writes : goal.returns-in_err-reserve-clause-writes
+returns-in_err-reserve-clause-writes g c =
+    subst (λ x. HasWritten g.D.Disk.told c.args.self.now (seen c.reserve.new.self c.self.inside.drawn c.self.inside.contents c.self.inside.changed) x
+    (Some c.args.item) (λ written. told_by_record written c.args.item))
+    (sym (memory_err c.from_residual-in_err-reserve.result c.from_residual-in_err-reserve.ensures.1))
+    (subst (λ s. HasWritten g.D.Disk.told s (seen c.reserve.new.self c.self.inside.drawn c.self.inside.contents c.self.inside.changed) (Err faults.Memory)
+    (Some c.args.item) (λ written. told_by_record written c.args.item)) c.self.view_is
+    (starved g.D.Disk.told c.self.inside.journal c.reserve.new.self c.reserve.new.self.room c.self.inside.drawn c.self.inside.contents c.self.inside.changed
+    c.args.item (doubts_nothing c.self.inside.journal.failed c.self.inside.journal.doubted
+    (subst (λ s. s.journal.failed ≡ false) (sym c.self.view_is) c.requires.ready) c.self.invariant.failed) c.reserve.ensures.same))
+
+pub recall_last-requires-clause-recorded : goal.recall_last-requires-clause-recorded
+recall_last-requires-clause-recorded g c =
+    let ready = subst (λ s. s.journal.failed ≡ false) (sym c.self.view_is) c.requires.ready in
+    let none = doubts_nothing c.self.inside.journal.failed c.self.inside.journal.doubted ready c.self.invariant.failed in
+    let more = subst (λ j. HasAppended g.D.Disk.told j c.args.item c.append.new.self c.in-Ok.field-0) c.reserve.ensures.same c.in-Ok.ensures.more in
+    let found = appended_found g.D.Disk.told c.self.inside.journal c.append.new.self c.reserve.new.self.room c.self.inside.drawn c.self.inside.contents c.self.inside.changed
+    c.args.item none c.in-Ok.field-0 c.requires.cells more in
+    subst (λ xs. AreRecorded xs c.self.inside.contents.resources) (sym (c.standing.ensures.same ∙ ap (λ (f : Found). f.standing) found))
+    (more_recorded c.self.inside.journal.found.standing (record { place = c.in-Ok.field-0; item = c.args.item } ∷ []) c.self.inside.contents.resources c.self.invariant.recorded)
+
+pub recall_last-requires-clause-last : goal.recall_last-requires-clause-last
+recall_last-requires-clause-last g c =
+    let ready = subst (λ s. s.journal.failed ≡ false) (sym c.self.view_is) c.requires.ready in
+    let none = doubts_nothing c.self.inside.journal.failed c.self.inside.journal.doubted ready c.self.invariant.failed in
+    let more = subst (λ j. HasAppended g.D.Disk.told j c.args.item c.append.new.self c.in-Ok.field-0) c.reserve.ensures.same c.in-Ok.ensures.more in
+    let found = appended_found g.D.Disk.told c.self.inside.journal c.append.new.self c.reserve.new.self.room c.self.inside.drawn c.self.inside.contents c.self.inside.changed
+    c.args.item none c.in-Ok.field-0 c.requires.cells more in
+    let last = ap last_of (c.standing.ensures.same ∙ ap (λ (f : Found). f.standing) found)
+    ∙ last_appended c.self.inside.journal.found.standing (record { place = c.in-Ok.field-0; item = c.args.item }) in
+    last_recallable c.standing.result.now (record { place = c.in-Ok.field-0; item = c.args.item }) _ c.self.inside.contents.resources last
+    (subst (λ s. IsRecallable c.args.item c.in_ok-recovery.recovery s.end.resources) (sym c.self.view_is)
+    (subst (λ recovery. IsRecallable c.args.item recovery c.args.self.now.end.resources) (sym c.in_ok-recovery.ensures) c.requires.recallable))
+
+pub returns-in-Ok-clause-writes : goal.returns-in-Ok-clause-writes
+returns-in-Ok-clause-writes g c =
+    let ready = subst (λ s. s.journal.failed ≡ false) (sym c.self.view_is) c.requires.ready in
+    let none = doubts_nothing c.self.inside.journal.failed c.self.inside.journal.doubted ready c.self.invariant.failed in
+    let more = subst (λ j. HasAppended g.D.Disk.told j c.args.item c.append.new.self c.in-Ok.field-0) c.reserve.ensures.same c.in-Ok.ensures.more in
+    let found = appended_found g.D.Disk.told c.self.inside.journal c.append.new.self c.reserve.new.self.room c.self.inside.drawn c.self.inside.contents c.self.inside.changed
+    c.args.item none c.in-Ok.field-0 c.requires.cells more in
+    let last = ap last_of (c.standing.ensures.same ∙ ap (λ (f : Found). f.standing) found)
+    ∙ last_appended c.self.inside.journal.found.standing (record { place = c.in-Ok.field-0; item = c.args.item }) in
+    subst (λ s. HasWritten g.D.Disk.told s (seen c.append.new.self c.self.inside.drawn c.recall_last.new.self c.self.inside.changed) (Ok tt)
+    (Some c.args.item) (λ written. told_by_record written c.args.item)) c.self.view_is
+    (wrote g.D.Disk.told c.self.inside.journal c.append.new.self c.reserve.new.self.room c.self.inside.drawn c.self.inside.contents c.self.inside.changed
+    c.args.item none c.in-Ok.field-0 c.recall_last.new.self c.requires.cells more
+    (last_told c.standing.result.now (record { place = c.in-Ok.field-0; item = c.args.item }) c.self.inside.contents c.recall_last.new.self last c.recall_last.ensures.told))
+
+pub returns-in-Err-clause-writes : goal.returns-in-Err-clause-writes
+returns-in-Err-clause-writes g c =
+    let ready = subst (λ s. s.journal.failed ≡ false) (sym c.self.view_is) c.requires.ready in
+    let none = doubts_nothing c.self.inside.journal.failed c.self.inside.journal.doubted ready c.self.invariant.failed in
+    let why = subst (λ j. IsRefusedAppend g.D.Disk.told j c.args.item c.append.new.self c.in-Err.fault) c.reserve.ensures.same c.in-Err.ensures.refused in
+    subst (λ f. HasWritten g.D.Disk.told c.args.self.now (seen c.append.new.self c.self.inside.drawn c.self.inside.contents c.self.inside.changed) (Err f)
+    (Some c.args.item) (λ written. told_by_record written c.args.item)) (sym c.of_write.ensures)
+    (subst (λ s. HasWritten g.D.Disk.told s (seen c.append.new.self c.self.inside.drawn c.self.inside.contents c.self.inside.changed) (Err (write_fault c.in-Err.fault))
+    (Some c.args.item) (λ written. told_by_record written c.args.item)) c.self.view_is
+    (refused g.D.Disk.told c.self.inside.journal c.append.new.self c.reserve.new.self.room c.self.inside.drawn c.self.inside.contents c.self.inside.changed
+    c.args.item none c.in-Err.fault ready why))
