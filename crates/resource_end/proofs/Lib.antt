@@ -17,5 +17,8 @@ mod Again
 mod Writing
 mod Rereading
 mod Moving
+mod Calling
 mod Frames
 mod Making
+mod Putting
+mod Changing

@@ -229,3 +229,7 @@ last_told standing s before after is h = subst (λ o. IfSome o (λ x. IsToldBy x
 pub memory_err : {A : Type 0} (result : Result A EndFault) → IsErrAnd result (λ fault. fault ≡ faults.Memory) → result ≡ Err faults.Memory
 memory_err (Ok x) h = absurd h
 memory_err (Err e) h = ap (λ x. Err x) h
+
+pub same_err : {A : Type 0} (result : Result A EndFault) (fault : EndFault) → IsErrAnd result (λ e. e ≡ fault) → result ≡ Err fault
+same_err (Ok x) fault h = absurd h
+same_err (Err e) fault h = ap (λ x. Err x) h

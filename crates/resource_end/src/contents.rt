@@ -123,6 +123,17 @@ impl Contents {
         self.resources.bind(id, recovery)
     }
 
+    /// Whether a resource has put a cell, or there is room for one more.
+    pub(crate) fn has_room(&self, id: Id, cell: u64) -> bool
+        requires known { IsSome (inside.numbered id self.now.resources) }
+        ensures { IfSome (inside.numbered id self.now.resources) (λ r. result ≡ calls.has_room cell r) }
+    {
+        match self.resources.numbered(id) {
+            Some(kept) => kept.has_room(cell),
+            None => false,
+        }
+    }
+
     /// A resource puts a cell that no other one holds. Want of memory leaves all as it was.
     pub(crate) fn put(&mut self, id: Id, put: Put) -> Result<(), AllocError>
         requires free { find (inside.is_other_holder id put.cell) self.old.resources ≡ None }

@@ -18,10 +18,11 @@ use crate::contents::Contents;
 use crate::fault::EndFault;
 use crate::kept::Id;
 use crate::loading::load_all;
-use crate::state::State;
-use decision_journal::{Journal, JournalRecord};
+use crate::state::{State, Word};
+use decision_journal::{Journal, JournalRecord, Put};
 use ior_refs::ObjectKey;
-use ots_model::{RefBytes, Status};
+use ots_model::tree::Heard;
+use ots_model::{Decision, RefBytes, Status};
 use ots_outside::{Back, Disk};
 use std::alloc::{AllocError, Global};
 use std::marker::Model;
@@ -232,6 +233,183 @@ impl<D: Disk> ResourceEnd<D> {
         }
         self.contents
             .change((key.life, key.generation), State::Forgotten, None);
+    }
+
+    /// A resource puts a value into a cell. Where a call has failed, the journal is read again first (PersistStore). It is
+    /// refused where the key names no resource (ObjectNotExist), where the resource has gone too far (Inactive), where another
+    /// one holds the cell (Transient), and where it has put 1,024 other cells (NoResources).
+    pub fn put(&mut self, key: &ObjectKey, cell: u64, value: u64) -> Result<(), EndFault>
+        ensures called { journaling.IsCalledOrStarved D.told self.old self.new result (calls.put key.now cell value) }
+        ensures fault { IfErr result (journaling.IsCause (D.told self.new.journal.disk)
+            (D.faults self.old.journal.disk) (D.faults self.new.journal.disk)) }
+        ensures later { D.faults self.old.journal.disk ≤ D.faults self.new.journal.disk }
+    {
+        self.reread()?;
+        self.needs_open(key)?;
+        let id = (key.life, key.generation);
+        if let Some(number) = self.contents.other_holder(id, cell) {
+            return Err(EndFault::Transient(number));
+        }
+        if !self.contents.has_room(id, cell) {
+            return Err(EndFault::NoResources);
+        }
+        self.contents.put(id, Put { cell, value })?;
+        Ok(())
+    }
+
+    /// A resource is to vote rollback. Where a call has failed, the journal is read again first (PersistStore). It is refused
+    /// where the key names no resource (ObjectNotExist), and where the resource has gone too far (Inactive).
+    pub fn refuse(&mut self, key: &ObjectKey) -> Result<(), EndFault>
+        ensures called { journaling.IsCalled D.told self.old self.new result journaling.nothing (calls.refuse key.now) }
+        ensures fault { IfErr result (journaling.IsCause (D.told self.new.journal.disk)
+            (D.faults self.old.journal.disk) (D.faults self.new.journal.disk)) }
+        ensures later { D.faults self.old.journal.disk ≤ D.faults self.new.journal.disk }
+    {
+        self.reread()?;
+        self.needs_open(key)?;
+        self.contents
+            .change((key.life, key.generation), State::Refused, None);
+        Ok(())
+    }
+
+    /// A resource that waits for the outcome decides by itself. Where a call has failed, the journal is read again first. It is
+    /// refused where the key names no resource (ObjectNotExist), where it doesn't wait (Inactive), and where the journal fails
+    /// (PersistStore) or is full (NoResources).
+    pub fn choose_heuristic(&mut self, key: &ObjectKey, d: Decision) -> Result<(), EndFault>
+        ensures called { journaling.IsCalled D.told self.old self.new result
+            (calls.wanted_by_choice d key.now) (calls.choose_heuristic key.now d) }
+        ensures fault { IfErr result (journaling.IsCause (D.told self.new.journal.disk)
+            (D.faults self.old.journal.disk) (D.faults self.new.journal.disk)) }
+        ensures later { D.faults self.old.journal.disk ≤ D.faults self.new.journal.disk }
+    {
+        self.reread()?;
+        let state = match self.contents.state_of(self.journal.service(), key) {
+            Some(state) => state,
+            None => return Err(EndFault::ObjectNotExist),
+        };
+        if !state.is_prepared() {
+            return Err(EndFault::Inactive);
+        }
+        self.moves((key.life, key.generation), State::of_choice(d))
+    }
+
+    /// `prepare`: A resource is to vote. Where a call has failed, the journal is read again first. It is refused where the key names no
+    /// resource (ObjectNotExist), and where the journal fails (PersistStore) or is full (NoResources).
+    pub fn prepare(&mut self, key: &ObjectKey) -> Result<Heard, EndFault>
+        ensures called { journaling.IsCalled D.told (journaling.afresh self.old) self.new result
+            (calls.wanted Word.Prepare key.now) (calls.told Word.Prepare key.now) }
+        ensures fault { IfErr result (journaling.IsCause (D.told self.new.journal.disk)
+            (D.faults self.old.journal.disk) (D.faults self.new.journal.disk)) }
+        ensures later { D.faults self.old.journal.disk ≤ D.faults self.new.journal.disk }
+    {
+        self.told(Word::Prepare, key)
+    }
+
+    /// `commit`: A resource is to make its puts last. Where a call has failed, the journal is read again first. It is refused where the key names no
+    /// resource (ObjectNotExist), and where the journal fails (PersistStore) or is full (NoResources).
+    pub fn commit(&mut self, key: &ObjectKey) -> Result<Heard, EndFault>
+        ensures called { journaling.IsCalled D.told (journaling.afresh self.old) self.new result
+            (calls.wanted Word.Commit key.now) (calls.told Word.Commit key.now) }
+        ensures fault { IfErr result (journaling.IsCause (D.told self.new.journal.disk)
+            (D.faults self.old.journal.disk) (D.faults self.new.journal.disk)) }
+        ensures later { D.faults self.old.journal.disk ≤ D.faults self.new.journal.disk }
+    {
+        self.told(Word::Commit, key)
+    }
+
+    /// `rollback`: A resource is to drop its puts. Where a call has failed, the journal is read again first. It is refused where the key names no
+    /// resource (ObjectNotExist), and where the journal fails (PersistStore) or is full (NoResources).
+    pub fn rollback(&mut self, key: &ObjectKey) -> Result<Heard, EndFault>
+        ensures called { journaling.IsCalled D.told (journaling.afresh self.old) self.new result
+            (calls.wanted Word.Rollback key.now) (calls.told Word.Rollback key.now) }
+        ensures fault { IfErr result (journaling.IsCause (D.told self.new.journal.disk)
+            (D.faults self.old.journal.disk) (D.faults self.new.journal.disk)) }
+        ensures later { D.faults self.old.journal.disk ≤ D.faults self.new.journal.disk }
+    {
+        self.told(Word::Rollback, key)
+    }
+
+    /// `commit_one_phase`: A resource is to decide alone. Where a call has failed, the journal is read again first. It is refused where the key names no
+    /// resource (ObjectNotExist), and where the journal fails (PersistStore) or is full (NoResources).
+    pub fn commit_one_phase(&mut self, key: &ObjectKey) -> Result<Heard, EndFault>
+        ensures called { journaling.IsCalled D.told (journaling.afresh self.old) self.new result
+            (calls.wanted Word.CommitOnePhase key.now) (calls.told Word.CommitOnePhase key.now) }
+        ensures fault { IfErr result (journaling.IsCause (D.told self.new.journal.disk)
+            (D.faults self.old.journal.disk) (D.faults self.new.journal.disk)) }
+        ensures later { D.faults self.old.journal.disk ≤ D.faults self.new.journal.disk }
+    {
+        self.told(Word::CommitOnePhase, key)
+    }
+
+    /// `forget`: A resource need not keep its choice any more. Where a call has failed, the journal is read again first. It is refused where the key names no
+    /// resource (ObjectNotExist), and where the journal fails (PersistStore) or is full (NoResources).
+    pub fn forget(&mut self, key: &ObjectKey) -> Result<Heard, EndFault>
+        ensures called { journaling.IsCalled D.told (journaling.afresh self.old) self.new result
+            (calls.wanted Word.Forget key.now) (calls.told Word.Forget key.now) }
+        ensures fault { IfErr result (journaling.IsCause (D.told self.new.journal.disk)
+            (D.faults self.old.journal.disk) (D.faults self.new.journal.disk)) }
+        ensures later { D.faults self.old.journal.disk ≤ D.faults self.new.journal.disk }
+    {
+        self.told(Word::Forget, key)
+    }
+
+    /// A resource hears the answer to its ask. One that isn't there, or waits for nothing, learns nothing. Where a call has
+    /// failed, the journal is read again first. It is refused where the journal fails (PersistStore) or is full (NoResources).
+    pub fn learn(&mut self, key: &ObjectKey, heard: &Heard) -> Result<(), EndFault>
+        ensures called { journaling.IsCalled D.told (journaling.afresh self.old) self.new result
+            (calls.wanted_by_answer heard.now key.now) (calls.learn key.now heard.now) }
+        ensures fault { IfErr result (journaling.IsCause (D.told self.new.journal.disk)
+            (D.faults self.old.journal.disk) (D.faults self.new.journal.disk)) }
+        ensures later { D.faults self.old.journal.disk ≤ D.faults self.new.journal.disk }
+    {
+        self.changed = None;
+        self.reread()?;
+        let state = match self.contents.state_of(self.journal.service(), key) {
+            Some(state) => state,
+            None => return Ok(()),
+        };
+        if let Some(next) = state.learns(heard) {
+            self.moves((key.life, key.generation), next)?;
+            self.changed = next.shown();
+        }
+        Ok(())
+    }
+
+    /// A resource is told a word.
+    fn told(&mut self, word: Word, key: &ObjectKey) -> Result<Heard, EndFault>
+        ensures called { journaling.IsCalled D.told (journaling.afresh self.old) self.new result
+            (calls.wanted word key.now) (calls.told word key.now) }
+        ensures fault { IfErr result (journaling.IsCause (D.told self.new.journal.disk)
+            (D.faults self.old.journal.disk) (D.faults self.new.journal.disk)) }
+        ensures later { D.faults self.old.journal.disk ≤ D.faults self.new.journal.disk }
+    {
+        self.changed = None;
+        self.reread()?;
+        let state = match self.contents.state_of(self.journal.service(), key) {
+            Some(state) => state,
+            None => return Err(EndFault::ObjectNotExist),
+        };
+        let row = state.row(word);
+        if let Some(next) = row.next {
+            self.moves((key.life, key.generation), next)?;
+            self.changed = next.shown();
+        }
+        row.said
+    }
+
+    /// It is refused where the resource that a key names can't put.
+    fn needs_open(&self, key: &ObjectKey) -> Result<(), EndFault>
+        ensures can_put { OnOk result (inside.IsOpen key.now self.now.end) }
+        ensures refused { IfErr result (inside.IsNotOpen key.now self.now.end) }
+    {
+        let state = match self.contents.state_of(self.journal.service(), key) {
+            Some(state) => state,
+            None => return Err(EndFault::ObjectNotExist),
+        };
+        if !state.is_open() {
+            return Err(EndFault::Inactive);
+        }
+        Ok(())
     }
 
     /// Reads the journal again where a call has failed. Where the record in doubt stands, its resource changes as it says.
