@@ -22,3 +22,4 @@ mod Frames
 mod Making
 mod Putting
 mod Changing
+mod Asked

@@ -11,3 +11,4 @@ pub mod Faults
 pub mod TableByState
 pub mod Plays
 pub mod Laws
+pub mod Asking

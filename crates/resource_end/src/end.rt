@@ -1,4 +1,4 @@
-ghost use Rattle.std.specs.Prelude.{◌≡◌, ◌+◌, ◌^◌, ◌<◌, ◌≤◌, false, None, Some, IfOk, IfErr, IfSome, IsSome, IsTrue, OnOk};
+ghost use Rattle.std.specs.Prelude.{◌≡◌, ◌++◌, ◌+◌, ◌^◌, ◌<◌, ◌≤◌, false, None, Some, IfOk, IfErr, IfSome, IsSome, IsTrue, OnOk};
 ghost use Rattle.ots_outside.specs.Disk.{Tells};
 ghost use Rattle.decision_journal.specs.Limits.{area_limit};
 ghost use Rattle.decision_journal.specs.Calls.{IsCurrent};
@@ -6,6 +6,7 @@ ghost use Rattle.decision_journal.specs.Journal.{can_follow};
 ghost use Rattle.decision_journal.specs.Layout.{Fits};
 ghost use Rattle.decision_journal.specs.State.{cells_in};
 ghost use Rattle.decision_journal.specs.Loading.{LoadIsDone, LoadIsSafe};
+ghost use Rattle.resource_end.specs.Asking.{HasFrontOf};
 ghost use Rattle.resource_end.specs.Limits.{object_limit};
 ghost use Rattle.resource_end.specs.Recall.{loaded};
 ghost use Rattle.resource_end.specs.End as end;
@@ -24,6 +25,7 @@ use ior_refs::ObjectKey;
 use ots_model::tree::Heard;
 use ots_model::{Decision, RefBytes, Status};
 use ots_outside::{Back, Disk};
+use recovery_coord::Outbox;
 use std::alloc::{AllocError, Global};
 use std::marker::Model;
 
@@ -351,6 +353,18 @@ impl<D: Disk> ResourceEnd<D> {
         ensures later { D.faults self.old.journal.disk ≤ D.faults self.new.journal.disk }
     {
         self.told(Word::Forget, key)
+    }
+
+    /// Puts the ask of each resource that waits for an outcome behind the other words, by life and then by number. Where memory
+    /// is wanting (Memory) a front of the asks is there.
+    pub fn asks(&self, out: &mut Outbox) -> Result<(), EndFault>
+        ensures ok { OnOk result (out.new.words ≡ out.old.words ++ calls.asks self.now.end) }
+        ensures err { IfErr result (λ fault. fault ≡ EndFault.Memory) }
+        ensures front { HasFrontOf out.old.words (calls.asks self.now.end) out.new.words }
+        ensures room { out.new.room ≡ out.old.room }
+    {
+        self.contents.asks(out)?;
+        Ok(())
     }
 
     /// A resource hears the answer to its ask. One that isn't there, or waits for nothing, learns nothing. Where a call has

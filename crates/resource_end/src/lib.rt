@@ -9,6 +9,7 @@ pub use laws::{
 };
 pub use state::{Row, State, Word};
 
+mod asking;
 mod cells;
 mod contents;
 mod end;
