@@ -350,7 +350,7 @@ told_end_quiet (RollsBack says) b h f = only_quiet f
 told_before_quiet : (b called : ℕ) (c : Call) (h : Heard) (f : Family) → Quiet f.completion (told_before b called c h f)
 unfolding told_before
 told_before_quiet b called c h f = either_quiet f.completion (is_plain h) _ _ (only_quiet f)
-    (rolls_quiet (asked_of c.aim) (reason_of called h) (with_call 0 (record c { leg = Deciding }) f))
+    (rolls_quiet (asked_of c.aim) (reason_of called h) (with_call b (record c { leg = Deciding }) f))
 
 hears_answer : (s : Standing) (n : CallNumber) (h : ParticipantHeard) → Proceeds s (stages.after_answer n h s)
 hears_answer (Waiting room) n h = still (Waiting room)
