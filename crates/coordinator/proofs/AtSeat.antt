@@ -1,5 +1,5 @@
 -- What the calls of a family are by its seats, and what a change of one of these makes of the family.
-use Rattle.std.proofs.Common.{◌≡◌, ◌∙◌, refl, ap, sym, subst, ℕ, zero, suc, ◌<◌, ◌&&◌, ◌+◌, Bool, true, false, not, cond, position, List, [], ◌∷◌, drop, length, get_or, slice_set, Option, Some, None, arith, if◌then◌else◌}
+use Rattle.std.proofs.Common.{◌≡◌, ◌∙◌, refl, ap, sym, subst, ℕ, zero, suc, ◌<◌, ◌&&◌, ◌+◌, Bool, true, false, not, cond, position, List, [], ◌∷◌, drop, length, get_or, slice_set, Option, Some, None, is_some, arith, if◌then◌else◌}
 use Rattle.std.specs.Prelude.{nat_lt}
 use Rattle.std.specs.List.{slice_get, prefix_len, position_or_len}
 use Rattle.std.proofs.lemmas.Bool.Decides.{nat_tests}
@@ -12,8 +12,8 @@ use Rattle.resource_votes.specs.declared.registration.Registration.{Registration
 use Rattle.coordinator.specs.declared.call.Call.{Call as KeptCall}
 use Rattle.coordinator.specs.declared.call.Seat.{Seat}
 use Rattle.coordinator.specs.declared.call.Task.{Task}
-use Rattle.coordinator.specs.Calls.{AreTasks, AllTasks, Sees, all_seated, call_in, call_kept, changed_in, changed_seat, duties_in, duty_in, has_left, has_serial, has_tasks, keeps_tasks, left_at, left_behind, left_below_it, left_by_call, owed, owed_below, owed_by, owes_below, plain_call, seated, told_in}
-use Rattle.coordinator.specs.Family.{Family, Call, Duty, call_at, has_out, is_own_number, waiting_for}
+use Rattle.coordinator.specs.Calls.{deciding_in, deciding_seat, AreTasks, AllTasks, Sees, all_seated, call_in, call_kept, changed_in, changed_seat, duties_in, duty_in, has_left, has_serial, has_tasks, keeps_tasks, left_at, left_behind, left_below_it, left_by_call, owed, owed_below, owed_by, owes_below, plain_call, seated, told_in}
+use Rattle.coordinator.specs.Family.{Family, Call, Duty, call_at, with_call, has_out, is_own_number, waiting_for}
 use Rattle.coordinator.specs.Running.{has_some, left_by, left_below, is_below, overtaken_caller}
 use Rattle.coordinator.specs.declared.call.Leg.{Leg}
 use Rattle.coordinator.specs.declared.call.Leg.TheVariants.{Below, Own, Before, Deciding, After}
@@ -43,6 +43,11 @@ sees f rs seats b is =
     subst (λ (o : Option Call). Sees (call_kept seats b) o)
     (sym (ap (λ (cs : List (Option Call)). call_at (record f { calls = cs }) b) is ∙ call_seated rs seats b))
     (sees_seat rs (slice_get seats b))
+
+pub kept_within : (seats : List Seat) (b : ℕ) → is_some (call_kept seats b) ≡ true → b < length seats
+kept_within [] b h = absurd (cc (h))
+kept_within (s ∷ seats) zero h = omega arith
+kept_within (s ∷ seats) (suc b) h = omega (arith, kept_within seats b h)
 
 -- ---- what it has left to tell
 
@@ -104,27 +109,51 @@ puts_same f rs seats b s new is has same =
     ∙ (sym (set_seated rs seats b s)
     ∙ (ap (λ (x : Seat). all_seated rs (slice_set seats b x)) has ∙ (ap (λ (xs : List Seat). all_seated rs xs) (set-get_or seats b s) ∙ sym is))))
 
-changes_by : (f : Family) (rs : List Registration) (seats : List Seat) (b : ℕ) (s : Seat) (caller out : Option ℕ) (o : Option KeptCall) → s.call ≡ o
-    → f.calls ≡ all_seated rs seats → b < length seats → s ≡ get_or seats b s
-    → ◌≡◌ {A = Family} (record f { calls = all_seated rs (slice_set seats b (changed_seat caller out s)) }) (changed_in (call_at f b) b caller out f)
-changes_by f rs seats b s caller out None of is within has =
+-- the call of a family changes as that of its seat does
+altered : (Call → Call) → Option Call → ℕ → Family → Family
+altered q (Some c) b f = with_call b (q c) f
+altered q None b f = f
+
+alters_by : (f : Family) (rs : List Registration) (seats : List Seat) (b : ℕ) (s : Seat) (p : KeptCall → KeptCall) (q : Call → Call) (o : Option KeptCall) → s.call ≡ o
+    → ((k : KeptCall) → call_in rs s.left.items (p k) ≡ q (call_in rs s.left.items k)) → f.calls ≡ all_seated rs seats → b < length seats → s ≡ get_or seats b s
+    → ◌≡◌ {A = Family} (record f { calls = all_seated rs (slice_set seats b (record s { call = option_map p s.call })) }) (altered q (call_at f b) b f)
+unfolding altered
+alters_by f rs seats b s p q None of alike is within has =
     let left : List Task = s.left.items in
-    let same : seated rs (changed_seat caller out s) ≡ seated rs s =
-    ap (λ (x : Option KeptCall). option_map (call_in rs left) (option_map (λ (c : KeptCall). record c { caller = caller; out = out }) x)) of
-    ∙ sym (ap (λ (x : Option KeptCall). option_map (call_in rs left) x) of) in
+    let same : option_map (call_in rs left) (option_map p s.call) ≡ seated rs s =
+    ap (λ (x : Option KeptCall). option_map (call_in rs left) (option_map p x)) of ∙ sym (ap (λ (x : Option KeptCall). option_map (call_in rs left) x) of) in
     let none : call_at f b ≡ None = at_seat f rs seats b s is within has ∙ ap (λ (x : Option KeptCall). option_map (call_in rs left) x) of in
-    puts_same f rs seats b s (changed_seat caller out s) is has same ∙ sym (ap (λ (x : Option Call). changed_in x b caller out f) none)
-changes_by f rs seats b s caller out (Some k) of is within has =
+    puts_same f rs seats b s (record s { call = option_map p s.call }) is has same ∙ sym (ap (λ (x : Option Call). altered q x b f) none)
+alters_by f rs seats b s p q (Some k) of alike is within has =
     let left : List Task = s.left.items in
-    let now : seated rs (changed_seat caller out s) ≡ Some (record (call_in rs left k) { caller = caller; out = out }) =
-    ap (λ (x : Option KeptCall). option_map (call_in rs left) (option_map (λ (c : KeptCall). record c { caller = caller; out = out }) x)) of in
+    let now : option_map (call_in rs left) (option_map p s.call) ≡ Some (q (call_in rs left k)) =
+    ap (λ (x : Option KeptCall). option_map (call_in rs left) (option_map p x)) of ∙ ap (λ (x : Call). Some x) (alike k) in
     let was : call_at f b ≡ Some (call_in rs left k) = at_seat f rs seats b s is within has ∙ ap (λ (x : Option KeptCall). option_map (call_in rs left) x) of in
-    put f rs seats b (changed_seat caller out s) _ is now ∙ sym (ap (λ (x : Option Call). changed_in x b caller out f) was)
+    put f rs seats b (record s { call = option_map p s.call }) _ is now ∙ sym (ap (λ (x : Option Call). altered q x b f) was)
+
+changed_alike : (caller out : Option ℕ) (o : Option Call) (b : ℕ) (f : Family) → altered (λ (c : Call). record c { caller = caller; out = out }) o b f ≡ changed_in o b caller out f
+unfolding altered
+changed_alike caller out None b f = refl
+changed_alike caller out (Some c) b f = refl
 
 pub call_changes : (f : Family) (rs : List Registration) (seats : List Seat) (b : ℕ) (s : Seat) (caller out : Option ℕ)
     → f.calls ≡ all_seated rs seats → b < length seats → s ≡ get_or seats b s
     → ◌≡◌ {A = Family} (record f { calls = all_seated rs (slice_set seats b (changed_seat caller out s)) }) (changed_in (call_at f b) b caller out f)
-call_changes f rs seats b s caller out is within has = changes_by f rs seats b s caller out s.call refl is within has
+call_changes f rs seats b s caller out is within has =
+    alters_by f rs seats b s (λ (k : KeptCall). record k { caller = caller; out = out }) (λ (c : Call). record c { caller = caller; out = out }) s.call refl (λ k. refl) is within has
+    ∙ changed_alike caller out (call_at f b) b f
+
+deciding_alike : (o : Option Call) (b : ℕ) (f : Family) → altered (λ (c : Call). record c { leg = Deciding }) o b f ≡ deciding_in o b f
+unfolding altered
+deciding_alike None b f = refl
+deciding_alike (Some c) b f = refl
+
+pub call_decides : (f : Family) (rs : List Registration) (seats : List Seat) (b : ℕ) (s : Seat)
+    → f.calls ≡ all_seated rs seats → b < length seats → s ≡ get_or seats b s
+    → ◌≡◌ {A = Family} (record f { calls = all_seated rs (slice_set seats b (deciding_seat s)) }) (deciding_in (call_at f b) b f)
+call_decides f rs seats b s is within has =
+    alters_by f rs seats b s (λ (k : KeptCall). record k { leg = Deciding }) (λ (c : Call). record c { leg = Deciding }) s.call refl (λ k. refl) is within has
+    ∙ deciding_alike (call_at f b) b f
 
 -- ---- a task is told
 

@@ -5,6 +5,7 @@ mod Duties
 mod Closes
 mod Rested
 mod Marks
+mod Heard
 mod Settled
 mod AtSeat
 mod Posted

@@ -13,7 +13,7 @@ use Rattle.coordinator.specs.declared.call.Seat.{Seat}
 use Rattle.coordinator.specs.declared.call.Task.{Task}
 use Rattle.coordinator.specs.declared.said.Said.{Said}
 use Rattle.coordinator.specs.declared.said.Said.TheVariants as said
-use Rattle.coordinator.specs.Family.{Family, Call, Duty, Ending, Aim, Commits, RollsBack, call_at, with_call}
+use Rattle.coordinator.specs.Family.{Family, Call, Duty, Ending, Aim, Commits, RollsBack, Deciding, call_at, with_call}
 use Rattle.coordinator.specs.Running.{has_some, is_below}
 
 abbrev pub said_of : Reply → Said
@@ -103,6 +103,10 @@ keeps_tasks seats place = option_map_or (λ (s : Seat). has_tasks (owed s)) (sli
 abbrev pub changed_seat : Option ℕ → Option ℕ → Seat → Seat
 changed_seat caller out s = record s { call = option_map (λ (c : KeptCall). record c { caller = caller; out = out }) s.call }
 
+-- a seat whose call goes on with the completion
+abbrev pub deciding_seat : Seat → Seat
+deciding_seat s = record s { call = option_map (λ (c : KeptCall). record c { leg = Deciding }) s.call }
+
 -- what a seat keeps once its call has told the first of what it has left
 abbrev pub left_by_call : Option KeptCall → List Task → List Task
 left_by_call (Some c) left = if c.owes then drop 1 left else left
@@ -130,6 +134,11 @@ task_to ending r = record { ending = ending; registration = r.index }
 abbrev pub changed_in : Option Call → ℕ → Option ℕ → Option ℕ → Family → Family
 changed_in (Some c) b caller out f = with_call b (record c { caller = caller; out = out }) f
 changed_in None b caller out f = f
+
+-- a call goes on with the completion
+abbrev pub deciding_in : Option Call → ℕ → Family → Family
+deciding_in (Some c) b f = with_call b (record c { leg = Deciding }) f
+deciding_in None b f = f
 
 -- a call has told the first of what it has left
 abbrev pub told_in : Option Call → ℕ → Family → Family

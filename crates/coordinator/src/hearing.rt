@@ -9,6 +9,7 @@ ghost use Rattle.coordinator.specs.Family.{Call as FamilyCall};
 ghost use Rattle.coordinator.specs.Going.{CanGo, Does};
 ghost use Rattle.coordinator.specs.Hearing as hearing;
 ghost use Rattle.coordinator.specs.Step as steps;
+ghost use Rattle.two_phase.specs.Stages as stages;
 
 use crate::call::{Aim, Call, Leg, Reply};
 use crate::closing::asked_of;
@@ -20,6 +21,63 @@ use ots_model::tree::{Heard, Reason};
 use ots_model::{CallNumber, Doubted, Stood};
 
 impl State {
+    /// The answer to the word of a call that is out: it is out no more.
+    pub fn hear(&mut self, branch: u32, number: &CallNumber, heard: &Heard, out: &mut Draft)
+        requires can { CanGo 2 self.old.family out.old }
+        ensures moved { Does self.old.family out.old (λ f.
+            steps.hears_call (families.call_at f branch) branch number.now heard.now f)
+            self.new.family out.new }
+        ensures can { (n : ℕ) → CanGo (n + 2) self.old.family out.old → CanGo n self.new.family out.new }
+    {
+        match self.call_of(branch) {
+            Some(call) => self.hear_at(branch, call, number, heard, out),
+            None => {}
+        }
+    }
+
+    /// The same of a call that there is.
+    fn hear_at(
+        &mut self,
+        branch: u32,
+        call: Call,
+        number: &CallNumber,
+        heard: &Heard,
+        out: &mut Draft,
+    )
+        requires there { branch < length (self.old.family).rows }
+        requires call { Sees (Some call) (families.call_at self.old.family branch) }
+        requires can { CanGo 2 self.old.family out.old }
+        ensures moved { Does self.old.family out.old (λ f.
+            steps.hears_call (families.call_at f branch) branch number.now heard.now f)
+            self.new.family out.new }
+        ensures can { (n : ℕ) → CanGo (n + 2) self.old.family out.old → CanGo n self.new.family out.new }
+    {
+        self.change_call(branch, call.caller, None);
+        match call.leg {
+            Leg::Below => {}
+            Leg::Own => self.hear_own(branch, call.aim, heard, out),
+            Leg::Before(called) => self.hear_before(branch, called, call.aim, heard, out),
+            Leg::Deciding => self.hear_participant(number, heard, out),
+            Leg::After(_) => {}
+        }
+    }
+
+    /// A synchronization was called: where it didn't answer plainly, the commit is given up.
+    fn hear_before(&mut self, branch: u32, called: u32, aim: Aim, heard: &Heard, out: &mut Draft)
+        requires there { branch < length (self.old.family).rows }
+        requires can { CanGo 1 self.old.family out.old }
+        ensures moved { (c : FamilyCall) → families.call_at self.old.family branch ≡ Some c → c.aim ≡ aim_of aim
+            → Does self.old.family out.old (hearing.told_before branch called c heard.now)
+            self.new.family out.new }
+        ensures can { (n : ℕ) → CanGo (n + 1) self.old.family out.old → CanGo n self.new.family out.new }
+    {
+        if is_plain(heard) {
+            return;
+        }
+        self.begin_deciding(branch);
+        self.begin_rollback(asked_of(aim), reason_of(called, heard), out);
+    }
+
     /// A resource was told of the end of a subtransaction.
     fn hear_own(&mut self, branch: u32, aim: Aim, heard: &Heard, out: &mut Draft)
         requires can { CanGo 1 self.old.family out.old }
@@ -93,6 +151,42 @@ impl State {
         let _ = number;
     }
 
+    /// What the journal answered, where it was asked.
+    #[tactic(auto, unfolding(crate::specs::Hearing::settles))]
+    pub fn settle(&mut self, stood: Option<Stood>, out: &mut Draft)
+        requires can { CanGo 3 self.old.family out.old }
+        ensures moved { Does self.old.family out.old (hearing.settles stood) self.new.family out.new }
+        ensures can { (n : ℕ) → CanGo (n + 3) self.old.family out.old → CanGo n self.new.family out.new }
+    {
+        match stood {
+            Some(stood) => self.be_answered(stood, out),
+            None => {}
+        }
+    }
+
+    /// What it answered to what it was asked.
+    #[tactic(auto, unfolding(crate::specs::Hearing::settles))]
+    fn be_answered(&mut self, stood: Stood, out: &mut Draft)
+        requires can { CanGo 3 self.old.family out.old }
+        ensures moved { Does self.old.family out.old (hearing.settles (Some stood))
+            self.new.family out.new }
+        ensures can { (n : ℕ) → CanGo (n + 3) self.old.family out.old → CanGo n self.new.family out.new }
+    {
+        if self.wants_decision() {
+            self.be_decided(stood, out);
+        } else if self.wants_done() {
+            self.be_closed(stood, out);
+        }
+    }
+
+    /// Whether a decision is wanted.
+    #[tactic(auto, using(crate::proofs::Unroomed::unroomed_wants_decision))]
+    pub fn wants_decision(&self) -> bool
+        ensures { result ≡ stages.wants_decision (self.now.family).completion }
+    {
+        self.completion.wants_decision()
+    }
+
     /// The journal was asked for the decision.
     #[tactic(auto, using(crate::proofs::Unroomed::unroomed_decided, crate::proofs::Unroomed::unroomed_outcome, crate::proofs::Kept::places_decided), unfolding(crate::specs::Hearing::decided, crate::specs::Moves::completes_as))]
     fn be_decided(&mut self, stood: Stood, out: &mut Draft)
@@ -159,6 +253,28 @@ impl State {
         self.closed.is_none()
             && self.completion.record_place().is_some()
             && self.completion.is_settled()
+    }
+
+    /// The journal was read again.
+    #[tactic(auto, using(crate::proofs::Unroomed::unroomed_reread, crate::proofs::Unroomed::unroomed_outcome, crate::proofs::Kept::places_reread), unfolding(crate::specs::Step::rereads, crate::specs::Moves::completes_as))]
+    pub fn reread(&mut self, stood: Option<Stood>, out: &mut Draft)
+        requires can { CanGo (length (self.old.family).rows + 4) self.old.family out.old }
+        ensures { Does self.old.family out.old (steps.rereads stood) self.new.family out.new }
+    {
+        let before = self.completion.outcome();
+        self.completion.reread(found_at(stood));
+        out.show_fixed(before, self.completion.outcome());
+        self.go_on(TOP, out);
+    }
+}
+
+/// Where the journal has the record.
+fn found_at(stood: Option<Stood>) -> Option<u32>
+    ensures { result ≡ steps.found_at stood }
+{
+    match stood {
+        Some(Stood::Stands(place)) => Some(place),
+        _ => None,
     }
 }
 

@@ -23,7 +23,6 @@ use crate::state::{State, TOP};
 impl State {
     /// The call that ends a branch goes on, where there is one.
     pub fn go_on(&mut self, branch: u32, out: &mut Draft)
-        requires there { branch < length (self.old.family).rows }
         requires can { CanGo (length (self.old.family).rows + 3) self.old.family out.old }
         ensures { Does self.old.family out.old (running.goes_on branch) self.new.family out.new }
     {

@@ -29,7 +29,8 @@ use std::mem;
 impl State {
     /// The call of a transaction.
     pub fn call_of(&self, branch: u32) -> Option<Call>
-        ensures { Sees result (families.call_at self.now.family branch) }
+        ensures seen { Sees result (families.call_at self.now.family branch) }
+        ensures there { IsSome result → branch < length (self.now.family).rows }
     {
         kept_call(&self.seats, branch as usize)
     }
@@ -41,6 +42,15 @@ impl State {
             ≡ calls.changed_in (families.call_at self.old.family branch) branch caller out self.old.family }
     {
         set_out(&mut self.seats[branch as usize], caller, out);
+    }
+
+    /// A call under way goes on with the completion.
+    pub fn begin_deciding(&mut self, branch: u32)
+        requires there { branch < length (self.old.family).rows }
+        ensures { self.new.family
+            ≡ calls.deciding_in (families.call_at self.old.family branch) branch self.old.family }
+    {
+        set_deciding(&mut self.seats[branch as usize]);
     }
 
     /// The branch whose call has the word with this number out.
@@ -273,6 +283,16 @@ fn set_out(seat: &mut Seat, caller: Option<u32>, out: Option<u32>)
             out,
             ..call
         });
+    }
+}
+
+/// A seat's call goes on with the completion.
+fn set_deciding(seat: &mut Seat)
+    ensures { seat.new ≡ calls.deciding_seat seat.old }
+{
+    if let Some(call) = seat.call {
+        let leg = Leg::Deciding;
+        seat.call = Some(Call { leg, ..call });
     }
 }
 

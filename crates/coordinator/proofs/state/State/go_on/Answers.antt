@@ -8,5 +8,5 @@ use Rattle.coordinator.proofs.state.State.go_on.Goals as goal
 pub returns-in-None : goal.returns-in-None
 returns-in-None c =
     let at = call_at c.args.self.now.family c.args.branch in
-    let none : at ≡ None = subst (λ (o : Option KeptCall). Sees o at) c.in-None.is c.call_of.ensures in
+    let none : at ≡ None = subst (λ (o : Option KeptCall). Sees o at) c.in-None.is c.call_of.ensures.seen in
     stays_put c.args.self.now.family c.args.out.now c.args.branch none
