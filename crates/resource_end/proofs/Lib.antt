@@ -23,3 +23,4 @@ mod Making
 mod Putting
 mod Changing
 mod Asked
+mod Counting

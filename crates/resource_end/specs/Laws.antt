@@ -1,8 +1,12 @@
 -- Laws of a resource end: what its cells have, who holds them, and what stays (our profile).
-use Rattle.std.specs.Prelude.{◌≡◌, ℕ, ◌⊎◌, Bool, true, false, List, Option, Some, None, IfSome, find, is_some}
+use Rattle.std.specs.Prelude.{◌≡◌, ℕ, ◌+◌, ◌⊎◌, Bool, true, false, List, [], ◌∷◌, ◌++◌, Ok, Option, Some, None, IfSome, find, is_some}
 use Rattle.std.specs.List.{Contains}
 use Rattle.std.specs.Option.{option_or}
+use Rattle.ior_refs.specs.declared.key.ObjectKey.{ObjectKey}
+use Rattle.ots_model.specs.declared.line.Decision.{Decision}
 use Rattle.ots_model.specs.declared.tree.Heard.{Heard}
+use Rattle.decision_journal.specs.Journal.{Found}
+use Rattle.decision_journal.specs.declared.journal.Standing.{Standing}
 use Rattle.decision_journal.specs.declared.record.Put.{Put}
 use Rattle.resource_end.specs.declared.state.State.{State}
 use Rattle.resource_end.specs.declared.state.State.TheVariants as states
@@ -12,7 +16,8 @@ use Rattle.resource_end.specs.States.{holds, learnt, stores}
 use Rattle.resource_end.specs.Table.{row}
 use Rattle.resource_end.specs.Cells.{value_at, with_puts}
 use Rattle.decision_journal.specs.declared.record.JournalRecord.{JournalRecord}
-use Rattle.resource_end.specs.Recall.{is_recorded_at, recalls}
+use Rattle.resource_end.specs.Recall.{is_recorded_at, loaded, recalls}
+use Rattle.resource_end.specs.Calls.{Journaled, bind, choose_heuristic, fresh, is_spent, key_of, learn, put, refuse, told, unmake}
 use Rattle.resource_end.specs.End.{record_for, with_place, End, Resource, changes, is_numbered, other_holder, stored}
 
 -- a cell that puts name has what they say; each other cell has what it had
@@ -66,3 +71,28 @@ pub record IsOf (e : End) (r : Resource) : Type 0 where
 abbrev pub RecordsTellChanges : Type 0
 RecordsTellChanges = (s : State) (r : Resource) (e : End) (place : ℕ) (item : JournalRecord) → IsOf e r
     → record_for s r ≡ Some item → recalls (record { place = place; item = item }) e ≡ changes s (with_place s place r) e
+
+-- ---- loads and numbers
+
+-- a load of one record more leaves what that record tells of the end that a load of those before it leaves
+abbrev pub LoadsTellOneMore : Type 0
+LoadsTellOneMore = (service : ℕ) (found : Found) (s : Standing)
+    → loaded service (record found { standing = found.standing ++ s ∷ [] }) ≡ recalls s (loaded service found)
+
+-- it is the same life of the same service, and has made as many objects
+pub record IsSameLife (before after : End) : Type 0 where
+  pub service : after.service ≡ before.service
+  pub life : after.life ≡ before.life
+  pub drawn : after.drawn ≡ before.drawn
+
+-- An object that is made has the number behind the last one of its life, which counts on by one; no other call makes an end count
+pub record NumbersRise : Type 0 where
+  pub key : (letter : ℕ) (e : End) → is_spent letter e ≡ false → (fresh letter e).answer ≡ Ok (key_of letter (e.drawn + 1) e)
+  pub counts : (letter : ℕ) (e : End) → is_spent letter e ≡ false → (fresh letter e).end.drawn ≡ e.drawn + 1
+  pub words : (w : Word) (key : ObjectKey) (j : Journaled) (e : End) → IsSameLife e (told w key j e).end
+  pub learns : (key : ObjectKey) (h : Heard) (j : Journaled) (e : End) → IsSameLife e (learn key h j e).end
+  pub chooses : (key : ObjectKey) (d : Decision) (j : Journaled) (e : End) → IsSameLife e (choose_heuristic key d j e).end
+  pub puts : (key : ObjectKey) (cell value : ℕ) (j : Journaled) (e : End) → IsSameLife e (put key cell value j e).end
+  pub refuses : (key : ObjectKey) (j : Journaled) (e : End) → IsSameLife e (refuse key j e).end
+  pub binds : (key : ObjectKey) (recovery : List ℕ) (e : End) → IsSameLife e (bind key recovery e).end
+  pub unmakes : (key : ObjectKey) (e : End) → IsSameLife e (unmake key e)

@@ -123,6 +123,13 @@ impl<D: Disk> ResourceEnd<D> {
         }
     }
 
+    /// Gives the disk back, as a crash leaves it.
+    pub fn into_disk(self) -> D
+        ensures { result ≡ self.journal.disk }
+    {
+        self.journal.into_disk()
+    }
+
     /// The number of its service.
     pub fn service(&self) -> u64
         ensures { result ≡ self.now.end.service }

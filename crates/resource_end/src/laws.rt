@@ -1,5 +1,5 @@
 // Laws of the definitions: these functions do nothing, and their contracts are the laws.
-ghost use Rattle.resource_end.specs.Laws.{ChangesStoreOnce, ChoicesStay, HeldCellsAreHeld, PutsAreStored, RecordsTellChanges, StoresOnce};
+ghost use Rattle.resource_end.specs.Laws.{ChangesStoreOnce, ChoicesStay, HeldCellsAreHeld, LoadsTellOneMore, NumbersRise, PutsAreStored, RecordsTellChanges, StoresOnce};
 ghost use Rattle.resource_end.specs.Plays.{EndsPlay};
 ghost use Rattle.resource_end.specs.TableByState.{TableByState};
 
@@ -42,4 +42,15 @@ pub fn held_cells_are_held()
 /// A record that a change writes tells that very change where it is read again: what a load or a reread finds is what was done.
 pub fn records_tell_changes()
     ensures { RecordsTellChanges }
+{}
+
+/// A load of one record more leaves what that record tells of the end that a load of those before it leaves: after a crash in
+/// a call the record of its change counts whole, or not at all.
+pub fn loads_tell_one_more()
+    ensures { LoadsTellOneMore }
+{}
+
+/// Each object that is made in a life has a number above those before it, and no other call makes an end count.
+pub fn numbers_rise()
+    ensures { NumbersRise }
 {}
