@@ -14,7 +14,7 @@ use resource_votes::Registration;
 use std::alloc::{AllocError, Global};
 use std::collections::VecDeque;
 use std::marker::Model;
-use two_phase::Blank;
+use flat_phases::Blank;
 
 /// The answer to the call of that entry.
 #[derive(Clone, Copy)]

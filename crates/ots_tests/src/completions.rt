@@ -5,7 +5,8 @@ use ots_model::{CallNumber, Ground, RefBytes, Stood, Vote};
 use resource_votes::Votes;
 use std::alloc::Global;
 use std::test::Fail;
-use two_phase::{Completion, FlatCompletion};
+use flat_phases::FlatCompletion;
+use two_phase::Completion;
 use txn_tree::Tree;
 
 const FIRST: CallNumber = CallNumber {

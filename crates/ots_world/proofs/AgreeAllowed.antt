@@ -13,9 +13,9 @@ use Rattle.ots_model.specs.declared.line.Line.TheVariants as lines
 use Rattle.ots_model.specs.Safe as safe
 use Rattle.ots_model.specs.Safe.{Stands, IsSent, IsToldCommit, IsToldRollback, HasConsented, IsRegistered, IsOf, IsJoined, IsUpFrom, IsUnder, IsDecided, TakesPart}
 use Rattle.ots_model.specs.SafeByLine.{CanApply, CanUndo, CanRegister, IsAllowed, IsCommittedBy, IsNew}
-use Rattle.two_phase.specs.Laws.{AllConsent, IsRollback}
-use Rattle.two_phase.specs.Poll.{Poll, outcome}
-use Rattle.two_phase.specs.Progress.{Progress, Idle, Polling}
+use Rattle.flat_phases.specs.Laws.{AllConsent, IsRollback}
+use Rattle.flat_phases.specs.Poll.{Poll, outcome}
+use Rattle.flat_phases.specs.Progress.{Progress, Idle, Polling}
 use Rattle.ots_world.specs.declared.board.Transaction.{Transaction}
 use Rattle.ots_world.specs.declared.board.Resource.{Resource}
 use Rattle.ots_world.specs.declared.board.Stage.{Stage}

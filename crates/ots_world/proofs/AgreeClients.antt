@@ -7,9 +7,9 @@ use Rattle.ots_model.specs.declared.line.Operation.TheVariants as operations
 use Rattle.ots_model.specs.declared.response.Response.TheVariants as responses
 use Rattle.ots_model.specs.declared.line.Line.{Line}
 use Rattle.ots_model.specs.declared.line.Line.TheVariants as lines
-use Rattle.two_phase.specs.Progress.{Progress, Idle, Polling}
-use Rattle.two_phase.specs.Poll as poll
-use Rattle.two_phase.specs.Poll.{Poll}
+use Rattle.flat_phases.specs.Progress.{Progress, Idle, Polling}
+use Rattle.flat_phases.specs.Poll as poll
+use Rattle.flat_phases.specs.Poll.{Poll}
 use Rattle.ots_world.specs.declared.board.Transaction.{Transaction}
 use Rattle.ots_world.specs.declared.board.Resource.{Resource}
 use Rattle.ots_world.specs.declared.directory.Thing.{Thing}

@@ -7,7 +7,7 @@ use Rattle.ots_model.specs.declared.completion.Word.TheVariants as words
 use Rattle.ots_model.specs.declared.response.Response.{Response}
 use Rattle.ots_model.specs.declared.line.Line.{Line}
 use Rattle.ots_model.specs.declared.line.Line.TheVariants as lines
-use Rattle.two_phase.specs.Progress as progress
+use Rattle.flat_phases.specs.Progress as progress
 use Rattle.ots_world.specs.declared.board.Resource.{Resource}
 use Rattle.ots_world.specs.declared.board.Content.{Content}
 use Rattle.ots_world.specs.declared.board.Content.TheVariants.{Call, Request, Reply}

@@ -22,11 +22,11 @@ use Rattle.ots_model.specs.declared.completion.Ground.TheVariants as grounds
 use Rattle.ots_model.specs.declared.line.Line.{Line}
 use Rattle.ots_model.specs.declared.line.Line.TheVariants as lines
 use Rattle.ots_model.specs.Safe.{Stands, HasConsented}
-use Rattle.two_phase.specs.Laws.{AllConsent, IsRollback}
-use Rattle.two_phase.specs.Progress as progress
-use Rattle.two_phase.specs.Progress.{Progress, Idle, Polling}
-use Rattle.two_phase.specs.Poll as poll
-use Rattle.two_phase.specs.Poll.{Poll, consents, outcome}
+use Rattle.flat_phases.specs.Laws.{AllConsent, IsRollback}
+use Rattle.flat_phases.specs.Progress as progress
+use Rattle.flat_phases.specs.Progress.{Progress, Idle, Polling}
+use Rattle.flat_phases.specs.Poll as poll
+use Rattle.flat_phases.specs.Poll.{Poll, consents, outcome}
 use Rattle.ots_world.specs.declared.board.Transaction.{Transaction}
 use Rattle.ots_world.specs.declared.board.Resource.{Resource}
 use Rattle.ots_world.specs.declared.board.Record.TheVariants as records

@@ -14,9 +14,9 @@ use Rattle.ots_model.specs.declared.completion.Stood.{Stood}
 use Rattle.ots_model.specs.declared.completion.Vote.TheVariants.{VoteCommit}
 use Rattle.ots_model.specs.declared.completion.Word.{Word}
 use Rattle.ots_model.specs.declared.completion.Word.TheVariants as words
-use Rattle.two_phase.specs.Laws.{RecordStands, AllConsent, IsRollback}
-use Rattle.two_phase.specs.LawsOfPolls.{by_word, by_answer, by_record, OutcomeStays, OutcomeAwaitsAll, WordsGoRightly, RestsOn, GoesRightly}
-use Rattle.two_phase.specs.Poll.{Poll, consents, replies, decides_alone, outcome, next_number, next_word, after_next, same_number, after_answer, wants_decision, after_decided}
+use Rattle.flat_phases.specs.Laws.{RecordStands, AllConsent, IsRollback}
+use Rattle.flat_phases.specs.LawsOfPolls.{by_word, by_answer, by_record, OutcomeStays, OutcomeAwaitsAll, WordsGoRightly, RestsOn, GoesRightly}
+use Rattle.flat_phases.specs.Poll.{Poll, consents, replies, decides_alone, outcome, next_number, next_word, after_next, same_number, after_answer, wants_decision, after_decided}
 
 -- the laws of completions
 pub record PollLaws : Type 0 where

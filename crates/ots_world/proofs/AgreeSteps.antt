@@ -8,9 +8,9 @@ use Rattle.ots_model.specs.Safe.{Stands}
 use Rattle.ots_model.specs.SafeByLine.{IsAllowed}
 use Rattle.ots_model.specs.declared.completion.Ground.TheVariants as grounds
 use Rattle.ots_model.specs.declared.completion.Outcome.TheVariants as outcomes
-use Rattle.two_phase.specs.Laws.{RecordStands}
-use Rattle.two_phase.specs.Poll.{Poll}
-use Rattle.two_phase.specs.Progress.{Progress, Polling}
+use Rattle.flat_phases.specs.Laws.{RecordStands}
+use Rattle.flat_phases.specs.Poll.{Poll}
+use Rattle.flat_phases.specs.Progress.{Progress, Polling}
 use Rattle.ots_world.specs.declared.board.Transaction.{Transaction}
 use Rattle.ots_world.specs.declared.board.Resource.{Resource}
 use Rattle.ots_world.specs.declared.board.Message.{Message}

@@ -8,7 +8,7 @@ use Rattle.ots_world.specs.Table.{answer_to, change_by}
 use Rattle.ots_world.specs.Board.{replies as board_replies, obeys, requests, turns, goes_on, cause_of, settles, learns, hears, delivers, lowest, flows}
 use Rattle.ots_world.specs.Clients.{is_open, is_touched}
 use Rattle.ots_world.specs.World.{World, Step, Stepped, Moves, Names, empty, is_free, transaction_named, end_named, node_named, resource_named, makes_node, makes_end, begins, registers, puts, refuses, commits, flow, step}
-use Rattle.two_phase.specs.Poll.{replies, refuser, asked_count, ballot, decides_alone, wants_record, outcome_by_votes, outcome, places, tellings, preparings, errands, next_word, after_next, after_answer, wants_decision, after_decided}
+use Rattle.flat_phases.specs.Poll.{replies, refuser, asked_count, ballot, decides_alone, wants_record, outcome_by_votes, outcome, places, tellings, preparings, errands, next_word, after_next, after_answer, wants_decision, after_decided}
 use Rattle.ots_world.specs.Agreement.{Reaches, nothing, more}
 use Rattle.ots_world.specs.AgreementExamples.{node, end, transaction, one, other, committed, rolled_back, AgreementExamples}
 

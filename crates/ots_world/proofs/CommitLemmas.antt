@@ -4,8 +4,8 @@ use Rattle.std.proofs.lemmas.List.{length-append}
 use Rattle.ots_model.specs.declared.line.Operation.TheVariants as operations
 use Rattle.ots_model.specs.declared.line.Line.{Line}
 use Rattle.ots_model.specs.declared.line.Line.TheVariants as lines
-use Rattle.two_phase.specs.Progress as progress
-use Rattle.two_phase.specs.Progress.{Progress}
+use Rattle.flat_phases.specs.Progress as progress
+use Rattle.flat_phases.specs.Progress.{Progress}
 use Rattle.ots_world.specs.declared.board.Transaction.{Transaction}
 use Rattle.ots_world.specs.declared.fault.WorldFault.{WorldFault}
 use Rattle.ots_world.specs.declared.fault.WorldFault.TheVariants.{Memory}

@@ -19,8 +19,8 @@ use Rattle.ots_model.specs.declared.line.ResourceState.{ResourceState}
 use Rattle.ots_model.specs.declared.completion.Ground.TheVariants as grounds
 use Rattle.ots_model.specs.declared.line.Line.{Line}
 use Rattle.ots_model.specs.declared.line.Line.TheVariants as lines
-use Rattle.two_phase.specs.Progress as progress
-use Rattle.two_phase.specs.Progress.{Progress}
+use Rattle.flat_phases.specs.Progress as progress
+use Rattle.flat_phases.specs.Progress.{Progress}
 use Rattle.ots_world.specs.declared.board.Transaction.{Transaction}
 use Rattle.ots_world.specs.declared.board.Resource.{Resource}
 use Rattle.ots_world.specs.declared.board.Stage.TheVariants.{In}

@@ -5,7 +5,7 @@ use Rattle.ots_model.specs.declared.completion.CallNumber.{CallNumber}
 use Rattle.ots_model.specs.declared.line.Operation.{Operation}
 use Rattle.ots_model.specs.declared.line.Operation.TheVariants as operations
 use Rattle.ots_model.specs.declared.line.Line.TheVariants as lines
-use Rattle.two_phase.specs.Progress as progress
+use Rattle.flat_phases.specs.Progress as progress
 use Rattle.ots_world.specs.declared.board.Transaction.{Transaction}
 use Rattle.ots_world.specs.declared.board.Resource.{Resource}
 use Rattle.ots_world.specs.declared.board.Stage.{Stage}

@@ -14,7 +14,7 @@ use ots_model::{
 };
 use std::alloc::{AllocError, Global};
 use std::marker::Model;
-use two_phase::FlatCompletion;
+use flat_phases::FlatCompletion;
 
 mod clients;
 
@@ -195,7 +195,7 @@ impl Board {
     ghost use Rattle.ots_world.specs.Board as board;
     ghost use Rattle.ots_world.specs.BoardInside.{HasPlace};
     ghost use Rattle.ots_world.specs.Does.{Does, CannotSend};
-    ghost use Rattle.two_phase.specs.Progress as progress;
+    ghost use Rattle.flat_phases.specs.Progress as progress;
     ghost use Rattle.ots_world.specs.declared.fault.WorldFault.TheVariants as faults;
 
     /// Nothing is under way.

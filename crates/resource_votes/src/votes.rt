@@ -173,8 +173,10 @@ impl Votes {
     pub fn vote_of(&self, registration: u32) -> Option<Vote>
         ensures { result ≡ ballots.vote_of registration self.now.ballots }
     {
-        let place = (registration as usize).checked_sub(1)?;
-        self.votes.get(place).copied().flatten()
+        if registration == 0 {
+            return None;
+        }
+        self.votes.get(registration as usize - 1).copied().flatten()
     }
 
     /// The registration of least number above this one that is told of the end of this subtransaction, and was registered
@@ -191,16 +193,14 @@ impl Votes {
     pub fn registration(&self, index: u32) -> Option<&Registration>
         ensures { option_copied result ≡ ballots.numbered self.now.ballots.registrations index }
     {
-        let place = (index as usize).checked_sub(1)?;
-        self.registrations.get(place)
+        numbered(&self.registrations, index)
     }
 
     /// The synchronization with this number.
     pub fn sync(&self, index: u32) -> Option<&Registration>
         ensures { option_copied result ≡ ballots.numbered self.now.ballots.synchronizations index }
     {
-        let place = (index as usize).checked_sub(1)?;
-        self.synchronizations.get(place)
+        numbered(&self.synchronizations, index)
     }
 
     /// Refuses a registration with this transaction.
@@ -304,6 +304,16 @@ impl Votes {
         });
         index
     }
+}
+
+/// The one of these with this number.
+fn numbered(list: &[Registration], index: u32) -> Option<&Registration>
+    ensures { option_copied result ≡ ballots.numbered list.now index }
+{
+    if index == 0 {
+        return None;
+    }
+    list.get(index as usize - 1)
 }
 
 /// Refuses a registration with a transaction that stands so.

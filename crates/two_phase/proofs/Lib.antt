@@ -1,11 +1,3 @@
-pub mod Positions
-pub mod Plans
-pub mod Votes
-pub mod Words
-pub mod Keeping
-pub mod Lawful
-pub mod Named
-pub mod Ends
 pub mod Answered
 pub mod Opened
 pub mod Overtaken
@@ -16,3 +8,4 @@ pub mod Once
 pub mod Own
 pub mod Causes
 pub mod Silence
+pub mod Settling

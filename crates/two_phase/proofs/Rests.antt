@@ -7,7 +7,7 @@ use Rattle.std.proofs.lemmas.List.Folds.{list_any_at}
 use Rattle.std.proofs.lemmas.Option.{slice_get_within, get_or_from_slice_get, same_Some}
 use Rattle.ots_model.specs.declared.completion.Heard.{Heard}
 use Rattle.ots_model.specs.declared.completion.Heard.TheVariants as hears
-use Rattle.ots_model.specs.declared.completion.Vote.TheVariants.{VoteCommit}
+use Rattle.ots_model.specs.declared.completion.Vote.TheVariants.{VoteCommit, VoteRollback, VoteReadOnly}
 use Rattle.ots_model.specs.declared.completion.Ground.TheVariants.{Record, Nobody}
 use Rattle.ots_model.specs.declared.completion.Stood.{Stood}
 use Rattle.ots_model.specs.declared.completion.Stood.TheVariants as answers
@@ -22,8 +22,7 @@ use Rattle.two_phase.specs.declared.party.Party.{Party}
 use Rattle.two_phase.specs.declared.party.Stage.{Stage}
 use Rattle.two_phase.specs.declared.party.Stage.TheVariants as stages
 use Rattle.two_phase.specs.declared.party.Errand.{Errand}
-use Rattle.two_phase.specs.Poll.{is_commit_vote}
-use Rattle.two_phase.proofs.Named.{commit_vote_is}
+use Rattle.flat_phases.specs.Poll.{is_commit_vote}
 use Rattle.two_phase.proofs.Opened.{nobody, none_is}
 use Rattle.two_phase.proofs.Overtaken.{overtaken_ends}
 
@@ -128,6 +127,19 @@ stands_by (Some (answers.Full used need)) reread h = absurd h
 stands_by (Some (answers.Unsure why)) None h = absurd h
 stands_by (Some (answers.Unsure why)) (Some None) h = absurd h
 stands_by (Some (answers.Unsure why)) (Some (Some place)) h = record { place = place; stands = refl; fixed = refl }
+
+commit_vote_is : (h : Heard) → is_commit_vote h ≡ true → h ≡ hears.Voted VoteCommit
+commit_vote_is (hears.Voted VoteCommit) e = refl
+commit_vote_is (hears.Voted VoteRollback) e = absurd (cc)
+commit_vote_is (hears.Voted VoteReadOnly) e = absurd (cc)
+commit_vote_is hears.Done e = absurd (cc)
+commit_vote_is (hears.Heuristic d) e = absurd (cc)
+commit_vote_is hears.RolledBack e = absurd (cc)
+commit_vote_is hears.NotPrepared e = absurd (cc)
+commit_vote_is hears.NoObject e = absurd (cc)
+commit_vote_is hears.Other e = absurd (cc)
+commit_vote_is hears.Lost e = absurd (cc)
+commit_vote_is hears.Starved e = absurd (cc)
 
 voted_by : (o : Option Heard) → option_map_or is_commit_vote o false ≡ true → o ≡ Some (hears.Voted VoteCommit)
 voted_by None h = absurd (cc (h))

@@ -12,7 +12,7 @@ use Rattle.ots_model.specs.declared.completion.Stood.TheVariants as answers
 use Rattle.ots_model.specs.declared.tree.Outcome.{Outcome}
 use Rattle.ots_model.specs.declared.tree.Outcome.TheVariants as outcomes
 use Rattle.ots_model.specs.declared.tree.Reason.{Reason}
-use Rattle.two_phase.specs.Poll.{same_number, consents}
+use Rattle.flat_phases.specs.Poll.{same_number, consents}
 use Rattle.two_phase.specs.Course.{Course, decides_alone, all_consent, some_commit, first_refuser, by_refusal, by_record, by_one, outcome, errand, after_next, answered, heard_at, wants_decision, after_decided, is_unsure, is_doubtful, after_reread, is_outside, may_roll_back, after_rollback}
 use Rattle.two_phase.specs.CourseInside.{IsOpen, answer_at}
 use Rattle.two_phase.specs.LawsOfReached.{TreeBecomes, IsReached}

@@ -18,7 +18,7 @@ use Rattle.ots_model.specs.declared.tree.Outcome.{Outcome}
 use Rattle.ots_model.specs.declared.tree.Outcome.TheVariants as outcomes
 use Rattle.ots_model.specs.declared.tree.Outward.{Outward}
 use Rattle.resource_votes.specs.declared.registration.Registration.{Registration}
-use Rattle.two_phase.specs.Poll.{same_number}
+use Rattle.flat_phases.specs.Poll.{same_number}
 use Rattle.two_phase.specs.Parties.{party_of, has_consented, has_refused, has_voted_commit, is_unasked, reason_of, by_answer, is_untold, is_incomplete, is_unforgotten}
 use Rattle.two_phase.specs.declared.party.Party.{Party}
 use Rattle.two_phase.specs.declared.party.Stage.{Stage}

@@ -1,13 +1,4 @@
 pub mod Limits
-pub mod Poll
-pub mod Progress
-pub mod Laws
-pub mod LawsOfPolls
-pub mod Judged
-pub mod Plan
-pub mod RoomInside
-pub mod RoundInside
-pub mod FlatCompletionInside
 pub mod Parties
 pub mod Course
 pub mod CourseInside
@@ -20,3 +11,4 @@ pub mod LawsOfReached
 pub mod LawsOfParticipants
 pub mod LawsOfSilence
 pub mod LawsOfOutcomes
+pub mod LawsOfSettling

@@ -15,7 +15,7 @@ use Rattle.ots_model.specs.declared.tree.Reason.TheVariants as reasons
 use Rattle.ots_model.specs.declared.tree.Outcome.{Outcome}
 use Rattle.ots_model.specs.declared.tree.Outcome.TheVariants as outcomes
 use Rattle.resource_votes.specs.declared.registration.Registration.{Registration}
-use Rattle.two_phase.specs.Poll.{consents, is_commit_vote}
+use Rattle.flat_phases.specs.Poll.{consents, is_commit_vote}
 use Rattle.two_phase.specs.declared.party.Party.{Party}
 use Rattle.two_phase.specs.declared.party.Stage.{Stage}
 use Rattle.two_phase.specs.declared.party.Stage.TheVariants as stages

@@ -5,8 +5,9 @@ ghost use Rattle.ots_model.specs.Limits.{registration_limit};
 ghost use Rattle.ots_model.specs.declared.completion.Heard.TheVariants.{Lost};
 ghost use Rattle.resource_votes.specs.Limits.{list_count};
 ghost use Rattle.resource_votes.specs.Ballots.{participants};
+ghost use Rattle.two_phase.specs.Course as course;
 ghost use Rattle.two_phase.specs.Stages as stages;
-ghost use Rattle.two_phase.specs.Stages.{Waiting, HasRoom, IsGoing};
+ghost use Rattle.two_phase.specs.Stages.{Waiting, Going, HasRoom, IsGoing};
 
 use crate::course::{Course, is_outside};
 use crate::dispositions::Dispositions;
@@ -84,11 +85,7 @@ impl Completion {
         ensures started { self.new
             ≡ stages.started (participants top votes.now.ballots) asked first one_phase }
     {
-        if let Standing::Waiting(stock) = &mut self.state {
-            let stock = stock.take();
-            let walk = votes.participants(top);
-            self.state = Standing::Going(Course::begin(stock, walk, asked, first, one_phase, None));
-        }
+        self.set_out(votes, top, asked, first, one_phase, None);
     }
 
     /// Begins with a rollback for a reason from outside, as that of a transaction that was never asked to commit: nobody is
@@ -108,12 +105,32 @@ impl Completion {
         ensures started { self.new
             ≡ stages.started_rollback (participants top votes.now.ballots) asked first one_phase reason }
     {
+        let reason = is_outside(reason).then_some(reason);
+        self.set_out(votes, top, asked, first, one_phase, reason);
+    }
+
+    /// Begins; where there is a reason, by rolling back. It needs no memory.
+    fn set_out(
+        &mut self,
+        votes: &Votes,
+        top: u32,
+        asked: bool,
+        first: CallNumber,
+        one_phase: bool,
+        overtaken: Option<Reason>,
+    )
+        requires there { top < list_count }
+        requires room { HasRoom self.old (length (participants top votes.now.ballots)) }
+        requires serial { first.serial < 2 ^ 31 }
+        ensures { self.new ≡ Going
+            (record (course.begun (participants top votes.now.ballots) asked first one_phase)
+            { overtaken = overtaken }) }
+    {
         if let Standing::Waiting(stock) = &mut self.state {
             let stock = stock.take();
             let walk = votes.participants(top);
-            let reason = is_outside(reason).then_some(reason);
             self.state = Standing::Going(Course::begin(
-                stock, walk, asked, first, one_phase, reason,
+                stock, walk, asked, first, one_phase, overtaken,
             ));
         }
     }

@@ -5,11 +5,12 @@ ghost use Rattle.std.specs.List.{slice_get};
 ghost use Rattle.two_phase.specs.Limits.{disposition_limit, registration_limit};
 ghost use Rattle.two_phase.specs.Course as course;
 ghost use Rattle.two_phase.specs.Reports as reports;
+ghost use Rattle.two_phase.specs.declared.party.Stage.TheVariants as stages;
 ghost use Rattle.two_phase.specs.CourseInside.{IsOpen};
 
 use crate::dispositions::Dispositions;
 use crate::party::{Errand, Party, Stage, by_answer, cause_of, disposition_of_ballot};
-use crate::room::Blank;
+use flat_phases::Blank;
 use crate::stock::{Stock, enter};
 use heuristic_join::{join_root, join_sub};
 use ots_model::tree::{Outcome, Outward, Reason, Word};
@@ -298,11 +299,14 @@ impl Course {
         ensures reserved { vec_len into.old + registration_limit ≤ vec_capacity into.old → IsOk result }
         ensures capacity { vec_capacity into.old ≤ vec_capacity into.new }
     {
-        if self.may_owe(stage) {
-            make_room(self.parties.len(), into)?;
+        if !self.may_owe(stage) {
+            return Ok(());
+        }
+        let made = make_room(self.parties.len(), into);
+        if made.is_ok() {
             add_owed_numbers(stage, &self.parties, into);
         }
-        Ok(())
+        made
     }
 
     /// Whether a word of this stage may be owed.
@@ -427,12 +431,33 @@ impl Course {
     pub fn voter(&self) -> Option<u32>
         ensures { result ≡ course.voter self.now }
     {
-        let errand = self.out?;
-        if !matches!(errand.stage, Stage::Asking) || self.decides_alone() {
+        match self.out {
+            Some(errand) => self.voter_at(errand),
+            None => None,
+        }
+    }
+
+    /// The registration whose vote this word asks for.
+    fn voter_at(&self, errand: Errand) -> Option<u32>
+        ensures { result ≡ course.voter_at self.now errand }
+    {
+        match errand.stage {
+            Stage::Asking => self.voter_among(errand.place),
+            Stage::Telling | Stage::Forgetting => None,
+        }
+    }
+
+    /// The registration at this place, where each is asked for its vote.
+    fn voter_among(&self, place: usize) -> Option<u32>
+        ensures { result ≡ course.voter_at self.now (record { stage = stages.Asking; place = place }) }
+    {
+        if self.decides_alone() {
             return None;
         }
-        let party = self.parties.get(errand.place)?;
-        Some(party.index)
+        match self.parties.get(place) {
+            Some(party) => Some(party.index),
+            None => None,
+        }
     }
 
     /// Whether nobody knew at some time whether the record stands.
@@ -592,9 +617,10 @@ fn make_room(count: usize, into: &mut Vec<u32>) -> Result<(), AllocError>
     ensures capacity { vec_capacity into.old ≤ vec_capacity into.new }
 {
     if into.capacity() - into.len() < count {
-        into.reserve(count)?;
+        into.reserve(count)
+    } else {
+        Ok(())
     }
-    Ok(())
 }
 
 /// Appends the numbers of those that are owed a word of this stage. It needs no memory.

@@ -3,27 +3,11 @@
 ghost use Rattle.two_phase.specs.LawsOfCourses.{TreeWordsGoRightly};
 ghost use Rattle.two_phase.specs.LawsOfOutcomes.{OutcomesHaveCauses};
 ghost use Rattle.two_phase.specs.LawsOfParticipants.{NoParticipantHearsTwice, ParticipantsHaveNumbers};
+ghost use Rattle.two_phase.specs.LawsOfSettling.{SettledIsNothingPending};
 ghost use Rattle.two_phase.specs.LawsOfSilence.{NoWordIsLeftOut};
 ghost use Rattle.two_phase.specs.LawsOfReached.{NoCommitAfterRollback, NoRollbackAfterCommit, NoWordTwice, TreeOutcomeStays};
-ghost use Rattle.two_phase.specs.LawsOfPolls.{OutcomeAwaitsAll, OutcomeStays, WordsGoRightly};
 
 use resource_votes::participants_are_committed_up;
-
-/// An outcome that is fixed stays, whatever goes out, is answered or is recorded.
-pub fn an_outcome_stays()
-    ensures { OutcomeStays }
-{}
-
-/// While all consent, the outcome is fixed only once each participant has answered.
-pub fn an_outcome_awaits_all()
-    ensures { OutcomeAwaitsAll }
-{}
-
-/// Each word that goes out goes to a participant, with the next number. Prepare goes out in list order, commit by record
-/// and consent alone, and rollback by the outcome.
-pub fn words_go_rightly()
-    ensures { WordsGoRightly }
-{}
 
 /// Each word of the completion of a tree goes to a participant, with the next number. A participant is asked while the
 /// outcome is open; commit goes out by record and consent alone, rollback by the outcome, forget to one that has raised a
@@ -36,6 +20,12 @@ pub fn tree_words_go_rightly()
 /// whether the record stands, or all have answered the outcome; and forget then waits, or all have answered that too.
 pub fn no_tree_word_is_left_out()
     ensures { NoWordIsLeftOut }
+{}
+
+/// After a commit a completion of a tree is settled exactly where nobody is still to be told commit or forget. Where the outcome
+/// is another, each that was to be told it has completed then, and each that raised a heuristic exception has let it go.
+pub fn a_settled_one_has_nothing_pending()
+    ensures { SettledIsNothingPending }
 {}
 
 /// In a completion of a tree an outcome that is fixed stays, whatever goes out, is answered, is recorded, or comes from

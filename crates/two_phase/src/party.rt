@@ -4,7 +4,7 @@ ghost use Rattle.std.specs.Option.{option_map};
 ghost use Rattle.two_phase.specs.Course as course;
 ghost use Rattle.two_phase.specs.Parties as parties;
 
-use crate::verdict::consents;
+use flat_phases::consents;
 use ots_model::tree::{Outcome, Reason};
 use ots_model::{Decision, Disposition, Ground, Heard, RefBytes, Vote};
 

@@ -1,4 +1,5 @@
 ghost use Rattle.std.specs.Prelude.{◌≡◌, ℕ, ◌<◌, ◌≤◌, ◌==◌, ◌&&◌, ◌↔◌, length, Some, None, IsTrue, IsOk, IsErr, IfOk, OnOk, OnErr, IfSome, IfNone, IsErrOf};
+ghost use Rattle.std.specs.List.{slice_get};
 ghost use Rattle.txn_tree.specs.Limits.{transaction_limit};
 ghost use Rattle.txn_tree.specs.Rows.{IsTree};
 ghost use Rattle.txn_tree.specs.Rows as ancestry;
@@ -219,15 +220,17 @@ impl Tree {
     pub fn status_at(&self, branch: u32) -> Option<Status>
         ensures { result ≡ calls.status self.now.rows branch }
     {
-        let row = self.rows.get(branch as usize)?;
-        Some(row.state.status())
+        match self.row_at(branch) {
+            Some(row) => Some(row.state.status()),
+            None => None,
+        }
     }
 
     /// Whether there is this branch, and it has not ended.
     pub fn is_live_at(&self, branch: u32) -> bool
         ensures { result ≡ ancestry.is_live_branch self.now.rows branch }
     {
-        match self.rows.get(branch as usize) {
+        match self.row_at(branch) {
             Some(row) => row.state.is_live(),
             None => false,
         }
@@ -237,7 +240,7 @@ impl Tree {
     pub fn is_marked_at(&self, branch: u32) -> bool
         ensures { result ≡ calls.is_marked (ancestry.state self.now.rows branch) }
     {
-        match self.rows.get(branch as usize) {
+        match self.row_at(branch) {
             Some(row) => matches!(row.state, State::Marked),
             None => false,
         }
@@ -247,8 +250,17 @@ impl Tree {
     pub fn parent_at(&self, branch: u32) -> Option<u32>
         ensures { result ≡ ancestry.parent self.now.rows branch }
     {
-        let row = self.rows.get(branch as usize)?;
-        row.parent
+        match self.row_at(branch) {
+            Some(row) => row.parent,
+            None => None,
+        }
+    }
+
+    /// The row of this branch, where there is one.
+    fn row_at(&self, branch: u32) -> Option<Row>
+        ensures { result ≡ slice_get self.now.rows branch }
+    {
+        self.rows.get(branch as usize).copied()
     }
 
     /// The status of this branch's parent (`get_parent_status`); that of the top is its own.

@@ -9,7 +9,7 @@ use crate::board::{Board, Content, Message, Registrations, Resource, Stage, Tran
 use crate::fault::{MESSAGE_LIMIT, WorldFault, tell};
 use ots_model::{CallNumber, Line, Name, Operation, RefBytes};
 use std::alloc::{AllocError, Global};
-use two_phase::FlatCompletion;
+use flat_phases::FlatCompletion;
 
 impl Board {
     /// The transactions, in the order of their making.

@@ -4,7 +4,7 @@ use Rattle.std.proofs.lemmas.Option.{gets}
 use Rattle.std.proofs.lemmas.Result.{err_from_is_err_and}
 use Rattle.ots_model.specs.declared.line.Operation.TheVariants as operations
 use Rattle.ots_model.specs.declared.line.Line.TheVariants.{Call}
-use Rattle.two_phase.specs.Progress.{started}
+use Rattle.flat_phases.specs.Progress.{started}
 use Rattle.ots_world.specs.contracts.board.Board.{the_view}
 use Rattle.ots_world.specs.Board.{sending}
 use Rattle.ots_world.specs.Clients.{participants, first_number, commits_with}

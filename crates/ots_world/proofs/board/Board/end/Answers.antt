@@ -2,8 +2,8 @@ use Rattle.std.proofs.Common.{◌≡◌, ℕ, Option, None, Some, Ok, Err, refl,
 use Rattle.std.proofs.lemmas.Result.{err_from_is_err_and}
 use Rattle.std.proofs.lemmas.Option.{gets}
 use Rattle.std.proofs.lemmas.Grind.{common_steps}
-use Rattle.two_phase.specs.Progress as progress
-use Rattle.two_phase.specs.Progress.{Progress}
+use Rattle.flat_phases.specs.Progress as progress
+use Rattle.flat_phases.specs.Progress.{Progress}
 use Rattle.ots_model.specs.declared.completion.Outcome.{Outcome}
 use Rattle.ots_model.specs.declared.completion.Outcome.TheVariants as outcomes
 use Rattle.ots_model.specs.declared.response.Exception.TheVariants as exceptions

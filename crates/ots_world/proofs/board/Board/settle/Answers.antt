@@ -2,8 +2,8 @@ use Rattle.std.proofs.Common.{◌≡◌, None, Some, cond, ap, ◌∙◌, arith}
 use Rattle.std.specs.List.{slice_get}
 use Rattle.std.proofs.lemmas.Option.{gets}
 use Rattle.std.proofs.lemmas.Grind.{common_steps}
-use Rattle.two_phase.specs.Progress as progress
-use Rattle.two_phase.specs.Progress.{Progress}
+use Rattle.flat_phases.specs.Progress as progress
+use Rattle.flat_phases.specs.Progress.{Progress}
 use Rattle.ots_world.specs.Board.{nothing, fixed, recorded, settles}
 use Rattle.ots_world.proofs.DoesLemmas.{does_at, does_nothing_at, does_same}
 use Rattle.ots_world.proofs.board.Board.settle.Goals as goal
