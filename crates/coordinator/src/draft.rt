@@ -8,13 +8,13 @@ ghost use Rattle.coordinator.specs.Moves.{answer_to, fixed_now};
 
 use crate::call::{Reply, Task};
 use crate::effect::Effect;
+use flat_phases::Blank;
 use ots_model::CallNumber;
 use ots_model::tree::{Outcome, Outward, Word};
 use resource_votes::Registration;
 use std::alloc::{AllocError, Global};
 use std::collections::VecDeque;
 use std::marker::Model;
-use flat_phases::Blank;
 
 /// The answer to the call of that entry.
 #[derive(Clone, Copy)]

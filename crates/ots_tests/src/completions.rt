@@ -1,11 +1,11 @@
 //! Tests of completions whose allocations fail.
 
+use flat_phases::FlatCompletion;
 use ots_model::tree::{Heard, Outcome};
 use ots_model::{CallNumber, Ground, RefBytes, Stood, Vote};
 use resource_votes::Votes;
 use std::alloc::Global;
 use std::test::Fail;
-use flat_phases::FlatCompletion;
 use two_phase::Completion;
 use txn_tree::Tree;
 

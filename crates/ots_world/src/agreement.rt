@@ -1,8 +1,8 @@
 ghost use Rattle.ots_world.specs.Agreement.{Agreement};
 ghost use Rattle.ots_world.specs.AgreementExamples.{AgreementExamples};
 
-use ots_model::allowed_lines_are_safe;
 use flat_phases::{an_outcome_awaits_all, an_outcome_stays, words_go_rightly};
+use ots_model::allowed_lines_are_safe;
 
 /// Agreement is a law of the definitions: the lines of each world that a script can reach are safe.
 pub fn lines_agree()

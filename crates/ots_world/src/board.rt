@@ -8,13 +8,13 @@ ghost use Rattle.ots_world.specs.declared.fault.WorldFault.TheVariants.{Memory};
 
 use crate::fault::{MESSAGE_LIMIT, WorldFault, tell};
 use crate::table::{answer_to, change_by};
+use flat_phases::FlatCompletion;
 use ots_model::{
     CallNumber, Exception, Ground, Line, Name, Operation, Outcome, Outward, Reason, ResourceState,
     Response, Stood, Word,
 };
 use std::alloc::{AllocError, Global};
 use std::marker::Model;
-use flat_phases::FlatCompletion;
 
 mod clients;
 

@@ -180,11 +180,11 @@ pending_by : (c : Course) (o : Option Outcome) → outcome c ≡ o → pending_c
 pending_by c None is commits forgets more = absurd more
 pending_by c (Some (outcomes.Commit basis)) is commits forgets more =
     settles (all_through (decides_alone c) (outcomes.Commit basis) c.parties) (some_owed stages.Forgetting c.parties)
-      (each_through (decides_alone c) basis c.parties (none_where stages.Telling c (ap is_commit is) commits))
-      (none_where stages.Forgetting c (commit_owes (is_commit (outcome c)) (waits_for_superior c) (ap is_commit is)) forgets)
+    (each_through (decides_alone c) basis c.parties (none_where stages.Telling c (ap is_commit is) commits))
+    (none_where stages.Forgetting c (commit_owes (is_commit (outcome c)) (waits_for_superior c) (ap is_commit is)) forgets)
 pending_by c (Some (outcomes.Rollback reason)) is commits forgets more =
     settles (all_through (decides_alone c) (outcomes.Rollback reason) c.parties) (some_owed stages.Forgetting c.parties)
-      (complete c (outcomes.Rollback reason) more.0) (release c more.1)
+    (complete c (outcomes.Rollback reason) more.0) (release c more.1)
 pending_by c (Some outcomes.Unknown) is commits forgets more =
     settles (all_through (decides_alone c) outcomes.Unknown c.parties) (some_owed stages.Forgetting c.parties) (nobody_told c) (release c more)
 

@@ -10,8 +10,8 @@ ghost use Rattle.two_phase.specs.CourseInside.{IsOpen};
 
 use crate::dispositions::Dispositions;
 use crate::party::{Errand, Party, Stage, by_answer, cause_of, disposition_of_ballot};
-use flat_phases::Blank;
 use crate::stock::{Stock, enter};
+use flat_phases::Blank;
 use heuristic_join::{join_root, join_sub};
 use ots_model::tree::{Outcome, Outward, Reason, Word};
 use ots_model::{CallNumber, Decision, Disposition, Ground, Heard, Join, Receipt, Stood};

@@ -7,9 +7,9 @@ ghost use Rattle.ots_world.specs.declared.fault.WorldFault.TheVariants.{Memory};
 
 use crate::board::{Board, Content, Message, Registrations, Resource, Stage, Transaction};
 use crate::fault::{MESSAGE_LIMIT, WorldFault, tell};
+use flat_phases::FlatCompletion;
 use ots_model::{CallNumber, Line, Name, Operation, RefBytes};
 use std::alloc::{AllocError, Global};
-use flat_phases::FlatCompletion;
 
 impl Board {
     /// The transactions, in the order of their making.
