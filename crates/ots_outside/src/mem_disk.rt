@@ -1,6 +1,6 @@
 ghost use Rattle.std.specs.Prelude.{◌≡◌, ◌≤◌, ◌+◌, ◌↔◌, length, IsTrue, IsOk, IsErr, IfErr, IsErrOf, IfOk, OnOk, OnErr, Contains, slice_range};
 ghost use Rattle.std.specs.List.Sorted.{IsNonDecreasing, IsPermutation};
-ghost use Rattle.ots_outside.specs.declared.disk.DiskRefusal.TheVariants.{Failed};
+ghost use Rattle.ots_outside.specs.declared.disk.DiskRefusal.TheVariants.{Failed, Memory};
 ghost use Rattle.ots_outside.specs.Source.{HasRisen, raised};
 ghost use Rattle.ots_outside.specs.Disk.{IsAfterRefusal, IsImage, at_first, overwritten, synced, written};
 ghost use Rattle.ots_outside.specs.MemDisk.{CountsCall};
@@ -73,10 +73,11 @@ impl SureDisk {
     }
 
     /// Writes and keeps the write.
-    fn write(&mut self, place: u64, bytes: &[u8]) -> Result<(), AllocError>
+    fn write(&mut self, place: u64, bytes: &[u8]) -> Result<(), DiskRefusal>
         requires { place ≤ length self.old.reads }
         ensures ok { OnOk result (self.new ≡ written place bytes.now self.old) }
         ensures err { OnErr result (self.new ≡ self.old) }
+        ensures want { IfErr result (λ refusal. refusal ≡ Memory) }
         ensures image { IsImage self.old.present self.old.reads × IsImage self.new.present self.new.reads }
     {
         let octets = bytes.to_vec(self.alloc)?;
@@ -89,9 +90,10 @@ impl SureDisk {
     }
 
     /// Keeps a sync.
-    fn mark(&mut self) -> Result<(), AllocError>
+    fn mark(&mut self) -> Result<(), DiskRefusal>
         ensures ok { OnOk result (self.new ≡ synced self.old) }
         ensures err { OnErr result (self.new ≡ self.old) }
+        ensures want { IfErr result (λ refusal. refusal ≡ Memory) }
         ensures image { IsImage self.old.present self.old.reads × IsImage self.new.present self.new.reads }
     {
         self.events.push(DiskEvent::Synced)?;
@@ -100,10 +102,11 @@ impl SureDisk {
 }
 
 /// Writes the octets over what stands from a place on, and past the end.
-fn overwrite(octets: &mut Vec<u8>, place: usize, bytes: &[u8]) -> Result<(), AllocError>
+fn overwrite(octets: &mut Vec<u8>, place: usize, bytes: &[u8]) -> Result<(), DiskRefusal>
     requires { place ≤ length octets.old.items }
     ensures ok { OnOk result (octets.new.items ≡ overwritten octets.old.items place bytes.now) }
     ensures err { OnErr result (octets.new.items ≡ octets.old.items) }
+    ensures want { IfErr result (λ refusal. refusal ≡ Memory) }
 {
     let within = bytes.len().min(octets.len() - place);
     octets.extend_from_slice(&bytes[within..])?;
@@ -163,7 +166,7 @@ impl Disk for SureDisk {
         // A refused one does nothing.
         ensures nothing { OnErr result (self.new ≡ self.old) }
     {
-        Ok(self.write(place, bytes)?)
+        self.write(place, bytes)
     }
 
     fn sync(&mut self) -> Result<(), DiskRefusal>
@@ -176,7 +179,7 @@ impl Disk for SureDisk {
         // A refused one does nothing.
         ensures nothing { OnErr result (self.new ≡ self.old) }
     {
-        Ok(self.mark()?)
+        self.mark()
     }
 }
 
@@ -296,8 +299,10 @@ impl Disk for MemDisk {
         ensures count { CountsCall result self.old self.new }
         ensures only { IsErr result ↔ Contains self.old.failing self.old.calls }
     {
-        self.begin()?;
-        Ok(self.octets().len() as u64)
+        match self.begin() {
+            Ok(()) => Ok(self.octets().len() as u64),
+            Err(refusal) => Err(refusal),
+        }
     }
 
     fn read_at(&mut self, place: u64, into: &mut [u8]) -> Result<(), DiskRefusal>
@@ -315,9 +320,13 @@ impl Disk for MemDisk {
         ensures count { CountsCall result self.old self.new }
         ensures only { IsErr result ↔ Contains self.old.failing self.old.calls }
     {
-        self.begin()?;
-        self.disk.read(place, into);
-        Ok(())
+        match self.begin() {
+            Ok(()) => {
+                self.disk.read(place, into);
+                Ok(())
+            }
+            refused => refused,
+        }
     }
 
     fn write_at(&mut self, place: u64, bytes: &[u8]) -> Result<(), DiskRefusal>
@@ -336,8 +345,10 @@ impl Disk for MemDisk {
         ensures count { CountsCall result self.old self.new }
         ensures nothing { OnErr result (self.new.disk ≡ self.old.disk) }
     {
-        self.begin()?;
-        Ok(self.disk.write(place, bytes)?)
+        match self.begin() {
+            Ok(()) => self.disk.write(place, bytes),
+            refused => refused,
+        }
     }
 
     fn sync(&mut self) -> Result<(), DiskRefusal>
@@ -353,7 +364,9 @@ impl Disk for MemDisk {
         ensures count { CountsCall result self.old self.new }
         ensures nothing { OnErr result (self.new.disk ≡ self.old.disk) }
     {
-        self.begin()?;
-        Ok(self.disk.mark()?)
+        match self.begin() {
+            Ok(()) => self.disk.mark(),
+            refused => refused,
+        }
     }
 }

@@ -9,7 +9,7 @@ use std::alloc::{AllocError, Global};
 use std::marker::Model;
 
 /// A source in memory, of which chosen calls fail. Contracts see it as a `SourceState`.
-#[derive(Debug, Drop)]
+#[derive(Drop)]
 pub struct MemSource {
     contents: Vec<u8>,
     position: usize,
@@ -35,6 +35,8 @@ impl Model for MemSource {
 }
 
 impl MemSource {
+    ghost use Rattle.std.specs.Prelude.{Some};
+
     /// A source of these octets. The calls of `read` whose numbers, from 0, are `failing` fail.
     pub fn new(contents: Vec<u8>, failing: Vec<u64>) -> MemSource
         ensures left { result.left ≡ contents.items }
@@ -56,6 +58,19 @@ impl MemSource {
         ensures { result ≡ self.now.faults }
     {
         self.faults
+    }
+
+    /// Gives all that fits into the piece, and says how much.
+    fn give(&mut self, into: &mut [u8]) -> usize
+        ensures gives { Gives self.old.left (length into.old) result into.new (Some self.new.left) }
+        ensures most { result ≡ min (length into.old) (length self.old.left) }
+        ensures rest { self.new ≡ record self.old { left = self.new.left } }
+    {
+        let left = &self.contents[self.position..];
+        let count = left.len().min(into.len());
+        into[..count].copy_from_slice(&left[..count]);
+        self.position += count;
+        count
     }
 }
 
@@ -87,11 +102,7 @@ impl Source for MemSource {
         if self.failing.contains(&call) {
             return Err(Failed::counted(&mut self.faults));
         }
-        let left = &self.contents[self.position..];
-        let count = left.len().min(into.len());
-        into[..count].copy_from_slice(&left[..count]);
-        self.position += count;
-        Ok(count)
+        Ok(self.give(into))
     }
 }
 
@@ -106,7 +117,7 @@ pub struct Failure {
 
 /// A sink in memory, of which chosen calls fail. Want of memory is a failure too, which takes nothing.
 /// Contracts see it as a `SinkState`.
-#[derive(Debug, Drop)]
+#[derive(Drop)]
 pub struct MemSink {
     octets: Vec<u8>,
     failing: Vec<Failure>,

@@ -123,9 +123,10 @@ fn write_whole<W: Write>(writer: &mut W, bytes: &[u8]) -> io::Result<()>
 {
     let mut rest = bytes;
     while !rest.is_empty() {
-        match writer.write(rest)? {
-            0 => return Err(ErrorKind::WriteZero.into()),
-            count => rest = &rest[count..],
+        match writer.write(rest) {
+            Ok(0) => return Err(ErrorKind::WriteZero.into()),
+            Ok(count) => rest = &rest[count..],
+            Err(error) => return Err(error),
         }
     }
     writer.flush()
