@@ -25,7 +25,7 @@ pub(crate) fn append_at<D: Disk>(disk: &mut D, gate: u64, behind: &[u8]) -> Resu
     ensures cause { IsErrOf result Failed → HasRisen (D.faults disk.old) (D.faults disk.new) }
     ensures later { D.faults disk.old ≤ D.faults disk.new }
 {
-    write_and_sync(disk, gate + 1, behind)?;
+    ok!(write_and_sync(disk, gate + 1, behind));
     write_and_sync(disk, gate, &[OPEN])
 }
 
@@ -73,7 +73,7 @@ fn write_and_sync<D: Disk>(disk: &mut D, place: u64, octets: &[u8]) -> Result<()
     ensures cause { IsErrOf result Failed → HasRisen (D.faults disk.old) (D.faults disk.new) }
     ensures later { D.faults disk.old ≤ D.faults disk.new }
 {
-    disk.write_at(place, octets)?;
+    ok!(disk.write_at(place, octets));
     disk.sync()
 }
 
@@ -101,9 +101,9 @@ pub(crate) fn create_at<D: Disk>(disk: &mut D, service: u64, due: bool) -> Resul
     ensures cause { IsErrOf result Failed → HasRisen (D.faults disk.old) (D.faults disk.new) }
     ensures later { D.faults disk.old ≤ D.faults disk.new }
 {
-    clear_letter(disk, due)?;
+    ok!(clear_letter(disk, due));
     let behind = behind_letter_of(service);
-    write_and_sync(disk, 1, &behind)?;
+    ok!(write_and_sync(disk, 1, &behind));
     write_and_sync(disk, 0, &[FIRST_LETTER])
 }
 
@@ -119,10 +119,10 @@ pub(crate) fn read_whole<D: Disk>(alloc: Global, disk: &mut D) -> Result<Vec<u8>
     ensures cause { IsErrOf result Failed → HasRisen (D.faults disk.old) (D.faults disk.new) }
     ensures later { D.faults disk.old ≤ D.faults disk.new }
 {
-    disk.sync()?;
-    let length = disk.len()?;
+    ok!(disk.sync());
+    let length = ok!(disk.len());
     let mut octets = vec![in alloc; 0; length as usize]?;
-    read_pieces(disk, &mut octets)?;
+    ok!(read_pieces(disk, &mut octets));
     Ok(octets)
 }
 
@@ -137,7 +137,7 @@ fn read_pieces<D: Disk>(disk: &mut D, octets: &mut [u8]) -> Result<(), DiskRefus
     let mut place = 0;
     while place < octets.len() {
         let end = octets.len().min(place + PIECE);
-        disk.read_at(place as u64, &mut octets[place..end])?;
+        ok!(disk.read_at(place as u64, &mut octets[place..end]));
         place = end;
     }
     Ok(())
@@ -162,8 +162,8 @@ pub(crate) fn read_along<D: Disk>(
     ensures later { D.faults disk.old ≤ D.faults disk.new }
     ensures piece { length piece.new ≡ length piece.old }
 {
-    disk.sync()?;
-    let length = disk.len()?;
+    ok!(disk.sync());
+    let length = ok!(disk.len());
     go_along(disk, length as usize, piece, known)
 }
 
@@ -192,7 +192,7 @@ fn go_along<D: Disk>(
     };
     while place < count {
         let part = piece.len().min(count - place);
-        disk.read_at(place as u64, &mut piece[..part])?;
+        ok!(disk.read_at(place as u64, &mut piece[..part]));
         found = found.with_piece(place, known, &piece[..part]);
         place += part;
     }

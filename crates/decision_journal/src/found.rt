@@ -157,7 +157,7 @@ impl Index {
         match item {
             JournalRecord::Done(named) => self.mark(named),
             item => {
-                self.standing.reserve(1)?;
+                ok!(self.standing.reserve(1));
                 self.add(place, item);
             }
         }

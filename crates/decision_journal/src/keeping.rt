@@ -115,7 +115,7 @@ impl<D: Disk> Journal<D> {
         ensures room { self.old.room ≤ self.new.room }
     {
         if self.room == 0 {
-            self.index.reserve()?;
+            ok!(self.index.reserve());
             self.room = 1;
         }
         Ok(())
@@ -272,8 +272,8 @@ impl<D: Disk> Journal<D> {
         ensures room { self.old.room ≤ self.new.room + cells_in item }
         ensures full { (used need : ℕ) → result ≡ Err (JournalFault.Full used need) → self.old.room ≤ self.new.room }
     {
-        self.ready()?;
-        self.has_room(&item)?;
+        ok!(self.ready());
+        ok!(self.has_room(&item));
         self.write(item)
     }
 
@@ -293,11 +293,11 @@ impl<D: Disk> Journal<D> {
             (AppendIsSafe self.old.service (JournalRecord.Done place)) }
         ensures room { self.old.room ≤ self.new.room }
     {
-        self.ready()?;
+        ok!(self.ready());
         if !self.stands(place) {
             return Ok(());
         }
-        self.write(JournalRecord::Done(place))?;
+        ok!(self.write(JournalRecord::Done(place)));
         Ok(())
     }
 
@@ -318,7 +318,7 @@ impl<D: Disk> Journal<D> {
         ensures safe { Tells (D.told self.old.disk) (D.told self.new.disk) (ReadIsSafe self.old.service) }
         ensures room { self.old.room ≤ self.new.room }
     {
-        self.ready()?;
+        ok!(self.ready());
         self.put_bytes(into)?;
         Ok(())
     }

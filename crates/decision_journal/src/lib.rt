@@ -9,6 +9,16 @@ pub use laws::{
 };
 pub use record::{CellsEnd, JournalRecord, Put, Puts, Registration, Registrations};
 
+/// The value of an answer that is Ok; any other ends this function. As `?`, but that the fault stays as it is.
+macro_rules! ok {
+    ($answer:expr) => {
+        match $answer {
+            Ok(value) => value,
+            Err(fault) => return Err(fault),
+        }
+    };
+}
+
 mod disk_calls;
 mod found;
 mod journal;

@@ -81,7 +81,7 @@ fn read_or_create<D: Disk>(alloc: Global, disk: &mut D, service: u64) -> Result<
     if is_fresh(&octets) {
         return create(alloc, disk, service, &octets);
     }
-    let index = filled(alloc, service, &mut octets)?;
+    let index = ok!(filled(alloc, service, &mut octets));
     Ok(Start {
         octets,
         index,
@@ -99,8 +99,8 @@ fn make_room(start: &mut Start, area: u64) -> Result<(), AllocError>
     ensures piece { OnOk result (0 < length start.new.piece.items) }
 {
     let more = (area as usize).saturating_sub(start.octets.len());
-    start.octets.reserve(more)?;
-    start.index.reserve()?;
+    ok!(start.octets.reserve(more));
+    ok!(start.index.reserve());
     start.piece.resize(PIECE, 0)
 }
 
@@ -129,7 +129,7 @@ pub(crate) fn start_within<D: Disk>(
         (IsLoadFault area service (D.told disk.old) (D.faults disk.old) (D.faults disk.new)) }
     ensures later { D.faults disk.old ≤ D.faults disk.new }
 {
-    let mut start = read_or_create(alloc, disk, service)?;
+    let mut start = ok!(read_or_create(alloc, disk, service));
     if start.index.life() == u32::MAX {
         return Err(JournalFault::LivesSpent);
     }

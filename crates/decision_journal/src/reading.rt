@@ -95,7 +95,7 @@ fn u64_at(octets: &[u8]) -> Result<(u64, &[u8]), ReadFault>
 fn reference_of(alloc: Global, octets: &[u8]) -> Result<(RefBytes, &[u8]), ReadFault>
     ensures { Gives (λ x. (x.0, x.1.now)) result (reference_at octets.now) }
 {
-    let (count, rest) = u16_at(octets)?;
+    let (count, rest) = ok!(u16_at(octets));
     let count = usize::from(count);
     if count > REFERENCE_LIMIT || rest.len() < count {
         return Err(ReadFault::NoRecord);
@@ -108,8 +108,8 @@ fn reference_of(alloc: Global, octets: &[u8]) -> Result<(RefBytes, &[u8]), ReadF
 fn registration_of(alloc: Global, octets: &[u8]) -> Result<(Registration, &[u8]), ReadFault>
     ensures { Gives (λ x. (x.0, x.1.now)) result (registration_at octets.now) }
 {
-    let (index, rest) = u32_at(octets)?;
-    let (reference, rest) = reference_of(alloc, rest)?;
+    let (index, rest) = ok!(u32_at(octets));
+    let (reference, rest) = ok!(reference_of(alloc, rest));
     Ok((Registration { index, reference }, rest))
 }
 
@@ -123,7 +123,7 @@ fn registration_list(
     let mut items = Vec::new(alloc);
     let mut rest = octets;
     for _ in 0..count {
-        let (item, after) = registration_of(alloc, rest)?;
+        let (item, after) = ok!(registration_of(alloc, rest));
         items.push(item)?;
         rest = after;
     }
@@ -134,8 +134,8 @@ fn registration_list(
 fn registrations_of(alloc: Global, octets: &[u8]) -> Result<(Registrations, &[u8]), ReadFault>
     ensures { Gives (λ x. (x.0, x.1.now)) result (registrations_at octets.now) }
 {
-    let (count, rest) = u16_at(octets)?;
-    let (items, rest) = registration_list(alloc, count, rest)?;
+    let (count, rest) = ok!(u16_at(octets));
+    let (items, rest) = ok!(registration_list(alloc, count, rest));
     Ok((Registrations::from_vec(items), rest))
 }
 
@@ -143,8 +143,8 @@ fn registrations_of(alloc: Global, octets: &[u8]) -> Result<(Registrations, &[u8
 fn put_of(octets: &[u8]) -> Result<(Put, &[u8]), ReadFault>
     ensures { Gives (λ x. (x.0, x.1.now)) result (put_at octets.now) }
 {
-    let (cell, rest) = u64_at(octets)?;
-    let (value, rest) = u64_at(rest)?;
+    let (cell, rest) = ok!(u64_at(octets));
+    let (value, rest) = ok!(u64_at(rest));
     Ok((Put { cell, value }, rest))
 }
 
@@ -154,7 +154,7 @@ fn put_list(alloc: Global, count: u16, octets: &[u8]) -> Result<(Vec<Put>, &[u8]
     let mut items = Vec::new(alloc);
     let mut rest = octets;
     for _ in 0..count {
-        let (item, after) = put_of(rest)?;
+        let (item, after) = ok!(put_of(rest));
         items.push(item)?;
         rest = after;
     }
@@ -188,8 +188,8 @@ fn rises_above(cell: u64, puts: &[Put]) -> bool
 fn puts_of(alloc: Global, octets: &[u8]) -> Result<(Puts, &[u8]), ReadFault>
     ensures { Gives (λ x. (x.0, x.1.now)) result (puts_at octets.now) }
 {
-    let (count, rest) = u16_at(octets)?;
-    let (items, rest) = put_list(alloc, count, rest)?;
+    let (count, rest) = ok!(u16_at(octets));
+    let (items, rest) = ok!(put_list(alloc, count, rest));
     if !rises(&items) {
         return Err(ReadFault::NoRecord);
     }
@@ -200,7 +200,7 @@ fn puts_of(alloc: Global, octets: &[u8]) -> Result<(Puts, &[u8]), ReadFault>
 fn flag_of(octets: &[u8]) -> Result<(bool, &[u8]), ReadFault>
     ensures { Gives (λ x. (x.0, x.1.now)) result (flag_at octets.now) }
 {
-    let (flag, rest) = u8_at(octets)?;
+    let (flag, rest) = ok!(u8_at(octets));
     match flag {
         0 => Ok((false, rest)),
         1 => Ok((true, rest)),
@@ -212,9 +212,9 @@ fn flag_of(octets: &[u8]) -> Result<(bool, &[u8]), ReadFault>
 fn key_of(octets: &[u8]) -> Result<(Option<RetryKey>, &[u8]), ReadFault>
     ensures { Gives (λ x. (x.0, x.1.now)) result (key_at octets.now) }
 {
-    let (flag, rest) = u8_at(octets)?;
-    let (client, rest) = u64_at(rest)?;
-    let (number, rest) = u64_at(rest)?;
+    let (flag, rest) = ok!(u8_at(octets));
+    let (client, rest) = ok!(u64_at(rest));
+    let (number, rest) = ok!(u64_at(rest));
     match (flag, client, number) {
         (1, client, number) => Ok((Some(RetryKey { client, number }), rest)),
         (0, 0, 0) => Ok((None, rest)),
@@ -226,7 +226,7 @@ fn key_of(octets: &[u8]) -> Result<(Option<RetryKey>, &[u8]), ReadFault>
 fn end_of(octets: &[u8]) -> Result<(CellsEnd, &[u8]), ReadFault>
     ensures { Gives (λ x. (x.0, x.1.now)) result (end_at octets.now) }
 {
-    let (number, rest) = u8_at(octets)?;
+    let (number, rest) = ok!(u8_at(octets));
     let end = match number {
         1 => CellsEnd::Applied,
         2 => CellsEnd::Undone,
@@ -242,7 +242,7 @@ fn end_of(octets: &[u8]) -> Result<(CellsEnd, &[u8]), ReadFault>
 fn life_of(octets: &[u8]) -> Result<(JournalRecord, &[u8]), ReadFault>
     ensures { Gives (λ x. (x.0, x.1.now)) result (life_at octets.now) }
 {
-    let (life, rest) = u32_at(octets)?;
+    let (life, rest) = ok!(u32_at(octets));
     Ok((JournalRecord::Life(life), rest))
 }
 
@@ -250,12 +250,12 @@ fn life_of(octets: &[u8]) -> Result<(JournalRecord, &[u8]), ReadFault>
 fn decision_of(alloc: Global, octets: &[u8]) -> Result<(JournalRecord, &[u8]), ReadFault>
     ensures { Gives (λ x. (x.0, x.1.now)) result (decision_at octets.now) }
 {
-    let (life, rest) = u32_at(octets)?;
-    let (slot, rest) = u32_at(rest)?;
-    let (generation, rest) = u64_at(rest)?;
-    let (key, rest) = key_of(rest)?;
-    let (asked, rest) = flag_of(rest)?;
-    let (registrations, rest) = registrations_of(alloc, rest)?;
+    let (life, rest) = ok!(u32_at(octets));
+    let (slot, rest) = ok!(u32_at(rest));
+    let (generation, rest) = ok!(u64_at(rest));
+    let (key, rest) = ok!(key_of(rest));
+    let (asked, rest) = ok!(flag_of(rest));
+    let (registrations, rest) = ok!(registrations_of(alloc, rest));
     let decision = JournalRecord::Decision(life, slot, generation, key, asked, registrations);
     Ok((decision, rest))
 }
@@ -264,7 +264,7 @@ fn decision_of(alloc: Global, octets: &[u8]) -> Result<(JournalRecord, &[u8]), R
 fn done_of(octets: &[u8]) -> Result<(JournalRecord, &[u8]), ReadFault>
     ensures { Gives (λ x. (x.0, x.1.now)) result (done_at octets.now) }
 {
-    let (place, rest) = u32_at(octets)?;
+    let (place, rest) = ok!(u32_at(octets));
     Ok((JournalRecord::Done(place), rest))
 }
 
@@ -272,11 +272,11 @@ fn done_of(octets: &[u8]) -> Result<(JournalRecord, &[u8]), ReadFault>
 fn prepared_of(alloc: Global, octets: &[u8]) -> Result<(JournalRecord, &[u8]), ReadFault>
     ensures { Gives (λ x. (x.0, x.1.now)) result (prepared_at octets.now) }
 {
-    let (life, rest) = u32_at(octets)?;
-    let (slot, rest) = u32_at(rest)?;
-    let (generation, rest) = u64_at(rest)?;
-    let (recovery, rest) = reference_of(alloc, rest)?;
-    let (registrations, rest) = registrations_of(alloc, rest)?;
+    let (life, rest) = ok!(u32_at(octets));
+    let (slot, rest) = ok!(u32_at(rest));
+    let (generation, rest) = ok!(u64_at(rest));
+    let (recovery, rest) = ok!(reference_of(alloc, rest));
+    let (registrations, rest) = ok!(registrations_of(alloc, rest));
     let prepared = JournalRecord::Prepared(life, slot, generation, recovery, registrations);
     Ok((prepared, rest))
 }
@@ -285,10 +285,10 @@ fn prepared_of(alloc: Global, octets: &[u8]) -> Result<(JournalRecord, &[u8]), R
 fn cells_prepared_of(alloc: Global, octets: &[u8]) -> Result<(JournalRecord, &[u8]), ReadFault>
     ensures { Gives (λ x. (x.0, x.1.now)) result (cells_prepared_at octets.now) }
 {
-    let (life, rest) = u32_at(octets)?;
-    let (number, rest) = u64_at(rest)?;
-    let (recovery, rest) = reference_of(alloc, rest)?;
-    let (puts, rest) = puts_of(alloc, rest)?;
+    let (life, rest) = ok!(u32_at(octets));
+    let (number, rest) = ok!(u64_at(rest));
+    let (recovery, rest) = ok!(reference_of(alloc, rest));
+    let (puts, rest) = ok!(puts_of(alloc, rest));
     let prepared = JournalRecord::CellsPrepared(life, number, recovery, puts);
     Ok((prepared, rest))
 }
@@ -297,8 +297,8 @@ fn cells_prepared_of(alloc: Global, octets: &[u8]) -> Result<(JournalRecord, &[u
 fn cells_outcome_of(octets: &[u8]) -> Result<(JournalRecord, &[u8]), ReadFault>
     ensures { Gives (λ x. (x.0, x.1.now)) result (cells_outcome_at octets.now) }
 {
-    let (place, rest) = u32_at(octets)?;
-    let (end, rest) = end_of(rest)?;
+    let (place, rest) = ok!(u32_at(octets));
+    let (end, rest) = ok!(end_of(rest));
     Ok((JournalRecord::CellsOutcome(place, end), rest))
 }
 
@@ -306,9 +306,9 @@ fn cells_outcome_of(octets: &[u8]) -> Result<(JournalRecord, &[u8]), ReadFault>
 fn one_phase_of(alloc: Global, octets: &[u8]) -> Result<(JournalRecord, &[u8]), ReadFault>
     ensures { Gives (λ x. (x.0, x.1.now)) result (one_phase_at octets.now) }
 {
-    let (life, rest) = u32_at(octets)?;
-    let (number, rest) = u64_at(rest)?;
-    let (puts, rest) = puts_of(alloc, rest)?;
+    let (life, rest) = ok!(u32_at(octets));
+    let (number, rest) = ok!(u64_at(rest));
+    let (puts, rest) = ok!(puts_of(alloc, rest));
     Ok((JournalRecord::CellsOnePhase(life, number, puts), rest))
 }
 
@@ -332,8 +332,8 @@ fn fields_of(alloc: Global, kind: u8, octets: &[u8]) -> Result<(JournalRecord, &
 pub(crate) fn record_of(alloc: Global, octets: &[u8]) -> Result<JournalRecord, ReadFault>
     ensures { Gives (λ x. x) result (record_in octets.now) }
 {
-    let (kind, rest) = u8_at(octets)?;
-    let (record, rest) = fields_of(alloc, kind, rest)?;
+    let (kind, rest) = ok!(u8_at(octets));
+    let (record, rest) = ok!(fields_of(alloc, kind, rest));
     if !rest.is_empty() {
         return Err(ReadFault::NoRecord);
     }
@@ -345,7 +345,7 @@ pub(crate) fn record_of(alloc: Global, octets: &[u8]) -> Result<JournalRecord, R
 pub(crate) fn body_of(alloc: Global, octets: &[u8]) -> Result<(JournalRecord, &[u8]), ReadFault>
     ensures { Gives (λ x. (x.0, x.1.now)) result (body_at octets.now) }
 {
-    let (count, rest) = u32_at(octets)?;
+    let (count, rest) = ok!(u32_at(octets));
     let count = count as usize;
     if rest.len() < count {
         return Err(ReadFault::NoRecord);

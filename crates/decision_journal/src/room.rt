@@ -9,7 +9,7 @@ use crate::found::{Index, STANDING_LIMIT, is_decided};
 use crate::journal::JournalFault;
 use crate::record::JournalRecord;
 use crate::scan::Along;
-use crate::writing::{length_of, put_record};
+use crate::writing::{length_of, put_octets, put_record};
 use std::alloc::AllocError;
 
 /// How many octets the Done of a decision takes.
@@ -164,18 +164,8 @@ pub(crate) fn put_closed(into: &mut Vec<u8>, octets: &[u8]) -> Result<(), AllocE
     ensures ok { OnOk result (into.new.items ≡ into.old.items ++ (octets.now ++ 0 ∷ [])) }
     ensures err { OnErr result (into.new.items ≡ into.old.items) }
 {
-    let length = into.len();
-    let added = add_closed(into, octets);
-    if added.is_err() {
-        into.truncate(length);
-    }
-    added
-}
-
-fn add_closed(into: &mut Vec<u8>, octets: &[u8]) -> Result<(), AllocError>
-    ensures ok { OnOk result (into.new.items ≡ into.old.items ++ (octets.now ++ 0 ∷ [])) }
-    ensures err { OnErr result (into.old.items ≡ take (length into.old.items) into.new.items) }
-{
-    into.extend_from_slice(octets)?;
-    Ok(into.push(0)?)
+    ok!(into.reserve(octets.len() + 1));
+    put_octets(into, octets);
+    into.push_reserved(0);
+    Ok(())
 }

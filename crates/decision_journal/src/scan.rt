@@ -28,7 +28,7 @@ fn step<'a>(
     ensures before { OnOk result (AreBefore (gate + 1) index.new.found.standing) }
     ensures none { IsErrOf result NoRecord → HasNoStep gate behind.now (left index.old.found) }
 {
-    let (item, rest) = body_of(alloc, behind)?;
+    let (item, rest) = ok!(body_of(alloc, behind));
     if !is_within(gate, behind, rest) {
         return Err(ReadFault::NoRecord);
     }
@@ -136,17 +136,6 @@ fn other_header(service: u64, octets: &[u8]) -> Option<u32>
     None
 }
 
-/// Whether octets begin with these, and then comes a gate that isn't open.
-pub(crate) fn stands_at(before: &[u8], octets: &[u8]) -> bool
-    ensures { IsTrue result ↔ StandsAt before.now octets.now }
-{
-    let gate = before.len();
-    if octets.len() <= gate {
-        return false;
-    }
-    octets[..gate] == before[..] && octets[gate] != OPEN
-}
-
 /// Reads the records of octets, and leaves those before the gate at the end.
 pub(crate) fn filled(
     alloc: Global,
@@ -162,7 +151,7 @@ pub(crate) fn filled(
         return Err(JournalFault::BadHeader(place));
     }
     let mut index = Index::new(alloc);
-    let rest = scan(alloc, service, octets, &mut index)?;
+    let rest = ok!(scan(alloc, service, octets, &mut index));
     let gate = octets.len() - rest.len();
     octets.truncate(gate);
     index.settle();
@@ -189,13 +178,9 @@ pub(crate) fn other(alloc: Global, service: u64, known: &[u8], read: Vec<u8>) ->
     ensures { IsOther service known.now read.items result }
 {
     let place = first_other(known, &read);
-    if let Some(fault) = scan_fault(alloc, service, read) {
-        return fault;
-    }
-    if place < HEADER_LENGTH {
-        JournalFault::BadHeader(place as u32)
-    } else {
-        JournalFault::BadRecord(place as u32)
+    match scan_fault(alloc, service, read) {
+        Some(fault) => fault,
+        None => fault_at(place),
     }
 }
 

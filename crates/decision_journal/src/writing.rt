@@ -25,7 +25,7 @@ use crate::scan::OPEN;
 use ots_model::{RefBytes, RetryKey};
 
 /// Puts octets behind the others, where there is room for them.
-fn put_octets(out: &mut Vec<u8>, octets: &[u8])
+pub(crate) fn put_octets(out: &mut Vec<u8>, octets: &[u8])
     requires { length out.old.items + length octets.now ≤ vec_capacity out.old }
     ensures items { out.new.items ≡ out.old.items ++ octets.now }
     ensures room { vec_capacity out.old ≤ vec_capacity out.new }

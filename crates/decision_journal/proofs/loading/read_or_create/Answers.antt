@@ -1,7 +1,7 @@
 use Rattle.std.proofs.Common.{subst, sym}
 use Rattle.decision_journal.specs.Journal.{IsFresh}
 use Rattle.decision_journal.specs.Loading.{IsStartFault}
-use Rattle.std.proofs.lemmas.Result.{IfOk-weaker, err_from_is_err_and, on_ok_weaker}
+use Rattle.std.proofs.lemmas.Result.{IfOk-weaker, on_ok_weaker}
 use Rattle.decision_journal.proofs.Starts.{told_unread, told_read, told_behind, told_started}
 use Rattle.decision_journal.proofs.Joined.{if_err_weaker, refused_as}
 use Rattle.decision_journal.proofs.Refused.{is_old, made_begun, made_readied, of_disk, read_readied, refused_begun, refused_scan, scan_start, unwritten_begun}
@@ -19,8 +19,8 @@ pub returns-then-is_fresh-clause-started : goal.returns-then-is_fresh-clause-sta
 returns-then-is_fresh-clause-started g c =
     IfOk-weaker c.create.result _ _ (λ start h. told_started c.args.service (g.D.Disk.told c.args.disk.now) (g.D.Disk.told c.read_whole.new.disk) c.read_whole.ensures.image start.octets.items start.index.found (g.D.Disk.told c.create.new.disk) c.in-Ok.ensures.settled h) c.create.ensures.started
 
-pub returns-in_err-index-clause-safe : goal.returns-in_err-index-clause-safe
-returns-in_err-index-clause-safe g c =
+pub returns-in-Err-filled-clause-safe : goal.returns-in-Err-filled-clause-safe
+returns-in-Err-filled-clause-safe g c =
     told_read c.args.service (g.D.Disk.told c.args.disk.now) (g.D.Disk.told c.read_whole.new.disk) c.read_whole.ensures.image c.in-Ok.ensures.settled
 
 pub returns-clause-safe : goal.returns-clause-safe
@@ -40,10 +40,9 @@ returns-then-is_fresh-clause-refused g c =
     if_err_weaker c.create.result _ _ (λ fault f. refused_begun c.args.service (g.D.Disk.told c.args.disk.now) (g.D.Disk.told c.create.new.disk)
     (made_begun c.args.service (g.D.Disk.told c.args.disk.now) (g.D.Disk.told c.read_whole.new.disk) c.read_whole.ensures.image _ c.in-Ok.ensures.settled c.in-Ok.ensures.octets (g.D.Disk.told c.create.new.disk) (subst IsFresh c.deref.ensures.value (c.is_fresh.ensures.0 c.if-is_fresh.true)) c.create.ensures.way) fault (of_disk _ _ _ fault f)) c.create.ensures.fault
 
-pub returns-in_err-index-clause-refused : goal.returns-in_err-index-clause-refused
-returns-in_err-index-clause-refused g c =
-    let p = err_from_is_err_and c.from_residual.result c.from_residual.ensures.1 in
-    rw (p.1, p.2) (refused_scan c.args.service (g.D.Disk.told c.args.disk.now) (g.D.Disk.told c.read_whole.new.disk) _ c.in-Ok.ensures.settled c.read_whole.ensures.way _ c.in_err-index.ensures.fault)
+pub returns-in-Err-filled-clause-refused : goal.returns-in-Err-filled-clause-refused
+returns-in-Err-filled-clause-refused g c =
+    refused_scan c.args.service (g.D.Disk.told c.args.disk.now) (g.D.Disk.told c.read_whole.new.disk) _ c.in-Ok.ensures.settled c.read_whole.ensures.way _ c.in-Err-filled.ensures.fault
 
 pub returns-clause-readied : goal.returns-clause-readied
 returns-clause-readied g c =
@@ -53,7 +52,6 @@ pub returns-in-Err-clause-fault : goal.returns-in-Err-clause-fault
 returns-in-Err-clause-fault g c =
     refused_as (IsStartFault c.args.service (g.D.Disk.told c.args.disk.now) (g.D.Disk.faults c.args.disk.now) (g.D.Disk.faults c.read_whole.new.disk)) c.in-Err.refusal c.fault_of.result c.fault_of.ensures.failed c.fault_of.ensures.memory c.in-Err.ensures.cause (λ e. tt)
 
-pub returns-in_err-index-clause-fault : goal.returns-in_err-index-clause-fault
-returns-in_err-index-clause-fault g c =
-    let p = err_from_is_err_and c.from_residual.result c.from_residual.ensures.1 in
-    rw (p.1, p.2) (scan_start c.args.service _ (g.D.Disk.told c.args.disk.now) (g.D.Disk.told c.read_whole.new.disk) _ _ c.in-Ok.ensures.settled c.in-Ok.ensures.octets (λ fresh. is_old _ _ c.is_fresh.ensures.1 c.if-is_fresh.false (subst IsFresh (sym c.deref.ensures.value) fresh)) _ c.in_err-index.ensures.fault)
+pub returns-in-Err-filled-clause-fault : goal.returns-in-Err-filled-clause-fault
+returns-in-Err-filled-clause-fault g c =
+    scan_start c.args.service _ (g.D.Disk.told c.args.disk.now) (g.D.Disk.told c.read_whole.new.disk) _ _ c.in-Ok.ensures.settled c.in-Ok.ensures.octets (λ fresh. is_old _ _ c.is_fresh.ensures.1 c.if-is_fresh.false (subst IsFresh (sym c.deref.ensures.value) fresh)) _ c.in-Err-filled.ensures.fault

@@ -11,46 +11,44 @@ use Rattle.decision_journal.proofs.loading.start_within.Goals as goal
 
 pub used_of-used-requires-clause-few : goal.used_of-used-requires-clause-few
 used_of-used-requires-clause-few g c =
-    omega (arith, few c.args.service c.in_ok-start.start.octets.items c.in_ok-start.start.index.found c.in_ok-start.ensures.filled, ap length c.deref.ensures.value)
+    omega (arith, few c.args.service c.in-Ok.value.octets.items c.in-Ok.value.index.found c.in-Ok.ensures.filled, ap length c.deref.ensures.value)
 
 pub returns-then-life-clause-fault : goal.returns-then-life-clause-fault
 returns-then-life-clause-fault g c =
-    spent_told c.args.service c.in_ok-start.start.octets.items c.in_ok-start.start.index.found (g.D.Disk.told c.args.disk.now) (g.D.Disk.told c.read_or_create.new.disk) c.in_ok-start.ensures.started (sym c.life.ensures ∙ c.if-life.true)
+    spent_told c.args.service c.in-Ok.value.octets.items c.in-Ok.value.index.found (g.D.Disk.told c.args.disk.now) (g.D.Disk.told c.read_or_create.new.disk) c.in-Ok.ensures.started (sym c.life.ensures ∙ c.if-life.true)
 
 pub returns-then-area-used-clause-fault : goal.returns-then-area-used-clause-fault
 returns-then-area-used-clause-fault g c =
-    let same = c.used_of-used.ensures ∙ ap (λ (l : List ℕ). used l c.in_ok-start.start.index.found) c.deref.ensures.value in
-    (omega arith, refl, full_told c.args.service c.used_of-used.result c.in_ok-start.start.octets.items c.in_ok-start.start.index.found (g.D.Disk.told c.args.disk.now) (g.D.Disk.told c.read_or_create.new.disk) c.in_ok-start.ensures.started (omega (arith, c.life.ensures, c.if-life.false)) same)
+    let same = c.used_of-used.ensures ∙ ap (λ (l : List ℕ). used l c.in-Ok.value.index.found) c.deref.ensures.value in
+    (omega arith, refl, full_told c.args.service c.used_of-used.result c.in-Ok.value.octets.items c.in-Ok.value.index.found (g.D.Disk.told c.args.disk.now) (g.D.Disk.told c.read_or_create.new.disk) c.in-Ok.ensures.started (omega (arith, c.life.ensures, c.if-life.false)) same)
 
 pub returns-then-life-clause-refused : goal.returns-then-life-clause-refused
 returns-then-life-clause-refused g c =
-    spent_unwritten c.args.service c.in_ok-start.start.octets.items c.in_ok-start.start.index.found (g.D.Disk.told c.args.disk.now) (g.D.Disk.told c.read_or_create.new.disk) c.in_ok-start.ensures.started c.in_ok-start.ensures.readied (sym c.life.ensures ∙ c.if-life.true)
+    spent_unwritten c.args.service c.in-Ok.value.octets.items c.in-Ok.value.index.found (g.D.Disk.told c.args.disk.now) (g.D.Disk.told c.read_or_create.new.disk) c.in-Ok.ensures.started c.in-Ok.ensures.readied (sym c.life.ensures ∙ c.if-life.true)
 
 pub returns-clause-filled : goal.returns-clause-filled
-returns-clause-filled g c = at_same (IsFilled c.args.service) c.in_ok-start.start.octets.items c.make_room.new.start.octets.items c.in_ok-start.start.index.found c.make_room.new.start.index.found c.make_room.ensures.octets c.make_room.ensures.found c.in_ok-start.ensures.filled
+returns-clause-filled g c = at_same (IsFilled c.args.service) c.in-Ok.value.octets.items c.make_room.new.start.octets.items c.in-Ok.value.index.found c.make_room.new.start.index.found c.make_room.ensures.octets c.make_room.ensures.found c.in-Ok.ensures.filled
 
 pub returns-clause-life : goal.returns-clause-life
-returns-clause-life g c = at_same (λ l f. f.life < last_life) c.in_ok-start.start.octets.items c.make_room.new.start.octets.items c.in_ok-start.start.index.found c.make_room.new.start.index.found c.make_room.ensures.octets c.make_room.ensures.found (omega (arith, c.life.ensures, c.if-life.false))
+returns-clause-life g c = at_same (λ l f. f.life < last_life) c.in-Ok.value.octets.items c.make_room.new.start.octets.items c.in-Ok.value.index.found c.make_room.new.start.index.found c.make_room.ensures.octets c.make_room.ensures.found (omega (arith, c.life.ensures, c.if-life.false))
 
 pub returns-clause-room : goal.returns-clause-room
 returns-clause-room g c =
-    let same = c.used_of-used.ensures ∙ ap (λ (l : List ℕ). used l c.in_ok-start.start.index.found) c.deref.ensures.value in
-    at_same (λ l f. used l f + 10 ≤ c.args.area) c.in_ok-start.start.octets.items c.make_room.new.start.octets.items c.in_ok-start.start.index.found c.make_room.new.start.index.found c.make_room.ensures.octets c.make_room.ensures.found (omega (arith, same, c.if-area-used.false))
+    let same = c.used_of-used.ensures ∙ ap (λ (l : List ℕ). used l c.in-Ok.value.index.found) c.deref.ensures.value in
+    at_same (λ l f. used l f + 10 ≤ c.args.area) c.in-Ok.value.octets.items c.make_room.new.start.octets.items c.in-Ok.value.index.found c.make_room.new.start.index.found c.make_room.ensures.octets c.make_room.ensures.found (omega (arith, same, c.if-area-used.false))
 
 pub returns-clause-started : goal.returns-clause-started
-returns-clause-started g c = at_same (λ l f. Tells (g.D.Disk.told c.args.disk.now) (g.D.Disk.told c.read_or_create.new.disk) (IsStarted c.args.service l f)) c.in_ok-start.start.octets.items c.make_room.new.start.octets.items c.in_ok-start.start.index.found c.make_room.new.start.index.found c.make_room.ensures.octets c.make_room.ensures.found c.in_ok-start.ensures.started
+returns-clause-started g c = at_same (λ l f. Tells (g.D.Disk.told c.args.disk.now) (g.D.Disk.told c.read_or_create.new.disk) (IsStarted c.args.service l f)) c.in-Ok.value.octets.items c.make_room.new.start.octets.items c.in-Ok.value.index.found c.make_room.new.start.index.found c.make_room.ensures.octets c.make_room.ensures.found c.in-Ok.ensures.started
 
 pub returns-in_err-make_room-clause-refused : goal.returns-in_err-make_room-clause-refused
 returns-in_err-make_room-clause-refused g c =
-    let p = err_from_is_err_and c.from_residual-in_err-make_room.result c.from_residual-in_err-make_room.ensures.1 in
-    rw (p.1, p.2) (idle_begun c.args.service c.in_ok-start.start.octets.items c.in_ok-start.start.index.found (g.D.Disk.told c.args.disk.now) (g.D.Disk.told c.read_or_create.new.disk) c.in_ok-start.ensures.started c.in_ok-start.ensures.readied)
-
-pub returns-in_err-start-clause-fault : goal.returns-in_err-start-clause-fault
-returns-in_err-start-clause-fault g c =
     let p = err_from_is_err_and c.from_residual.result c.from_residual.ensures.1 in
-    rw (p.1, p.2) (start_fault c.args.area c.args.service _ _ _ _ c.in_err-start.ensures.fault)
+    rw (p.1, p.2) (idle_begun c.args.service c.in-Ok.value.octets.items c.in-Ok.value.index.found (g.D.Disk.told c.args.disk.now) (g.D.Disk.told c.read_or_create.new.disk) c.in-Ok.ensures.started c.in-Ok.ensures.readied)
 
-pub returns-in_err-start-clause-refused : goal.returns-in_err-start-clause-refused
-returns-in_err-start-clause-refused g c =
-    let p = err_from_is_err_and c.from_residual.result c.from_residual.ensures.1 in
-    rw (p.1, p.2) c.in_err-start.ensures.refused
+pub returns-in-Err-clause-fault : goal.returns-in-Err-clause-fault
+returns-in-Err-clause-fault g c =
+    start_fault c.args.area c.args.service _ _ _ _ c.in-Err.ensures.fault
+
+pub returns-in-Err-clause-refused : goal.returns-in-Err-clause-refused
+returns-in-Err-clause-refused g c =
+    c.in-Err.ensures.refused

@@ -7,8 +7,8 @@ use Rattle.decision_journal.proofs.Below.{one_more}
 use Rattle.decision_journal.proofs.Left.{add_left, not_done}
 use Rattle.decision_journal.proofs.found.Index.gather.Goals as goal
 
-pub returns-in_ok-reserve-in_default : goal.returns-in_ok-reserve-in_default
-returns-in_ok-reserve-in_default c =
+pub returns-in-Ok : goal.returns-in-Ok
+returns-in-Ok c =
     let same = ap (λ (s : Stock). s.found) c.self.view_is in
     let added = c.add.ensures.found ∙ ap (λ (xs : List Standing). with_record (record { life = c.self.inside.life; standing = xs }) c.args.place c.args.item) c.reserve.ensures.items ∙ ap (λ (f : Found). with_record f c.args.place c.args.item) same in
     record {

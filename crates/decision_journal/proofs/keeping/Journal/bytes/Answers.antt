@@ -6,19 +6,17 @@ use Rattle.decision_journal.proofs.keeping.Journal.bytes.Goals as goal
 
 pub returns-clause-ready : goal.returns-clause-ready
 returns-clause-ready g c =
-    ready_of g.D.Disk.told c.args.self.now c.ready.new.self c.in_ok-ready.ensures.read c.in_ok-ready.ensures.disk c.in_ok-ready.ensures.current
+    ready_of g.D.Disk.told c.args.self.now c.ready.new.self c.in-Ok.ensures.read c.in-Ok.ensures.disk c.in-Ok.ensures.current
 
-pub returns-in_err-ready-clause-refused : goal.returns-in_err-ready-clause-refused
-returns-in_err-ready-clause-refused g c =
-    let p = err_from_is_err_and c.from_residual.result c.from_residual.ensures.1 in
-    rw (p.1, p.2) (unready_reading g.D.Disk.told c.args.self.now c.ready.new.self c.in_err-ready.ensures.unread c.in_err-ready.ensures.unwritten c.in_err-ready.ensures.was _ _ _ _ _ c.in_err-ready.ensures.fault)
+pub returns-in-Err-clause-refused : goal.returns-in-Err-clause-refused
+returns-in-Err-clause-refused g c =
+    unready_reading g.D.Disk.told c.args.self.now c.ready.new.self c.in-Err.ensures.unread c.in-Err.ensures.unwritten c.in-Err.ensures.was _ _ _ _ _ c.in-Err.ensures.fault
 
 pub returns-in_err-put_bytes-clause-refused : goal.returns-in_err-put_bytes-clause-refused
 returns-in_err-put_bytes-clause-refused g c =
-    let p = err_from_is_err_and c.from_residual-in_err-put_bytes.result c.from_residual-in_err-put_bytes.ensures.1 in
-    rw (p.1, p.2) (inr (ready_of g.D.Disk.told c.args.self.now c.ready.new.self c.in_ok-ready.ensures.read c.in_ok-ready.ensures.disk c.in_ok-ready.ensures.current))
-
-pub returns-in_err-ready-clause-fault : goal.returns-in_err-ready-clause-fault
-returns-in_err-ready-clause-fault g c =
     let p = err_from_is_err_and c.from_residual.result c.from_residual.ensures.1 in
-    rw (p.1, p.2) (wanting_fault _ _ _ _ _ c.in_err-ready.ensures.fault)
+    rw (p.1, p.2) (inr (ready_of g.D.Disk.told c.args.self.now c.ready.new.self c.in-Ok.ensures.read c.in-Ok.ensures.disk c.in-Ok.ensures.current))
+
+pub returns-in-Err-clause-fault : goal.returns-in-Err-clause-fault
+returns-in-Err-clause-fault g c =
+    wanting_fault _ _ _ _ _ c.in-Err.ensures.fault
