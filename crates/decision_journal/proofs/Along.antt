@@ -1,5 +1,5 @@
 -- How far octets that are read a piece at a time go along with those that are known.
-use Rattle.std.proofs.Common.{◌≡◌, ◌⊎◌, inl, inr, ℕ, ◌+◌, ◌-◌, ◌<◌, ◌≤◌, Bool, false, List, [], ◌∷◌, ◌++◌, length, get_or, take, drop, Option, Some, None, refl, sym, ap, subst, ◌∙◌, arith, length-append, length-drop, length-take, slice_range}
+use Rattle.std.proofs.Common.{◌≡◌, ◌⊎◌, inl, inr, ℕ, ◌+◌, ◌-◌, ◌<◌, ◌≤◌, Bool, List, [], ◌∷◌, ◌++◌, length, get_or, take, drop, Option, Some, None, refl, sym, ap, subst, ◌∙◌, arith, length-append, length-drop, length-take, slice_range}
 use Rattle.std.specs.Prelude.{IsTrue}
 use Rattle.std.proofs.lemmas.Bool.{cases_lt}
 use Rattle.std.proofs.lemmas.List.{get_or_append_left, append-nil, take_at}
@@ -11,12 +11,6 @@ use Rattle.decision_journal.specs.State.{BeginsWithEither, doubted_octets}
 use Rattle.decision_journal.proofs.Begins.{stands_by}
 use Rattle.decision_journal.proofs.Images.{begins_with}
 use Rattle.decision_journal.proofs.Pieces.{take_more}
-
-pub along_start : (known : List ℕ) → IsAlong known [] 0 false
-along_start known = record {
-  first = record { same = λ k lt. absurd (omega (arith, lt)); within = (omega arith, omega arith); differs = λ a b. absurd (omega (arith, b)) };
-  gate = ((λ t. absurd cc), (λ p. absurd (omega (arith, p.0))));
-}
 
 -- the place was found before
 pub along_found : (known read more : List ℕ) (same : ℕ) (closed : Bool) → same < length read → IsAlong known read same closed → IsAlong known (read ++ more) same closed

@@ -1,11 +1,10 @@
 -- A reading of a disk and then a write of a record: what is written, and what stands where that is refused.
-use Rattle.std.proofs.Common.{◌≡◌, inl, inr, ℕ, ◌+◌, ◌≤◌, Bool, true, false, List, length, Option, Some, None, Result, Ok, Err, refl, sym, subst}
+use Rattle.std.proofs.Common.{◌≡◌, inl, inr, ℕ, ◌+◌, ◌≤◌, Bool, true, false, length, Option, Some, None, Result, Ok, Err, refl, sym, subst}
 use Rattle.std.specs.Prelude.{IfErr, IfOk, OnErr}
 use Rattle.ots_outside.specs.Disk.{DiskState, Tells}
 use Rattle.decision_journal.specs.declared.record.JournalRecord.{JournalRecord}
 use Rattle.decision_journal.specs.declared.journal.JournalFault.{JournalFault}
 use Rattle.decision_journal.specs.declared.journal.JournalFault.TheVariants.{DiskFault, Full, BadHeader, BadRecord, LivesSpent, Memory}
-use Rattle.decision_journal.specs.Journal.{Found}
 use Rattle.decision_journal.specs.Laws.{IsOnTheWay, appended, behind_gate}
 use Rattle.decision_journal.specs.State.{HasMore, HasReread, IsAppendFault, IsReadFault, IsRoomFault, IsSound, IsUnread, IsUnsure, JournalState, need, used}
 use Rattle.decision_journal.specs.Calls.{HasAppended, HasDoubt, IsCurrent, IsReady, IsRefusedAppend, IsRefusedReading, IsUnready, IsUnwritten, reread}
@@ -29,11 +28,6 @@ fine_then false e a b c R first second = tells_weaker a c _ R (λ s u h. subst (
 -- where one had, it was synced
 pub reread_failed : (failed : Bool) (a b : Option DiskState) → failed ≡ true → Tells a b (λ s t. t ≡ reread true s) → Tells a b (λ s t. t ≡ reread failed s)
 reread_failed failed a b e h = subst (λ (f : Bool). Tells a b (λ s t. t ≡ reread f s)) (sym e) h
-
--- what holds is so of a refusal
-pub on_refusal : {T E : Type 0} {P : Type 0} (r : Result T E) → P → OnErr r P
-on_refusal (Ok x) p = tt
-on_refusal (Err e) p = p
 
 -- ---- journals
 
@@ -127,11 +121,3 @@ module _ (wants : Bool) (told : Option DiskState) (before mid after : ℕ) (firs
   done_fault_then (BadRecord place) f = absurd f
   done_fault_then LivesSpent f = absurd f
   done_fault_then Memory f = f
-
-pub room_append_fault : (area : ℕ) (octets : List ℕ) (found : Found) (r : JournalRecord) (wants : Bool) (told : Option DiskState) (before after : ℕ) (fault : JournalFault) → IsRoomFault area octets found r fault → IsAppendFault wants told before after fault
-room_append_fault area octets found r wants told before after DiskFault f = absurd f
-room_append_fault area octets found r wants told before after (Full u n) f = tt
-room_append_fault area octets found r wants told before after (BadHeader place) f = absurd f
-room_append_fault area octets found r wants told before after (BadRecord place) f = absurd f
-room_append_fault area octets found r wants told before after LivesSpent f = absurd f
-room_append_fault area octets found r wants told before after Memory f = absurd f

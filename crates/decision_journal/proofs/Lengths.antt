@@ -1,14 +1,11 @@
 -- How many octets records have.
-use Rattle.std.proofs.Common.{◌≡◌, ℕ, zero, suc, ◌+◌, ◌*◌, ◌<◌, ◌≤◌, Bool, List, [], ◌∷◌, ◌++◌, length, get_or, take, Option, Some, None, refl, ap, arith, length-append}
+use Rattle.std.proofs.Common.{◌≡◌, ℕ, zero, suc, ◌+◌, ◌*◌, ◌<◌, ◌≤◌, List, [], ◌∷◌, ◌++◌, length, get_or, take, refl, ap, arith, length-append}
 use Rattle.std.specs.List.{concat, flat_map}
 use Rattle.std.proofs.lemmas.List.Concat.{flat_map-cons}
-use Rattle.ots_model.specs.declared.service.RetryKey.{RetryKey}
 use Rattle.decision_journal.specs.declared.record.Registration.{Registration}
 use Rattle.decision_journal.specs.declared.record.Put.{Put}
-use Rattle.decision_journal.specs.declared.record.JournalRecord.{JournalRecord}
-use Rattle.decision_journal.specs.declared.record.JournalRecord.TheVariants.{Decision, Prepared, CellsPrepared, CellsOnePhase}
-use Rattle.decision_journal.specs.Layout.{eight, fields, flag, four, key, one, put, puts, record_octets, reference, registration, registrations, two}
-use Rattle.decision_journal.proofs.Steps.{length_record}
+use Rattle.decision_journal.specs.declared.record.JournalRecord.TheVariants.{CellsPrepared, CellsOnePhase}
+use Rattle.decision_journal.specs.Layout.{eight, fields, four, put, puts, reference, registration, registrations, two}
 
 -- ---- lists
 
@@ -21,10 +18,6 @@ one_fits f (y ∷ ys) (suc i) x lt is =
     omega (arith, rest, ap length (flat_map-cons f y (take i ys)), length-append (f y) (flat_map f (take i ys)), ap length (flat_map-cons f y ys), length-append (f y) (flat_map f ys))
 
 -- ---- parts of records
-
-pub key_length : (k : Option RetryKey) → length (key k) ≡ 17
-key_length None = refl
-key_length (Some k) = refl
 
 pub registration_length : (r : Registration) → length (registration r) ≡ 6 + length r.reference
 registration_length r = omega (arith, length-append (four r.index) (reference r.reference), length-append (two (length r.reference)) r.reference)
@@ -40,32 +33,6 @@ pub puts_length : (ps : List Put) → length (puts ps) ≡ 2 + 16 * length ps
 puts_length ps = omega (arith, all_puts ps, length-append (two (length ps)) (flat_map put ps))
 
 -- ---- the fields of records
-
-pub decision_length : (life slot generation : ℕ) (k : Option RetryKey) (asked : Bool) (rs : List Registration) → length (concat (fields (Decision life slot generation k asked rs))) ≡ 34 + length (registrations rs)
-decision_length life slot generation k asked rs =
-    let last = registrations rs ++ [] in
-    omega (
-      arith,
-      length-append (four life) (four slot ++ (eight generation ++ (key k ++ (one (flag asked) ++ last)))),
-      length-append (four slot) (eight generation ++ (key k ++ (one (flag asked) ++ last))),
-      length-append (eight generation) (key k ++ (one (flag asked) ++ last)),
-      length-append (key k) (one (flag asked) ++ last),
-      length-append (registrations rs) [],
-      key_length k,
-    )
-
-pub prepared_length : (life slot generation : ℕ) (recovery : List ℕ) (rs : List Registration) → length (concat (fields (Prepared life slot generation recovery rs))) ≡ 18 + length recovery + length (registrations rs)
-prepared_length life slot generation recovery rs =
-    let last = registrations rs ++ [] in
-    omega (
-      arith,
-      length-append (four life) (four slot ++ (eight generation ++ (reference recovery ++ last))),
-      length-append (four slot) (eight generation ++ (reference recovery ++ last)),
-      length-append (eight generation) (reference recovery ++ last),
-      length-append (reference recovery) last,
-      length-append (two (length recovery)) recovery,
-      length-append (registrations rs) [],
-    )
 
 pub cells_length : (life number : ℕ) (recovery : List ℕ) (ps : List Put) → length (concat (fields (CellsPrepared life number recovery ps))) ≡ 16 + length recovery + 16 * length ps
 cells_length life number recovery ps =
@@ -83,6 +50,3 @@ cells_length life number recovery ps =
 pub one_phase_length : (life number : ℕ) (ps : List Put) → length (concat (fields (CellsOnePhase life number ps))) ≡ 14 + 16 * length ps
 one_phase_length life number ps =
     omega (arith, length-append (four life) (eight number ++ (puts ps ++ [])), length-append (eight number) (puts ps ++ []), length-append (puts ps) [], puts_length ps)
-
-pub whole_length : (r : JournalRecord) → length (record_octets r) ≡ 6 + length (concat (fields r))
-whole_length r = omega (arith, length_record r)

@@ -172,15 +172,6 @@ misread_fault wants told before mid after x none y (BadRecord place) f = none
 misread_fault wants told before mid after x none y LivesSpent f = absurd f
 misread_fault wants told before mid after x none y Memory f = absurd cc
 
--- what another fault of a reading is of such a disk
-pub other_fault : (service : ℕ) (known read : List ℕ) (before after : ℕ) (fault : JournalFault) → IsOther service known read fault → (fault ≡ Memory → ⊥) → IsReadFault false None before after fault
-other_fault service known read before after DiskFault other some = absurd other
-other_fault service known read before after (Full u n) other some = absurd other
-other_fault service known read before after (BadHeader place) other some = refl
-other_fault service known read before after (BadRecord place) other some = refl
-other_fault service known read before after LivesSpent other some = absurd other
-other_fault service known read before after Memory other some = absurd (some refl)
-
 -- the record in doubt has octets, and room
 pub doubted_fits : (told : Option DiskState) (area service : ℕ) (octets : List ℕ) (found : Found) (failed : Bool) (doubted : Option JournalRecord) → IsSound told area service octets found failed doubted → length octets + length (doubted_octets doubted) + 1 ≤ area
 doubted_fits told area service octets found failed None sound = let now = within_now told area service octets found failed None sound in omega (arith, now.room)

@@ -1,5 +1,5 @@
 -- Records, read one after another.
-use Rattle.std.proofs.Common.{◌≡◌, ◌≢◌, ℕ, ◌+◌, ◌-◌, ◌<◌, ◌≤◌, List, [], ◌∷◌, ◌++◌, length, get_or, take, drop, refl, sym, ap, subst, ◌∙◌, arith, append_assoc, length-append}
+use Rattle.std.proofs.Common.{◌≡◌, ◌≢◌, ℕ, ◌+◌, ◌-◌, ◌<◌, ◌≤◌, List, [], ◌∷◌, ◌++◌, length, get_or, take, drop, sym, ap, subst, ◌∙◌, arith, append_assoc, length-append}
 use Rattle.std.specs.Prelude.{IsTrue}
 use Rattle.std.specs.List.{flat_map}
 use Rattle.std.proofs.lemmas.List.{append-nil, take_all, take_at}
@@ -90,10 +90,6 @@ starts service octets rest found is more none = record {
 pub behind_first : (rest : List ℕ) (n : ℕ) → 0 < length rest → get_or rest 0 0 ≡ 1 → n ≡ length rest - 1 → rest ≡ 1 ∷ take n (drop 1 rest)
 behind_first [] n some first is = absurd (omega arith)
 behind_first (g ∷ rest) n some first is = ap (λ (h : ℕ). h ∷ rest) first ∙ ap (λ (l : List ℕ). 1 ∷ l) (sym (take_all n rest (omega arith)))
-
-pub first_and_rest : (rest : List ℕ) → 0 < length rest → rest ≡ get_or rest 0 0 ∷ drop 1 rest
-first_and_rest [] some = absurd (omega arith)
-first_and_rest (g ∷ rest) some = refl
 
 -- octets that were scanned, and what is left of them before the rest
 module _ (service : ℕ) (octets read new : List ℕ) (found : Found) (rest : List ℕ) (n : ℕ) (read_is : read ≡ octets) (scanned : IsScanned service read found rest) (n_is : n ≡ length octets - length rest) (new_is : new ≡ take n octets) where

@@ -11,7 +11,7 @@ use Rattle.decision_journal.specs.declared.journal.JournalFault.TheVariants.{Dis
 use Rattle.decision_journal.specs.Journal.{Found, Holds, IsBroken, IsFilled, IsFresh, IsOtherHeader, IsScanFault, StandsAt, StandsFor, found_in, front, header, first_letter, is_fresh, nothing_found}
 use Rattle.decision_journal.specs.Laws.{IsOnTheWay, IsSettled, appended, behind_gate, behind_letter, cleared, created}
 use Rattle.decision_journal.specs.State.{AppendIsDone, AppendIsSafe, IsOldOrMore, MayHold, used}
-use Rattle.decision_journal.specs.Loading.{HasBegunLoad, IsHeld, IsHeldOrBegun, IsLoadFault, IsStartFault, IsStarted, LoadIsDone, LoadIsSafe, last_life, loaded, next_life, readied}
+use Rattle.decision_journal.specs.Loading.{HasBegunLoad, IsHeld, IsHeldOrBegun, IsStartFault, IsStarted, LoadIsDone, LoadIsSafe, last_life, loaded, next_life, readied}
 use Rattle.decision_journal.proofs.Creation.{creation_safe}
 use Rattle.decision_journal.proofs.Images.{image_settled}
 use Rattle.decision_journal.proofs.Joined.{tells_both}
@@ -187,14 +187,6 @@ scan_fault service a b image read before after h is old (BadHeader place) f = to
 scan_fault service a b image read before after h is old (BadRecord place) f = told_reads service a b image (λ o. (IsFresh o → ⊥) × IsBroken service o place) read h is (old, f)
 scan_fault service a b image read before after h is old LivesSpent f = absurd f
 scan_fault service a b image read before after h is old Memory f = tt
-
-pub load_fault : (area service : ℕ) (a : Option DiskState) (before after : ℕ) (fault : JournalFault) → IsStartFault service a before after fault → IsLoadFault area service a before after fault
-load_fault area service a before after DiskFault f = f
-load_fault area service a before after (Full u n) f = absurd f
-load_fault area service a before after (BadHeader place) f = f
-load_fault area service a before after (BadRecord place) f = f
-load_fault area service a before after LivesSpent f = absurd f
-load_fault area service a before after Memory f = tt
 
 -- ---- a creation, over what a disk tells
 

@@ -1,7 +1,6 @@
 -- A disk on its way through the calls of an append.
 use Rattle.std.proofs.Common.{◌≡◌, inl, inr, ℕ, zero, suc, ◌+◌, ◌≤◌, Bool, true, false, cond, sym, subst, List, [], ◌∷◌, ◌++◌, length, length-append, drop, Option, Some, None, refl, ap, ◌∙◌, arith}
 use Rattle.ots_outside.specs.Disk.{DiskState, Moment, IsImage, IsAfterRefusal, EachLeavesOnly, LeavesOnlySince, ReadsImage, Tells, moments, synced, written}
-use Rattle.std.specs.Option.{ForSome}
 use Rattle.decision_journal.specs.Laws.{IsOnTheWay, appended, cleared, is_letter_due}
 
 -- two calls, one after the other
@@ -106,32 +105,8 @@ cleared_by_longer false s = omega arith
 pub cleared_longer : (s : DiskState) → length (moments s) ≤ length (moments (cleared s))
 cleared_longer s = cleared_by_longer (is_letter_due s.reads) s
 
-pub cleared_due : (s : DiskState) → is_letter_due s.reads ≡ true → synced (written 0 (0 ∷ []) s) ≡ cleared s
-cleared_due s due = sym (ap (λ (b : Bool). cond b (synced (written 0 (0 ∷ []) s)) s) due)
-
-pub cleared_not_due : (s : DiskState) → is_letter_due s.reads ≡ false → s ≡ cleared s
-cleared_not_due s due = sym (ap (λ (b : Bool). cond b (synced (written 0 (0 ∷ []) s)) s) due)
-
-some_octets : (o : List ℕ) → is_letter_due o ≡ false → 1 ≤ length o
-some_octets [] e = absurd cc
-some_octets (x ∷ o) e = omega arith
-
-cleared_by_some : (b : Bool) (s : DiskState) → is_letter_due s.reads ≡ b → 1 ≤ length (cond b (synced (written 0 (0 ∷ []) s)) s).reads
-cleared_by_some true s e = omega arith
-cleared_by_some false s e = some_octets s.reads e
-
-pub cleared_some : (s : DiskState) → 1 ≤ length (cleared s).reads
-cleared_some s = cleared_by_some (is_letter_due s.reads) s refl
-
 pub none_some : (t : DiskState) → None ≡ Some t → ⊥
 none_some t e = absurd cc
 
 pub some_same : (t u : DiskState) → Some t ≡ Some u → t ≡ u
 some_same t u e = cc
-
--- a state of a disk that tells its states
-pub for_told : (a b : Option DiskState) (R : DiskState → DiskState → Type 0) (P : DiskState → Type 0) → ((s t : DiskState) → R s t → P t) → Tells a b R → ForSome b P
-for_told None None R P f h = λ t e. absurd (none_some t e)
-for_told None (Some t) R P f h = absurd h
-for_told (Some s) None R P f h = absurd h
-for_told (Some s) (Some t) R P f h = λ u e. subst P (some_same t u e) (f s t h)
