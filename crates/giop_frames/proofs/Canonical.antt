@@ -26,6 +26,7 @@ use Rattle.giop_frames.specs.Layout.{Fields, IsField, AreFields, IsTarget, blank
 use Rattle.giop_frames.specs.Message.{IsMessage, IsContent, kind_of}
 use Rattle.giop_frames.specs.Sizes.{end_of}
 use Rattle.giop_frames.specs.Encode.{content_of, field_refusal, field_values, fields_of, fields_refusal, order_of, padded_body, refusal_of, spelling, tail_of, target_refusal, target_values, told_of, values_of}
+use Rattle.giop_frames.specs.EncodeInside.{unwritten}
 use Rattle.giop_frames.specs.Put.{IsPlain, ArePlain}
 use Rattle.giop_frames.specs.Limits.{context_limit, key_limit, size_limit}
 use Rattle.giop_frames.proofs.Ends.{value_size}
@@ -34,13 +35,9 @@ use Rattle.giop_frames.proofs.Refused.{fields_pass, or_none, size_is_small, test
 
 -- ---- the fields
 
--- where the fields begin
-abbrev pub begun : Order → Writing
-begun order = record { order = order; start = 12; octets = [] }
-
 -- what was written there is their octets
-pub fields_written : (order : Order) (values : List Value) → (with_values (begun order) values).octets ≡ canonical_all order 12 values
-fields_written order values = ap (λ (w : Writing). w.octets) (with_values-is (begun order) values)
+pub fields_written : (order : Order) (values : List Value) → (with_values (unwritten order) values).octets ≡ canonical_all order 12 values
+fields_written order values = ap (λ (w : Writing). w.octets) (with_values-is (unwritten order) values)
 
 -- ---- values
 

@@ -2,8 +2,10 @@
 use Rattle.std.specs.Prelude.{◌≡◌, ℕ, ◌+◌, List, [], ◌∷◌, ◌++◌, length, replicate, sum_by, Option, Some, None, Result, Ok, Err}
 use Rattle.std.specs.Borrow.{Bor}
 use Rattle.std.specs.List.{flat_map}
+use Rattle.cdr_values.specs.declared.order.Order.{Order}
 use Rattle.cdr_values.specs.declared.order.Order.TheVariants.{Big}
 use Rattle.cdr_values.specs.Value.{Value}
+use Rattle.cdr_values.specs.Writing.{Writing}
 use Rattle.giop_frames.specs.declared.fault.FrameFault.{FrameFault}
 use Rattle.giop_frames.specs.declared.header.Kind.{Kind}
 use Rattle.giop_frames.specs.declared.layout.Version.{Version}
@@ -94,6 +96,10 @@ abbrev pub octets_in_table : Fields → List Field → ℕ
 octets_in_table f table = sum_by (octets_in_field f) table
 
 -- ---- what is written of what is told
+
+-- nothing is written yet behind a header
+abbrev pub unwritten : Order → Writing
+unwritten order = record { order = order; start = 12; octets = [] }
 
 -- the values of its fields
 abbrev pub values_told : Version → Told → List Value

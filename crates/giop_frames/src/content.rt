@@ -3,7 +3,7 @@ ghost use Rattle.giop_frames.specs.Limits.{size_limit};
 ghost use Rattle.giop_frames.specs.Fault.{Finds};
 ghost use Rattle.giop_frames.specs.Layout.{kept_tail, message_with, tail_start};
 ghost use Rattle.giop_frames.specs.Stream.{message_by, start_by};
-ghost use Rattle.giop_frames.specs.Walk.{IsAsFar, IsWalked, context_of, message_found, spanned, target_of, told_by};
+ghost use Rattle.giop_frames.specs.Walk.{IsWalked, context_of, message_found, spanned, target_of, told_by};
 
 use crate::fault::FrameFault;
 use crate::found::{Found, FoundContext, FoundTarget, Span};
@@ -29,12 +29,10 @@ pub fn read_message(alloc: Global, header: Header, content: &[u8]) -> Result<Con
     ensures memory { IfErr result (λ fault. fault ≡ FrameFault.Memory → IsOk (message_by header content.now)) }
     ensures start { IfOk result (λ found. found.start ≡ start_by header content.now) }
 {
-    let mut walk = Walk::new(header);
-    walk.go_on(header, content)?;
-    finish_message(alloc, header, content, walk)
+    finish_message(alloc, header, content, Walk::new(header))
 }
 
-/// The message whose first part has this header, with this content, over which a walk has gone as far as it can.
+/// The message whose first part has this header, with this content, over which a walk goes on to the end.
 pub fn finish_message(
     alloc: Global,
     header: Header,
@@ -43,7 +41,6 @@ pub fn finish_message(
 ) -> Result<Content, FrameFault>
     requires short { length content.now ≤ size_limit }
     requires walked { IsWalked header content.now walk }
-    requires far { IsAsFar header content.now walk }
     ensures message { Finds (λ found. found.message) result (message_by header content.now) }
     ensures told { IfErr (message_by header content.now) (λ fault. result ≡ Err fault) }
     ensures memory { IfErr result (λ fault. fault ≡ FrameFault.Memory → IsOk (message_by header content.now)) }

@@ -1,15 +1,12 @@
 ghost use Rattle.std.specs.Prelude.{◌≡◌, ◌+◌, ◌<◌, ◌≤◌, ◌^◌, length, None, Some, IfErr, IfOk, OnOk};
 ghost use Rattle.cdr_values.specs.Value.{octets_of};
-ghost use Rattle.cdr_values.specs.Values.{canonical_all};
 ghost use Rattle.cdr_values.specs.Appending.{Appends, AppendsSome};
-ghost use Rattle.giop_frames.specs.declared.fault.FrameFault.TheVariants.{Memory};
 ghost use Rattle.giop_frames.specs.declared.layout.Version.TheVariants.{V1_2};
 ghost use Rattle.giop_frames.specs.Header.{header_octets, flags_of};
 ghost use Rattle.giop_frames.specs.Encode.{Encodes, content_of, octets_in, refusal_of};
-ghost use Rattle.giop_frames.specs.EncodeInside.{Tells, fields_told, octets_in_table, octets_told, padding_at, parts_of, refusal_told, unless, values_told};
-ghost use Rattle.giop_frames.specs.Limits.{size_limit};
+ghost use Rattle.giop_frames.specs.EncodeInside.{Tells, unwritten, fields_told, octets_in_table, octets_told, padding_at, parts_of, refusal_told, unless, values_told};
 ghost use Rattle.giop_frames.specs.Layout.{layout};
-ghost use Rattle.giop_frames.specs.Put.{ArePlain};
+ghost use Rattle.giop_frames.specs.Put.{IsPut};
 ghost use Rattle.giop_frames.specs.Sizes.{end_of};
 
 use crate::fault::{FrameFault, SIZE_LIMIT};
@@ -63,65 +60,50 @@ fn encode_told(
         → Encodes version message result into.old.items into.new.items }
 {
     cdr_values::canonical_octets_spell();
-    let size = content_size(version, told)?;
-    let fields = fields_octets(alloc, version, told)?;
-    append(version, told, size as u32, fields.bytes(), into)?;
+    let sink = put_told(alloc, version, told)?;
+    let size = content_size(version, told, sink.end)?;
+    let Some(writer) = sink.writer else {
+        return Err(FrameFault::Memory);
+    };
+    let fields = writer.finish();
+    append(version, told, size, fields.bytes(), into)?;
     Ok(())
 }
 
-/// How many octets stand behind the header of a message that tells this, or why it is not written.
-fn content_size(version: Version, told: &Told) -> Result<usize, FrameFault>
+/// The sink into which the fields of a message that tells this were put, or what refuses them first.
+fn put_told(alloc: Global, version: Version, told: &Told) -> Result<Sink, FrameFault>
     requires { octets_told version told.now < 2 ^ 31 }
-    ensures size { (message : Message) → Tells told.now message
-        → result ≡ unless (refusal_of version message) (length (content_of version message)) }
-    ensures passes { OnOk result (refusal_told version told.now ≡ None) }
-    ensures fields { IfOk result (λ size. end_of 12 (values_told version told.now) ≤ 12 + size) }
-    ensures small { IfOk result (λ size. size ≤ size_limit) }
-{
-    let end = fields_end(version, told)?;
-    let fields = end - HEADER_LENGTH;
-    let size = fields + padding(version, told, end).len() + told.behind.len();
-    if size > SIZE_LIMIT {
-        return Err(FrameFault::TooLarge(size as u32));
-    }
-    Ok(size)
-}
-
-/// The offset behind the fields of a message that tells this, or what refuses them first.
-fn fields_end(version: Version, told: &Told) -> Result<usize, FrameFault>
-    requires { octets_told version told.now < 2 ^ 31 }
-    ensures end { IfOk result (λ end. end ≡ end_of 12 (values_told version told.now)) }
+    ensures end { IfOk result (λ sink. sink.end ≡ end_of 12 (values_told version told.now)) }
+    ensures written { IfOk result (λ sink. IsPut (values_told version told.now) (Some (unwritten told.now.order)) sink.writer) }
     ensures within { IfOk result
-        (λ end. end ≤ 2060 + octets_in_table (fields_told told.now) (layout version told.now.kind)) }
+        (λ sink. sink.end ≤ 2060 + octets_in_table (fields_told told.now) (layout version told.now.kind)) }
     ensures passes { OnOk result (refusal_told version told.now ≡ None) }
     ensures refused { IfErr result (λ fault. refusal_told version told.now ≡ Some fault) }
-{
-    let mut sink = Sink {
-        end: HEADER_LENGTH,
-        writer: None,
-    };
-    put_fields(&mut sink, version, told)?;
-    Ok(sink.end)
-}
-
-/// The octets of the fields of a message that tells this, where no field is refused.
-fn fields_octets(alloc: Global, version: Version, told: &Told) -> Result<Octets, FrameFault>
-    requires small { octets_told version told.now < 2 ^ 31 }
-    requires passes { refusal_told version told.now ≡ None }
-    ensures ok { IfOk result
-        (λ octets. octets ≡ canonical_all told.now.order 12 (values_told version told.now)) }
-    ensures plain { OnOk result (ArePlain (values_told version told.now)) }
-    ensures memory { IfErr result (λ fault. fault ≡ Memory) }
 {
     let mut sink = Sink {
         end: HEADER_LENGTH,
         writer: Some(Writer::new(alloc, told.order, HEADER_LENGTH as u32)),
     };
     put_fields(&mut sink, version, told)?;
-    match sink.writer {
-        Some(writer) => Ok(writer.finish()),
-        None => Err(FrameFault::Memory),
+    Ok(sink)
+}
+
+/// How many octets stand behind the header of a message that tells this, whose fields pass and end at this offset, or
+/// that they are too many.
+fn content_size(version: Version, told: &Told, end: usize) -> Result<u32, FrameFault>
+    requires small { octets_told version told.now < 2 ^ 31 }
+    requires ends { end ≡ end_of 12 (values_told version told.now) }
+    requires within { end ≤ 2060 + octets_in_table (fields_told told.now) (layout version told.now.kind) }
+    requires passes { refusal_told version told.now ≡ None }
+    ensures { (message : Message) → Tells told.now message
+        → result ≡ unless (refusal_of version message) (length (content_of version message)) }
+{
+    let fields = end - HEADER_LENGTH;
+    let size = fields + padding(version, told, end).len() + told.behind.len();
+    if size > SIZE_LIMIT {
+        return Err(FrameFault::TooLarge(size as u32));
     }
+    Ok(size as u32)
 }
 
 /// Appends the message with these fields, or nothing for want of memory.
@@ -154,7 +136,7 @@ fn append_parts(
     requires { length fields.now < 2 ^ 32 }
     ensures { AppendsSome (parts_of version told.now size fields.now) result into.old.items into.new.items }
 {
-    append_header(version, told.order, told.kind, size, into)?;
+    into.extend_from_slice(&header_octets(version, told.order, told.kind, size))?;
     into.extend_from_slice(fields)?;
     into.extend_from_slice(padding(version, told, HEADER_LENGTH + fields.len()))?;
     into.extend_from_slice(told.behind)
@@ -170,19 +152,28 @@ fn padding(version: Version, told: &Told, at: usize) -> &'static [u8]
     &PADDING[..tail_gap(version, told.kind, at)]
 }
 
-fn append_header(
-    version: Version,
-    order: Order,
-    kind: Kind,
-    size: u32,
-    into: &mut Vec<u8>,
-) -> Result<(), AllocError>
-    ensures { AppendsSome (header_octets version order kind size) result into.old.items into.new.items }
+/// The header of a message that isn't fragmented.
+fn header_octets(version: Version, order: Order, kind: Kind, size: u32) -> [u8; HEADER_LENGTH]
+    ensures { result ≡ header_octets version order kind size }
 {
-    into.extend_from_slice(&MAGIC)?;
-    into.extend_from_slice(&version_octets(version))?;
-    into.extend_from_slice(&[header_flags(order), kind.octet()])?;
-    into.extend_from_slice(&size_octets(order, size))
+    let [letter, second, third, last] = MAGIC;
+    let [major, minor] = version_octets(version);
+    let flags = header_flags(order);
+    let [a, b, c, d] = size_octets(order, size);
+    [
+        letter,
+        second,
+        third,
+        last,
+        major,
+        minor,
+        flags,
+        kind.octet(),
+        a,
+        b,
+        c,
+        d,
+    ]
 }
 
 /// The flags of a message that isn't fragmented.

@@ -1,4 +1,5 @@
-ghost use Rattle.std.specs.Prelude.{◌≡◌, ◌≢◌, ◌||◌, ◌≤◌, length, take, drop, IfErr, IfOk, Some};
+ghost use Rattle.std.specs.Prelude.{◌≡◌, ◌≢◌, ◌||◌, ◌≤◌, length, nat_eq, take, drop, IfErr, IfOk, Some};
+ghost use Rattle.std.specs.List.{starts_with};
 ghost use Rattle.cdr_values.specs.Value.{number_in};
 ghost use Rattle.giop_frames.specs.Limits.{size_limit};
 ghost use Rattle.giop_frames.specs.Header.{kind_at, type_octet, order_of_flags, more_of_flags, is_fragment, header_at, header_of, version_at, version_octets};
@@ -138,10 +139,19 @@ fn read_behind(version: Version, octets: &[u8]) -> Result<Header, FrameFault>
 fn version_at(versions: &[Version], octets: &[u8]) -> Option<Version>
     ensures { result ≡ version_at versions.now octets.now }
 {
-    versions
-        .iter()
-        .copied()
-        .find(|version| version_octets(*version).starts_with(octets))
+    for version in versions {
+        if is_begun(*version, octets) {
+            return Some(*version);
+        }
+    }
+    None
+}
+
+/// Whether the octets of the version begin with these.
+fn is_begun(version: Version, octets: &[u8]) -> bool
+    ensures { result ≡ starts_with nat_eq (version_octets version) octets.now }
+{
+    version_octets(version).starts_with(octets)
 }
 
 /// The octets of the version: the major one, and the minor one.

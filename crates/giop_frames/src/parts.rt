@@ -1,4 +1,4 @@
-ghost use Rattle.std.specs.Prelude.{◌≡◌, ℕ, true, false, ◌≢◌, ◌↔◌, ◌==◌, ◌<◌, ◌≤◌, ◌+◌, length, drop, None, Err, IsTrue, IfNone, IfSome, Ok, IfErr, IfOk, OnErr, OnOk};
+ghost use Rattle.std.specs.Prelude.{◌≡◌, ℕ, true, false, ◌≢◌, ◌==◌, ◌<◌, ◌≤◌, ◌+◌, length, drop, None, Err, IfNone, IfSome, Ok, IfErr, IfOk, OnErr, OnOk};
 ghost use Rattle.std.specs.List.{position as position_of};
 ghost use Rattle.giop_frames.specs.Limits.{size_limit, unfinished_limit};
 ghost use Rattle.giop_frames.specs.Fault.{Fails};
@@ -29,7 +29,7 @@ pub fn whole_part(versions: &[Version], octets: &[u8]) -> Result<Option<Header>,
     ensures memory { IfErr result (λ fault. fault ≢ FrameFault.Memory) }
 {
     match read_part_header(versions, octets) {
-        Err(fault) if is_short(fault) => Ok(None),
+        Err(FrameFault::Short) => Ok(None),
         Err(fault) => Err(fault),
         Ok(header) if octets.len() < HEADER_LENGTH + header.size as usize => Ok(None),
         Ok(header) => Ok(Some(header)),
@@ -42,12 +42,6 @@ pub fn content_of(header: Header, octets: &[u8]) -> &[u8]
     ensures { result.now ≡ content_behind header octets.now }
 {
     front(behind(octets, HEADER_LENGTH), header.size as usize)
-}
-
-fn is_short(fault: FrameFault) -> bool
-    ensures { IsTrue result ↔ (fault ≡ FrameFault.Short) }
-{
-    matches!(fault, FrameFault::Short)
 }
 
 /// The header of the part in front of the octets, or its first fault, as its octets come.

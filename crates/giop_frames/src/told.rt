@@ -1,7 +1,7 @@
 ghost use Rattle.giop_frames.specs.EncodeInside.{Tells, TellsNothing};
 
 use crate::header::Kind;
-use crate::message::{Locate, Located, Message, Reply, Request, ServiceContext, Target};
+use crate::message::{Message, Reply, Request, ServiceContext, Target};
 use cdr_values::Order;
 
 /// What a message tells where it is written. What it doesn't have is 0 or empty.
@@ -36,8 +36,17 @@ impl<'a> Told<'a> {
                 id: *id,
                 ..Told::nothing(Kind::CancelRequest)
             },
-            Message::Locate(locate) => Told::of_locate(locate),
-            Message::LocateReply(located) => Told::of_located(located),
+            Message::Locate(locate) => Told {
+                id: locate.id,
+                target: Some(&locate.target),
+                ..Told::nothing(Kind::LocateRequest)
+            },
+            Message::LocateReply(located) => Told {
+                id: located.id,
+                status: located.status,
+                behind: located.rest.bytes(),
+                ..Told::nothing(Kind::LocateReply)
+            },
             Message::Close => Told::nothing(Kind::CloseConnection),
             Message::Error => Told::nothing(Kind::MessageError),
         }
@@ -68,27 +77,6 @@ impl<'a> Told<'a> {
             contexts: reply.contexts.items(),
             behind: reply.body.bytes(),
             ..Told::nothing(Kind::Reply)
-        }
-    }
-
-    fn of_locate(locate: &'a Locate) -> Told<'a>
-        ensures { Tells result (Message.Locate locate.now) }
-    {
-        Told {
-            id: locate.id,
-            target: Some(&locate.target),
-            ..Told::nothing(Kind::LocateRequest)
-        }
-    }
-
-    fn of_located(located: &'a Located) -> Told<'a>
-        ensures { Tells result (Message.LocateReply located.now) }
-    {
-        Told {
-            id: located.id,
-            status: located.status,
-            behind: located.rest.bytes(),
-            ..Told::nothing(Kind::LocateReply)
         }
     }
 

@@ -69,7 +69,7 @@ pub returns-in_err-go_on-clause-memory : goal.returns-in_err-go_on-clause-memory
 returns-in_err-go_on-clause-memory c =
     let p = err_from_is_err_and c.from_residual.result c.from_residual.ensures.1 in
     let fault = c.in_err-go_on.field-0.0 in
-    rw (p.1, p.2) (λ e. message_found c.args.header c.args.content.now c.args.walk c.requires.far (rw (message_fails c.args.header c.args.content.now fault c.in_err-go_on.ensures.fault) e))
+    rw (p.1, p.2) (λ e. message_found c.args.header c.args.content.now c.go_on.new.self c.in_err-go_on.ensures.far (rw (message_fails c.args.header c.args.content.now fault c.in_err-go_on.ensures.fault) e))
 
 pub returns-in_err-build-clause-memory : goal.returns-in_err-build-clause-memory
 returns-in_err-build-clause-memory c =
@@ -81,4 +81,4 @@ returns-in_err-build-clause-memory c =
     message_walked c.args.header c.args.content.now w c.in_ok-go_on.ensures.walked c.in_ok-go_on.ensures.done ∙ ap (message_with c.args.header.order c.args.header.kind told) (sym tail) in
     let p = err_from_is_err_and c.from_residual-in_err-build.result c.from_residual-in_err-build.ensures.1 in
     let fault = c.in_err-build.field-0.0 in
-    rw (p.1, p.2) (λ e. message_found c.args.header c.args.content.now c.args.walk c.requires.far (told_memory Message fault read e (told_on Message Message fault _ read same c.in_err-build.ensures.told)))
+    rw (p.1, p.2) (λ e. message_found c.args.header c.args.content.now c.go_on.new.self c.in_ok-go_on.ensures.far (told_memory Message fault read e (told_on Message Message fault _ read same c.in_err-build.ensures.told)))
