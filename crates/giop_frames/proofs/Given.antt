@@ -1,5 +1,5 @@
 -- From a result to the results of its steps.
-use Rattle.std.proofs.Common.{◌≡◌, ℕ, Bool, true, false, cond, List, Result, Ok, Err, refl, sym, ap, ◌∙◌, ◌⊎◌, inl, inr}
+use Rattle.std.proofs.Common.{◌≡◌, ℕ, ◌<◌, ◌≤◌, Bool, true, false, cond, List, Some, None, Result, Ok, Err, refl, sym, ap, ◌∙◌, ◌⊎◌, inl, inr, arith}
 use Rattle.cdr_values.specs.declared.order.Order.{Order}
 use Rattle.cdr_values.specs.declared.fault.CdrFault.{CdrFault}
 use Rattle.cdr_values.specs.Reading.{Reading, ◌>>=◌}
@@ -17,6 +17,17 @@ failed fault = Err fault
 -- results that fail alike have one fault
 pub err_is : {F A : Type 0} (d fault : F) → failed {A = A} d ≡ failed fault → d ≡ fault
 err_is d fault e = cc
+
+-- a result either failed or did not
+pub not_failed : {A : Type 0} (x : A) (fault : FrameFault) → done x ≡ failed fault → ⊥
+not_failed x fault e = cc
+
+pub not_done : {A : Type 0} (x : A) (fault : FrameFault) → failed fault ≡ done x → ⊥
+not_done x fault e = cc
+
+-- what is there is not nothing
+pub not_none : {A : Type 0} (x : A) → done (Some x) ≡ done None → ⊥
+not_none x e = cc
 
 -- results that are equal hold equal values
 pub ok_is : {A : Type 0} (x y : A) → done x ≡ done y → x ≡ y
@@ -61,3 +72,10 @@ reading order place rest = record { order = order; place = place; rest = rest }
 -- a reading is its order, its place and its octets
 pub reading_is : (r s : Reading) → r.order ≡ s.order → r.place ≡ s.place → r.rest ≡ s.rest → r ≡ s
 reading_is r s o p t = ap (λ (x : Order). reading x r.place r.rest) o ∙ ap (λ (x : ℕ). reading s.order x r.rest) p ∙ ap (reading s.order s.place) t
+
+-- less than what is no more
+pub less_than : (a b c : ℕ) → a < b → b ≤ c → a < c
+less_than a b c p q = omega (arith, p, q)
+
+pub no_more_than : (a b c : ℕ) → a < b → b ≤ c → a ≤ c
+no_more_than a b c p q = omega (arith, p, q)

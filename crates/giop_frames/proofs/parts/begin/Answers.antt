@@ -1,4 +1,4 @@
-use Rattle.std.proofs.Common.{◌≡◌, ◌<◌, ◌++◌, ◌∷◌, [], ◌∙◌, ℕ, ap, length, None}
+use Rattle.std.proofs.Common.{◌≡◌, ◌<◌, ◌++◌, ◌∷◌, [], ◌∙◌, ℕ, ap, length, List, None}
 use Rattle.std.proofs.lemmas.Result.{err_from_is_err_and}
 use Rattle.giop_frames.specs.Limits.{unfinished_limit}
 use Rattle.giop_frames.specs.Stream.{Part, Unfinished, begun_as, id_of, message_by, numbered, opening, so_far}
@@ -44,7 +44,7 @@ returns-clause-after c =
     let part : Part = record { header = c.args.header; content = c.args.content.now } in
     let messages = c.args.unfinished.now.items in
     let begun = c.in_ok-new.ensures.begun ∙ ap (λ (id : ℕ). begun_as id c.args.place part) c.in_ok-id.ensures.id in
-    c.in_ok-push.ensures.items ∙ ap (λ (u : Unfinished). messages ++ (u ∷ [])) begun
+    ◌∙◌ {A = List Unfinished} c.in_ok-push.ensures.items (ap (λ (u : Unfinished). messages ++ (u ∷ [])) begun)
 
 pub returns-clause-room : goal.returns-clause-room
 returns-clause-room c = rw c.deref.ensures.value at c.in_ok-id.ensures.room

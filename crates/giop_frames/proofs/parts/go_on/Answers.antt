@@ -7,6 +7,14 @@ use Rattle.giop_frames.proofs.Loops.{fails_from}
 use Rattle.giop_frames.proofs.Judging.{fragment_short, fragment_alone}
 use Rattle.giop_frames.proofs.parts.go_on.Goals as goal
 
+-- a Fragment of no message wants none
+not_memory : faults.BadFragment ≡ faults.Memory → ⊥
+not_memory e = cc
+
+-- nor does one without a request_id
+id_or_memory : without_id ≡ faults.Memory → ⊥
+id_or_memory e = cc
+
 pub returns-in_err-id : goal.returns-in_err-id
 returns-in_err-id c =
     let part : Part = part_of c.args.header c.args.content.now in
@@ -16,7 +24,7 @@ returns-in_err-id c =
       says = tt;
       after = tt;
       refused = fails_from c.in_err-id.field-0.0 _ (rw c.in_err-id.ensures.0 (fragment_short c.args.unfinished.now.items place part fragment c.in_err-id.ensures.1));
-      memory = λ e. let both : without_id ≡ faults.Memory = sym c.in_err-id.ensures.0 ∙ e in absurd cc;
+      memory = λ e. absurd (id_or_memory (sym c.in_err-id.ensures.0 ∙ e));
       err = refl;
       short = c.requires.unfinished;
     })
@@ -30,7 +38,7 @@ returns-in-None c place =
       says = tt;
       after = tt;
       refused = fragment_alone c.args.unfinished.now.items place part fragment c.in_ok-id.ensures.0 free;
-      memory = λ e. absurd cc;
+      memory = λ e. absurd (not_memory e);
       err = refl;
       short = c.requires.unfinished;
     }

@@ -1,8 +1,9 @@
-use Rattle.std.proofs.Common.{◌≡◌, ◌∙◌, ◌⊎◌, ap, sym, refl, inl, inr, None, Some, arith}
+use Rattle.std.proofs.Common.{◌≡◌, ◌∙◌, ◌⊎◌, ap, sym, refl, inl, inr, None, Some}
 use Rattle.giop_frames.specs.declared.fault.FrameFault.{FrameFault}
 use Rattle.giop_frames.specs.declared.fault.FrameFault.TheVariants as faults
 use Rattle.giop_frames.specs.Held.{Held}
 use Rattle.giop_frames.specs.HeldInside.{remembering}
+use Rattle.giop_frames.proofs.Given.{less_than, no_more_than, not_done, not_failed, not_none}
 use Rattle.giop_frames.proofs.Holding.{holds_part, holds_piece, holds_stream, kept_by, memory_is, part_of, refused_by, shorter}
 use Rattle.giop_frames.proofs.stream.Stream.next_framed.Goals as goal
 
@@ -15,7 +16,7 @@ loop-framed-preserved c =
     record {
       accepts = t.refused ∙ c.loop-framed.invariant.accepts;
       goes_on = λ versions octets messages h. holds_piece versions octets messages c.loop-framed.self c.take_part.new.self t c.loop-framed.invariant.accepts (c.loop-framed.invariant.goes_on versions octets messages h);
-      shorter = omega (arith, c.loop-framed.invariant.shorter, shorter c.loop-framed.self c.take_part.new.self _ t);
+      shorter = no_more_than _ _ _ (shorter c.loop-framed.self c.take_part.new.self _ t) c.loop-framed.invariant.shorter;
     }
 
 -- a refusal other than want of memory is remembered
@@ -41,7 +42,7 @@ returns-in-Ok-Nothing c =
           (rw t.0 held, rw t.0 (holds_stream versions octets messages c.loop-framed.self t.1 held));
       refused = tt;
       keeps = tt;
-      memory = λ none e. absurd cc;
+      memory = λ none e. absurd (not_failed _ _ e);
       remembered = tt;
       again = rw none tt;
       accepts = ap (λ (h : Held). h.refused) t.0 ∙ c.loop-framed.invariant.accepts;
@@ -56,15 +57,15 @@ returns-in-Ok-Whole c =
     record {
       message = λ versions octets messages h.
           holds_part versions octets messages c.loop-framed.self c.take_part.new.self _ t c.loop-framed.invariant.accepts (c.loop-framed.invariant.goes_on versions octets messages h);
-      nothing = λ e. absurd cc;
+      nothing = λ e. absurd (not_none _ e);
       refused = tt;
       keeps = tt;
-      memory = λ none e. absurd cc;
+      memory = λ none e. absurd (not_failed _ _ e);
       remembered = tt;
       again = rw none tt;
       accepts = t.refused ∙ c.loop-framed.invariant.accepts;
-      partial = λ e. absurd cc;
-      shorter = λ some. omega (arith, c.loop-framed.invariant.shorter, shorter c.loop-framed.self c.take_part.new.self _ t);
+      partial = λ e. absurd (not_none _ e);
+      shorter = λ some. less_than _ _ _ (shorter c.loop-framed.self c.take_part.new.self _ t) c.loop-framed.invariant.shorter;
     }
 
 pub returns-in-Err : goal.returns-in-Err
@@ -72,7 +73,7 @@ returns-in-Err c =
     let none : c.args.self.now.refused ≡ None = sym (ap (λ (h : Held). h.refused) c.self.view_is) ∙ c.in_default.is in
     record {
       message = tt;
-      nothing = λ e. absurd cc;
+      nothing = λ e. absurd (not_done _ _ e);
       refused =
           elim (refused_by c.loop-framed.self c.take_part.new.self c.remember.new.self c.in-Err.fault c.in-Err.ensures c.remember.ensures) [
             | inl memory ↦ inl memory
@@ -84,6 +85,6 @@ returns-in-Err c =
       remembered = remembers c.take_part.new.self c.remember.new.self c.in-Err.fault c.remember.ensures;
       again = rw none tt;
       accepts = tt;
-      partial = λ e. absurd cc;
+      partial = λ e. absurd (not_done _ _ e);
       shorter = tt;
     }
