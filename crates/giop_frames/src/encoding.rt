@@ -74,7 +74,8 @@ fn encode_told(
 fn put_told(alloc: Global, version: Version, told: &Told) -> Result<Sink, FrameFault>
     requires { octets_told version told.now < 2 ^ 31 }
     ensures end { IfOk result (λ sink. sink.end ≡ end_of 12 (values_told version told.now)) }
-    ensures written { IfOk result (λ sink. IsPut (values_told version told.now) (Some (unwritten told.now.order)) sink.writer) }
+    ensures written { IfOk result
+        (λ sink. IsPut (values_told version told.now) (Some (unwritten told.now.order)) sink.writer) }
     ensures within { IfOk result
         (λ sink. sink.end ≤ 2060 + octets_in_table (fields_told told.now) (layout version told.now.kind)) }
     ensures passes { OnOk result (refusal_told version told.now ≡ None) }
