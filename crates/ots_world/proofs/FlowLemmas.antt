@@ -1,7 +1,9 @@
 -- How messages are delivered one after another.
 use Rattle.std.proofs.Common.{◌≡◌, ℕ, ◌+◌, ◌-◌, ◌<◌, ◌≤◌, zero, suc, Bool, true, false, not, List, [], ◌∷◌, ◌++◌, length, take, Option, Some, None, Result, Ok, Err, get_or, refl, sym, ap, subst, ◌∙◌, arith, append_assoc}
-use Rattle.std.specs.List.{list_any}
+use Rattle.std.specs.List.{list_any, position, position_or_len}
+use Rattle.std.proofs.lemmas.Grind.{common_steps}
 use Rattle.std.proofs.lemmas.List.Quantifiers.{position-Some}
+use Rattle.std.proofs.lemmas.List.Sums.{fails_before_first}
 use Rattle.std.proofs.lemmas.Option.{none-some}
 use Rattle.ots_model.specs.declared.line.Line.{Line}
 use Rattle.ots_model.specs.Line.{text_of}
@@ -90,6 +92,32 @@ delivered_indexed s new place h is board delivered claims =
         delivers_grows place s.board,
         delivered,
         lowest_behind s.delivered s.board place h.delivered is,
+        ap (λ (b : Board). length b.messages) board,
+        ap (λ (b : Board). length b.records) board,
+      );
+    }
+
+-- where none is the lowest, all were delivered
+none_left : (messages : List Message) → position (λ m. not m.delivered) messages ≡ None → AllDelivered (take (length messages) messages)
+none_left messages none =
+    let all : length messages ≤ position_or_len (λ m. not m.delivered) messages = grind (arith, common_steps) in
+    front (length messages) messages (λ k less. fails_before_first (λ m. not m.delivered) messages k some_message (omega (arith, all)))
+
+-- and what is kept beside the board agrees with it when it says so
+pub none_indexed : (s new : State) → IsIndexed s → lowest s.board ≡ None → new.board ≡ s.board
+    → new.delivered ≡ length s.board.messages → new.claims ≡ s.claims → IsIndexed new
+unfolding lowest
+none_indexed s new h none board delivered claims =
+    let P : Board → Type 0 = λ b. AllDelivered (take (length s.board.messages) b.messages) in record {
+      within = omega (arith, ap (λ (b : Board). length b.messages) board, delivered);
+      delivered = rw delivered (subst P (sym board) (none_left s.board.messages none));
+      claims = λ end cell. ap (list_any (is_claim end cell)) claims ∙ h.claims end cell
+          ∙ ap (λ (b : Board). list_any (holds_cell end cell) b.resources) (sym board);
+      records = omega (
+        arith,
+        h.records,
+        h.within,
+        delivered,
         ap (λ (b : Board). length b.messages) board,
         ap (λ (b : Board). length b.records) board,
       );
@@ -244,7 +272,7 @@ flowing_none start now new count turn before mid after delivered h is does =
     let P : Bool → Type 0 = λ d. DeliversLowest now new mid after (Ok d) in
     let d = subst P is does in
     let all = carries_flow start now count before mid h.same (flows_end start.board count now.board (count - turn) before mid h.flows d.0) in
-    let Q : State → Type 0 = λ s. Carries (flow count (shown start)) (shown start) (shown s) before after (Ok tt) in
+    let Q : World → Type 0 = λ w. Carries (flow count (shown start)) (shown start) w before after (Ok tt) in
     let R : List ℕ → Type 0 = λ t. Carries (flow count (shown start)) (shown start) (shown now) before t (Ok tt) in
     subst Q (sym d.1) (subst R (sym d.2) all)
 
@@ -268,6 +296,13 @@ flowing_stop start now new count turn before mid after fault r less h does is =
     let d = flows_stop start.board count now.board (count - (turn + 1)) before mid (turned start now count turn before mid less h) does.0 does.1 new.board after fault does.2 in
     let P : Result (Unit {0}) WorldFault → Type 0 = λ x. Carries (flow count (shown start)) (shown start) (shown new) before after x in
     subst P (sym is) (stopped _ (flows count start.board) (shown start) (shown new) new.board before after fault (flow_moves count (shown start)) d)
+
+-- and the state that it leaves is still indexed
+pub flowing_none_indexed : (now new : State) (mid after : List ℕ) (delivered : Bool) → delivered ≡ false
+    → DeliversLowest now new mid after (Ok delivered) → IsIndexed new
+flowing_none_indexed now new mid after delivered is does =
+    let P : Bool → Type 0 = λ d. DeliversLowest now new mid after (Ok d) in
+    (subst P is does).3
 
 -- no turn stops inside a delivery where there was none to deliver
 pub flowing_quiet : (start now new : State) (count left : ℕ) (before mid after : List ℕ) (fault : WorldFault)

@@ -23,5 +23,5 @@ pub record IsIndexed (s : State) : Type 0 where
 abbrev pub DeliversLowest : State → State → List ℕ → List ℕ → Result Bool WorldFault → Type 0
 DeliversLowest old new before after (Ok true) = (place : ℕ) × (lowest old.board ≡ Some place)
     × Does (delivers place old.board) new.board before after (Ok tt) × (shown new ≡ record (shown old) { board = new.board }) × IsIndexed new
-DeliversLowest old new before after (Ok false) = (lowest old.board ≡ None) × (new ≡ old) × (after ≡ before)
+DeliversLowest old new before after (Ok false) = (lowest old.board ≡ None) × (shown new ≡ shown old) × (after ≡ before) × IsIndexed new
 DeliversLowest old new before after (Err fault) = (place : ℕ) × (lowest old.board ≡ Some place) × Does (delivers place old.board) new.board before after (Err fault)

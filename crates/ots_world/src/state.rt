@@ -355,11 +355,12 @@ impl State {
         requires { IsIndexed self.old }
         ensures delivers { DeliversLowest self.old self.new lines.old.items lines.new.items result }
     {
+        // No more messages were sent than may be, so that a place and that of the next record fit their types.
+        let sent = self.board.sent();
         let Some(place) = self.board.lowest_from(self.delivered) else {
+            self.delivered = sent;
             return Ok(false);
         };
-        // No more messages were sent than may be, so that this place and that of the next record fit their types.
-        let _sent = self.board.sent();
         self.board.deliver(lines, place)?;
         self.delivered = place + 1;
         Ok(true)

@@ -1,5 +1,5 @@
 use Rattle.std.proofs.Common.{refl, sym, arith}
-use Rattle.ots_world.proofs.FlowLemmas.{lowest_within, delivered_indexed}
+use Rattle.ots_world.proofs.FlowLemmas.{lowest_within, delivered_indexed, none_indexed}
 use Rattle.ots_world.proofs.state.State.deliver_lowest.Goals as goal
 
 pub overflow_add-self : goal.overflow_add-self
@@ -19,4 +19,9 @@ returns c = let is = sym c.in-Some.ensures.lowest in record {
     refl,
     delivered_indexed c.args.self.now _ c.in-Some.place c.requires is c.in_ok-deliver.ensures.does.0 refl refl,
   );
+}
+
+pub returns-None : goal.returns-None
+returns-None c = let none = sym c.in-None.ensures.lowest in record {
+  delivers = (none, refl, refl, none_indexed c.args.self.now _ c.requires none refl c.sent.ensures.count refl);
 }

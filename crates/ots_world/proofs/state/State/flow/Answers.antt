@@ -1,6 +1,6 @@
 use Rattle.std.proofs.Common.{ap, ◌∙◌, Err}
 use Rattle.std.proofs.lemmas.Result.{err_from_is_err_and}
-use Rattle.ots_world.proofs.FlowLemmas.{flowing_first, flowing_more, flowing_all, flowing_none, flowing_stop, flowing_quiet}
+use Rattle.ots_world.proofs.FlowLemmas.{flowing_first, flowing_more, flowing_all, flowing_none, flowing_none_indexed, flowing_stop, flowing_quiet}
 use Rattle.ots_world.proofs.state.State.flow.Goals as goal
 
 pub deliveries-init : goal.deliveries-init
@@ -31,3 +31,8 @@ pub returns-in_err-deliver_lowest-clause-quiet : goal.returns-in_err-deliver_low
 returns-in_err-deliver_lowest-clause-quiet c = λ none _. flowing_quiet c.args.self.now c.deliveries.self c.deliver_lowest.new.self c.args.count _
     c.args.lines.now.items c.deliveries.lines.items c.deliver_lowest.new.lines.items c.in_err-deliver_lowest.field-0.0
     c.deliveries.invariant c.in_err-deliver_lowest.ensures.delivers none
+
+pub returns-then-not-branch-clause-indexed : goal.returns-then-not-branch-clause-indexed
+returns-then-not-branch-clause-indexed c = flowing_none_indexed c.deliveries.self c.deliver_lowest.new.self
+    c.deliveries.lines.items c.deliver_lowest.new.lines.items c.in_ok-deliver_lowest.field-0
+    c.if-not-branch.true c.in_ok-deliver_lowest.ensures.delivers
