@@ -17,6 +17,7 @@ pub mod Along
 pub mod Lengths
 pub mod Roomy
 pub mod Using
+pub mod Grows
 pub mod Writes
 pub mod Rereads
 pub mod Joined

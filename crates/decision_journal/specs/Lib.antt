@@ -5,6 +5,7 @@ pub mod Journal
 pub mod Index
 pub mod Laws
 pub mod State
+pub mod Growing
 pub mod Room
 pub mod Calls
 pub mod Loading

@@ -1,3 +1,4 @@
+ghost use Rattle.decision_journal.specs.Growing.{BodiesAreRead, JournalsGrow};
 ghost use Rattle.decision_journal.specs.Laws.{AppendsAreSafe, CreationsAreSafe, OctetsMeanOneThing, OctetsMeanSomething, OctetsStandForOneList, PayloadsTellRecords};
 ghost use Rattle.decision_journal.specs.Loading.{LoadsAreSafe};
 
@@ -37,4 +38,15 @@ pub fn octets_mean_one_thing()
 /// Octets that are long enough for a header and a gate mean something.
 pub fn octets_mean_something()
     ensures { OctetsMeanSomething }
+{}
+
+/// One more record is found behind those of before. One for which there is room leaves what is used within the area, and a Done
+/// takes no more than its decision left for it.
+pub fn journals_grow()
+    ensures { JournalsGrow }
+{}
+
+/// Behind its gate a record is read again, whatever follows it.
+pub fn bodies_are_read()
+    ensures { BodiesAreRead }
 {}

@@ -4,8 +4,8 @@
 pub use journal::{JournalFault, Standing};
 pub use keeping::Journal;
 pub use laws::{
-    appends_are_safe, creations_are_safe, loads_are_safe, octets_mean_one_thing,
-    octets_mean_something, octets_stand_for_one_list, payloads_tell_records,
+    appends_are_safe, bodies_are_read, creations_are_safe, journals_grow, loads_are_safe,
+    octets_mean_one_thing, octets_mean_something, octets_stand_for_one_list, payloads_tell_records,
 };
 pub use record::{CellsEnd, JournalRecord, Put, Puts, Registration, Registrations};
 

@@ -5,6 +5,7 @@
 pub use back::Back;
 pub use disk::{Disk, DiskRefusal};
 pub use file_disk::FileDisk;
+pub use laws::writes_read_images;
 pub use mem_disk::{MemDisk, SureDisk};
 pub use memory::{Failure, MemSink, MemSource};
 pub use sink::Sink;
@@ -14,6 +15,7 @@ pub use streams::{StdSink, StdSource};
 mod back;
 mod disk;
 mod file_disk;
+mod laws;
 mod mem_disk;
 mod memory;
 mod sink;
