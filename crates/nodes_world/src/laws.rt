@@ -1,6 +1,10 @@
 // Laws of the definitions: these functions do nothing, and their contracts are the laws.
-ghost use Rattle.nodes_world.specs.Laws.{AppendsStrike};
+ghost use Rattle.nodes_world.specs.Changes.{DeedsAreChanges};
+ghost use Rattle.nodes_world.specs.Laws.{AppendsGoThrough, AppendsStrike, AskedJournalsKeep, AskedJournalsStop, RecordsAreRead, StoppedAppendsAreSafe, WhatIsLeftIsAnImage};
 ghost use Rattle.nodes_world.specs.Plays.{WorldsPlay};
+
+use decision_journal::{appends_are_safe, bodies_are_read, journals_grow};
+use ots_outside::writes_read_images;
 
 /// The strokes of an append leave the disk that a journal's append leaves. A crash inside each of its writes leaves what stood before
 /// that write, or that write too, by the image that is asked for; one inside a later write comes two writes nearer.
@@ -8,7 +12,46 @@ pub fn appends_strike_disks()
     ensures { AppendsStrike }
 {}
 
+/// What a stop inside a write leaves is an image that a crash may leave at that moment.
+pub fn what_is_left_is_an_image()
+    ensures { WhatIsLeftIsAnImage }
+{}
+
+/// Where octets stand for records, these are the records that are read in them.
+pub fn records_are_read()
+    ensures { RecordsAreRead }
+{
+    bodies_are_read();
+}
+
+/// An append that goes through is that of the journal. A stop inside it leaves the records of before, or these and the new one.
+pub fn stopped_appends_are_safe()
+    ensures through { AppendsGoThrough }
+    ensures stopped { StoppedAppendsAreSafe }
+{
+    appends_are_safe();
+    writes_read_images();
+    what_is_left_is_an_image();
+}
+
+/// A journal that is asked for a decision, or for the Done of one that stands, has its records afterwards, or these and the one that
+/// was asked for, as its answer says; so does what a crash inside it leaves.
+pub fn asked_journals_stay_in_order()
+    ensures keep { AskedJournalsKeep }
+    ensures stop { AskedJournalsStop }
+{
+    appends_are_safe();
+    journals_grow();
+    records_are_read();
+    stopped_appends_are_safe();
+}
+
 /// In a short script with a crash each line tells what it must.
 pub fn worlds_play()
     ensures { WorldsPlay }
+{}
+
+/// Whatever a line does in a world is made of few kinds of change: a seat, a message or a name becomes another.
+pub fn deeds_are_changes()
+    ensures { DeedsAreChanges }
 {}

@@ -2,7 +2,10 @@
 #![tactic(auto)]
 
 pub use deed::{Deed, Manner};
-pub use laws::{appends_strike_disks, worlds_play};
+pub use laws::{
+    appends_strike_disks, asked_journals_stay_in_order, deeds_are_changes, records_are_read,
+    stopped_appends_are_safe, what_is_left_is_an_image, worlds_play,
+};
 pub use message::{Content, Message};
 pub use thing::Thing;
 
