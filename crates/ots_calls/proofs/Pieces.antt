@@ -1,6 +1,7 @@
 -- Bodies that are written of values, one after another.
-use Rattle.std.proofs.Common.{◌≡◌, ℕ, ◌+◌, ◌<◌, ◌≤◌, ◌⊎◌, Bool, true, false, ltb, cond, Some, None, Err, List, [], ◌∷◌, ◌++◌, length, replicate, refl, sym, subst, inl, inr, ◌∙◌, arith, length-append}
+use Rattle.std.proofs.Common.{◌≡◌, ℕ, ◌+◌, ◌<◌, ◌≤◌, ◌⊎◌, Bool, true, false, ltb, cond, Some, None, Err, List, [], ◌∷◌, ◌++◌, length, get_or, drop, replicate, refl, sym, subst, inl, inr, ◌∙◌, arith, length-append}
 use Rattle.std.proofs.lemmas.Bool.{ltb-false}
+use Rattle.std.proofs.lemmas.List.{drop_more}
 use Rattle.cdr_values.specs.Again.{AllFit}
 use Rattle.cdr_values.specs.declared.fault.CdrFault.{CdrFault}
 use Rattle.cdr_values.specs.declared.fault.CdrFault.TheVariants as cdr
@@ -68,6 +69,9 @@ fails (faults.Garbled place) = refl
 fails faults.BadTarget = refl
 fails faults.BadKey = refl
 fails faults.Memory = tt
+
+pub writes_next : (all : List Piece) (i : ℕ) (d : Piece) (w : Writing) → IsWriting all (drop i all) w → i < length all → refusal w (value_of (get_or all i d)) ≡ None → IsWriting all (drop (i + 1) all) (with_value w (value_of (get_or all i d)))
+writes_next all i d w h within none = writes all (drop (i + 1) all) (get_or all i d) w (subst (λ (rest : List Piece). IsWriting all rest w) (drop_more all i d within) h) none
 
 -- a piece that is refused is why there is no body
 pub refused : (all rest : List Piece) (piece : Piece) (w : Writing) (fault : CdrFault) → IsWriting all (piece ∷ rest) w → (fault ≡ cdr.Memory) ⊎ (refusal w (value_of piece) ≡ Some fault) → Fails (fault_of fault) (octets_with blank (values_of all))

@@ -1,7 +1,7 @@
 use Rattle.std.proofs.Common.{◌≡◌, ◌∙◌, sym}
 use Rattle.std.proofs.lemmas.Result.{err_from_is_err_and}
 use Rattle.giop_frames.specs.declared.fault.FrameFault.TheVariants as faults
-use Rattle.giop_frames.specs.Stream.{Part, id_of, opening, without_id}
+use Rattle.giop_frames.specs.Stream.{Part, id_of, without_id}
 use Rattle.giop_frames.specs.StreamInside.{IsAt}
 use Rattle.giop_frames.proofs.Judging.{opening_at, opening_short}
 use Rattle.giop_frames.proofs.parts.free_id.Goals as goal
