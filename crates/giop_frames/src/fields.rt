@@ -14,8 +14,8 @@ use crate::sink::{FieldValue, Sink};
 use crate::told::Told;
 use cdr_values::CdrFault;
 
-/// Puts the fields of a message, in the order of the table of layouts, into a sink at their front: into one that counts
-/// for their size, and into one that writes for their octets. The first refusal is answered.
+/// Puts the fields of a message, in the order of the table of layouts, into a sink at their front. The first refusal is
+/// answered.
 pub fn put_fields(sink: &mut Sink, version: Version, told: &Told) -> Result<(), FrameFault>
     requires front { sink.old.end ≡ 12 }
     requires small { octets_in_table (fields_told told.now) (layout version told.now.kind) < 2 ^ 31 }
