@@ -8,17 +8,15 @@ use Rattle.decision_journal.specs.Index.{AreInOrder}
 use Rattle.decision_journal.specs.declared.journal.Standing.{Standing}
 use Rattle.decision_journal.specs.declared.record.CellsEnd.{CellsEnd}
 use Rattle.decision_journal.specs.declared.record.CellsEnd.TheVariants as ends
-use Rattle.decision_journal.specs.declared.record.JournalRecord.{JournalRecord}
-use Rattle.decision_journal.specs.declared.record.JournalRecord.TheVariants.{CellsPrepared, CellsOutcome, CellsOnePhase}
+use Rattle.decision_journal.specs.declared.record.JournalRecord.TheVariants.{CellsPrepared, CellsOnePhase}
 use Rattle.decision_journal.specs.declared.record.Put.{Put}
 use Rattle.resource_end.specs.declared.state.State.{State}
 use Rattle.resource_end.specs.declared.state.State.TheVariants as states
-use Rattle.resource_end.specs.States.{holds, state_of, stores}
-use Rattle.resource_end.specs.Cells.{with_puts}
+use Rattle.resource_end.specs.States.{holds, state_of}
 use Rattle.resource_end.specs.Calls.{bound}
-use Rattle.resource_end.specs.End.{End, Resource, changes, comes_before, is_numbered, kept, moved, with_resource}
+use Rattle.resource_end.specs.End.{End, Resource, changes, comes_before, is_numbered, moved, with_resource}
 use Rattle.resource_end.specs.Recall.{letter_of, put_by, recalls, tells}
-use Rattle.resource_end.specs.Inside.{AreRecorded, AreWritable, ContentsState, Id, IsRecorded, IsSomeSo, IsToldBy, IsUnrecorded, IsUnrecordedWith, IsWritable, MayHold, changed, numbered, placed, prepared_at, prepared_id, with_contents, with_record_of}
+use Rattle.resource_end.specs.Inside.{AreRecorded, AreWritable, ContentsState, Id, IsRecorded, IsSomeSo, IsToldBy, IsUnrecordedWith, IsWritable, MayHold, changed, numbered, placed, prepared_at, prepared_id, with_contents, with_record_of}
 use Rattle.resource_end.proofs.Claims.{at_known, its_number, itself}
 use Rattle.resource_end.proofs.Finding.{found_with}
 use Rattle.resource_end.proofs.Named.{one_number}

@@ -2,12 +2,11 @@
 use Rattle.std.proofs.Common.{◌≡◌, ◌∙◌, Bool, true, false, cond, List, [], ◌∷◌, ◌++◌, refl, sym, ap, append_assoc, append-nil}
 use Rattle.std.specs.Prelude.{filter, map}
 use Rattle.ots_model.specs.declared.tree.Outward.{Outward}
-use Rattle.resource_end.specs.declared.kept.Kept.{Kept}
 use Rattle.resource_end.specs.States.{is_prepared}
 use Rattle.resource_end.specs.Calls.{ask_of}
 use Rattle.resource_end.specs.End.{Resource}
 use Rattle.resource_end.specs.Asking.{HasFrontOf}
-use Rattle.resource_end.specs.Inside.{Id, asks_of, resource_at, resources_of}
+use Rattle.resource_end.specs.Inside.{asks_of}
 
 asks_more : (r : Resource) (rs : List Resource) → asks_of (r ∷ rs) ≡ asks_of (r ∷ []) ++ asks_of rs
 asks_more r rs = by (is_prepared r.state)

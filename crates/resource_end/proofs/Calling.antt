@@ -1,6 +1,6 @@
 -- A call of an end, put together: a reread, and what happens behind it.
-use Rattle.std.proofs.Common.{◌≡◌, ◌∙◌, ◌⊎◌, inl, inr, ℕ, ◌<◌, ◌≤◌, Bool, true, false, Option, Some, None, refl, sym, ap, subst, arith}
-use Rattle.std.specs.Prelude.{IfSome, IfErr, is_some, Result, Ok, Err}
+use Rattle.std.proofs.Common.{◌≡◌, ◌∙◌, inl, inr, ℕ, ◌≤◌, Bool, true, false, Option, Some, None, refl, sym, ap, subst, arith}
+use Rattle.std.specs.Prelude.{IfSome, IfErr, Result, Ok, Err}
 use Rattle.std.proofs.lemmas.Bool.{both_ways, cases_lt}
 use Rattle.ior_refs.specs.declared.key.ObjectKey.{ObjectKey}
 use Rattle.ots_model.specs.declared.line.Decision.{Decision}
@@ -20,9 +20,9 @@ use Rattle.resource_end.specs.declared.state.Word.{Word}
 use Rattle.resource_end.specs.declared.state.Word.TheVariants as words
 use Rattle.resource_end.specs.States.{holds, learnt, made, outcome_heard, outcome_told}
 use Rattle.resource_end.specs.Table.{row}
-use Rattle.resource_end.specs.Calls.{Called, Journaled, Written, StandsAt, Unwritten, InDoubt, behind, changes_with, changing, choice, does, is_open, learn, learns_by, learns_in, learnt_of, obeys, on, shown_by, showing, told, wanted, wanted_by_answer, wanted_for, wanted_of}
+use Rattle.resource_end.specs.Calls.{Called, Written, StandsAt, Unwritten, InDoubt, behind, changes_with, changing, choice, does, is_open, learn, learns_by, learns_in, learnt_of, obeys, on, shown_by, showing, told, wanted, wanted_by_answer, wanted_for, wanted_of}
 use Rattle.resource_end.specs.End.{End, Resource, named, record_for}
-use Rattle.resource_end.specs.Recall.{Reread, reread}
+use Rattle.resource_end.specs.Recall.{reread}
 use Rattle.resource_end.specs.Inside.{AnswersSo, CanMove, HasMoved, HasReadAgain}
 use Rattle.resource_end.specs.Journaling.{Comes, EndState, IsCalled, afresh, IsCause, IsRereadWhere, IsStarved, IsWrittenWhere, WritesBehind}
 

@@ -1,10 +1,7 @@
 -- Which calls make an end count, and what a load of one record more leaves.
-use Rattle.std.proofs.Common.{◌≡◌, ◌∙◌, ℕ, ◌+◌, Bool, true, false, cond, List, [], ◌∷◌, ◌++◌, Option, Some, None, refl, sym, ap, subst}
+use Rattle.std.proofs.Common.{◌≡◌, ◌∙◌, ℕ, ◌+◌, Bool, true, false, cond, List, [], ◌∷◌, ◌++◌, Option, Some, None, refl, ap}
 use Rattle.std.specs.Prelude.{◌==◌, IfOk, Result, Ok, Err, find}
-use Rattle.ior_refs.specs.declared.key.ObjectKey.{ObjectKey}
-use Rattle.ots_model.specs.declared.line.Decision.{Decision}
 use Rattle.ots_model.specs.declared.tree.Heard.{Heard}
-use Rattle.decision_journal.specs.Journal.{Found}
 use Rattle.decision_journal.specs.declared.journal.Standing.{Standing}
 use Rattle.decision_journal.specs.declared.record.CellsEnd.{CellsEnd}
 use Rattle.decision_journal.specs.declared.record.JournalRecord.{JournalRecord}
@@ -12,13 +9,12 @@ use Rattle.decision_journal.specs.declared.record.JournalRecord.TheVariants.{Lif
 use Rattle.resource_end.specs.declared.fault.EndFault.{EndFault}
 use Rattle.resource_end.specs.declared.state.State.{State}
 use Rattle.resource_end.specs.declared.state.State.TheVariants as states
-use Rattle.resource_end.specs.declared.state.Word.{Word}
 use Rattle.resource_end.specs.Limits.{synchronization_kind}
 use Rattle.resource_end.specs.States.{is_prepared, learnt}
 use Rattle.resource_end.specs.Table.{row}
-use Rattle.resource_end.specs.Calls.{Called, Journaled, Written, StandsAt, Unwritten, InDoubt, behind, bind, bound, changes_with, changing, choice, choose_heuristic, chooses, does, done, drawn, fresh, has_room, is_fresh, is_open, is_spent, key_of, learn, learns_by, learns_in, obeys, on, put, puts, puts_unheld, refuse, refused, refuses, told, unchanged, unmake, unmakes, with_cell, with_object}
-use Rattle.resource_end.specs.End.{End, Resource, changes, kept, named, other_holder, record_for, with_resource}
-use Rattle.resource_end.specs.Recall.{Reread, Stands, StandsNot, Unread, ends_as, is_recorded_at, loaded, new_end, recalls, recalls_all, reread, reread_by, sure_of, tells}
+use Rattle.resource_end.specs.Calls.{Called, Written, StandsAt, Unwritten, InDoubt, behind, bind, changes_with, changing, choice, choose_heuristic, chooses, does, done, drawn, has_room, is_fresh, is_open, learn, learns_by, learns_in, obeys, on, put, puts, puts_unheld, refuse, refused, refuses, told, unchanged, unmake, unmakes, with_cell}
+use Rattle.resource_end.specs.End.{End, Resource, changes, kept, named, other_holder, record_for}
+use Rattle.resource_end.specs.Recall.{Reread, Stands, StandsNot, Unread, ends_as, is_recorded_at, new_end, recalls, recalls_all, reread, reread_by, tells}
 use Rattle.resource_end.specs.Laws.{IsSameLife, LoadsTellOneMore, NumbersRise}
 use Rattle.resource_end.proofs.Making.{fresh_made}
 

@@ -1,7 +1,7 @@
 -- What holds of an end stays where a resource is made, bound, forgotten or changed.
-use Rattle.std.proofs.Common.{◌≡◌, ◌∙◌, ℕ, ◌+◌, ◌≤◌, Bool, true, false, cond, List, [], Option, Some, None, refl, sym, ap, subst, arith}
-use Rattle.std.specs.Prelude.{◌==◌, ◌&&◌, find, IfSome, is_some}
-use Rattle.std.proofs.lemmas.Bool.{and_parts, both_ways, cases_Bool, eqb-true}
+use Rattle.std.proofs.Common.{◌≡◌, ◌∙◌, ℕ, ◌+◌, Bool, true, false, cond, List, Option, Some, None, refl, sym, ap, subst, arith}
+use Rattle.std.specs.Prelude.{◌==◌, ◌&&◌, IfSome, is_some}
+use Rattle.std.proofs.lemmas.Bool.{and_parts, both_ways, eqb-true}
 use Rattle.decision_journal.specs.Layout.{FitsReference}
 use Rattle.decision_journal.specs.State.{JournalState}
 use Rattle.decision_journal.specs.declared.record.JournalRecord.{JournalRecord}
@@ -11,7 +11,7 @@ use Rattle.resource_end.specs.declared.state.State.{State}
 use Rattle.resource_end.specs.declared.state.State.TheVariants as states
 use Rattle.resource_end.specs.Calls.{bound, is_fresh, is_open}
 use Rattle.resource_end.specs.End.{Resource, is_numbered, kept, moved, with_resource}
-use Rattle.resource_end.specs.Inside.{AreRecorded, AreWritable, CanPrepare, HasUnrecorded, Id, IsRecallable, IsRecorded, IsSomeSo, IsUnrecordedWith, IsWhole, IsWritable, fresh_one, numbered, placed, without}
+use Rattle.resource_end.specs.Inside.{CanPrepare, HasUnrecorded, Id, IsRecallable, IsRecorded, IsSomeSo, IsUnrecordedWith, IsWhole, IsWritable, fresh_one, numbered, without}
 use Rattle.resource_end.proofs.Claims.{at_known, itself, its_number}
 use Rattle.resource_end.proofs.Finding.{found_with, found_without}
 use Rattle.resource_end.proofs.Named.{one_number}

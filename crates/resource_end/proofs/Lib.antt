@@ -24,3 +24,4 @@ mod Putting
 mod Changing
 mod Asked
 mod Counting
+mod Crashing

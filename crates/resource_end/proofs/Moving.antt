@@ -3,7 +3,7 @@ use Rattle.std.proofs.Common.{◌≡◌, ◌∙◌, ℕ, ◌<◌, ◌^◌, Bool,
 use Rattle.std.specs.Prelude.{◌==◌, find, IfSome, IsSome, IsTrue, is_some, Result, Ok}
 use Rattle.std.specs.List.{list_any}
 use Rattle.std.specs.Option.{option_and_then, option_map, unwrap_or}
-use Rattle.std.proofs.lemmas.Bool.{and_from, and_parts, both_ways, eq-eqb}
+use Rattle.std.proofs.lemmas.Bool.{and_from, both_ways, eq-eqb}
 use Rattle.ots_model.specs.declared.service.Status.{Status}
 use Rattle.ots_outside.specs.Disk.{DiskState}
 use Rattle.decision_journal.specs.Journal.{Found, are_cells_at, can_follow, is_cells_prepared}
@@ -18,8 +18,8 @@ use Rattle.resource_end.specs.declared.state.State.{State}
 use Rattle.resource_end.specs.declared.state.State.TheVariants as states
 use Rattle.resource_end.specs.States.{end_of}
 use Rattle.resource_end.specs.Calls.{Called, Written, StandsAt, Unwritten, InDoubt, changes_with, changing, done}
-use Rattle.resource_end.specs.End.{End, Resource, changes, is_numbered, outcome_record, puts_record, record_by, record_for, with_place}
-use Rattle.resource_end.specs.Recall.{has_place, is_recorded_at, recalls}
+use Rattle.resource_end.specs.End.{End, Resource, changes, is_numbered, outcome_record, puts_record, record_by, record_for}
+use Rattle.resource_end.specs.Recall.{has_place, is_recorded_at}
 use Rattle.resource_end.specs.Laws.{IsOf}
 use Rattle.resource_end.specs.Inside.{AreApart, AreRecorded, ContentsState, HasMoved, HasWritten, Id, IsRecallable, IsRecorded, IsSomeSo, IsUnrecordedWith, IsWritable, changed, if_passes, named_by, numbered, prepared_at, prepared_id, told_by_record}
 use Rattle.resource_end.specs.Journaling.{EndState, IsWrittenWhere}

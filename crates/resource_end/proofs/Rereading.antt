@@ -1,9 +1,8 @@
 -- What reading the journal again makes of an end, and why it is refused.
-use Rattle.std.proofs.Common.{◌≡◌, ◌∙◌, ◌⊎◌, inl, inr, ℕ, ◌+◌, ◌<◌, ◌≤◌, Bool, true, false, List, [], ◌∷◌, ◌++◌, length, Option, Some, None, refl, sym, ap, subst, arith, length-append}
+use Rattle.std.proofs.Common.{◌≡◌, ◌∙◌, inl, inr, ℕ, ◌+◌, ◌<◌, ◌≤◌, Bool, true, false, List, [], ◌∷◌, length, Option, Some, None, refl, sym, ap, subst, arith, length-append}
 use Rattle.std.specs.Prelude.{IfSome, Ok, Err, is_some}
 use Rattle.ots_model.specs.declared.service.Status.{Status}
 use Rattle.ots_outside.specs.Disk.{DiskState, Tells, synced}
-use Rattle.ots_outside.specs.Source.{HasRisen}
 use Rattle.decision_journal.specs.Calls as journal_calls
 use Rattle.decision_journal.specs.Calls.{IsCurrent, IsReady, IsUnready, IsUnwritten}
 use Rattle.decision_journal.specs.Journal.{Found, with_record}
@@ -16,9 +15,9 @@ use Rattle.decision_journal.specs.declared.record.JournalRecord.TheVariants.{Lif
 use Rattle.resource_end.specs.declared.fault.EndFault.{EndFault}
 use Rattle.resource_end.specs.End.{End, Resource}
 use Rattle.resource_end.specs.Faults.{write_fault}
-use Rattle.resource_end.specs.Recall.{Reread, Stands, StandsNot, Unread, reread, reread_by, sure, sure_of}
+use Rattle.resource_end.specs.Recall.{Stands, StandsNot, Unread, reread, reread_by, sure}
 use Rattle.resource_end.specs.Inside.{AnswersSo, ContentsState, HasReadAgain, IsRecallable, IsToldBy}
-use Rattle.resource_end.specs.Journaling.{IsCause, IsDiskFault, IsReread, IsRereadWhere}
+use Rattle.resource_end.specs.Journaling.{IsCause, IsDiskFault, IsRereadWhere}
 use Rattle.resource_end.proofs.Writing.{cells_more, doubts_one, seen}
 
 -- ---- why it is refused

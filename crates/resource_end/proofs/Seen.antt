@@ -1,9 +1,8 @@
 -- What a resource sees of a cell.
-use Rattle.std.proofs.Common.{◌≡◌, ◌∙◌, ℕ, Bool, true, false, cond, Option, Some, None, refl, sym, ap}
-use Rattle.std.specs.Prelude.{Result, Ok, Err}
+use Rattle.std.proofs.Common.{◌≡◌, ◌∙◌, ℕ, Bool, true, false, cond, Option, Some, None, refl, ap}
+use Rattle.std.specs.Prelude.{Ok, Err}
 use Rattle.std.specs.Option.{option_or}
 use Rattle.ior_refs.specs.declared.key.ObjectKey.{ObjectKey}
-use Rattle.resource_end.specs.declared.fault.EndFault.{EndFault}
 use Rattle.resource_end.specs.declared.fault.EndFault.TheVariants as faults
 use Rattle.resource_end.specs.States.{holds}
 use Rattle.resource_end.specs.Cells.{value_at}

@@ -1,10 +1,10 @@
 -- What records tell of resources: which record stands at a place, which resource it is of, and what it becomes.
-use Rattle.std.proofs.Common.{◌≡◌, ◌∙◌, inl, inr, ℕ, zero, suc, ◌+◌, ◌-◌, ◌<◌, ◌≤◌, Bool, true, false, cond, ltb, ltb-true, ◌&&◌, List, [], ◌∷◌, length, get_or, take, Option, Some, None, refl, sym, ap, subst, arith}
-use Rattle.std.specs.Prelude.{◌==◌, find, IfSome, IsSome, is_some}
+use Rattle.std.proofs.Common.{◌≡◌, ◌∙◌, inl, inr, ℕ, zero, suc, ◌<◌, ◌≤◌, Bool, true, false, cond, ltb, ltb-true, ◌&&◌, List, [], ◌∷◌, length, get_or, take, Option, Some, None, refl, sym, ap, subst, arith}
+use Rattle.std.specs.Prelude.{◌==◌, find, IfSome, is_some}
 use Rattle.std.specs.Map.{keys_of}
 use Rattle.std.specs.List.{Contains}
 use Rattle.std.specs.List.Sorted.{IsNonDecreasingBy, IsPartitionPoint, IsStrictlySortedBy}
-use Rattle.std.specs.Option.{option_and_then, option_map, unwrap_or}
+use Rattle.std.specs.Option.{option_and_then, unwrap_or}
 use Rattle.std.proofs.lemmas.Bool.{both_ways, cases_lt, eqb-true, ltb-false, ne_eqb, eq-eqb}
 use Rattle.std.proofs.lemmas.List.{get_or_default}
 use Rattle.decision_journal.specs.Index.{AreInOrder}
@@ -21,7 +21,7 @@ use Rattle.resource_end.specs.States.{is_forgotten, state_of, stores}
 use Rattle.resource_end.specs.Cells.{with_puts}
 use Rattle.resource_end.specs.End.{End, Resource, changes, is_numbered, kept, moved, with_resource}
 use Rattle.resource_end.specs.Recall.{ends_as, has_place, is_recorded_at, recalls, recalls_all, tells}
-use Rattle.resource_end.specs.Inside.{AreRecorded, AreWritable, ContentsState, Id, IsFoundAs, IsWritable, PassesAlone, RecordedAlone, ended, id_cmp, if_passes, numbered, prepared_at, prepared_id, put_by_record, puts_stored, resources_of, with_contents, without}
+use Rattle.resource_end.specs.Inside.{AreRecorded, AreWritable, ContentsState, Id, IsWritable, PassesAlone, RecordedAlone, ended, id_cmp, if_passes, numbered, prepared_at, prepared_id, put_by_record, puts_stored, resources_of, with_contents, without}
 use Rattle.resource_end.proofs.Claims.{if_cond, if_none, itself}
 use Rattle.resource_end.proofs.Finding.{found_with, found_without}
 use Rattle.resource_end.proofs.Named.{one_number}

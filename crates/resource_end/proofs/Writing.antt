@@ -1,5 +1,5 @@
 -- What an append and a reread of the journal make of what is known.
-use Rattle.std.proofs.Common.{◌≡◌, ◌∙◌, ◌⊎◌, inl, inr, ℕ, ◌+◌, ◌-◌, ◌<◌, Bool, true, false, List, [], ◌∷◌, ◌++◌, length, get_or, Option, Some, None, refl, sym, ap, subst, arith, length-append}
+use Rattle.std.proofs.Common.{◌≡◌, ◌∙◌, inl, inr, ℕ, ◌+◌, Bool, true, false, List, [], ◌∷◌, ◌++◌, length, Option, Some, None, refl, sym, ap, subst, arith, length-append}
 use Rattle.std.specs.Prelude.{◌==◌, find, IfSome, IsTrue, is_some, Result, Ok, Err}
 use Rattle.std.specs.List.{slice_get}
 use Rattle.std.specs.Option.{option_and_then, option_or}
@@ -20,11 +20,11 @@ use Rattle.decision_journal.specs.declared.record.JournalRecord.{JournalRecord}
 use Rattle.decision_journal.specs.declared.record.JournalRecord.TheVariants.{Life, Decision, Done, Prepared, CellsPrepared, CellsOutcome, CellsOnePhase}
 use Rattle.resource_end.specs.declared.fault.EndFault.{EndFault}
 use Rattle.resource_end.specs.declared.fault.EndFault.TheVariants as faults
-use Rattle.resource_end.specs.End.{End, Resource}
-use Rattle.resource_end.specs.Calls.{Written, StandsAt, Unwritten, InDoubt}
+use Rattle.resource_end.specs.End.{Resource}
+use Rattle.resource_end.specs.Calls.{StandsAt, Unwritten, InDoubt}
 use Rattle.resource_end.specs.Faults.{write_fault}
 use Rattle.resource_end.specs.Inside.{AreRecorded, ContentsState, HasWritten, Id, IsRecallable, IsToldBy, last_of, numbered, prepared_at, prepared_id, told_by_record}
-use Rattle.resource_end.specs.Journaling.{EndState, IsDiskFault, IsWritten}
+use Rattle.resource_end.specs.Journaling.{CanStand, EndState, IsDiskFault}
 
 -- ---- one record more
 
@@ -151,13 +151,13 @@ module _ {D : Type 0} (told : D → Option DiskState) (a b : JournalState D) (ro
       }
 
   -- it may stand or not
-  doubts : (fault : EndFault) → IsDiskFault fault → HasDoubt told (record a { room = room }) item b
+  doubts : (fault : EndFault) → CanStand a.found item → IsDiskFault fault → HasDoubt told (record a { room = room }) item b
       → HasWritten told (seen a drawn c changed) (seen b drawn c changed) (Err fault) (Some item) (λ written. told_by_record written item)
-  doubts fault kind h =
+  doubts fault can kind h =
       let found = h.doubt.journal.found ∙ ready_found told a h.ready room none h.is_ready in
       record {
         written = InDoubt fault;
-        wrote = (record { ready = h.ready; is_ready = roomless told a h.ready room h.is_ready; doubt = h.doubt }, kind);
+        wrote = (record { ready = h.ready; is_ready = roomless told a h.ready room h.is_ready; doubt = h.doubt }, kind, can);
         comes = record {
           end = (λ i. record {
             service = (h.doubt.journal.service ∙ h.is_ready.journal.service) i;
@@ -203,16 +203,16 @@ module _ {D : Type 0} (told : D → Option DiskState) (a b : JournalState D) (ro
   was_ready : {A : Type 0} → a.failed ≡ false → IsUnready told (record a { room = room }) b → A
   was_ready ready h = absurd (both_ways a.failed ready h.was)
 
-  pub refused : (fault : JournalFault) → a.failed ≡ false → IsRefusedAppend told (record a { room = room }) item b fault
+  pub refused : (fault : JournalFault) → CanStand a.found item → a.failed ≡ false → IsRefusedAppend told (record a { room = room }) item b fault
       → HasWritten told (seen a drawn c changed) (seen b drawn c changed) (Err (write_fault fault)) (Some item) (λ written. told_by_record written item)
-  refused journal_faults.DiskFault ready (inl h) = was_ready ready h
-  refused journal_faults.DiskFault ready (inr h) = doubts faults.PersistStore tt h
-  refused (journal_faults.Full u n) ready h = no_room u n h.0 h.1
-  refused (journal_faults.BadHeader place) ready h = was_ready ready h
-  refused (journal_faults.BadRecord place) ready h = was_ready ready h
-  refused journal_faults.LivesSpent ready h = absurd h
-  refused journal_faults.Memory ready (inl h) = was_ready ready h
-  refused journal_faults.Memory ready (inr h) = doubts faults.Memory tt h
+  refused journal_faults.DiskFault can ready (inl h) = was_ready ready h
+  refused journal_faults.DiskFault can ready (inr h) = doubts faults.PersistStore can tt h
+  refused (journal_faults.Full u n) can ready h = no_room u n h.0 h.1
+  refused (journal_faults.BadHeader place) can ready h = was_ready ready h
+  refused (journal_faults.BadRecord place) can ready h = was_ready ready h
+  refused journal_faults.LivesSpent can ready h = absurd h
+  refused journal_faults.Memory can ready (inl h) = was_ready ready h
+  refused journal_faults.Memory can ready (inr h) = doubts faults.Memory can tt h
 
 -- ---- what is known where a record was appended
 

@@ -23,7 +23,7 @@ use Rattle.resource_end.specs.Cells.{value_at, with_puts}
 use Rattle.resource_end.specs.End.{End, Resource, is_named, is_numbered, kept, moved, named, record_for, with_place}
 use Rattle.resource_end.specs.Recall.{Reread, is_recorded_at, recalls, reread}
 use Rattle.ots_outside.specs.Disk.{DiskState}
-use Rattle.decision_journal.specs.State.{JournalState}
+use Rattle.decision_journal.specs.State.{IsKept, JournalState, StaysWithinArea}
 use Rattle.resource_end.specs.declared.fault.EndFault.{EndFault}
 use Rattle.resource_end.specs.declared.fault.EndFault.TheVariants as faults
 use Rattle.resource_end.specs.Calls.{Called, Written, StandsAt, Unwritten, InDoubt, ask_of, changing, done, is_open, refused}
@@ -335,6 +335,14 @@ pub record IsWhole {D : Type 0} (journal : JournalState D) (drawn : ℕ) (recove
   pub writable : AreWritable drawn resources
   pub recallable : IfSome journal.doubted (λ item. IsRecallable item recovery resources)
   pub failed : journal.failed ≡ is_some journal.doubted
+
+-- What an end knows of its disk: what its journal may find keeps the rules, and a crash leaves no more; a record is in doubt
+-- where a call has failed
+pub record IsKeptWhole {D : Type 0} (told : D → Option DiskState) (e : EndState D) : Type 0 where
+  pub kept : IsKept e.journal.failed e.journal.octets e.journal.doubted (told e.journal.disk)
+  pub each : StaysWithinArea e.journal
+  pub failed : e.journal.failed ≡ is_some e.journal.doubted
+  pub doubted : e.end.doubted ≡ e.journal.doubted
 
 -- a change may come out of a call on it: it makes nothing that can put, and no holder of what held nothing
 pub record CanMove (before after : State) : Type 0 where

@@ -1,9 +1,10 @@
 -- What a call of an end makes of its journal, and what the journal answers in it (our profile).
-use Rattle.std.specs.Prelude.{◌≡◌, ◌⊎◌, ℕ, Bool, true, false, List, length, Option, Some, None, IfSome, Result, Ok, Err}
+use Rattle.std.specs.Prelude.{◌≡◌, ◌⊎◌, ℕ, Bool, true, false, length, Option, Some, None, IfSome, IsTrue, Result, Ok, Err}
 use Rattle.ots_outside.specs.Disk.{DiskState}
 use Rattle.ots_outside.specs.Source.{HasRisen}
 use Rattle.decision_journal.specs.declared.record.JournalRecord.{JournalRecord}
-use Rattle.decision_journal.specs.Journal.{with_record}
+use Rattle.decision_journal.specs.Layout.{Fits}
+use Rattle.decision_journal.specs.Journal.{Found, can_follow, with_record}
 use Rattle.decision_journal.specs.State.{HasNoRoom, JournalState}
 use Rattle.decision_journal.specs.Calls.{HasAppended, HasDoubt, IsReady, IsUnready}
 use Rattle.resource_end.specs.declared.fault.EndFault.{EndFault}
@@ -58,11 +59,16 @@ IsUnwrittenBy told before after r fault =
     ⊎ (IsReady told before after × (fault ≡ faults.NoResources)
     × ((u : ℕ) × (n : ℕ) × HasNoRoom after.area after.octets after.found r u n))
 
+-- a record keeps the rules of a journal where this was found
+pub record CanStand (found : Found) (r : JournalRecord) : Type 0 where
+  pub fits : Fits r
+  pub follows : IsTrue (can_follow found r)
+
 -- writing the record came to this
 abbrev pub IsWritten : {D : Type 0} → (D → Option DiskState) → JournalState D → JournalState D → JournalRecord → Written → Type 0
 IsWritten told before after r (StandsAt place) = HasAppended told before r after place
 IsWritten told before after r (Unwritten fault) = IsUnwrittenBy told before after r fault
-IsWritten told before after r (InDoubt fault) = HasDoubt told before r after × IsDiskFault fault
+IsWritten told before after r (InDoubt fault) = HasDoubt told before r after × IsDiskFault fault × CanStand before.found r
 
 -- a record is written where there is one, and else the journal stays as it is
 abbrev pub IsWrittenWhere : {D : Type 0} → Option JournalRecord → (D → Option DiskState) → JournalState D → JournalState D → Written → Type 0

@@ -7,6 +7,7 @@ pub mod Recall
 pub mod Calls
 pub mod Inside
 pub mod Journaling
+pub mod Crashes
 pub mod Faults
 pub mod TableByState
 pub mod Plays

@@ -14,6 +14,8 @@ ghost use Rattle.resource_end.specs.Calls as calls;
 ghost use Rattle.resource_end.specs.Faults.{IsLoadCause};
 ghost use Rattle.resource_end.specs.Inside as inside;
 ghost use Rattle.resource_end.specs.Journaling as journaling;
+ghost use Rattle.resource_end.specs.Crashes as crashes;
+ghost use Rattle.resource_end.specs.Crashes.{Makes};
 
 use crate::contents::Contents;
 use crate::fault::EndFault;
@@ -83,6 +85,8 @@ impl<D: Disk> ResourceEnd<D> {
     ) -> Result<ResourceEnd<D>, Back<D, EndFault>>
         requires { area ≤ area_limit }
         ensures end { IfOk result (λ e. e.end ≡ loaded service e.journal.found) }
+        ensures made { IfOk result
+            (λ e. IfSome (D.told disk) (λ s. Makes service s.reads e.end)) }
         ensures area { IfOk result (λ e. e.journal.area ≡ area) }
         ensures service { IfOk result (λ e. e.journal.service ≡ service) }
         ensures failed { IfOk result (λ e. e.journal.failed ≡ false) }
@@ -249,6 +253,20 @@ impl<D: Disk> ResourceEnd<D> {
     /// one holds the cell (Transient), and where it has put 1,024 other cells (NoResources).
     pub fn put(&mut self, key: &ObjectKey, cell: u64, value: u64) -> Result<(), EndFault>
         ensures called { journaling.IsCalledOrStarved D.told self.old self.new result (calls.put key.now cell value) }
+        ensures crash { crashes.IsCrashSafe D.told self.old self.new }
+        ensures fault { IfErr result (journaling.IsCause (D.told self.new.journal.disk)
+            (D.faults self.old.journal.disk) (D.faults self.new.journal.disk)) }
+        ensures later { D.faults self.old.journal.disk ≤ D.faults self.new.journal.disk }
+    {
+        self.kept();
+        let said = self.try_put(key, cell, value);
+        self.kept();
+        said
+    }
+
+    /// Puts a value into a cell, or is refused.
+    fn try_put(&mut self, key: &ObjectKey, cell: u64, value: u64) -> Result<(), EndFault>
+        ensures called { journaling.IsCalledOrStarved D.told self.old self.new result (calls.put key.now cell value) }
         ensures fault { IfErr result (journaling.IsCause (D.told self.new.journal.disk)
             (D.faults self.old.journal.disk) (D.faults self.new.journal.disk)) }
         ensures later { D.faults self.old.journal.disk ≤ D.faults self.new.journal.disk }
@@ -270,6 +288,20 @@ impl<D: Disk> ResourceEnd<D> {
     /// where the key names no resource (ObjectNotExist), and where the resource has gone too far (Inactive).
     pub fn refuse(&mut self, key: &ObjectKey) -> Result<(), EndFault>
         ensures called { journaling.IsCalled D.told self.old self.new result journaling.nothing (calls.refuse key.now) }
+        ensures crash { crashes.IsCrashSafe D.told self.old self.new }
+        ensures fault { IfErr result (journaling.IsCause (D.told self.new.journal.disk)
+            (D.faults self.old.journal.disk) (D.faults self.new.journal.disk)) }
+        ensures later { D.faults self.old.journal.disk ≤ D.faults self.new.journal.disk }
+    {
+        self.kept();
+        let said = self.try_refuse(key);
+        self.kept();
+        said
+    }
+
+    /// Makes a resource vote rollback, or is refused.
+    fn try_refuse(&mut self, key: &ObjectKey) -> Result<(), EndFault>
+        ensures called { journaling.IsCalled D.told self.old self.new result journaling.nothing (calls.refuse key.now) }
         ensures fault { IfErr result (journaling.IsCause (D.told self.new.journal.disk)
             (D.faults self.old.journal.disk) (D.faults self.new.journal.disk)) }
         ensures later { D.faults self.old.journal.disk ≤ D.faults self.new.journal.disk }
@@ -285,6 +317,21 @@ impl<D: Disk> ResourceEnd<D> {
     /// refused where the key names no resource (ObjectNotExist), where it doesn't wait (Inactive), and where the journal fails
     /// (PersistStore) or is full (NoResources).
     pub fn choose_heuristic(&mut self, key: &ObjectKey, d: Decision) -> Result<(), EndFault>
+        ensures called { journaling.IsCalled D.told self.old self.new result
+            (calls.wanted_by_choice d key.now) (calls.choose_heuristic key.now d) }
+        ensures crash { crashes.IsCrashSafe D.told self.old self.new }
+        ensures fault { IfErr result (journaling.IsCause (D.told self.new.journal.disk)
+            (D.faults self.old.journal.disk) (D.faults self.new.journal.disk)) }
+        ensures later { D.faults self.old.journal.disk ≤ D.faults self.new.journal.disk }
+    {
+        self.kept();
+        let said = self.try_choice(key, d);
+        self.kept();
+        said
+    }
+
+    /// Makes a resource decide by itself, or is refused.
+    fn try_choice(&mut self, key: &ObjectKey, d: Decision) -> Result<(), EndFault>
         ensures called { journaling.IsCalled D.told self.old self.new result
             (calls.wanted_by_choice d key.now) (calls.choose_heuristic key.now d) }
         ensures fault { IfErr result (journaling.IsCause (D.told self.new.journal.disk)
@@ -307,6 +354,7 @@ impl<D: Disk> ResourceEnd<D> {
     pub fn prepare(&mut self, key: &ObjectKey) -> Result<Heard, EndFault>
         ensures called { journaling.IsCalled D.told (journaling.afresh self.old) self.new result
             (calls.wanted Word.Prepare key.now) (calls.told Word.Prepare key.now) }
+        ensures crash { crashes.IsCrashSafe D.told self.old self.new }
         ensures fault { IfErr result (journaling.IsCause (D.told self.new.journal.disk)
             (D.faults self.old.journal.disk) (D.faults self.new.journal.disk)) }
         ensures later { D.faults self.old.journal.disk ≤ D.faults self.new.journal.disk }
@@ -319,6 +367,7 @@ impl<D: Disk> ResourceEnd<D> {
     pub fn commit(&mut self, key: &ObjectKey) -> Result<Heard, EndFault>
         ensures called { journaling.IsCalled D.told (journaling.afresh self.old) self.new result
             (calls.wanted Word.Commit key.now) (calls.told Word.Commit key.now) }
+        ensures crash { crashes.IsCrashSafe D.told self.old self.new }
         ensures fault { IfErr result (journaling.IsCause (D.told self.new.journal.disk)
             (D.faults self.old.journal.disk) (D.faults self.new.journal.disk)) }
         ensures later { D.faults self.old.journal.disk ≤ D.faults self.new.journal.disk }
@@ -331,6 +380,7 @@ impl<D: Disk> ResourceEnd<D> {
     pub fn rollback(&mut self, key: &ObjectKey) -> Result<Heard, EndFault>
         ensures called { journaling.IsCalled D.told (journaling.afresh self.old) self.new result
             (calls.wanted Word.Rollback key.now) (calls.told Word.Rollback key.now) }
+        ensures crash { crashes.IsCrashSafe D.told self.old self.new }
         ensures fault { IfErr result (journaling.IsCause (D.told self.new.journal.disk)
             (D.faults self.old.journal.disk) (D.faults self.new.journal.disk)) }
         ensures later { D.faults self.old.journal.disk ≤ D.faults self.new.journal.disk }
@@ -343,6 +393,7 @@ impl<D: Disk> ResourceEnd<D> {
     pub fn commit_one_phase(&mut self, key: &ObjectKey) -> Result<Heard, EndFault>
         ensures called { journaling.IsCalled D.told (journaling.afresh self.old) self.new result
             (calls.wanted Word.CommitOnePhase key.now) (calls.told Word.CommitOnePhase key.now) }
+        ensures crash { crashes.IsCrashSafe D.told self.old self.new }
         ensures fault { IfErr result (journaling.IsCause (D.told self.new.journal.disk)
             (D.faults self.old.journal.disk) (D.faults self.new.journal.disk)) }
         ensures later { D.faults self.old.journal.disk ≤ D.faults self.new.journal.disk }
@@ -355,6 +406,7 @@ impl<D: Disk> ResourceEnd<D> {
     pub fn forget(&mut self, key: &ObjectKey) -> Result<Heard, EndFault>
         ensures called { journaling.IsCalled D.told (journaling.afresh self.old) self.new result
             (calls.wanted Word.Forget key.now) (calls.told Word.Forget key.now) }
+        ensures crash { crashes.IsCrashSafe D.told self.old self.new }
         ensures fault { IfErr result (journaling.IsCause (D.told self.new.journal.disk)
             (D.faults self.old.journal.disk) (D.faults self.new.journal.disk)) }
         ensures later { D.faults self.old.journal.disk ≤ D.faults self.new.journal.disk }
@@ -379,6 +431,21 @@ impl<D: Disk> ResourceEnd<D> {
     pub fn learn(&mut self, key: &ObjectKey, heard: &Heard) -> Result<(), EndFault>
         ensures called { journaling.IsCalled D.told (journaling.afresh self.old) self.new result
             (calls.wanted_by_answer heard.now key.now) (calls.learn key.now heard.now) }
+        ensures crash { crashes.IsCrashSafe D.told self.old self.new }
+        ensures fault { IfErr result (journaling.IsCause (D.told self.new.journal.disk)
+            (D.faults self.old.journal.disk) (D.faults self.new.journal.disk)) }
+        ensures later { D.faults self.old.journal.disk ≤ D.faults self.new.journal.disk }
+    {
+        self.kept();
+        let said = self.try_learn(key, heard);
+        self.kept();
+        said
+    }
+
+    /// Tells a resource the answer to its ask, or is refused.
+    fn try_learn(&mut self, key: &ObjectKey, heard: &Heard) -> Result<(), EndFault>
+        ensures called { journaling.IsCalled D.told (journaling.afresh self.old) self.new result
+            (calls.wanted_by_answer heard.now key.now) (calls.learn key.now heard.now) }
         ensures fault { IfErr result (journaling.IsCause (D.told self.new.journal.disk)
             (D.faults self.old.journal.disk) (D.faults self.new.journal.disk)) }
         ensures later { D.faults self.old.journal.disk ≤ D.faults self.new.journal.disk }
@@ -400,6 +467,21 @@ impl<D: Disk> ResourceEnd<D> {
     fn told(&mut self, word: Word, key: &ObjectKey) -> Result<Heard, EndFault>
         ensures called { journaling.IsCalled D.told (journaling.afresh self.old) self.new result
             (calls.wanted word key.now) (calls.told word key.now) }
+        ensures crash { crashes.IsCrashSafe D.told self.old self.new }
+        ensures fault { IfErr result (journaling.IsCause (D.told self.new.journal.disk)
+            (D.faults self.old.journal.disk) (D.faults self.new.journal.disk)) }
+        ensures later { D.faults self.old.journal.disk ≤ D.faults self.new.journal.disk }
+    {
+        self.kept();
+        let said = self.try_word(word, key);
+        self.kept();
+        said
+    }
+
+    /// Tells a resource a word, or is refused.
+    fn try_word(&mut self, word: Word, key: &ObjectKey) -> Result<Heard, EndFault>
+        ensures called { journaling.IsCalled D.told (journaling.afresh self.old) self.new result
+            (calls.wanted word key.now) (calls.told word key.now) }
         ensures fault { IfErr result (journaling.IsCause (D.told self.new.journal.disk)
             (D.faults self.old.journal.disk) (D.faults self.new.journal.disk)) }
         ensures later { D.faults self.old.journal.disk ≤ D.faults self.new.journal.disk }
@@ -416,6 +498,13 @@ impl<D: Disk> ResourceEnd<D> {
             self.changed = next.shown();
         }
         row.said
+    }
+
+    /// What the disk holds is known.
+    fn kept(&self)
+        ensures { inside.IsKeptWhole D.told self.now }
+    {
+        let _disk = self.journal.disk();
     }
 
     /// It is refused where the resource that a key names can't put.

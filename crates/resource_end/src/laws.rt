@@ -1,4 +1,5 @@
 // Laws of the definitions: these functions do nothing, and their contracts are the laws.
+ghost use Rattle.resource_end.specs.Crashes.{RestartsTellOneMore};
 ghost use Rattle.resource_end.specs.Laws.{ChangesStoreOnce, ChoicesStay, HeldCellsAreHeld, LoadsTellOneMore, NumbersRise, PutsAreStored, RecordsTellChanges, StoresOnce};
 ghost use Rattle.resource_end.specs.Plays.{EndsPlay};
 ghost use Rattle.resource_end.specs.TableByState.{TableByState};
@@ -48,6 +49,11 @@ pub fn records_tell_changes()
 /// a call the record of its change counts whole, or not at all.
 pub fn loads_tell_one_more()
     ensures { LoadsTellOneMore }
+{}
+
+/// What a load would make once a record of cells stands is what it would have made before, and then what that record tells.
+pub fn restarts_tell_one_more()
+    ensures { RestartsTellOneMore }
 {}
 
 /// Each object that is made in a life has a number above those before it, and no other call makes an end count.

@@ -1,4 +1,4 @@
-use Rattle.std.proofs.Common.{◌≡◌, ◌∙◌, ◌<◌, length, get_or, List, ap, sym, subst, arith}
+use Rattle.std.proofs.Common.{◌∙◌, List, ap, sym, subst, arith}
 use Rattle.std.proofs.lemmas.List.{get_or_default}
 use Rattle.decision_journal.specs.declared.record.Put.{Put}
 use Rattle.resource_end.specs.Inside.{IsGap}

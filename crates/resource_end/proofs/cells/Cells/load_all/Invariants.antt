@@ -1,4 +1,4 @@
-use Rattle.std.proofs.Common.{ℕ, ◌≡◌, ◌≤◌, length, drop}
+use Rattle.std.proofs.Common.{◌≡◌, ◌≤◌, length, drop}
 use Rattle.resource_end.specs.Cells.{with_puts}
 use Rattle.resource_end.specs.Inside as inside
 use Rattle.resource_end.proofs.cells.Cells.load_all.Given as goal

@@ -1,5 +1,4 @@
-use Rattle.std.proofs.Common.{ℕ, ◌≡◌, ◌≤◌, length, drop}
-use Rattle.std.specs.List.{AllByRecursion}
+use Rattle.std.proofs.Common.{◌≡◌, ◌≤◌, length, drop}
 use Rattle.resource_end.specs.Cells.{with_puts}
 use Rattle.resource_end.specs.Inside as inside
 use Rattle.resource_end.proofs.cells.Cells.store_all.Given as goal

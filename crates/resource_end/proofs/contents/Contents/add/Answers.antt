@@ -1,4 +1,4 @@
-use Rattle.std.proofs.Common.{◌≡◌, ◌∙◌, refl, ap, sym, subst}
+use Rattle.std.proofs.Common.{◌∙◌, refl, ap, sym, subst}
 use Rattle.std.proofs.lemmas.Bool.{both_ways}
 use Rattle.resource_end.specs.End.{with_resource}
 use Rattle.resource_end.specs.Inside.{AreHeld, fresh_one, holds_cell, resource_at}

@@ -1,4 +1,4 @@
-use Rattle.std.proofs.Common.{◌≡◌, ap, sym, subst}
+use Rattle.std.proofs.Common.{◌≡◌, sym, subst}
 use Rattle.std.specs.Prelude.{IsSome}
 use Rattle.resource_end.specs.End.{with_resource}
 use Rattle.resource_end.specs.Calls.{bound}

@@ -1,4 +1,4 @@
-use Rattle.std.proofs.Common.{◌≡◌, None, ap, sym, subst}
+use Rattle.std.proofs.Common.{◌≡◌, None, sym, subst}
 use Rattle.std.specs.Prelude.{find, IfSome, IsSome}
 use Rattle.resource_end.specs.End.{with_resource}
 use Rattle.resource_end.specs.Calls.{with_cell}

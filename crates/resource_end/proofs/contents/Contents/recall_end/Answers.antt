@@ -1,4 +1,4 @@
-use Rattle.std.proofs.Common.{◌≡◌, ◌∙◌, Some, None, ap, sym, subst}
+use Rattle.std.proofs.Common.{◌≡◌, ◌∙◌, None, ap, sym, subst}
 use Rattle.std.specs.Prelude.{find, IsSome}
 use Rattle.resource_end.specs.States.{holds, state_of}
 use Rattle.resource_end.specs.Recall.{is_recorded_at}

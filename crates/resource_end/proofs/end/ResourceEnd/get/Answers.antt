@@ -1,4 +1,4 @@
-use Rattle.std.proofs.Common.{◌≡◌, ◌∙◌, Some, None, ap, sym}
+use Rattle.std.proofs.Common.{◌∙◌, ap, sym}
 use Rattle.std.specs.Prelude.{find, Ok}
 use Rattle.std.specs.Option.{option_or}
 use Rattle.resource_end.specs.End.{is_named, named, stored}

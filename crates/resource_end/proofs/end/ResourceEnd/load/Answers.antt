@@ -1,7 +1,8 @@
-use Rattle.std.proofs.Common.{◌≡◌, ◌∙◌, None, ap, sym}
+use Rattle.std.proofs.Common.{◌∙◌, None, ap, sym, subst}
+use Rattle.decision_journal.specs.State.{IsWithinArea}
 use Rattle.resource_end.specs.End.{End}
 use Rattle.resource_end.specs.Recall.{new_end, recalls_all}
-use Rattle.resource_end.specs.Inside.{with_contents}
+use Rattle.resource_end.proofs.Crashing.{load_makes}
 use Rattle.resource_end.proofs.end.ResourceEnd.load.Goals as goal
 
 pub returns-in-Ok-load_all-clause-end : goal.returns-in-Ok-load_all-clause-end
@@ -18,3 +19,9 @@ returns-in-Ok-load_all-clause-end g c =
     })
     ∙ sym (c.in-Ok-load_all.ensures.contents known)
     ∙ ap (λ xs. recalls_all xs known) c.standing.ensures.same
+
+pub returns-in-Ok-load_all-clause-made : goal.returns-in-Ok-load_all-clause-made
+returns-in-Ok-load_all-clause-made g c =
+    load_makes c.args.service c.in-Ok.journal.area c.in-Ok.journal.octets c.in-Ok.journal.found (g.D.Disk.told c.args.disk) (g.D.Disk.told c.in-Ok.journal.disk) _
+    (subst (λ n. IsWithinArea c.in-Ok.journal.area n c.in-Ok.journal.octets c.in-Ok.journal.found) c.in-Ok.ensures.service c.in-Ok.ensures.current.within)
+    c.in-Ok.ensures.current.rest c.in-Ok.ensures.done (returns-in-Ok-load_all-clause-end g c)

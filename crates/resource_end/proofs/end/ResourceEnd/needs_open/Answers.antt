@@ -1,8 +1,8 @@
-use Rattle.std.proofs.Common.{◌≡◌, ◌∙◌, inl, inr, None, Some, false, refl, ap, sym, subst}
+use Rattle.std.proofs.Common.{◌≡◌, ◌∙◌, inl, inr, None, Some, refl, ap, sym, subst}
 use Rattle.std.specs.Prelude.{find}
 use Rattle.resource_end.specs.Calls.{is_open}
 use Rattle.resource_end.specs.End.{is_named, named}
-use Rattle.resource_end.specs.Inside.{IsNamed, IsNotOpen, IsOpen, numbered}
+use Rattle.resource_end.specs.Inside.{IsNamed, numbered}
 use Rattle.resource_end.proofs.end.ResourceEnd.needs_open.Goals as goal
 
 pub returns-clause-can_put : goal.returns-clause-can_put

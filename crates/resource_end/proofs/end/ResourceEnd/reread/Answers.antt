@@ -1,7 +1,6 @@
-use Rattle.std.proofs.Common.{◌≡◌, ◌∙◌, ◌<◌, ◌≤◌, ◌∷◌, [], length, refl, ap, sym, subst, arith}
+use Rattle.std.proofs.Common.{◌∙◌, ◌<◌, ◌≤◌, ◌∷◌, [], length, ap, sym, subst, arith}
 use Rattle.std.specs.Prelude.{Ok, Err}
 use Rattle.decision_journal.specs.Journal.{Found}
-use Rattle.decision_journal.specs.declared.journal.Standing.{Standing}
 use Rattle.resource_end.specs.Faults.{write_fault}
 use Rattle.resource_end.specs.Inside.{AreRecorded, HasReadAgain, IsRecallable, last_of}
 use Rattle.resource_end.proofs.Rereading.{found_more, found_same, in_doubt, is_ready, known, no_reread, read_kind, recallable_cells, stands, stands_not, unread}

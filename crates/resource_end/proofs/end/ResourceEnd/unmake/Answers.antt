@@ -1,9 +1,9 @@
-use Rattle.std.proofs.Common.{◌≡◌, ◌∙◌, None, Some, false, true, refl, ap, sym, subst}
+use Rattle.std.proofs.Common.{◌≡◌, ◌∙◌, None, refl, ap, sym, subst}
 use Rattle.std.specs.Prelude.{find, IsSome}
 use Rattle.resource_end.specs.declared.state.State.TheVariants as states
 use Rattle.resource_end.specs.Calls.{is_fresh, unmake}
 use Rattle.resource_end.specs.End.{is_named}
-use Rattle.resource_end.specs.Inside.{IsNamed, IsWhole, changed, numbered, placed, without}
+use Rattle.resource_end.specs.Inside.{IsNamed, IsWhole, changed, numbered, placed}
 use Rattle.resource_end.proofs.Claims.{at_known, its_number, itself}
 use Rattle.resource_end.proofs.Frames.{whole_unmade}
 use Rattle.resource_end.proofs.Making.{fresh_state, unmade_none, unmade_not, unmade_one}

@@ -1,9 +1,10 @@
 use Rattle.std.proofs.Common.{◌≡◌, ◌∙◌, ◌∷◌, [], false, Some, refl, ap, sym, subst}
-use Rattle.std.specs.Prelude.{Ok, Err}
+use Rattle.std.specs.Prelude.{IsTrue, Ok, Err}
 use Rattle.decision_journal.specs.Calls.{HasAppended, IsRefusedAppend}
-use Rattle.decision_journal.specs.Journal.{Found}
+use Rattle.decision_journal.specs.Journal.{Found, can_follow}
 use Rattle.resource_end.specs.declared.fault.EndFault.TheVariants as faults
 use Rattle.resource_end.specs.Faults.{write_fault}
+use Rattle.resource_end.specs.Journaling.{CanStand}
 use Rattle.resource_end.specs.Inside.{AreRecorded, HasWritten, IsRecallable, last_of, told_by_record}
 use Rattle.resource_end.proofs.Writing.{appended_found, doubts_nothing, last_appended, last_recallable, last_told, memory_err, more_recorded, refused, seen, starved, wrote}
 use Rattle.resource_end.proofs.end.ResourceEnd.write.Goals as goal
@@ -70,10 +71,11 @@ pub returns-in-Err-clause-writes : goal.returns-in-Err-clause-writes
 returns-in-Err-clause-writes g c =
     let ready = subst (λ s. s.journal.failed ≡ false) (sym c.self.view_is) c.requires.ready in
     let none = doubts_nothing c.self.inside.journal.failed c.self.inside.journal.doubted ready c.self.invariant.failed in
+    let can : CanStand c.self.inside.journal.found c.args.item = record { fits = c.requires.fits; follows = subst (λ s. IsTrue (can_follow s.journal.found c.args.item)) (sym c.self.view_is) c.requires.follows } in
     let why = subst (λ j. IsRefusedAppend g.D.Disk.told j c.args.item c.append.new.self c.in-Err.fault) c.reserve.ensures.same c.in-Err.ensures.refused in
     subst (λ f. HasWritten g.D.Disk.told c.args.self.now (seen c.append.new.self c.self.inside.drawn c.self.inside.contents c.self.inside.changed) (Err f)
     (Some c.args.item) (λ written. told_by_record written c.args.item)) (sym c.of_write.ensures)
     (subst (λ s. HasWritten g.D.Disk.told s (seen c.append.new.self c.self.inside.drawn c.self.inside.contents c.self.inside.changed) (Err (write_fault c.in-Err.fault))
     (Some c.args.item) (λ written. told_by_record written c.args.item)) c.self.view_is
     (refused g.D.Disk.told c.self.inside.journal c.append.new.self c.reserve.new.self.room c.self.inside.drawn c.self.inside.contents c.self.inside.changed
-    c.args.item none c.in-Err.fault ready why))
+    c.args.item none c.in-Err.fault can ready why))

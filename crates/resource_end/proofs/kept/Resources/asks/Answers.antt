@@ -1,4 +1,4 @@
-use Rattle.std.proofs.Common.{◌≡◌, ◌∙◌, refl, ap, sym, subst}
+use Rattle.std.proofs.Common.{◌∙◌, refl, ap, sym, subst}
 use Rattle.resource_end.specs.Asking.{HasFrontOf}
 use Rattle.resource_end.specs.Inside.{asks_of, resource_at, resources_of}
 use Rattle.resource_end.proofs.Asked.{asked_all, asked_first, asked_front, asked_one}

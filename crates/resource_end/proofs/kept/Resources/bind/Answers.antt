@@ -5,9 +5,9 @@ use Rattle.std.specs.List.{sum_by}
 use Rattle.std.specs.Map.{values_of}
 use Rattle.std.specs.Option.{option_map}
 use Rattle.resource_end.specs.States.{is_unfinished}
-use Rattle.resource_end.specs.End.{Resource, with_resource}
+use Rattle.resource_end.specs.End.{Resource}
 use Rattle.resource_end.specs.Calls.{bound}
-use Rattle.resource_end.specs.Inside.{id_cmp, numbered, resources_of, weight}
+use Rattle.resource_end.specs.Inside.{id_cmp, numbered, weight}
 use Rattle.resource_end.proofs.Counted.{after_set, it_is, of_none, same_count}
 use Rattle.resource_end.proofs.kept.Resources.bind.Goals as goal
 use Rattle.resource_end.proofs.kept.Resources.bind.Goals.{in-Some, in-None}

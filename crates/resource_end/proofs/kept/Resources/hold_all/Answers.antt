@@ -1,7 +1,7 @@
-use Rattle.std.proofs.Common.{◌≡◌, ◌∙◌, ◌||◌, Some, refl, ap, sym, subst}
+use Rattle.std.proofs.Common.{◌∙◌, refl, ap, sym, subst}
 use Rattle.std.specs.Map.Iter.{deref_pair}
 use Rattle.std.proofs.lemmas.Map.Iter.{btree_map_turn}
-use Rattle.resource_end.specs.Inside.{numbered, resource_at, resources_of}
+use Rattle.resource_end.specs.Inside.{resources_of}
 use Rattle.resource_end.proofs.Counted.{it_is}
 use Rattle.resource_end.proofs.Holding.{Held, held_first, held_last, held_more}
 use Rattle.resource_end.proofs.Numbered.{id_total}

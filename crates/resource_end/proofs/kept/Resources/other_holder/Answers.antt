@@ -1,8 +1,8 @@
-use Rattle.std.proofs.Common.{◌≡◌, ◌∙◌, true, Option, Some, None, refl, ap, sym}
+use Rattle.std.proofs.Common.{◌≡◌, ◌∙◌, true, Option, Some, None, ap, sym}
 use Rattle.std.specs.Prelude.{IfSome}
 use Rattle.std.specs.Option.{unwrap_or}
 use Rattle.resource_end.specs.End.{Resource}
-use Rattle.resource_end.specs.Inside.{HoldsAlone, Id, PassesAlone, holds_cell, numbered}
+use Rattle.resource_end.specs.Inside.{holds_cell, numbered}
 use Rattle.resource_end.proofs.kept.Resources.other_holder.Goals as goal
 
 pub holder_beside-requires : goal.holder_beside-requires

@@ -1,7 +1,6 @@
 use Rattle.std.proofs.Common.{◌≡◌, ◌∙◌, ◌+◌, ◌-◌, cond, ap, sym, arith, rules}
 use Rattle.std.specs.List.{sum_by}
 use Rattle.std.specs.Map.{values_of}
-use Rattle.std.specs.Result.{OnErr}
 use Rattle.resource_end.specs.States.{is_unfinished}
 use Rattle.resource_end.specs.End.{Resource}
 use Rattle.resource_end.specs.Calls.{with_cell}

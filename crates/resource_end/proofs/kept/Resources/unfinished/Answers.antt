@@ -1,4 +1,4 @@
-use Rattle.std.proofs.Common.{◌≡◌, ◌∙◌, ap}
+use Rattle.std.proofs.Common.{◌∙◌, ap}
 use Rattle.std.specs.List.{count_by}
 use Rattle.resource_end.specs.States.{is_unfinished}
 use Rattle.resource_end.specs.End.{Resource}

@@ -1,8 +1,8 @@
 use Rattle.std.proofs.Common.{◌≡◌, ◌∙◌, None, ap, sym, subst}
-use Rattle.std.specs.Prelude.{find, IfSome, IsSome}
+use Rattle.std.specs.Prelude.{find, IsSome}
 use Rattle.resource_end.specs.States.{state_of}
 use Rattle.resource_end.specs.Cells.{with_puts}
-use Rattle.resource_end.specs.End.{Resource, kept, moved}
+use Rattle.resource_end.specs.End.{kept, moved}
 use Rattle.resource_end.specs.Recall.{is_recorded_at}
 use Rattle.resource_end.specs.Inside.{AreRecorded, IsRecorded, contents_of, ended, numbered, placed, puts_stored, stored_cells}
 use Rattle.resource_end.proofs.Claims.{at_known, its_number, itself, known, on_ok}

@@ -1,4 +1,4 @@
-use Rattle.std.proofs.Common.{◌≡◌, ◌∙◌, [], Some, None, ap, sym, subst}
+use Rattle.std.proofs.Common.{◌∙◌, [], Some, None, ap, sym, subst}
 use Rattle.std.specs.Prelude.{find}
 use Rattle.resource_end.specs.declared.state.State.TheVariants as states
 use Rattle.resource_end.specs.Recall.{is_recorded_at}
