@@ -25,3 +25,4 @@ mod Changing
 mod Asked
 mod Counting
 mod Crashing
+mod Applied

@@ -1,5 +1,5 @@
 -- Laws of a resource end: what its cells have, who holds them, and what stays (our profile).
-use Rattle.std.specs.Prelude.{◌≡◌, ℕ, ◌+◌, ◌⊎◌, Bool, true, false, List, [], ◌∷◌, ◌++◌, Ok, Option, Some, None, IfSome, find, is_some}
+use Rattle.std.specs.Prelude.{◌≡◌, ℕ, ◌+◌, ◌⊎◌, Bool, true, false, ◌&&◌, if◌then◌else◌, List, [], ◌∷◌, ◌++◌, Ok, Option, Some, None, IfSome, find, is_some}
 use Rattle.std.specs.List.{Contains}
 use Rattle.std.specs.Option.{option_or}
 use Rattle.ior_refs.specs.declared.key.ObjectKey.{ObjectKey}
@@ -12,13 +12,13 @@ use Rattle.resource_end.specs.declared.state.State.{State}
 use Rattle.resource_end.specs.declared.state.State.TheVariants as states
 use Rattle.resource_end.specs.declared.state.Word.{Word}
 use Rattle.resource_end.specs.declared.state.Word.TheVariants as words
-use Rattle.resource_end.specs.States.{holds, learnt, stores}
+use Rattle.resource_end.specs.States.{holds, is_prepared, learnt, stores}
 use Rattle.resource_end.specs.Table.{row}
 use Rattle.resource_end.specs.Cells.{value_at, with_puts}
 use Rattle.decision_journal.specs.declared.record.JournalRecord.{JournalRecord}
 use Rattle.resource_end.specs.Recall.{is_recorded_at, loaded, recalls}
-use Rattle.resource_end.specs.Calls.{Journaled, bind, choose_heuristic, fresh, is_spent, key_of, learn, put, refuse, told, unmake}
-use Rattle.resource_end.specs.End.{record_for, with_place, End, Resource, changes, is_numbered, other_holder, stored}
+use Rattle.resource_end.specs.Calls.{Journaled, Written, StandsAt, Unwritten, InDoubt, bind, choice, choose_heuristic, fresh, is_spent, key_of, learn, put, refuse, told, unmake}
+use Rattle.resource_end.specs.End.{record_for, with_place, End, Resource, changes, is_numbered, named, other_holder, stored}
 
 -- a cell that puts name has what they say; each other cell has what it had
 abbrev pub PutsAreStored : Type 0
@@ -54,6 +54,44 @@ pub record ChoicesStay : Type 0 where
   pub rollback_by_one_phase : next words.CommitOnePhase states.ChoseRollback ≡ None
   pub rollback_by_prepare : next words.Prepare states.ChoseRollback ≡ None
   pub rollback_by_answers : (h : Heard) → learnt states.ChoseRollback h ≡ None
+
+-- a change is carried out where it needs no record, or its record stands
+abbrev pub is_carried : Option JournalRecord → Written → Bool
+is_carried (Some item) (StandsAt place) = true
+is_carried (Some item) (Unwritten fault) = false
+is_carried (Some item) (InDoubt fault) = false
+is_carried None written = true
+
+-- a cell behind a change into this state, where there is one: what its resource put there, if the change is carried out and
+-- stores it, and else what it had
+abbrev pub cell_behind : Option State → Written → Resource → ℕ → End → Option ℕ
+cell_behind (Some s) written r cell e = stored_by (is_carried (record_for s r) written && stores r.state s) cell r e
+cell_behind None written r cell e = stored cell e
+
+-- the same of the resource of a call, where there is one
+abbrev pub cell_by : (State → Option State) → Option Resource → Written → ℕ → End → Option ℕ
+cell_by next (Some r) written cell e = cell_behind (next r.state) written r cell e
+cell_by next None written cell e = stored cell e
+
+-- what a choice makes of a resource
+abbrev pub chosen : Decision → State → Option State
+chosen d s = if is_prepared s then Some (choice d) else None
+
+-- Where nothing is in doubt a cell has, behind each call, what was applied there last: what the call's resource put, if the call
+-- applied it, and else what the cell had. Making, binding, putting, refusing and unmaking change no cell
+pub record CellsAreApplied : Type 0 where
+  pub words : (w : Word) (key : ObjectKey) (j : Journaled) (e : End) (cell : ℕ) → e.doubted ≡ None
+      → stored cell (told w key j e).end ≡ cell_by (next w) (named key e) j.written cell e
+  pub learns : (key : ObjectKey) (h : Heard) (j : Journaled) (e : End) (cell : ℕ) → e.doubted ≡ None
+      → stored cell (learn key h j e).end ≡ cell_by (λ s. learnt s h) (named key e) j.written cell e
+  pub chooses : (key : ObjectKey) (d : Decision) (j : Journaled) (e : End) (cell : ℕ) → e.doubted ≡ None
+      → stored cell (choose_heuristic key d j e).end ≡ cell_by (chosen d) (named key e) j.written cell e
+  pub puts : (key : ObjectKey) (place value : ℕ) (j : Journaled) (e : End) (cell : ℕ) → e.doubted ≡ None
+      → stored cell (put key place value j e).end ≡ stored cell e
+  pub refuses : (key : ObjectKey) (j : Journaled) (e : End) (cell : ℕ) → e.doubted ≡ None → stored cell (refuse key j e).end ≡ stored cell e
+  pub binds : (key : ObjectKey) (recovery : List ℕ) (e : End) (cell : ℕ) → stored cell (bind key recovery e).end ≡ stored cell e
+  pub unmakes : (key : ObjectKey) (e : End) (cell : ℕ) → stored cell (unmake key e) ≡ stored cell e
+  pub makes : (letter : ℕ) (e : End) (cell : ℕ) → stored cell (fresh letter e).end ≡ stored cell e
 
 -- a cell that a resource holds is held from each other resource
 abbrev pub HeldCellsAreHeld : Type 0

@@ -1,6 +1,6 @@
 // Laws of the definitions: these functions do nothing, and their contracts are the laws.
 ghost use Rattle.resource_end.specs.Crashes.{RestartsTellOneMore};
-ghost use Rattle.resource_end.specs.Laws.{ChangesStoreOnce, ChoicesStay, HeldCellsAreHeld, LoadsTellOneMore, NumbersRise, PutsAreStored, RecordsTellChanges, StoresOnce};
+ghost use Rattle.resource_end.specs.Laws.{CellsAreApplied, ChangesStoreOnce, ChoicesStay, HeldCellsAreHeld, LoadsTellOneMore, NumbersRise, PutsAreStored, RecordsTellChanges, StoresOnce};
 ghost use Rattle.resource_end.specs.Plays.{EndsPlay};
 ghost use Rattle.resource_end.specs.TableByState.{TableByState};
 
@@ -23,6 +23,11 @@ pub fn puts_are_stored()
 /// A change stores the puts of its resource, or changes no cell.
 pub fn changes_store_once()
     ensures { ChangesStoreOnce }
+{}
+
+/// Where nothing is in doubt a cell has, behind each call, what was applied there last.
+pub fn cells_are_applied()
+    ensures { CellsAreApplied }
 {}
 
 /// A resource whose puts were stored or dropped comes into no state again out of which puts are stored.
