@@ -1,7 +1,5 @@
 pub mod Limits
 pub mod Family
-pub mod Calls
-pub mod Room
 pub mod Moves
 pub mod Phases
 pub mod Closing
@@ -9,12 +7,8 @@ pub mod Running
 pub mod Hearing
 pub mod Names
 pub mod Table
-pub mod Changes
-pub mod DraftInside
-pub mod Going
 pub mod History
 pub mod Step
-pub mod StateInside
 pub mod Plays
 pub mod AnswersByPhase
 pub mod Laws

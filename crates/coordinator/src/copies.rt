@@ -6,7 +6,7 @@ use ots_model::tree::Heard;
 use std::alloc::{AllocError, Global};
 
 /// A copy of an event.
-pub(crate) fn copy_event(alloc: Global, event: &Event) -> Result<Event, AllocError>
+pub fn copy_event(alloc: Global, event: &Event) -> Result<Event, AllocError>
     ensures { IfOk result (λ copy. copy ≡ event.entry.now) }
 {
     Ok(Event {

@@ -9,7 +9,7 @@ use ots_model::RetryKey;
 
 /// What the call with this key was answered. Where it has no answer yet, that is `Later`.
 #[tactic(auto, unfolding(crate::specs::History::kept, crate::specs::History::answer_at))]
-pub(crate) fn kept<'a>(entries: &'a [Entry], key: &RetryKey) -> Option<&'a Said>
+pub fn kept<'a>(entries: &'a [Entry], key: &RetryKey) -> Option<&'a Said>
     requires few { length entries.now ≤ history_limit }
     ensures { option_copied result ≡ history.kept entries.now key.now }
 {

@@ -1,9 +1,11 @@
-//! A transaction and its subtransactions: what may happen to them, what each call is answered, and what goes out.
+//! A transaction and its subtransactions: what may happen to them, what each call is answered, and what goes out, as definitions and their laws.
 #![tactic(auto)]
 
+pub use call::{Ending, Leg, Stage, Superior};
+pub use copies::copy_event;
 pub use effect::{Effect, Effects};
 pub use event::{Act, CALL_LIMIT, Event, HISTORY_LIMIT};
-pub use family::{Family, FamilyFault};
+pub use history::kept;
 pub use laws::{
     answers_follow_phases, decisions_rest_on_consent, families_commit_by_record,
     families_decide_once, families_play, families_step_rightly, family_outcomes_stay,
@@ -16,20 +18,11 @@ pub use phase::{Column, Phase};
 pub use said::{Answers, Entry, Finished, Said, StepAnswer};
 
 mod call;
-mod closing;
 mod copies;
-mod draft;
 mod effect;
 mod event;
-mod family;
-mod hearing;
 mod history;
 mod laws;
-mod motion;
-mod names;
 mod node;
 mod phase;
-mod running;
 mod said;
-mod state;
-mod tasks;

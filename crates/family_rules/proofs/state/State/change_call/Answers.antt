@@ -1,0 +1,39 @@
+use Rattle.std.proofs.Common.{◌∙◌, refl, sym, ap, subst, ◌<◌, length, slice_set, arith}
+use Rattle.family_rules.specs.Calls.{AreTasks, all_seated, changed_in}
+use Rattle.coordinator.specs.Family.{call_at}
+use Rattle.family_rules.specs.Room.{StateParts}
+use Rattle.family_rules.specs.StateInside.{shown}
+use Rattle.family_rules.specs.declared.call.Seat.{Seat}
+use Rattle.family_rules.proofs.AtSeat.{call_changes}
+use Rattle.family_rules.proofs.Kept.{tasks_at, tasks_set}
+use Rattle.family_rules.proofs.state.State.change_call.Goals as goal
+
+pub invariant_of-self : goal.invariant_of-self
+invariant_of-self c =
+    let rs = c.self.inside.votes.ballots.registrations in
+    let seats = c.self.inside.seats.items in
+    let b = c.args.branch in
+    let rows = ap (λ (v : StateParts). length v.family.rows) c.self.view_is in
+    let within : b < length seats = omega (arith, c.requires.there, rows, c.self.invariant.seats, c.self.inside.seats.ok.0) in
+    let all : AreTasks rs c.index_mut.result.now.left.items = tasks_at rs seats b c.index_mut.result.now within c.self.invariant.tasks c.index_mut.ensures.value in
+    record {
+      few = c.self.invariant.few;
+      serial = c.self.invariant.serial;
+      seats = c.self.invariant.seats;
+      synchronizations = c.self.invariant.synchronizations;
+      order = c.self.invariant.order;
+      lists = c.self.invariant.lists;
+      tasks = tasks_set rs seats b c.set_out.new.seat c.self.invariant.tasks (subst (λ (x : Seat). AreTasks rs x.left.items) (sym c.set_out.ensures) all);
+      places = c.self.invariant.places;
+    }
+
+pub returns-clause-does : goal.returns-clause-does
+returns-clause-does c =
+    let rs = c.self.inside.votes.ballots.registrations in
+    let seats = c.self.inside.seats.items in
+    let b = c.args.branch in
+    let rows = ap (λ (v : StateParts). length v.family.rows) c.self.view_is in
+    let within : b < length seats = omega (arith, c.requires.there, rows, c.self.invariant.seats, c.self.inside.seats.ok.0) in
+    ap (λ (x : Seat). record (shown c.self.inside).family { calls = all_seated rs (slice_set seats b x) }) c.set_out.ensures
+    ∙ (call_changes (shown c.self.inside).family rs seats b c.index_mut.result.now c.args.caller c.args.out refl within c.index_mut.ensures.value
+    ∙ ap (λ (v : StateParts). changed_in (call_at v.family b) b c.args.caller c.args.out v.family) c.self.view_is)

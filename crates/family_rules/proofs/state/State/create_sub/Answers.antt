@@ -1,0 +1,44 @@
+use Rattle.std.proofs.Common.{◌≡◌, ◌<◌, ◌+◌, ◌∙◌, ◌∷◌, [], List, ap, refl, subst, sym, length, arith, length-append, Option}
+use Rattle.std.specs.Result.{IsOk}
+use Rattle.txn_tree.specs.Calls.{created, creating}
+use Rattle.txn_tree.specs.declared.row.Row.{Row}
+use Rattle.family_rules.specs.Asking.{Creates}
+use Rattle.family_rules.specs.Calls.{AllTasks, all_seated}
+use Rattle.family_rules.specs.Room.{StateParts}
+use Rattle.family_rules.specs.StateInside.{shown}
+use Rattle.family_rules.specs.declared.call.Seat.{Seat}
+use Rattle.family_rules.proofs.Added.{seats_more, tasks_more}
+use Rattle.family_rules.proofs.Made.{at_ok, creates_one}
+use Rattle.family_rules.proofs.state.State.create_sub.Goals as goal
+
+pub invariant_of-self : goal.invariant_of-self
+invariant_of-self c =
+    let s = c.self.inside in
+    let is : IsOk c.create_sub-made.result = sym c.is_ok.ensures.value ∙ c.if-is_ok.true in
+    let rows : c.create_sub-made.new.self.rows ≡ created s.tree.rows c.args.branch = at_ok c.create_sub-made.result is c.create_sub-made.ensures.ok in
+    let count : length c.create_sub-made.new.self.rows ≡ length s.tree.rows + 1 = ap (λ (xs : List Row). length xs) rows ∙ length-append s.tree.rows _ in
+    let seats = c.self.invariant.seats in
+    let len = c.push_reserved.ensures.len in
+    record {
+      few = c.self.invariant.few;
+      serial = c.self.invariant.serial;
+      seats = omega (arith, seats, len, count);
+      synchronizations = c.self.invariant.synchronizations;
+      order = c.self.invariant.order;
+      lists = c.self.invariant.lists;
+      tasks = subst (λ (xs : List Seat). AllTasks s.votes.ballots.registrations xs) (sym c.push_reserved.ensures.items)
+          (tasks_more s.votes.ballots.registrations s.seats.items _ c.new.ensures.items c.self.invariant.tasks);
+      places = c.self.invariant.places;
+    }
+
+pub returns-then-is_ok-clause-made : goal.returns-then-is_ok-clause-made
+returns-then-is_ok-clause-made c =
+    let s = c.self.inside in
+    let made = c.create_sub-made in
+    let is : IsOk made.result = sym c.is_ok.ensures.value ∙ c.if-is_ok.true in
+    let rs = s.votes.ballots.registrations in
+    subst (λ (p : StateParts). Creates (creating p.family.rows c.args.branch) c.args.branch p.family
+    (record (shown s).family { rows = made.new.self.rows; calls = all_seated rs c.push_reserved.new.self.items }) made.result) c.self.view_is
+    (creates_one (creating s.tree.rows c.args.branch) c.args.branch (shown s).family made.new.self.rows (all_seated rs c.push_reserved.new.self.items) made.result
+    is made.ensures.refused made.ensures.ok made.ensures.branch
+    (ap (λ (xs : List Seat). all_seated rs xs) c.push_reserved.ensures.items ∙ seats_more rs s.seats.items _ refl))

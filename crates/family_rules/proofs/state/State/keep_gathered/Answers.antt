@@ -1,0 +1,57 @@
+use Rattle.std.proofs.Common.{◌≡◌, ◌∙◌, refl, sym, ap, subst, ◌<◌, List, length, slice_set, true, Some, arith}
+use Rattle.resource_votes.specs.declared.registration.Registration.{Registration}
+use Rattle.family_rules.specs.Calls.{AreTasks, all_seated, duties_in, plain_call}
+use Rattle.family_rules.specs.Changes.{DraftParts}
+use Rattle.coordinator.specs.Family.{with_call}
+use Rattle.family_rules.specs.Room.{StateParts}
+use Rattle.family_rules.specs.StateInside.{shown}
+use Rattle.family_rules.specs.declared.call.Seat.{Seat}
+use Rattle.family_rules.specs.declared.call.Task.{Task}
+use Rattle.family_rules.proofs.AtSeat.{put, put_there}
+use Rattle.family_rules.proofs.Kept.{tasks_set}
+use Rattle.family_rules.proofs.state.State.keep_gathered.Goals as goal
+
+pub invariant_of-self : goal.invariant_of-self
+invariant_of-self c =
+    let rs = c.self.inside.votes.ballots.registrations in
+    let seats = c.self.inside.seats.items in
+    let kept : c.out.inside.tasks.items ≡ c.args.out.now.changes.tasks = ap (λ (d : DraftParts). d.changes.tasks) c.out.view_is in
+    let same : c.swap.new.x.items ≡ c.args.out.now.changes.tasks = cc in
+    let ours : rs ≡ c.args.self.now.family.ballots.registrations = ap (λ (v : StateParts). v.family.ballots.registrations) c.self.view_is in
+    let all : AreTasks rs c.swap.new.x.items =
+    subst (λ (xs : List Task). AreTasks rs xs) (sym same) (subst (λ (qs : List Registration). AreTasks qs c.args.out.now.changes.tasks) (sym ours) c.requires.tasks) in
+    record {
+      few = c.self.invariant.few;
+      serial = c.self.invariant.serial;
+      seats = c.self.invariant.seats;
+      synchronizations = c.self.invariant.synchronizations;
+      order = c.self.invariant.order;
+      lists = c.self.invariant.lists;
+      tasks = tasks_set rs seats c.args.branch _ c.self.invariant.tasks all;
+      places = c.self.invariant.places;
+    }
+
+pub returns-clause-family : goal.returns-clause-family
+returns-clause-family c =
+    let rs = c.self.inside.votes.ballots.registrations in
+    let seats = c.self.inside.seats.items in
+    let b = c.args.branch in
+    let kept : c.out.inside.tasks.items ≡ c.args.out.now.changes.tasks = ap (λ (d : DraftParts). d.changes.tasks) c.out.view_is in
+    let same : c.swap.new.x.items ≡ c.args.out.now.changes.tasks = cc in
+    put (shown c.self.inside).family rs seats b _ (Some (record (plain_call c.args.call) { left = duties_in rs c.swap.new.x.items })) refl refl
+    ∙ (ap (λ (xs : List Task). with_call b (record (plain_call c.args.call) { left = duties_in rs xs }) (shown c.self.inside).family) same
+    ∙ ap (λ (v : StateParts). with_call b (record (plain_call c.args.call) { left = duties_in v.family.ballots.registrations c.args.out.now.changes.tasks }) v.family) c.self.view_is)
+
+pub returns-clause-call : goal.returns-clause-call
+returns-clause-call c =
+    let rs = c.self.inside.votes.ballots.registrations in
+    let seats = c.self.inside.seats.items in
+    let b = c.args.branch in
+    let rows = ap (λ (v : StateParts). length v.family.rows) c.self.view_is in
+    let within : b < length seats = omega (arith, c.requires.there, rows, c.self.invariant.seats, c.self.inside.seats.ok.0) in
+    let kept : c.out.inside.tasks.items ≡ c.args.out.now.changes.tasks = ap (λ (d : DraftParts). d.changes.tasks) c.out.view_is in
+    let same : c.swap.new.x.items ≡ c.args.out.now.changes.tasks = cc in
+    let new : Seat = record { call = Some (record c.args.call { owes = true }); left = c.swap.new.x } in
+    put_there (record (shown c.self.inside).family { calls = all_seated rs (slice_set seats b new) }) rs seats b new refl within
+    ∙ (ap (λ (xs : List Task). Some (record (plain_call c.args.call) { left = duties_in rs xs })) same
+    ∙ ap (λ (v : StateParts). Some (record (plain_call c.args.call) { left = duties_in v.family.ballots.registrations c.args.out.now.changes.tasks })) c.self.view_is)

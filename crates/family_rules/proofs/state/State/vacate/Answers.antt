@@ -1,0 +1,97 @@
+use Rattle.std.proofs.Common.{◌≡◌, ◌∙◌, refl, sym, ap, subst, ◌<◌, List, [], ◌++◌, length, arith}
+use Rattle.family_rules.specs.Calls.{AreTasks, duties_in, owed_below}
+use Rattle.family_rules.specs.Changes.{DraftParts}
+use Rattle.coordinator.specs.Family.{Duty, call_at, without_call}
+use Rattle.family_rules.specs.Room.{StateParts}
+use Rattle.coordinator.specs.Running.{left_by, overtaken_caller}
+use Rattle.family_rules.specs.StateInside.{shown}
+use Rattle.family_rules.specs.declared.call.Task.{Task}
+use Rattle.family_rules.proofs.AtSeat.{caller_is, owed_below_is, puts_none, tasks_below, tasks_left_below}
+use Rattle.family_rules.proofs.Duties.{as_many}
+use Rattle.family_rules.proofs.Kept.{tasks_at, tasks_set}
+use Rattle.family_rules.proofs.state.State.vacate.Goals as goal
+
+pub vacate-requires : goal.vacate-requires
+vacate-requires c =
+    let rs = c.self.inside.votes.ballots.registrations in
+    let seats = c.self.inside.seats.items in
+    let b = c.args.branch in
+    let rows = ap (λ (v : StateParts). length v.family.rows) c.self.view_is in
+    let within : b < length seats = omega (arith, c.requires.there, rows, c.self.invariant.seats, c.self.inside.seats.ok.0) in
+    let s = c.index_mut.result.now in
+    let all : AreTasks rs s.left.items = tasks_at rs seats b s within c.self.invariant.tasks c.index_mut.ensures.value in
+    let many : length (duties_in rs (owed_below s)) ≡ length (owed_below s) = as_many rs (owed_below s) (tasks_below rs s all) in
+    let is : duties_in rs (owed_below s) ≡ left_by (call_at c.args.self.now.family b) =
+    owed_below_is (shown c.self.inside).family rs seats b s refl within c.index_mut.ensures.value
+    ∙ ap (λ (v : StateParts). left_by (call_at v.family b)) c.self.view_is in
+    let few = ap (λ (ds : List Duty). length ds) is in
+    let none = ap (λ (d : DraftParts). length d.changes.tasks) c.out.view_is in
+    let empty = ap (λ (xs : List Task). length xs) c.requires.empty in
+    let fits = ap (λ (d : DraftParts). d.tasks_room) c.out.view_is in
+    record { room = omega (arith, many, few, none, empty, fits, c.requires.room, c.out.inside.tasks.ok.0) }
+
+pub invariant_of-self : goal.invariant_of-self
+invariant_of-self c =
+    let rs = c.self.inside.votes.ballots.registrations in
+    let seats = c.self.inside.seats.items in
+    let b = c.args.branch in
+    let rows = ap (λ (v : StateParts). length v.family.rows) c.self.view_is in
+    let within : b < length seats = omega (arith, c.requires.there, rows, c.self.invariant.seats, c.self.inside.seats.ok.0) in
+    let s = c.index_mut.result.now in
+    let all : AreTasks rs s.left.items = tasks_at rs seats b s within c.self.invariant.tasks c.index_mut.ensures.value in
+    record {
+      few = c.self.invariant.few;
+      serial = c.self.invariant.serial;
+      seats = c.self.invariant.seats;
+      synchronizations = c.self.invariant.synchronizations;
+      order = c.self.invariant.order;
+      lists = c.self.invariant.lists;
+      tasks = tasks_set rs seats b c.vacate.new.seat c.self.invariant.tasks (tasks_left_below rs s c.vacate.new.seat.left.items c.vacate.ensures.left all);
+      places = c.self.invariant.places;
+    }
+
+pub returns-clause-family : goal.returns-clause-family
+returns-clause-family c =
+    let rs = c.self.inside.votes.ballots.registrations in
+    let seats = c.self.inside.seats.items in
+    let b = c.args.branch in
+    puts_none (shown c.self.inside).family rs seats b c.vacate.new.seat refl c.vacate.ensures.vacant
+    ∙ ap (λ (v : StateParts). without_call b v.family) c.self.view_is
+
+pub returns-clause-caller : goal.returns-clause-caller
+returns-clause-caller c =
+    let rs = c.self.inside.votes.ballots.registrations in
+    let seats = c.self.inside.seats.items in
+    let b = c.args.branch in
+    let rows = ap (λ (v : StateParts). length v.family.rows) c.self.view_is in
+    let within : b < length seats = omega (arith, c.requires.there, rows, c.self.invariant.seats, c.self.inside.seats.ok.0) in
+    c.vacate.ensures.caller
+    ∙ (caller_is (shown c.self.inside).family rs seats b c.index_mut.result.now refl within c.index_mut.ensures.value
+    ∙ ap (λ (v : StateParts). overtaken_caller (call_at v.family b)) c.self.view_is)
+
+pub returns-clause-gathered : goal.returns-clause-gathered
+returns-clause-gathered c =
+    let rs = c.self.inside.votes.ballots.registrations in
+    let seats = c.self.inside.seats.items in
+    let b = c.args.branch in
+    let rows = ap (λ (v : StateParts). length v.family.rows) c.self.view_is in
+    let within : b < length seats = omega (arith, c.requires.there, rows, c.self.invariant.seats, c.self.inside.seats.ok.0) in
+    let s = c.index_mut.result.now in
+    let none : c.out.inside.tasks.items ≡ [] = ap (λ (d : DraftParts). d.changes.tasks) c.out.view_is ∙ c.requires.empty in
+    let now : c.vacate.new.tasks.items ≡ owed_below s = c.vacate.ensures.tasks ∙ ap (λ (xs : List Task). xs ++ owed_below s) none in
+    ap (λ (xs : List Task). duties_in rs xs) now
+    ∙ (owed_below_is (shown c.self.inside).family rs seats b s refl within c.index_mut.ensures.value
+    ∙ ap (λ (v : StateParts). left_by (call_at v.family b)) c.self.view_is)
+
+pub returns-clause-tasks : goal.returns-clause-tasks
+returns-clause-tasks c =
+    let rs = c.self.inside.votes.ballots.registrations in
+    let seats = c.self.inside.seats.items in
+    let b = c.args.branch in
+    let rows = ap (λ (v : StateParts). length v.family.rows) c.self.view_is in
+    let within : b < length seats = omega (arith, c.requires.there, rows, c.self.invariant.seats, c.self.inside.seats.ok.0) in
+    let s = c.index_mut.result.now in
+    let all : AreTasks rs s.left.items = tasks_at rs seats b s within c.self.invariant.tasks c.index_mut.ensures.value in
+    let none : c.out.inside.tasks.items ≡ [] = ap (λ (d : DraftParts). d.changes.tasks) c.out.view_is ∙ c.requires.empty in
+    let now : c.vacate.new.tasks.items ≡ owed_below s = c.vacate.ensures.tasks ∙ ap (λ (xs : List Task). xs ++ owed_below s) none in
+    subst (λ (xs : List Task). AreTasks rs xs) (sym now) (tasks_below rs s all)

@@ -1,0 +1,60 @@
+use Rattle.std.specs.Prelude.{◌≡◌, ℕ, ◌+◌, ◌-◌, ◌≤◌, List, length, min, sum_by, Some, vec_len, vec_capacity}
+use Rattle.resource_votes.specs.Ballots.{numbered}
+use Rattle.resource_votes.specs.Limits.{synchronization_limit}
+use Rattle.resource_votes.specs.declared.registration.Registration.{Registration}
+use Rattle.two_phase.specs.Stages.{Standing, Waiting, Going as UnderWay}
+use Rattle.family_rules.specs.Calls.{all_seated, AllTasks}
+use Rattle.coordinator.specs.Limits.{history_limit}
+use Rattle.family_rules.specs.Room.{StateParts, spare}
+use Rattle.family_rules.specs.declared.state.State.TheInside.{Inside}
+
+-- a completion that hasn't started, without its room
+abbrev pub unroomed : Standing → Standing
+unroomed (Waiting room) = Waiting 0
+unroomed (UnderWay c) = UnderWay c
+
+abbrev pub shown : Inside → StateParts
+shown s = record {
+  family = record {
+    key = s.key;
+    deadline = s.deadline;
+    superior = s.superior;
+    stage = s.stage;
+    rows = s.tree.rows;
+    ballots = s.votes.ballots;
+    calls = all_seated s.votes.ballots.registrations s.seats.items;
+    completion = unroomed s.completion;
+    closed = s.closed;
+    serial = s.serial;
+    entries = s.entries.items;
+  };
+  room = min (vec_capacity s.seats - vec_len s.seats)
+      (min (min s.tree.room s.votes.room) (spare s.completion (length s.votes.ballots.registrations)));
+  history_room = vec_capacity s.entries - vec_len s.entries;
+}
+
+-- each registration's number is its place, counted from 1
+abbrev pub AreInOrder : List Registration → Type 0
+AreInOrder registrations = (n : ℕ) (r : Registration) → numbered registrations n ≡ Some r → r.index ≡ n
+
+-- the lists together have at most so many numbers
+abbrev pub AreFew : List (List ℕ) → ℕ → Type 0
+AreFew lists count = sum_by (λ (xs : List ℕ). length xs) lists ≤ count
+
+-- a completion that hasn't started has room for so many participants
+abbrev pub HasPlaces : Standing → ℕ → Type 0
+HasPlaces (Waiting room) count = count ≤ room
+HasPlaces (UnderWay c) count = Unit {0}
+
+-- the history and the synchronizations keep to their limits; each entry has sent one word at most, and so has the step that
+-- goes on; each transaction has a seat, and what it has left to tell is of registrations that there are; and all who are
+-- registered can take part
+pub record IsSound (s : Inside) : Type 0 where
+  pub few : vec_len s.entries ≤ history_limit
+  pub serial : s.serial ≤ vec_len s.entries + 1
+  pub seats : vec_len s.seats ≡ length s.tree.rows
+  pub synchronizations : length s.votes.ballots.synchronizations ≤ synchronization_limit
+  pub order : AreInOrder s.votes.ballots.registrations
+  pub lists : AreFew s.votes.ballots.lists (length s.votes.ballots.registrations)
+  pub tasks : AllTasks s.votes.ballots.registrations s.seats.items
+  pub places : HasPlaces s.completion (length s.votes.ballots.registrations)

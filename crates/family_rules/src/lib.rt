@@ -1,0 +1,17 @@
+//! What each rule of a family does to what it keeps, in memory that was taken before.
+#![tactic(auto)]
+
+pub use call::{Aim, Reply};
+pub use draft::{Brought, Draft};
+pub use state::{State, TOP};
+
+mod call;
+mod changing;
+mod closing;
+mod draft;
+mod hearing;
+mod motion;
+mod names;
+mod running;
+mod state;
+mod tasks;

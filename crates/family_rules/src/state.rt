@@ -1,0 +1,318 @@
+// How the transactions of a family stand, and what they are called.
+ghost use Rattle.std.specs.Prelude.{◌≡◌, ◌<◌, ◌≤◌, is_none, is_some, IfOk, OnOk};
+ghost use Rattle.std.specs.List.{list_all};
+ghost use Rattle.std.specs.Option.{option_copied};
+ghost use Rattle.family_rules.specs.declared.call.Seat.{Seat as Seated};
+ghost use Rattle.family_rules.specs.Calls as calls;
+ghost use Rattle.coordinator.specs.Family.{call_at, new_family};
+ghost use Rattle.coordinator.specs.History as history;
+ghost use Rattle.coordinator.specs.Phases as phases;
+ghost use Rattle.coordinator.specs.Step as steps;
+ghost use Rattle.coordinator.specs.Table as table;
+ghost use Rattle.two_phase.specs.Stages as stages;
+
+use crate::call::Seat;
+use coordinator::{Column, Entry, Event, Phase, Said, Stage, Superior, kept};
+use ior_refs::ObjectKey;
+use ots_model::tree::Outcome;
+use ots_model::{RetryKey, Status, Stood};
+use resource_votes::Votes;
+use std::alloc::{AllocError, Global};
+use std::collections::VecDeque;
+use std::marker::Model;
+use two_phase::Completion;
+use txn_tree::Tree;
+
+/// The branch of the top-level transaction.
+pub const TOP: u32 = 0;
+
+/// What a family is. Contracts see it as its definition has it, and for how many more entries, subtransactions and
+/// registrations memory is taken.
+#[derive(Drop)]
+pub struct State {
+    pub(crate) key: ObjectKey,
+    pub(crate) deadline: Option<u64>,
+    pub(crate) superior: Option<Superior>,
+    pub(crate) stage: Stage,
+    pub(crate) tree: Tree,
+    pub(crate) votes: Votes,
+    pub(crate) seats: Vec<Seat>,
+    pub(crate) completion: Completion,
+    pub(crate) closed: Option<Stood>,
+    pub(crate) serial: u32,
+    pub(crate) entries: Vec<Entry>,
+}
+
+impl Model for State {
+    ghost use Rattle.family_rules.specs.Room.{StateParts};
+
+    ghost Value = { StateParts };
+
+    ghost use Rattle.family_rules.specs.StateInside.{shown, IsSound};
+
+    ghost view = { shown };
+
+    ghost invariant = { IsSound };
+}
+
+impl State {
+    /// The top-level transaction of a root alone.
+    #[tactic(auto, using(crate::proofs::Kept::none_few), unfolding(crate::specs::Calls::all_seated))]
+    pub fn new(alloc: Global, key: ObjectKey, deadline: Option<u64>) -> Result<State, AllocError>
+        ensures made { IfOk result (λ s. s.family ≡ new_family key deadline) }
+    {
+        let mut seats = Vec::new(alloc);
+        seats.push(Seat {
+            call: None,
+            left: VecDeque::new(alloc),
+        })?;
+        Ok(State {
+            key,
+            deadline,
+            superior: None,
+            stage: Stage::Going,
+            tree: Tree::new(alloc)?,
+            votes: Votes::new(alloc)?,
+            seats,
+            completion: Completion::idle(alloc),
+            closed: None,
+            serial: 0,
+            entries: Vec::new(alloc),
+        })
+    }
+
+    /// Whether the history has room for an event, or the event is a call that comes again.
+    pub fn has_room(&self, event: &Event) -> bool
+        ensures { result ≡ history.has_room (self.now.family).entries event.entry.now }
+    {
+        self.is_known(event) || (self.entries.len() as u32) < event.act.history_limit()
+    }
+
+    /// Whether an event is a call that comes again.
+    pub fn is_known(&self, event: &Event) -> bool
+        ensures { result ≡ is_some (history.kept_for (self.now.family).entries (event.entry.now).key) }
+    {
+        match &event.key {
+            Some(key) => kept(&self.entries, key).is_some(),
+            None => false,
+        }
+    }
+
+    /// Takes memory for one more entry, subtransaction and registration.
+    pub fn make_room(&mut self) -> Result<(), AllocError>
+        ensures same { self.new.family ≡ self.old.family }
+        ensures room { OnOk result (0 < self.new.room) }
+        ensures history { OnOk result (0 < self.new.history_room) }
+        ensures room_kept { self.old.room ≤ self.new.room }
+        ensures history_kept { self.old.history_room ≤ self.new.history_room }
+    {
+        self.make_places()?;
+        self.entries.reserve(1)
+    }
+
+    /// Takes memory for one more subtransaction and registration.
+    #[tactic(auto, using(crate::proofs::Unroomed::unroomed_reserved, crate::proofs::Unroomed::spare_reserved, crate::proofs::Unroomed::spare_kept, crate::proofs::Kept::places_reserved))]
+    fn make_places(&mut self) -> Result<(), AllocError>
+        ensures same { self.new.family ≡ self.old.family }
+        ensures room { OnOk result (0 < self.new.room) }
+        ensures room_kept { self.old.room ≤ self.new.room }
+        ensures history { self.new.history_room ≡ self.old.history_room }
+    {
+        self.seats.reserve(1)?;
+        self.tree.reserve()?;
+        self.votes.reserve()?;
+        self.completion.reserve(self.votes.count() + 1)
+    }
+
+    /// How far the top-level transaction has come.
+    #[tactic(auto, unfolding(coordinator::specs::Phases::phase))]
+    pub fn phase(&self) -> Phase
+        ensures { result ≡ phases.phase self.now.family }
+    {
+        match self.stage {
+            Stage::Going if self.is_marked(TOP) => Phase::Marked,
+            Stage::Going => Phase::Active,
+            Stage::Finishing => Phase::Finishing,
+            Stage::Completing => self.ending_phase(),
+            Stage::Over => self.ended_phase(),
+        }
+    }
+
+    /// Its phase while its completion is under way.
+    #[tactic(auto, using(crate::proofs::Unroomed::unroomed_outcome))]
+    fn ending_phase(&self) -> Phase
+        ensures { result ≡ phases.ending_phase (self.now.family).completion
+            (stages.outcome (self.now.family).completion) }
+    {
+        match self.completion.outcome() {
+            None => self.open_phase(),
+            Some(Outcome::Commit(_)) => Phase::Committing,
+            Some(Outcome::Rollback(_)) => Phase::RollingBack,
+            Some(Outcome::Unknown) => Phase::OnePhase,
+        }
+    }
+
+    /// Its phase once its completion is over.
+    #[tactic(auto, using(crate::proofs::Unroomed::unroomed_outcome))]
+    fn ended_phase(&self) -> Phase
+        ensures { result ≡ phases.ended_phase (self.now.family).completion
+            (stages.outcome (self.now.family).completion) }
+    {
+        match self.completion.outcome() {
+            None => self.open_phase(),
+            Some(fixed) => Phase::Ended(fixed),
+        }
+    }
+
+    /// Its phase before its outcome is fixed.
+    #[tactic(auto, using(crate::proofs::Unroomed::unroomed_doubt, crate::proofs::Unroomed::unroomed_alone))]
+    fn open_phase(&self) -> Phase
+        ensures { result ≡ phases.open_phase (self.now.family).completion }
+    {
+        if self.completion.is_doubtful() {
+            Phase::Doubt
+        } else if self.completion.decides_alone() {
+            Phase::OnePhase
+        } else {
+            Phase::Preparing
+        }
+    }
+
+    /// Whether a transaction is marked.
+    pub fn is_marked(&self, branch: u32) -> bool
+        ensures { result ≡ phases.is_marked self.now.family branch }
+    {
+        self.tree.is_marked_at(branch)
+    }
+
+    /// The status of the top-level transaction.
+    pub fn top_status(&self) -> Status
+        ensures { result ≡ phases.top_status self.now.family }
+    {
+        self.phase().status(self.is_marked(TOP))
+    }
+
+    /// Whether a call is under way that ends this transaction.
+    pub(crate) fn is_under_way(&self, branch: u32) -> bool
+        ensures { result ≡ is_some (call_at self.now.family branch) }
+    {
+        has_call(&self.seats, branch as usize)
+    }
+
+    /// Whether the commit of this subtransaction is under way.
+    pub(crate) fn is_ending(&self, branch: u32) -> bool
+        ensures { result ≡ phases.is_ending self.now.family branch }
+    {
+        self.tree.is_live_at(branch) && self.is_under_way(branch)
+    }
+
+    /// The status of a transaction, where there is one.
+    #[tactic(auto, unfolding(coordinator::specs::Phases::status_of))]
+    pub fn status_of(&self, branch: u32) -> Option<Status>
+        ensures { result ≡ phases.status_of self.now.family branch }
+    {
+        if branch == TOP {
+            Some(self.top_status())
+        } else if self.is_ending(branch) {
+            Some(Status::Committing)
+        } else {
+            self.tree.status_at(branch)
+        }
+    }
+
+    /// The status of its parent. The top-level transaction counts as its own.
+    pub fn parent_status_of(&self, branch: u32) -> Option<Status>
+        ensures { result ≡ phases.parent_status_of self.now.family branch }
+    {
+        self.status_of(self.tree.parent_at(branch).unwrap_or(branch))
+    }
+
+    /// How a transaction stands for a client's calls.
+    #[tactic(auto, unfolding(coordinator::specs::Phases::column))]
+    pub fn column(&self, branch: u32) -> Column
+        ensures { result ≡ phases.column self.now.family branch }
+    {
+        if branch == TOP {
+            self.phase().column()
+        } else if self.is_ending(branch) {
+            Column::Past
+        } else {
+            live_column(self.tree.status_at(branch))
+        }
+    }
+
+    /// Whether the parent of a transaction has ended.
+    pub fn has_parent_ended(&self, branch: u32) -> bool
+        ensures { result ≡ phases.has_parent_ended self.now.family branch }
+    {
+        match self.tree.parent_at(branch) {
+            Some(parent) => self.has_ended(parent),
+            None => false,
+        }
+    }
+
+    /// Whether it has ended as a parent: it was rolled back, or the top-level transaction has gone past its commit's
+    /// beginning.
+    fn has_ended(&self, parent: u32) -> bool
+        ensures { result ≡ phases.has_ended self.now.family parent }
+    {
+        if parent == TOP {
+            matches!(self.stage, Stage::Completing | Stage::Over)
+        } else {
+            !self.tree.is_live_at(parent)
+        }
+    }
+
+    /// Whether the top-level transaction has ended, and no call is under way.
+    pub fn is_finished(&self) -> bool
+        ensures { result ≡ steps.is_finished self.now.family }
+    {
+        match self.stage {
+            Stage::Over => has_no_call(&self.seats),
+            _ => false,
+        }
+    }
+
+    /// What the call with this key was answered, where there was one.
+    pub fn kept(&self, key: &RetryKey) -> Option<&Said>
+        ensures { option_copied result ≡ history.kept (self.now.family).entries key.now }
+    {
+        kept(&self.entries, key)
+    }
+
+    /// Whether there is this transaction.
+    pub fn has_branch(&self, branch: u32) -> bool
+        ensures { result ≡ table.has_branch self.now.family branch }
+    {
+        branch < self.tree.count()
+    }
+}
+
+/// Whether a call is under way at this place.
+fn has_call(seats: &[Seat], place: usize) -> bool
+    ensures { result ≡ calls.has_call seats.now place }
+{
+    match seats.get(place) {
+        Some(seat) => seat.call.is_some(),
+        None => false,
+    }
+}
+
+/// Whether no call is under way.
+fn has_no_call(seats: &[Seat]) -> bool
+    ensures { result ≡ list_all (λ (s : Seated). is_none s.call) seats.now }
+{
+    seats.iter().all(|s| s.call.is_none())
+}
+
+/// How a subtransaction with this status stands, whose commit isn't under way.
+fn live_column(status: Option<Status>) -> Column
+    ensures { result ≡ phases.live_column status }
+{
+    match status {
+        Some(Status::Active) => Column::Active,
+        Some(Status::MarkedRollback) => Column::Marked,
+        Some(Status::RolledBack) => Column::RolledBack,
+        _ => Column::Past,
+    }
+}

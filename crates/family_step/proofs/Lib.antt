@@ -1,0 +1,6 @@
+mod Steady
+mod ByKind
+mod Answered
+mod Registered
+mod Counted
+mod Entered

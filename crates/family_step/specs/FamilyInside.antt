@@ -1,0 +1,14 @@
+use Rattle.std.specs.Prelude.{◌≤◌, length, Option}
+use Rattle.std.specs.Option.{option_map}
+use Rattle.coordinator.specs.Family.{FamilyParts}
+use Rattle.family_step.specs.Reserving.{IsStockedFor}
+use Rattle.family_step.specs.declared.family.Family.TheInside.{Inside}
+use Rattle.family_step.specs.declared.ready.Ready.{Ready}
+
+abbrev pub shown : Inside → FamilyParts
+shown f = record { family = f.state.family; ready = option_map (λ (r : Ready). r.event) f.ready }
+
+-- each entry has sent one word at most, and there is memory for the event that was reserved
+pub record IsSound (f : Inside) : Type 0 where
+  pub serial : f.state.family.serial ≤ length f.state.family.entries
+  pub stocked : IsStockedFor f.state f.ready

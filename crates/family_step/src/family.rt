@@ -1,0 +1,235 @@
+ghost use Rattle.std.specs.Prelude.{◌≡◌, ◌<◌, ◌≤◌, ◌↔◌, ◌++◌, length, None, Some, true, false, IfOk, OnOk, OnErr, IsErr, IsErrOf, IsSome, IfSome};
+ghost use Rattle.std.specs.Option.{option_copied};
+ghost use Rattle.coordinator.specs.Family.{new_family};
+ghost use Rattle.coordinator.specs.History as history;
+ghost use Rattle.coordinator.specs.Names as names;
+ghost use Rattle.coordinator.specs.NodeCalls.{answer_of};
+ghost use Rattle.coordinator.specs.Phases as phases;
+ghost use Rattle.coordinator.specs.Step as steps;
+
+use crate::ready::Ready;
+use crate::step::step;
+use coordinator::{Entry, Event, Phase, Said, StepAnswer};
+use family_rules::State;
+use ior_refs::ObjectKey;
+use ots_model::{Octets, RetryKey, Status, Stood};
+use recovery_coord::Outbox;
+use std::alloc::{AllocError, Global};
+use std::marker::Model;
+
+/// A top-level transaction with its subtransactions, who is registered with them, the calls under way, and the history of
+/// what happened. Contracts see it as the definition has it, and the event for which memory was taken.
+#[derive(Drop)]
+pub struct Family {
+    state: State,
+    ready: Option<Ready>,
+}
+
+impl Model for Family {
+    ghost use Rattle.coordinator.specs.Family.{FamilyParts};
+
+    ghost Value = { FamilyParts };
+
+    ghost use Rattle.family_step.specs.FamilyInside.{shown, IsSound};
+
+    ghost view = { shown };
+
+    ghost invariant = { IsSound };
+}
+
+/// Why no memory was taken for a step.
+#[derive(Clone, Copy, Debug, PartialEq, Eq)]
+pub enum FamilyFault {
+    /// Memory ran out.
+    Memory,
+    /// The history has as many entries as there may be before such an event: so many.
+    History(u32),
+}
+
+impl Family {
+    /// The top-level transaction of a root alone. `key` is the key of its coordinator, and `deadline` the moment at which
+    /// its time is over.
+    pub fn new(alloc: Global, key: ObjectKey, deadline: Option<u64>) -> Result<Family, AllocError>
+        ensures made { IfOk result (λ f. f ≡ record { family = new_family key deadline; ready = None }) }
+    {
+        Ok(Family {
+            state: State::new(alloc, key, deadline)?,
+            ready: None,
+        })
+    }
+
+    /// Takes memory for the step of an event, and room for its word. A call that comes again is a step also where the history
+    /// is full.
+    pub fn reserve(&mut self, event: &Event, out: &mut Outbox) -> Result<(), FamilyFault>
+        ensures ok { OnOk result (self.new ≡ record self.old { ready = Some event.entry.now }) }
+        ensures err { OnErr result (self.new ≡ self.old) }
+        ensures history { IsErrOf result (FamilyFault.History (history.limit_of (event.entry.now).act))
+            ↔ (history.has_room (self.old.family).entries event.entry.now ≡ false) }
+        ensures memory { history.has_room (self.old.family).entries event.entry.now ≡ true
+            → IsErr result → IsErrOf result FamilyFault.Memory }
+        ensures words { out.new.words ≡ out.old.words }
+        ensures room { OnOk result (0 < out.new.room) }
+        ensures kept { out.old.room ≤ out.new.room }
+    {
+        if !self.state.has_room(event) {
+            return Err(FamilyFault::History(event.act.history_limit()));
+        }
+        match self.make_ready(event, out) {
+            Ok(()) => Ok(()),
+            Err(_) => Err(FamilyFault::Memory),
+        }
+    }
+
+    /// Takes memory for the step of an event for which the history has room.
+    fn make_ready(&mut self, event: &Event, out: &mut Outbox) -> Result<(), AllocError>
+        requires fits { history.has_room (self.old.family).entries event.now ≡ true }
+        ensures ok { OnOk result (self.new ≡ record self.old { ready = Some event.entry.now }) }
+        ensures err { OnErr result (self.new ≡ self.old) }
+        ensures words { out.new.words ≡ out.old.words }
+        ensures room { OnOk result (0 < out.new.room) }
+        ensures kept { out.old.room ≤ out.new.room }
+    {
+        self.state.make_room()?;
+        out.reserve(1)?;
+        let ready = Ready::new(self.state.allocator(), &self.state, event)?;
+        self.ready = Some(ready);
+        Ok(())
+    }
+
+    /// The key with which it was made.
+    pub fn key(&self) -> &ObjectKey
+        ensures key { result.now ≡ (self.now.family).key }
+    {
+        self.state.key()
+    }
+
+    /// How far the top-level transaction has come.
+    pub fn phase(&self) -> Phase
+        ensures phase { result ≡ phases.phase self.now.family }
+    {
+        self.state.phase()
+    }
+
+    /// The status of a transaction (`get_status`), where there is one.
+    pub fn status(&self, branch: u32) -> Option<Status>
+        ensures status { result ≡ phases.status_of self.now.family branch }
+    {
+        self.state.status_of(branch)
+    }
+
+    /// The status of its parent (`get_parent_status`), where there is one. The top-level transaction counts as its own.
+    pub fn parent_status(&self, branch: u32) -> Option<Status>
+        ensures status { result ≡ phases.parent_status_of self.now.family branch }
+    {
+        self.state.parent_status_of(branch)
+    }
+
+    /// The status of the top-level transaction (`get_top_level_status`).
+    pub fn top_status(&self) -> Status
+        ensures status { result ≡ phases.top_status self.now.family }
+    {
+        self.state.top_status()
+    }
+
+    /// Whether the top-level transaction has ended, and no call is under way.
+    pub fn finished(&self) -> bool
+        ensures finished { result ≡ steps.is_finished self.now.family }
+    {
+        self.state.is_finished()
+    }
+
+    /// What has happened, in order.
+    pub fn entries(&self) -> &[Entry]
+        ensures entries { result.now ≡ (self.now.family).entries }
+    {
+        self.state.entries()
+    }
+
+    /// What the call with this key was answered, where there was one. Where it has no answer yet, that is `Later`.
+    pub fn kept(&self, key: &RetryKey) -> Option<&Said>
+        ensures kept { option_copied result ≡ history.kept (self.now.family).entries key.now }
+    {
+        self.state.kept(key)
+    }
+
+    /// The name of a transaction (`get_transaction_name`).
+    pub fn name(&self, alloc: Global, branch: u32) -> Result<Octets, AllocError>
+        ensures name { IfOk result (λ octets. octets ≡ names.name_of self.now.family branch) }
+    {
+        self.state.name_of(alloc, branch)
+    }
+
+    /// The hash of a transaction (`hash_transaction`). It needs no memory.
+    pub fn hash(&self, branch: u32) -> u32
+        ensures hash { result ≡ names.hash_of self.now.family branch }
+    {
+        self.state.hash_of(branch)
+    }
+
+    /// What `is_same_transaction` is answered, where this is the key of the other coordinator. To another service's it is
+    /// NoImplement.
+    pub fn is_same(&self, branch: u32, other: Option<ObjectKey>) -> Said
+        ensures same { result ≡ names.is_same self.now.family branch other }
+    {
+        self.state.is_same(branch, other)
+    }
+
+    /// What `is_related_transaction` is answered.
+    pub fn is_related(&self, branch: u32, other: Option<ObjectKey>) -> Said
+        requires there { branch < length (self.now.family).rows }
+        ensures related { result ≡ names.is_related self.now.family branch other }
+    {
+        self.state.is_related(branch, other)
+    }
+
+    /// What `is_ancestor_transaction` is answered.
+    pub fn is_ancestor(&self, branch: u32, other: Option<ObjectKey>) -> Said
+        requires there { branch < length (self.now.family).rows }
+        ensures ancestor { result ≡ names.is_ancestor_of self.now.family branch other }
+    {
+        self.state.is_ancestor(branch, other)
+    }
+
+    /// What `is_descendant_transaction` is answered.
+    pub fn is_descendant(&self, branch: u32, other: Option<ObjectKey>) -> Said
+        requires there { branch < length (self.now.family).rows }
+        ensures descendant { result ≡ names.is_descendant_of self.now.family branch other }
+    {
+        self.state.is_descendant(branch, other)
+    }
+
+    /// The step of an event for which memory was taken, where it asks the journal for nothing. It takes no memory.
+    pub fn step_alone(&mut self, event: &Event, out: &mut Outbox) -> StepAnswer
+        requires reserved { self.old.ready ≡ Some event.now }
+        requires room { 0 < out.old.room }
+        requires alone { steps.wants_journal self.old.family event.now ≡ false }
+        ensures family { self.new ≡ record {
+          family = (steps.step_alone self.old.family event.entry.now).family;
+          ready = None;
+        } }
+        ensures answer { result
+            ≡ answer_of self.old.family (steps.step_alone self.old.family event.entry.now) }
+        ensures words { out.new.words
+            ≡ out.old.words ++ (steps.step_alone self.old.family event.entry.now).words }
+    {
+        let _ = event;
+        self.step_with(None, out)
+    }
+
+    /// The step of the event for which memory was taken, where this is what the journal answers in it.
+    pub fn step_with(&mut self, stood: Option<Stood>, out: &mut Outbox) -> StepAnswer
+        requires reserved { IsSome self.old.ready }
+        requires room { 0 < out.old.room }
+        ensures family { IfSome self.old.ready (λ e. self.new ≡ record {
+          family = (steps.family_step self.old.family e stood).family;
+          ready = None;
+        }) }
+        ensures answer { IfSome self.old.ready (λ e. result
+            ≡ answer_of self.old.family (steps.family_step self.old.family e stood)) }
+        ensures words { IfSome self.old.ready (λ e. out.new.words
+            ≡ out.old.words ++ (steps.family_step self.old.family e stood).words) }
+    {
+        let ready = self.ready.take().unwrap();
+        step(&mut self.state, ready, stood, out)
+    }
+}

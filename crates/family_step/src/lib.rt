@@ -1,0 +1,11 @@
+//! A family of transactions, and its steps.
+#![tactic(auto)]
+
+pub use family::{Family, FamilyFault};
+
+mod acting;
+mod family;
+mod ready;
+mod registering;
+mod step;
+mod table;

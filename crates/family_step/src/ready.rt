@@ -1,0 +1,109 @@
+// What is made ready for a step, so that it takes no memory.
+ghost use Rattle.std.specs.Prelude.{◌≡◌, ◌+◌, ◌≤◌, length, IfOk};
+ghost use Rattle.std.specs.Option.{option_copied};
+ghost use Rattle.coordinator.specs.History as history;
+ghost use Rattle.family_rules.specs.Changes.{nothing_yet};
+ghost use Rattle.family_rules.specs.Going.{CanGo};
+ghost use Rattle.family_step.specs.Acting.{name_in, name_of_said, reference_in};
+ghost use Rattle.family_step.specs.Reserving.{name_said};
+
+use coordinator::{Act, Event, Said, copy_event};
+use family_rules::{Draft, State};
+use ots_model::{Octets, RefBytes};
+use std::alloc::{AllocError, Global};
+
+/// What was made ready for the step of an event: a copy of it, the reference that it registers, the name that is said, once
+/// for the caller and once for the history, and the memory for all else.
+#[derive(Drop)]
+pub(crate) struct Ready {
+    pub event: Event,
+    pub to: Option<RefBytes>,
+    pub name: Option<Octets>,
+    pub name_again: Option<Octets>,
+    pub draft: Draft,
+}
+
+impl Ready {
+    ghost use Rattle.family_step.specs.Reserving.{IsReadyFor};
+
+    /// For this event.
+    pub fn new(alloc: Global, state: &State, event: &Event) -> Result<Ready, AllocError>
+        requires serial { (state.now.family).serial ≤ length (state.now.family).entries }
+        ensures { IfOk result (λ r. IsReadyFor event.entry.now state.now.family r) }
+    {
+        Ok(Ready {
+            event: copy_event(alloc, event)?,
+            to: reference_of(alloc, &event.act)?,
+            name: name_of(alloc, state, event)?,
+            name_again: name_of(alloc, state, event)?,
+            draft: draft_of(alloc, state)?,
+        })
+    }
+}
+
+/// Memory for what a step brings.
+fn draft_of(alloc: Global, state: &State) -> Result<Draft, AllocError>
+    requires serial { (state.now.family).serial ≤ length (state.now.family).entries }
+    ensures nothing { IfOk result (λ d. d.changes ≡ (nothing_yet 0 0).changes) }
+    ensures can { IfOk result (λ d.
+        CanGo (length (state.now.family).rows + 8) state.now.family d) }
+{
+    let room = state.branch_count() as usize + 8;
+    match state.most_left().checked_add(128) {
+        Some(tasks) => Draft::new(alloc, room, tasks),
+        None => Err(AllocError),
+    }
+}
+
+/// A copy of the reference that an act registers.
+fn reference_of(alloc: Global, act: &Act) -> Result<Option<RefBytes>, AllocError>
+    ensures { IfOk result (λ to. to ≡ reference_in act.now) }
+{
+    Ok(match act {
+        Act::RegisterResource(to, _) => Some(to.copy(alloc)?),
+        Act::RegisterSynchronization(to) => Some(to.copy(alloc)?),
+        Act::RegisterSubtranAware(to) => Some(to.copy(alloc)?),
+        _ => None,
+    })
+}
+
+/// The name that is said in the step of an event, where one is.
+fn name_of(alloc: Global, state: &State, event: &Event) -> Result<Option<Octets>, AllocError>
+    ensures { IfOk result (λ name. name ≡ name_said event.entry.now state.now.family) }
+{
+    match known(state, event) {
+        Some(said) => name_in_answer(alloc, said),
+        None => name_asked(alloc, state, event),
+    }
+}
+
+/// A copy of the name that is said.
+fn name_in_answer(alloc: Global, said: &Said) -> Result<Option<Octets>, AllocError>
+    ensures { IfOk result (λ name. name ≡ name_of_said said.now) }
+{
+    match said {
+        Said::Name(octets) => Ok(Some(Octets::new(alloc, octets.bytes())?)),
+        _ => Ok(None),
+    }
+}
+
+/// The name for which an event asks.
+fn name_asked(alloc: Global, state: &State, event: &Event) -> Result<Option<Octets>, AllocError>
+    ensures { IfOk result (λ name.
+        name ≡ name_in (event.entry.now).act (event.entry.now).branch state.now.family) }
+{
+    match &event.act {
+        Act::GetTransactionName => Ok(Some(state.name_of(alloc, event.branch)?)),
+        _ => Ok(None),
+    }
+}
+
+/// What a call was answered that comes again under its key.
+pub(crate) fn known<'a>(state: &'a State, event: &Event) -> Option<&'a Said>
+    ensures { option_copied result ≡ history.kept_for (state.now.family).entries (event.entry.now).key }
+{
+    match &event.key {
+        Some(key) => state.kept(key),
+        None => None,
+    }
+}
