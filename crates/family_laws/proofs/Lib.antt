@@ -1,0 +1,9 @@
+mod Trees
+mod Lists
+mod Seats
+mod Changes
+mod Turns
+mod Ending
+mod Sweeping
+mod Hearing
+mod Steps
