@@ -235,7 +235,7 @@ votes_turn early rs participants.Other o = tt
 votes_turn early rs participants.Lost o = tt
 votes_turn early rs participants.Starved o = tt
 
-votes_rows : (rs : List Row) (heard : ParticipantHeard) (o : Option ℕ) → rs ≡ rows_told (vote_effects heard o) rs
+pub votes_rows : (rs : List Row) (heard : ParticipantHeard) (o : Option ℕ) → rs ≡ rows_told (vote_effects heard o) rs
 votes_rows rs (participants.Voted vote) (Some g) = refl
 votes_rows rs (participants.Voted vote) None = refl
 votes_rows rs participants.Done o = refl
@@ -327,7 +327,7 @@ done_turn early rs (answers.Stands place) = tt
 done_turn early rs (answers.Full used need) = tt
 done_turn early rs (answers.Unsure why) = tt
 
-done_rows : (rs : List Row) (stood : Stood) → rs ≡ rows_told (done_effects stood) rs
+pub done_rows : (rs : List Row) (stood : Stood) → rs ≡ rows_told (done_effects stood) rs
 done_rows rs (answers.Stands place) = refl
 done_rows rs (answers.Full used need) = refl
 done_rows rs (answers.Unsure why) = refl

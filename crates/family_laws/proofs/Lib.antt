@@ -7,3 +7,6 @@ mod Ending
 mod Sweeping
 mod Hearing
 mod Steps
+mod Telling
+mod Votes
+mod StepsTell

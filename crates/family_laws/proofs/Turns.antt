@@ -57,7 +57,7 @@ turn_joined early later m rs (effects.Marked b ∷ some) others h k = turn_joine
 turn_joined early later m rs (effects.Doubted ∷ some) others h k = turn_joined early later m rs some others h k
 turn_joined early later m rs (effects.Done ∷ some) others h k = turn_joined early later m rs some others h k
 
-told_joined : (rs : List Row) (some others : List Effect) → rows_told (some ++ others) rs ≡ rows_told others (rows_told some rs)
+pub told_joined : (rs : List Row) (some others : List Effect) → rows_told (some ++ others) rs ≡ rows_told others (rows_told some rs)
 told_joined rs [] others = refl
 told_joined rs (effects.Voted g vote ∷ some) others = told_joined rs some others
 told_joined rs (effects.Decided fixed ∷ some) others = told_joined rs some others

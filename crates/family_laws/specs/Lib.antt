@@ -1,3 +1,4 @@
 pub mod Trees
 pub mod Sound
 pub mod LawsOfSteps
+pub mod LawsOfTelling

@@ -1,7 +1,8 @@
 // Laws of the definitions: these functions do nothing, and their contracts are the laws.
 ghost use Rattle.family_laws.specs.LawsOfSteps.{FamiliesEndInTurn, FamiliesStaySound, FamiliesWordsRest};
+ghost use Rattle.family_laws.specs.LawsOfTelling.{FamiliesNumberWords, FamiliesTellEnds, FamiliesTellOutcomes, FamiliesTellVotes};
 
-use two_phase::tree_words_go_rightly;
+use two_phase::{a_tree_outcome_stays, tree_words_go_rightly};
 
 /// A new family is sound, and so is each one that a step leaves of a sound one: its lists have what was committed up to their
 /// branches, its completion goes by the list of the top, and its calls under way are as far as its stage.
@@ -25,3 +26,26 @@ pub fn families_words_rest()
 {
     tree_words_go_rightly();
 }
+
+/// The rows that a step leaves follow from the ends and marks that it tells; or it tells nothing, and a subtransaction was made.
+pub fn families_tell_ends()
+    ensures { FamiliesTellEnds }
+{}
+
+/// The words of a step have the next numbers of the family, one after another; it counts them, and the key stays.
+pub fn families_number_words()
+    ensures { FamiliesNumberWords }
+{}
+
+/// An outcome is told exactly where a step fixes it, where the completion is one that can be reached.
+pub fn families_tell_outcomes()
+    ensures { FamiliesTellOutcomes }
+{
+    a_tree_outcome_stays();
+}
+
+/// A vote is told where the answer to the word that asked for it is heard, and counts from then on. Where no participant
+/// decides alone, only a vote that is told comes to count.
+pub fn families_tell_votes()
+    ensures { FamiliesTellVotes }
+{}

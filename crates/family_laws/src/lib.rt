@@ -1,7 +1,10 @@
-//! What holds of each step of a family, by its definition: it leaves a sound family, subtransactions end in their turn, and each
-//! word rests on what it must.
+//! What holds of each step of a family, by its definition: it leaves a sound family, subtransactions end in their turn, each
+//! word rests on what it must, and what happened is told.
 #![tactic(auto)]
 
-pub use laws::{families_end_in_turn, families_stay_sound, families_words_rest};
+pub use laws::{
+    families_end_in_turn, families_number_words, families_stay_sound, families_tell_ends,
+    families_tell_outcomes, families_tell_votes, families_words_rest,
+};
 
 mod laws;
