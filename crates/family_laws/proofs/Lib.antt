@@ -10,3 +10,5 @@ mod Steps
 mod Telling
 mod Votes
 mod StepsTell
+mod Journal
+mod Closing

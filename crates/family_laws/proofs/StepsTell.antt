@@ -58,7 +58,7 @@ pub record IsSettling (f : Family) (stood : Option Stood) (m : Moved) : Type 0 w
   pub done : Contains m.effects effects.Done
       → (stages.wants_decision f.completion ≡ false) × (wants_done f ≡ true) × ((place : ℕ) × (stood ≡ Some (answers.Stands place)))
 
-no_done_among : (some : List Effect) → AllByRecursion IsNoDone some → Contains some effects.Done → ⊥
+pub no_done_among : (some : List Effect) → AllByRecursion IsNoDone some → Contains some effects.Done → ⊥
 no_done_among some all h = all_at IsNoDone some effects.Done all h
 
 plain_settles : (f : Family) (stood : Option Stood) (m : Moved) → Plain f m → IsSettling f stood m
@@ -93,7 +93,7 @@ closes_is stood f e d = record {
   done = λ c. (e, d, done_stands stood c);
 }
 
-settles_is : (stood : Option Stood) (f : Family) → IsSettling f stood (settles stood f)
+pub settles_is : (stood : Option Stood) (f : Family) → IsSettling f stood (settles stood f)
 unfolding settles
 settles_is None f = plain_settles f None (only f) (only_plain f)
 settles_is (Some stood) f = by_decision (stages.wants_decision f.completion) refl
@@ -108,7 +108,7 @@ settles_is (Some stood) f = by_decision (stages.wants_decision f.completion) ref
 
 -- ---- an answer
 
-goes_on_at_plain : (o : Option ℕ) (f : Family) → Plain f (goes_on_at o f)
+pub goes_on_at_plain : (o : Option ℕ) (f : Family) → Plain f (goes_on_at o f)
 goes_on_at_plain (Some b) f = goes_on_plain b f
 goes_on_at_plain None f = only_plain f
 

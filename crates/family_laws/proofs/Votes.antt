@@ -22,7 +22,7 @@ use Rattle.two_phase.specs.Course as course
 use Rattle.two_phase.specs.Course.{Course}
 use Rattle.two_phase.specs.LawsOfReached.{TreeOutcomeStays}
 use Rattle.two_phase.specs.LawsOfReached.TreeBecomes.{by_answer, by_record, by_reread}
-use Rattle.two_phase.specs.Poll.{same_number}
+use Rattle.flat_phases.specs.Poll.{same_number}
 use Rattle.two_phase.specs.Stages as stages
 use Rattle.two_phase.specs.Stages.{Standing, Waiting, Going as UnderWay}
 use Rattle.two_phase.specs.declared.party.Errand.{Errand}
@@ -384,7 +384,7 @@ voted_now heard o g vote e i = rw (e, i) (has_at (effects.Voted g vote ∷ []) 0
 parties_set : (xs : List Party) (k : ℕ) (y : Party) → length (slice_set xs k y) ≡ length xs
 parties_set xs k y = grind (arith, common_steps)
 
-answered_alone : (k : Course) (e : Errand) (heard : ParticipantHeard) → course.decides_alone (course.answered heard k e) ≡ course.decides_alone k
+pub answered_alone : (k : Course) (e : Errand) (heard : ParticipantHeard) → course.decides_alone (course.answered heard k e) ≡ course.decides_alone k
 answered_alone k e heard = go (slice_get k.parties e.place) refl
   where
     go : (o : Option Party) → slice_get k.parties e.place ≡ o → course.decides_alone (course.answered heard k e) ≡ course.decides_alone k

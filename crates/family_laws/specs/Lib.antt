@@ -2,3 +2,4 @@ pub mod Trees
 pub mod Sound
 pub mod LawsOfSteps
 pub mod LawsOfTelling
+pub mod LawsOfJournal

@@ -1,4 +1,5 @@
 // Laws of the definitions: these functions do nothing, and their contracts are the laws.
+ghost use Rattle.family_laws.specs.LawsOfJournal.{FamiliesAppendOwn, FamiliesCloseLast};
 ghost use Rattle.family_laws.specs.LawsOfSteps.{FamiliesEndInTurn, FamiliesStaySound, FamiliesWordsRest};
 ghost use Rattle.family_laws.specs.LawsOfTelling.{FamiliesNumberWords, FamiliesTellEnds, FamiliesTellOutcomes, FamiliesTellVotes};
 
@@ -48,4 +49,18 @@ pub fn families_tell_outcomes()
 /// decides alone, only a vote that is told comes to count.
 pub fn families_tell_votes()
     ensures { FamiliesTellVotes }
+{}
+
+/// A decision is appended of the sound family that has heard an answer, once its participants agree and before its outcome was
+/// fixed. Where the record stands, the family that the step leaves is decided by that place, and its outcome is commit by a record.
+pub fn families_append_own()
+    ensures { FamiliesAppendOwn }
+{
+    a_tree_outcome_stays();
+}
+
+/// A Done is wanted at the place of a sound family's own record, once each participant that voted commit has completed; and it
+/// is told exactly where it was wanted and stands.
+pub fn families_close_last()
+    ensures { FamiliesCloseLast }
 {}
