@@ -357,13 +357,17 @@ impl State {
     {
         // No more messages were sent than may be, so that a place and that of the next record fit their types.
         let sent = self.board.sent();
-        let Some(place) = self.board.lowest_from(self.delivered) else {
-            self.delivered = sent;
-            return Ok(false);
-        };
-        self.board.deliver(lines, place)?;
-        self.delivered = place + 1;
-        Ok(true)
+        match self.board.lowest_from(self.delivered) {
+            None => {
+                self.delivered = sent;
+                Ok(false)
+            }
+            Some(place) => {
+                self.board.deliver(lines, place)?;
+                self.delivered = place + 1;
+                Ok(true)
+            }
+        }
     }
 
     /// `flow K`.

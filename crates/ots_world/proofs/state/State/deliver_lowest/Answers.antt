@@ -10,18 +10,18 @@ overflow_add-self c = omega (
   c.sent-sent.ensures.within,
 )
 
-pub returns : goal.returns
-returns c = let is = sym c.in-Some.ensures.lowest in record {
+pub returns-in-None : goal.returns-in-None
+returns-in-None c = let none = sym c.in-None.ensures.lowest in record {
+  delivers = (none, refl, refl, none_indexed c.args.self.now _ c.requires none refl c.sent-sent.ensures.count refl);
+}
+
+pub returns-in_ok-deliver-in-Some : goal.returns-in_ok-deliver-in-Some
+returns-in_ok-deliver-in-Some c = let is = sym c.in-Some.ensures.lowest in record {
   delivers = (
     c.in-Some.place,
     is,
-    c.in_ok-deliver.ensures.does,
+    c.in_ok-deliver-in-Some.ensures.does,
     refl,
-    delivered_indexed c.args.self.now _ c.in-Some.place c.requires is c.in_ok-deliver.ensures.does.0 refl refl,
+    delivered_indexed c.args.self.now _ c.in-Some.place c.requires is c.in_ok-deliver-in-Some.ensures.does.0 refl refl,
   );
-}
-
-pub returns-None : goal.returns-None
-returns-None c = let none = sym c.in-None.ensures.lowest in record {
-  delivers = (none, refl, refl, none_indexed c.args.self.now _ c.requires none refl c.sent.ensures.count refl);
 }
