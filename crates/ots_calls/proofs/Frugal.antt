@@ -7,7 +7,7 @@ use Rattle.cdr_values.specs.declared.order.Order.TheVariants.{Big, Little}
 use Rattle.cdr_values.specs.Encapsulation.{inside, opened}
 use Rattle.cdr_values.specs.Reading.{Reading, ◌>>=◌, boolean_at, further, is_string, number_at, octet_at, octets_at, sized_at, string_at, text_in, ulong_at, ulonglong_at}
 use Rattle.cdr_values.specs.Value.{gap, number_in}
-use Rattle.ots_calls.specs.Fault.{fault_of}
+use Rattle.ots_calls.specs.Fault.{Fails, fault_of}
 use Rattle.ots_calls.specs.Answering.{garbled}
 use Rattle.ots_calls.specs.declared.fault.CallFault.{CallFault}
 use Rattle.ots_calls.specs.declared.fault.CallFault.TheVariants.{Memory}
@@ -118,3 +118,21 @@ garbled_memory (faults.Garbled place) e = absurd cc
 garbled_memory faults.BadTarget e = absurd cc
 garbled_memory faults.BadKey e = absurd cc
 garbled_memory Memory e = refl
+
+-- a call answers the fault that reading gives
+pub fails_with : {A : Type 0} (fault : CallFault) (read : Result A CallFault) → read ≡ Err fault → Fails fault read
+fails_with faults.BadOperation read e = e
+fails_with (faults.Marshal place) read e = e
+fails_with faults.BadParam read e = e
+fails_with (faults.Garbled place) read e = e
+fails_with faults.BadTarget read e = e
+fails_with faults.BadKey read e = e
+fails_with Memory read e = tt
+
+-- a call that was refused
+abbrev refusal : {A : Type 0} → CallFault → Result A CallFault
+refusal fault = Err fault
+
+-- for want of memory
+pub memory_told : {A : Type 0} (fault : CallFault) → refusal {A = A} fault ≡ Err Memory → fault ≡ Memory
+memory_told fault e = cc
