@@ -1,7 +1,7 @@
 use Rattle.std.proofs.Common.{refl}
 use Rattle.std.proofs.lemmas.Result.{err_from_is_err_and}
 use Rattle.ots_calls.specs.Reading.{call_at}
-use Rattle.ots_calls.proofs.Frugal.{boolean_frugal, fails_with, memory_told, ulong_frugal, ulonglong_frugal}
+use Rattle.ots_calls.proofs.Frugal.{boolean_frugal, fails_with, memory_told, string_frugal, ulong_frugal, ulonglong_frugal}
 use Rattle.ots_calls.proofs.reading.read_arguments.Goals as goal
 
 pub returns-in_err-time_out-in-Create-clause-exact : goal.returns-in_err-time_out-in-Create-clause-exact
@@ -58,3 +58,14 @@ pub returns-in_err-cell-in-Get-clause-memory : goal.returns-in_err-cell-in-Get-c
 returns-in_err-cell-in-Get-clause-memory c =
     let p = err_from_is_err_and c.from_residual-in_err-cell-in-Get.result c.from_residual-in_err-cell-in-Get.ensures.1 in
     rw (p.1, p.2) (λ e. absurd (ulonglong_frugal _ _ c.in_err-cell-in-Get.ensures.exact.0 (memory_told _ e)))
+
+pub returns-in_err-string-in-IsA-clause-exact : goal.returns-in_err-string-in-IsA-clause-exact
+unfolding call_at
+returns-in_err-string-in-IsA-clause-exact c =
+    let p = err_from_is_err_and c.from_residual-in_err-string-in-IsA.result c.from_residual-in_err-string-in-IsA.ensures.1 in
+    rw (p.1, p.2, c.in-IsA.is) (fails_with _ _ (rw c.in_err-string-in-IsA.ensures.exact.0 refl))
+
+pub returns-in_err-string-in-IsA-clause-memory : goal.returns-in_err-string-in-IsA-clause-memory
+returns-in_err-string-in-IsA-clause-memory c =
+    let p = err_from_is_err_and c.from_residual-in_err-string-in-IsA.result c.from_residual-in_err-string-in-IsA.ensures.1 in
+    rw (p.1, p.2) (λ e. absurd (string_frugal _ _ c.in_err-string-in-IsA.ensures.exact.0 (memory_told _ e)))
