@@ -1,5 +1,5 @@
 -- What a family's call answers that registers something, by what its registrations answered.
-use Rattle.std.proofs.Common.{◌≡◌, ◌==◌, ◌∙◌, refl, ap, sym, subst, ℕ, ◌+◌, ◌-◌, ◌<◌, ◌≤◌, Bool, true, false, if◌then◌else◌, List, [], ◌∷◌, ◌++◌, length, Option, Some, None, Result, Ok, Err, arith, length-append}
+use Rattle.std.proofs.Common.{◌≡◌, ◌==◌, ◌∙◌, refl, ap, sym, subst, ℕ, ◌+◌, ◌-◌, ◌<◌, Bool, true, false, if◌then◌else◌, List, [], ◌∷◌, length, Option, Some, None, Result, Ok, Err, arith, length-append}
 use Rattle.std.specs.Result.{IfOk, OnOk, OnErr}
 use Rattle.std.specs.Prelude.{nat_le, min, vec_capacity, vec_len}
 use Rattle.std.proofs.Math.Nat.{min-le_left, min-le_right}
@@ -13,7 +13,7 @@ use Rattle.resource_votes.specs.declared.registration.VoteFault.TheVariants as f
 use Rattle.resource_votes.specs.declared.registration.Registration.{Registration}
 use Rattle.resource_votes.specs.declared.registration.VoteFault.{VoteFault}
 use Rattle.family_rules.specs.Asking.{Registers}
-use Rattle.coordinator.specs.Family.{Family, Call}
+use Rattle.coordinator.specs.Family.{Call}
 use Rattle.family_rules.specs.Calls.{all_seated}
 use Rattle.family_rules.specs.Room.{spare}
 use Rattle.family_rules.specs.StateInside.{AreFew, IsSound, shown}

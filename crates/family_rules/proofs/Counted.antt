@@ -1,12 +1,11 @@
 -- No transaction comes and none goes where an answer is heard, or the journal's.
-use Rattle.std.proofs.Common.{◌≡◌, refl, ap, ◌∙◌, ℕ, Bool, true, false, List, length, Option, Some, None, if◌then◌else◌, ◌||◌, ◌∷◌, []}
+use Rattle.std.proofs.Common.{◌≡◌, refl, ℕ, Bool, true, false, length, Option, Some, None, if◌then◌else◌, ◌||◌}
 use Rattle.std.proofs.lemmas.List.{length-set}
 use Rattle.ots_model.specs.declared.completion.CallNumber.{CallNumber}
 use Rattle.ots_model.specs.declared.completion.Doubted.{Doubted}
 use Rattle.ots_model.specs.declared.completion.Stood.{Stood}
 use Rattle.ots_model.specs.declared.completion.Stood.TheVariants as answers
 use Rattle.ots_model.specs.declared.tree.Heard.{Heard}
-use Rattle.txn_tree.specs.Calls.{marked}
 use Rattle.txn_tree.specs.Rows.{parent}
 use Rattle.two_phase.specs.Stages as stages
 use Rattle.coordinator.specs.Closing.{begins}
@@ -14,7 +13,7 @@ use Rattle.coordinator.specs.Family.{Family, Call, Aim, Commits, RollsBack, call
 use Rattle.coordinator.specs.declared.call.Leg.{Leg}
 use Rattle.coordinator.specs.declared.call.Leg.TheVariants.{Below, Own, Before, Deciding, After}
 use Rattle.coordinator.specs.Hearing.{answers_doubt, closes, decided, doubts_by, hears_at, is_markable, is_plain, marks, marks_parent, settles, told, told_before, told_commit, told_end, told_participant, wants_done}
-use Rattle.coordinator.specs.Moves.{Moved, completes_as, only}
+use Rattle.coordinator.specs.Moves.{Moved, completes_as}
 use Rattle.coordinator.specs.Phases.{has_parent_ended}
 use Rattle.coordinator.specs.Step.{hears_call}
 

@@ -1,5 +1,5 @@
 -- The answers of a step, by the place of its entry.
-use Rattle.std.proofs.Common.{◌≡◌, ◌==◌, ◌∙◌, ◌<◌, ◌+◌, ◌++◌, refl, ap, sym, ℕ, suc, length, drop, get_or, drop-cons, add-one, append_assoc, not, Bool, true, false, cond, List, [], ◌∷◌, map, Option, Some, None}
+use Rattle.std.proofs.Common.{◌≡◌, ◌==◌, ◌∙◌, ◌<◌, ◌+◌, ◌++◌, refl, ap, sym, ℕ, suc, length, drop, get_or, drop-cons, add-one, append_assoc, not, Bool, true, false, cond, List, [], ◌∷◌, map, Option, Some}
 use Rattle.std.specs.List.{find}
 use Rattle.std.specs.Option.{option_map_or}
 use Rattle.coordinator.specs.Step.{said_later, said_now}

@@ -2,7 +2,6 @@
 use Rattle.std.proofs.Common.{◌≡◌, ◌∙◌, refl, ap, sym, ℕ, Bool, true, false, Option, Some, None, if◌then◌else◌}
 use Rattle.ots_model.specs.declared.completion.CallNumber.{CallNumber}
 use Rattle.ots_model.specs.declared.tree.Heard.{Heard}
-use Rattle.ots_model.specs.declared.tree.Reason.{Reason}
 use Rattle.family_rules.specs.Calls.{deciding_in}
 use Rattle.family_rules.specs.Changes.{DraftParts, so_far}
 use Rattle.coordinator.specs.Closing.{asked_of, begins, gives_up, rolling_back}
@@ -11,7 +10,7 @@ use Rattle.coordinator.specs.declared.call.Leg.TheVariants.{Deciding}
 use Rattle.coordinator.specs.Hearing.{hears_at, is_plain, reason_of, told, told_before}
 use Rattle.coordinator.specs.Moves.{Moved, only, after}
 use Rattle.coordinator.specs.Step.{hears_call}
-use Rattle.family_rules.proofs.Moving.{brings_nothing, does_as}
+use Rattle.family_rules.proofs.Moving.{brings_nothing}
 
 pub heard_by : (f g h : Family) (d e : DraftParts) (b : ℕ) (k : Call) (n : CallNumber) (heard : Heard) (rule : Family → Moved) → call_at f b ≡ Some k
     → g ≡ with_call b (record k { out = None }) f → rule g ≡ told k.leg n b (record k { out = None }) heard g

@@ -1,14 +1,12 @@
 -- What a family's call answers that makes a subtransaction, by what its tree answered.
-use Rattle.std.proofs.Common.{◌≡◌, ◌∙◌, refl, ap, sym, subst, ℕ, ◌+◌, ◌<◌, List, [], ◌∷◌, ◌++◌, length, Bool, true, false, Option, Some, None, Result, Ok, Err, arith, length-append}
-use Rattle.std.specs.Prelude.{vec_len, Vec}
+use Rattle.std.proofs.Common.{◌≡◌, ◌∙◌, ap, ℕ, List, [], ◌∷◌, ◌++◌, length, Option, Some, None, Result, Ok, Err}
 use Rattle.std.specs.Option.{IfSome}
 use Rattle.std.specs.Result.{IfOk, IsErrOf, IsOk, OnOk}
-use Rattle.txn_tree.specs.Calls.{TreeParts, created, creating}
+use Rattle.txn_tree.specs.Calls.{created}
 use Rattle.txn_tree.specs.declared.row.Row.{Row}
 use Rattle.txn_tree.specs.declared.row.TreeFault.{TreeFault}
 use Rattle.coordinator.specs.Family.{Call, Family}
 use Rattle.family_rules.specs.Asking.{Creates}
-use Rattle.family_rules.specs.Calls.{all_seated}
 
 abbrev ok_of : ℕ → Result ℕ TreeFault
 ok_of n = Ok n

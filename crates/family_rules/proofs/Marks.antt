@@ -1,5 +1,5 @@
 -- A transaction that may be marked is there.
-use Rattle.std.proofs.Common.{◌≡◌, ◌∙◌, refl, ap, sym, ℕ, ◌==◌, ◌<◌, ◌&&◌, Bool, true, false, List, length, Option, Some, None, is_some, arith, if◌then◌else◌}
+use Rattle.std.proofs.Common.{◌≡◌, ◌∙◌, refl, ap, sym, ℕ, ◌==◌, ◌<◌, ◌&&◌, Bool, true, false, length, Option, Some, None, is_some, arith, if◌then◌else◌}
 use Rattle.std.specs.List.{slice_get}
 use Rattle.std.specs.Option.{option_map, option_map_or}
 use Rattle.std.proofs.lemmas.Bool.Decides.{nat_tests}

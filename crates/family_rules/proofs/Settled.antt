@@ -1,5 +1,5 @@
 -- A completion that is settled has no word to send.
-use Rattle.std.proofs.Common.{◌≡◌, ◌∙◌, refl, ap, sym, ℕ, ◌+◌, ◌<◌, ◌&&◌, ◌||◌, Bool, true, false, not, cond, List, [], ◌∷◌, length, position, Option, Some, None, is_some, is_none, arith, if◌then◌else◌}
+use Rattle.std.proofs.Common.{◌≡◌, ◌∙◌, refl, ap, sym, ℕ, ◌+◌, ◌&&◌, ◌||◌, Bool, true, false, not, cond, List, [], ◌∷◌, length, position, Option, Some, None, is_some, is_none, arith, if◌then◌else◌}
 use Rattle.std.specs.Prelude.{nat_lt}
 use Rattle.std.specs.List.{list_all, list_any, position_or_len, prefix_len}
 use Rattle.std.specs.Option.{option_map_or, option_and_then}
@@ -7,7 +7,7 @@ use Rattle.std.proofs.lemmas.Bool.Decides.{nat_tests}
 use Rattle.ots_model.specs.declared.completion.Heard.{Heard}
 use Rattle.ots_model.specs.declared.tree.Outcome.{Outcome}
 use Rattle.two_phase.specs.Course.{Course, decides_alone, errand, errand_at, forgetting, may_forget, next_forgetting, next_told, next_word, outcome, outward_of, telling, asking}
-use Rattle.two_phase.specs.Parties.{has_completed, has_raised, is_owed, is_through, is_told, is_unforgotten, is_untold, lets_go, completes}
+use Rattle.two_phase.specs.Parties.{has_raised, is_owed, is_through, is_told, is_unforgotten, is_untold, lets_go, completes}
 use Rattle.two_phase.specs.Reports.{all_completed, all_through, is_settled, some_owed}
 use Rattle.two_phase.specs.Stages as stages
 use Rattle.two_phase.specs.Stages.{Standing, Waiting, Going as UnderWay}

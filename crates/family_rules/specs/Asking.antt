@@ -1,9 +1,9 @@
 -- What a call makes of a family that registers something, or makes a subtransaction.
-use Rattle.std.specs.Prelude.{◌≡◌, ℕ, List, length, Option, Some, None, Result, Ok, Err}
+use Rattle.std.specs.Prelude.{◌≡◌, ℕ, length, Option, Some, None, Result, Ok, Err}
 use Rattle.txn_tree.specs.declared.row.TreeFault.{TreeFault}
 use Rattle.resource_votes.specs.Ballots.{Ballots}
 use Rattle.resource_votes.specs.declared.registration.VoteFault.{VoteFault}
-use Rattle.coordinator.specs.Family.{Family, Call, call_at}
+use Rattle.coordinator.specs.Family.{Family}
 use Rattle.coordinator.specs.Table.{with_sub}
 
 -- a registration that this refuses, or else these are registered, the last with this number

@@ -1,15 +1,13 @@
 -- Who is answered a name: a call that asks for one.
-use Rattle.std.proofs.Common.{◌≡◌, ◌==◌, ◌&&◌, ◌⊎◌, inl, inr, refl, sym, subst, ℕ, Bool, true, false, List, Option, Some, None, ◌∷◌, [], if◌then◌else◌}
+use Rattle.std.proofs.Common.{◌≡◌, ◌==◌, ◌&&◌, inl, inr, refl, sym, subst, ℕ, Bool, true, false, List, Option, Some, None, if◌then◌else◌}
 use Rattle.std.specs.Option.{IfSome}
 use Rattle.ior_refs.specs.declared.key.ObjectKey.{ObjectKey}
 use Rattle.ots_model.specs.declared.completion.Stood.{Stood}
 use Rattle.ots_model.specs.declared.service.Status.{Status}
-use Rattle.ots_model.specs.declared.tree.Outcome.TheVariants as outcomes
 use Rattle.resource_votes.specs.Ballots.{Ballots, registered, registered_aware, registered_sync, registering}
 use Rattle.resource_votes.specs.declared.registration.VoteFault.{VoteFault}
 use Rattle.resource_votes.specs.declared.registration.VoteFault.TheVariants as vote_faults
 use Rattle.txn_tree.specs.Calls.{creating}
-use Rattle.txn_tree.specs.Rows.{are_related, is_ancestor}
 use Rattle.txn_tree.specs.declared.row.TreeFault.{TreeFault}
 use Rattle.txn_tree.specs.declared.row.TreeFault.TheVariants as tree_faults
 use Rattle.two_phase.specs.Stages as stages

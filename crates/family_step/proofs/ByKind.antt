@@ -1,6 +1,5 @@
 -- What a call does, by its kind.
-use Rattle.std.proofs.Common.{◌≡◌, refl, ℕ, List, Bool, Option, Some, None}
-use Rattle.ior_refs.specs.declared.key.ObjectKey.{ObjectKey}
+use Rattle.std.proofs.Common.{◌≡◌, refl, ℕ, List, Bool, Option}
 use Rattle.ots_model.specs.declared.completion.CallNumber.{CallNumber}
 use Rattle.ots_model.specs.declared.completion.Stood.{Stood}
 use Rattle.ots_model.specs.declared.tree.Heard.{Heard}
@@ -10,8 +9,7 @@ use Rattle.coordinator.specs.Step.{acts_on}
 use Rattle.coordinator.specs.Table.{gets_terminator, says}
 use Rattle.coordinator.specs.declared.event.Act.{Act}
 use Rattle.coordinator.specs.declared.event.Act.TheVariants as acts
-use Rattle.coordinator.specs.declared.said.Said.TheVariants as said
-use Rattle.family_step.specs.Acting.{called, carried_out, is_named_there, told}
+use Rattle.family_step.specs.Acting.{called, carried_out, told}
 
 -- what the service itself brings, a status, an ask and a superior's word are no calls on a transaction
 pub as_called : (act : Act) → (act ≡ acts.GetStatus → ⊥) → (act ≡ acts.GetParentStatus → ⊥) → ((g : ℕ) (to : List ℕ) → act ≡ acts.Replay g to → ⊥)

@@ -1,5 +1,5 @@
 -- How many transactions there are after a rule, and where nothing comes of one.
-use Rattle.std.proofs.Common.{◌≡◌, ◌∙◌, refl, ap, sym, ℕ, Bool, List, length, Option, Some, None}
+use Rattle.std.proofs.Common.{◌≡◌, ◌∙◌, refl, ap, sym, ℕ, Bool, List, length, Option}
 use Rattle.std.proofs.lemmas.List.{append-nil}
 use Rattle.ots_model.specs.declared.completion.CallNumber.{CallNumber}
 use Rattle.ots_model.specs.declared.completion.Stood.{Stood}
@@ -7,10 +7,9 @@ use Rattle.ots_model.specs.declared.tree.Heard.{Heard}
 use Rattle.ots_model.specs.declared.tree.Outward.{Outward}
 use Rattle.ots_model.specs.declared.tree.Reason.{Reason}
 use Rattle.coordinator.specs.Closing.{begins, rolling_back}
-use Rattle.coordinator.specs.Family.{Family, call_at, waiting_for}
+use Rattle.coordinator.specs.Family.{Family, waiting_for}
 use Rattle.coordinator.specs.Hearing.{settles}
-use Rattle.coordinator.specs.Moves.{Moved, after, completes_as, only, ◌▹◌}
-use Rattle.coordinator.specs.Running.{goes_on}
+use Rattle.coordinator.specs.Moves.{after, completes_as, only, ◌▹◌}
 use Rattle.coordinator.specs.Step.{answered, goes_on_at, hears, hears_for}
 use Rattle.coordinator.specs.declared.effect.Effect.{Effect}
 use Rattle.coordinator.specs.declared.said.Finished.{Finished}

@@ -1,5 +1,5 @@
 -- A step that makes an entry, part by part.
-use Rattle.std.proofs.Common.{◌≡◌, ◌==◌, ◌∙◌, ◌<◌, ◌||◌, refl, ap, sym, ℕ, Bool, true, false, not, is_some, List, [], ◌∷◌, ◌++◌, length, Option, Some, None, arith, if◌then◌else◌}
+use Rattle.std.proofs.Common.{◌≡◌, ◌∙◌, ◌<◌, ◌||◌, refl, ap, ℕ, Bool, true, false, not, is_some, List, [], ◌∷◌, ◌++◌, length, Option, Some, None, arith, if◌then◌else◌}
 use Rattle.std.specs.Prelude.{nat_le}
 use Rattle.std.proofs.lemmas.Bool.Decides.{nat_tests}
 use Rattle.ots_model.specs.declared.completion.Stood.{Stood}
@@ -7,7 +7,7 @@ use Rattle.ots_model.specs.declared.tree.Outward.{Outward}
 use Rattle.coordinator.specs.Family.{Family}
 use Rattle.coordinator.specs.History.{has_room, is_full, is_own_act, kept_for}
 use Rattle.coordinator.specs.Limits.{call_limit, history_limit}
-use Rattle.coordinator.specs.Moves.{Moved, after, only}
+use Rattle.coordinator.specs.Moves.{Moved, after}
 use Rattle.coordinator.specs.NodeCalls.{answer_of}
 use Rattle.coordinator.specs.Step.{entered, entry_of, said_later, said_now}
 use Rattle.coordinator.specs.Table.{Acted}

@@ -8,7 +8,6 @@ use Rattle.ots_model.specs.declared.tree.Heard.{Heard}
 use Rattle.ots_model.specs.declared.tree.Outcome.{Outcome}
 use Rattle.ots_model.specs.declared.tree.Outward.{Outward}
 use Rattle.ots_model.specs.declared.tree.Reason.{Reason}
-use Rattle.ots_model.specs.declared.tree.Reason.TheVariants as reasons
 use Rattle.resource_votes.specs.Ballots.{Ballots}
 use Rattle.resource_votes.specs.declared.registration.Registration.{Registration}
 use Rattle.resource_votes.specs.declared.registration.VoteFault.{VoteFault}
@@ -21,14 +20,13 @@ use Rattle.coordinator.specs.declared.event.Act.TheVariants as acts
 use Rattle.coordinator.specs.declared.event.Event.{Event}
 use Rattle.coordinator.specs.declared.phase.Column.{Column}
 use Rattle.coordinator.specs.declared.phase.Column.TheVariants as columns
-use Rattle.coordinator.specs.declared.said.Entry.{Entry}
 use Rattle.coordinator.specs.declared.said.Said.{Said}
 use Rattle.coordinator.specs.Family.{Family, Call, Aim, Commits, RollsBack, Duty, call_at, waiting_for}
 use Rattle.coordinator.specs.declared.call.Leg.{Leg}
 use Rattle.coordinator.specs.declared.call.Leg.TheVariants.{Below, Own, Before, Deciding, After}
 use Rattle.coordinator.specs.declared.call.Stage.{Stage}
 use Rattle.coordinator.specs.declared.call.Stage.TheVariants.{Going, Finishing, Completing, Over}
-use Rattle.coordinator.specs.Moves.{Moved, only, ◌▹◌, sends, ends_call, completes_as}
+use Rattle.coordinator.specs.Moves.{Moved, ◌▹◌, sends, ends_call, completes_as}
 use Rattle.coordinator.specs.Phases.{column, has_parent_ended, is_marked}
 use Rattle.coordinator.specs.Closing.{afterwards, before, begins, calls_next, decides, decides_by, finishes, next_synchronization, next_told, rests, tells_next}
 use Rattle.coordinator.specs.Running.{by_leg, commits_up, duties_below, ends_below, goes_on, is_held, own_duties, own_ends, passes, passes_top, runs, runs_call, sweeps, sweeps_next, tells_after, tells_first, tells_own}

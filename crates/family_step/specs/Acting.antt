@@ -1,7 +1,7 @@
 -- What a call does on what its key names, by its kind.
 use Rattle.std.specs.Prelude.{◌≡◌, ◌==◌, ℕ, Bool, List, length, Option, Some, None, if◌then◌else◌}
 use Rattle.coordinator.specs.Family.{Family}
-use Rattle.coordinator.specs.Moves.{Moved, only}
+use Rattle.coordinator.specs.Moves.{only}
 use Rattle.coordinator.specs.Names.{name_of, hash_of, is_same, is_related, is_ancestor_of, is_descendant_of}
 use Rattle.coordinator.specs.Phases.{top_status}
 use Rattle.coordinator.specs.Table as table

@@ -1,4 +1,4 @@
-use Rattle.std.specs.Prelude.{◌≤◌, length, Option}
+use Rattle.std.specs.Prelude.{◌≤◌, length}
 use Rattle.std.specs.Option.{option_map}
 use Rattle.coordinator.specs.Family.{FamilyParts}
 use Rattle.family_step.specs.Reserving.{IsStockedFor}

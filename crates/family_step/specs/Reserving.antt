@@ -1,6 +1,6 @@
 -- What is made ready for the step of an event.
-use Rattle.std.specs.Prelude.{◌≡◌, ℕ, ◌+◌, ◌<◌, ◌≤◌, Bool, true, List, length, Option, Some, None}
-use Rattle.coordinator.specs.Family.{Family, FamilyParts}
+use Rattle.std.specs.Prelude.{◌≡◌, ℕ, ◌+◌, ◌<◌, true, List, length, Option, Some, None}
+use Rattle.coordinator.specs.Family.{Family}
 use Rattle.coordinator.specs.History.{has_room, kept_for}
 use Rattle.coordinator.specs.declared.event.Event.{Event}
 use Rattle.coordinator.specs.declared.said.Said.{Said}

@@ -1,4 +1,4 @@
-use Rattle.std.proofs.Common.{◌≡◌, ◌∙◌, ◌+◌, ℕ, ap, sym, subst, length, arith}
+use Rattle.std.proofs.Common.{◌≡◌, ◌∙◌, ◌+◌, ℕ, sym, subst, length, arith}
 use Rattle.family_rules.specs.Going.{CanGo}
 use Rattle.family_step.proofs.acting.answer_at.Goals as goal
 

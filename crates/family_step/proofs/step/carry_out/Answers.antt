@@ -1,6 +1,5 @@
 use Rattle.std.proofs.Common.{◌≡◌, ◌∙◌, ◌<◌, ap, sym, subst, ℕ, List, length, Option, Some}
 use Rattle.std.specs.Option.{IfSome}
-use Rattle.coordinator.specs.Family.{Family}
 use Rattle.coordinator.specs.Limits.{history_limit}
 use Rattle.coordinator.specs.Moves.{Moved}
 use Rattle.coordinator.specs.Step.{acted}

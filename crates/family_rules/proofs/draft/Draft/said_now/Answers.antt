@@ -1,4 +1,4 @@
-use Rattle.std.proofs.Common.{◌≡◌, ◌==◌, ◌∙◌, ap, sym, List, Option}
+use Rattle.std.proofs.Common.{◌==◌, ◌∙◌, ap, sym, List, Option}
 use Rattle.std.specs.List.{find}
 use Rattle.std.specs.Option.{option_map_or}
 use Rattle.coordinator.specs.Step.{said_now}

@@ -1,4 +1,4 @@
-use Rattle.std.proofs.Common.{◌≡◌, ◌<◌, ◌+◌, ◌∙◌, ◌∷◌, [], List, ap, refl, subst, sym, length, arith, length-append, Option}
+use Rattle.std.proofs.Common.{◌≡◌, ◌+◌, ◌∙◌, List, ap, refl, subst, sym, length, arith, length-append}
 use Rattle.std.specs.Result.{IsOk}
 use Rattle.txn_tree.specs.Calls.{created, creating}
 use Rattle.txn_tree.specs.declared.row.Row.{Row}

@@ -1,9 +1,9 @@
-use Rattle.std.proofs.Common.{◌≡◌, ◌∙◌, refl, sym, ap, ◌+◌, ℕ, Option, Some, None, arith}
+use Rattle.std.proofs.Common.{◌≡◌, ◌∙◌, refl, sym, ap, ◌+◌, Option, Some, None, arith}
 use Rattle.family_rules.specs.Calls.{aim_of, changed_in, plain_call}
 use Rattle.coordinator.specs.Family.{Family, Call, call_at, with_call}
 use Rattle.coordinator.specs.declared.call.Leg.{Leg}
 use Rattle.coordinator.specs.Hearing.{told, told_before, told_end, told_participant}
-use Rattle.coordinator.specs.Moves.{Moved, only}
+use Rattle.coordinator.specs.Moves.{only}
 use Rattle.family_rules.proofs.Going.{can_hear, can_less}
 use Rattle.family_rules.proofs.Heard.{heard_by}
 use Rattle.family_rules.proofs.Moving.{brings_nothing}

@@ -1,4 +1,4 @@
-use Rattle.std.proofs.Common.{◌≡◌, ◌∙◌, refl, sym, ap, ◌+◌, Bool}
+use Rattle.std.proofs.Common.{◌∙◌, refl, sym, ap, ◌+◌, Bool}
 use Rattle.ots_model.specs.declared.tree.Reason.{Reason}
 use Rattle.family_rules.specs.Calls.{aim_of}
 use Rattle.family_rules.specs.Changes.{so_far}

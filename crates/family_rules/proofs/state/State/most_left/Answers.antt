@@ -1,4 +1,4 @@
-use Rattle.std.proofs.Common.{◌≤◌, subst, ap, sym, refl, length, List}
+use Rattle.std.proofs.Common.{◌≤◌, subst, refl, length, List}
 use Rattle.coordinator.specs.Family.{call_at}
 use Rattle.coordinator.specs.Running.{left_by}
 use Rattle.family_rules.specs.Calls.{AllLeft}

@@ -1,7 +1,6 @@
-use Rattle.std.proofs.Common.{◌≡◌, ◌<◌, ◌+◌, subst, sym, length}
+use Rattle.std.proofs.Common.{◌<◌, ◌+◌, subst, sym, length}
 use Rattle.resource_votes.specs.Ballots.{registered_aware, registering_aware}
 use Rattle.family_rules.specs.Asking.{Registers}
-use Rattle.family_rules.specs.Calls.{all_seated}
 use Rattle.family_rules.specs.Room.{StateParts}
 use Rattle.family_rules.specs.StateInside.{shown}
 use Rattle.family_rules.proofs.Added.{seats_stay}
