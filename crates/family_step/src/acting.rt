@@ -31,11 +31,11 @@ pub(crate) fn act(
     state: &mut State,
     event: &Event,
     stood: Option<Stood>,
-    given: Given,
+    given: &mut Given,
     out: &mut Draft,
 ) -> Said
-    requires to { given.to ≡ reference_in (event.now).act }
-    requires name { given.name ≡ name_in (event.now).act (event.now).branch state.old.family }
+    requires to { given.old.to ≡ reference_in (event.now).act }
+    requires name { given.old.name ≡ name_in (event.now).act (event.now).branch state.old.family }
     requires room { 0 < state.old.room }
     requires can { CanGo (length (state.old.family).rows + 8) state.old.family out.old }
     ensures acts { ActsBy state.old.family out.old (steps.acted event.entry.now stood)
@@ -131,9 +131,9 @@ fn answer_at(
 }
 
 /// A call is carried out, where what its key names is there.
-fn call(state: &mut State, act: &Act, branch: u32, given: Given, out: &mut Draft) -> Said
-    requires to { given.to ≡ reference_in act.now }
-    requires name { given.name ≡ name_in act.now branch state.old.family }
+fn call(state: &mut State, act: &Act, branch: u32, given: &mut Given, out: &mut Draft) -> Said
+    requires to { given.old.to ≡ reference_in act.now }
+    requires name { given.old.name ≡ name_in act.now branch state.old.family }
     requires room { 0 < state.old.room }
     requires can { CanGo (length (state.old.family).rows + 4) state.old.family out.old }
     ensures acts { ActsBy state.old.family out.old (called act.now branch) state.new.family out.new result }
@@ -156,10 +156,10 @@ fn is_there(state: &State, act: &Act, branch: u32) -> bool
 }
 
 /// A call on a transaction that is there.
-fn carry_out(state: &mut State, act: &Act, branch: u32, given: Given, out: &mut Draft) -> Said
+fn carry_out(state: &mut State, act: &Act, branch: u32, given: &mut Given, out: &mut Draft) -> Said
     requires there { branch < length (state.old.family).rows }
-    requires to { given.to ≡ reference_in act.now }
-    requires name { given.name ≡ name_in act.now branch state.old.family }
+    requires to { given.old.to ≡ reference_in act.now }
+    requires name { given.old.name ≡ name_in act.now branch state.old.family }
     requires room { 0 < state.old.room }
     requires can { CanGo (length (state.old.family).rows + 4) state.old.family out.old }
     ensures acts { ActsBy state.old.family out.old (carried_out act.now branch)
@@ -174,17 +174,17 @@ fn carry_out(state: &mut State, act: &Act, branch: u32, given: Given, out: &mut 
         Act::RegisterResource(_, aware) => register_resource(
             state,
             branch,
-            given.to.unwrap(),
+            given.to.take().unwrap(),
             *aware,
         ),
         Act::RegisterSynchronization(_) => register_synchronization(
             state,
             branch,
-            given.to.unwrap(),
+            given.to.take().unwrap(),
         ),
-        Act::RegisterSubtranAware(_) => register_aware(state, branch, given.to.unwrap()),
+        Act::RegisterSubtranAware(_) => register_aware(state, branch, given.to.take().unwrap()),
         Act::CreateSubtransaction => create_subtransaction(state, branch),
-        Act::GetTransactionName => Said::Name(given.name.unwrap()),
+        Act::GetTransactionName => Said::Name(given.name.take().unwrap()),
         other => tell(state, other, branch),
     }
 }

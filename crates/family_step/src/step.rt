@@ -139,7 +139,9 @@ fn carry_out(
         name_again,
         mut draft,
     } = ready;
-    let said = act(state, &event, stood, Given { to, name }, &mut draft);
+    let mut given = Given { to, name };
+    let said = act(state, &event, stood, &mut given, &mut draft);
+    drop(given);
     let said = draft.said_now(position, said);
     let said_again = again(&said, name_again);
     let brought = draft.brought(position);
