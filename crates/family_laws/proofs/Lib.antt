@@ -12,3 +12,5 @@ mod Votes
 mod StepsTell
 mod Journal
 mod Closing
+mod Standing
+mod Nodes

@@ -119,6 +119,7 @@ pub record IsAnswering (f : Family) (n : CallNumber) (h : Heard) (stood : Option
   pub waited : (g : ℕ) (vote : Vote) → IsSoundFamily f → Contains m.effects (effects.Voted g vote) → waiting_for f n ≡ Some 0
   pub before : (g : ℕ) (vote : Vote) → stages.decides_alone m.family.completion ≡ false → IsVoted m.family.completion g vote
       → IsVoted f.completion g vote ⊎ Contains m.effects (effects.Voted g vote)
+  pub place : (p : ℕ) → stages.record_place f.completion ≡ Some p → stages.record_place m.family.completion ≡ Some p
   pub done : Contains m.effects effects.Done
       → (stages.wants_decision (hears n h f).family.completion ≡ false) × (wants_done (hears n h f).family ≡ true) × ((place : ℕ) × (stood ≡ Some (answers.Stands place)))
 
@@ -129,6 +130,7 @@ answered_is n h stood f = record {
   votes = λ g vote c. let v = x.hears.votes g vote (heard_so g vote c) in (v.0, v.1, z.kept.voted g vote (y.kept.voted g vote v.2));
   waited = λ g vote sound c. hears_votes n h f g vote sound (heard_so g vote c);
   before = λ g vote a v. told_so g vote (x.hears.before g vote (y.kept.alone (z.kept.alone a)) (y.kept.votes g vote (z.kept.votes g vote v)));
+  place = λ p e. z.kept.place p (y.kept.place p (x.hears.place p e));
   done = λ c. settled_so c;
 }
   where
@@ -487,3 +489,14 @@ families_tell_votes = record {
   told = λ f e stood g vote sound c. vote_told f e stood g vote sound (family_step f e stood) (step_is f e stood) c;
   counted = λ f e stood g vote sound alone v. vote_counted f e stood g vote (family_step f e stood) (step_is f e stood) alone v;
 }
+
+-- a record that stands for a family stands for it still
+pub step_place : (f : Family) (e : Event) (stood : Option Stood) (p : ℕ) → stages.record_place f.completion ≡ Some p → stages.record_place (family_step f e stood).family.completion ≡ Some p
+step_place f e stood p at = go (family_step f e stood) (step_is f e stood)
+  where
+    go : (s : Stepped) → IsStep f e stood s → stages.record_place s.family.completion ≡ Some p
+    go s h = ap (λ (t : Standing). stages.record_place t) h.completion ∙ by h.acted.rest
+      where
+        by : (AllByRecursion IsOther h.moved.effects × IsKept f.completion h.moved.family.completion) ⊎ IsAnswer f e.act stood h.moved → stages.record_place h.moved.family.completion ≡ Some p
+        by (inl o) = o.1.place p at
+        by (inr a) = ap (λ (m : Moved). stages.record_place m.family.completion) a.same ∙ (answered_is a.number a.heard stood f).place p at

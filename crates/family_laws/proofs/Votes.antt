@@ -294,6 +294,7 @@ pub record IsHeard (s : Standing) (heard : ParticipantHeard) (m : Moved) : Type 
   pub before : (g : ℕ) (vote : Vote) → stages.decides_alone m.family.completion ≡ false → IsVoted m.family.completion g vote
       → IsVoted s g vote ⊎ Contains m.effects (effects.Voted g vote)
   pub no_done : AllByRecursion IsNoDone m.effects
+  pub place : (p : ℕ) → stages.record_place s ≡ Some p → stages.record_place m.family.completion ≡ Some p
 
 pub record IsHearing (f : Family) (heard : ParticipantHeard) (m : Moved) : Type 0 where
   pub told : IsTold f.key f.serial f.rows f.completion m
@@ -307,6 +308,7 @@ plain_heard f heard m h = record {
   votes = λ g vote c. absurd (no_vote_among m.effects (all_map IsOther IsNoVote other_no_vote m.effects h.others) g vote c);
   before = λ g vote a v. inl (h.kept.votes g vote v);
   no_done = all_map IsOther IsNoDone other_no_done m.effects h.others;
+  place = h.kept.place;
 }
 
 plainly : (f : Family) (heard : ParticipantHeard) (m : Moved) → Plain f m → IsHearing f heard m
@@ -408,6 +410,14 @@ before_now f n (UnderWay k) heard g vote a h = go (vote_before k heard g vote (s
     go (inl v) = inl v
     go (inr v) = inr (voted_now heard (course.voter k) g vote v.0 v.1)
 
+place_now : (f : Family) (n : CallNumber) (s : Standing) (heard : ParticipantHeard) (p : ℕ) → stages.record_place s ≡ Some p → stages.record_place (stages.after_answer (inner_number f s n) heard s) ≡ Some p
+place_now f n (Waiting room) heard p e = e
+place_now f n (UnderWay k) heard p e = go k.out refl
+  where
+    go : (o : Option Errand) → k.out ≡ o → stages.record_place (UnderWay (course.after_answer k.number heard k)) ≡ Some p
+    go None i = ap (λ (d : Course). course.record_place d.stood d.reread) (after_none k heard i) ∙ e
+    go (Some x) i = ap (λ (d : Course). course.record_place d.stood d.reread) (after_out k x heard i) ∙ e
+
 told_participant_hears : (n : CallNumber) (h : Heard) (f : Family) → IsHearing f (of_participant h) (told_participant n h f)
 unfolding told_participant completes_as
 told_participant_hears n h f =
@@ -422,6 +432,7 @@ told_participant_hears n h f =
         before = λ g vote a v. place g vote (before_now f n f.completion heard g vote a v);
         no_done = all_joined IsNoDone votes new (votes_no_done heard (stages.voter f.completion))
             (all_map IsOther IsNoDone other_no_done new (fixed_others (stages.outcome f.completion) (stages.outcome later)));
+        place = λ p e. place_now f n f.completion heard p e;
       };
     }
   where

@@ -3,3 +3,4 @@ pub mod Sound
 pub mod LawsOfSteps
 pub mod LawsOfTelling
 pub mod LawsOfJournal
+pub mod SoundNode

@@ -2,7 +2,9 @@
 ghost use Rattle.family_laws.specs.LawsOfJournal.{FamiliesAppendOwn, FamiliesCloseLast};
 ghost use Rattle.family_laws.specs.LawsOfSteps.{FamiliesEndInTurn, FamiliesStaySound, FamiliesWordsRest};
 ghost use Rattle.family_laws.specs.LawsOfTelling.{FamiliesNumberWords, FamiliesTellEnds, FamiliesTellOutcomes, FamiliesTellVotes};
+ghost use Rattle.family_laws.specs.SoundNode.{NodesStaySound};
 
+use coordinator::nodes_keep_numbers;
 use two_phase::{a_tree_outcome_stays, tree_words_go_rightly};
 
 /// A new family is sound, and so is each one that a step leaves of a sound one: its lists have what was committed up to their
@@ -64,3 +66,13 @@ pub fn families_append_own()
 pub fn families_close_last()
     ensures { FamiliesCloseLast }
 {}
+
+/// A node that was loaded is sound, and so is each one in which a family is made, a call comes, or time passes: its families are
+/// sound and in their slots, and each decision that stands is told again or has its family.
+pub fn nodes_stay_sound()
+    ensures { NodesStaySound }
+{
+    tree_words_go_rightly();
+    a_tree_outcome_stays();
+    nodes_keep_numbers();
+}
