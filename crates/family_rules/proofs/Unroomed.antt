@@ -52,6 +52,14 @@ pub unroomed_record_place : (s : Standing) → stages.record_place (unroomed s) 
 unroomed_record_place (Waiting room) = refl
 unroomed_record_place (UnderWay c) = refl
 
+pub unroomed_pending_commits : (s : Standing) → stages.pending_commits (unroomed s) ≡ stages.pending_commits s
+unroomed_pending_commits (Waiting room) = refl
+unroomed_pending_commits (UnderWay c) = refl
+
+pub unroomed_pending_forgets : (s : Standing) → stages.pending_forgets (unroomed s) ≡ stages.pending_forgets s
+unroomed_pending_forgets (Waiting room) = refl
+unroomed_pending_forgets (UnderWay c) = refl
+
 pub unroomed_asked : (s : Standing) → stages.asked (unroomed s) ≡ stages.asked s
 unroomed_asked (Waiting room) = refl
 unroomed_asked (UnderWay c) = refl

@@ -1,5 +1,5 @@
 // How the transactions of a family stand, and what they are called.
-ghost use Rattle.std.specs.Prelude.{◌≡◌, ◌<◌, ◌≤◌, is_none, is_some, IfOk, OnOk};
+ghost use Rattle.std.specs.Prelude.{◌≡◌, ◌++◌, ◌<◌, ◌≤◌, is_none, is_some, IfOk, OnOk};
 ghost use Rattle.std.specs.List.{list_all};
 ghost use Rattle.std.specs.Option.{option_copied};
 ghost use Rattle.family_rules.specs.declared.call.Seat.{Seat as Seated};
@@ -278,6 +278,32 @@ impl State {
         ensures { option_copied result ≡ history.kept (self.now.family).entries key.now }
     {
         kept(&self.entries, key)
+    }
+
+    /// The place at which the decision record stands.
+    #[tactic(auto, using(crate::proofs::Unroomed::unroomed_record_place))]
+    pub fn record_place(&self) -> Option<u32>
+        ensures { result ≡ stages.record_place (self.now.family).completion }
+    {
+        self.completion.record_place()
+    }
+
+    /// Puts the registrations that are still to be told to commit behind those of a list.
+    #[tactic(auto, using(crate::proofs::Unroomed::unroomed_pending_commits))]
+    pub fn pending_commits(&self, into: &mut Vec<u32>) -> Result<(), AllocError>
+        ensures { OnOk result (into.new.items ≡ into.old.items
+            ++ stages.pending_commits (self.now.family).completion) }
+    {
+        self.completion.pending_commits(into)
+    }
+
+    /// Puts the registrations that are still to be told to forget behind those of a list.
+    #[tactic(auto, using(crate::proofs::Unroomed::unroomed_pending_forgets))]
+    pub fn pending_forgets(&self, into: &mut Vec<u32>) -> Result<(), AllocError>
+        ensures { OnOk result (into.new.items ≡ into.old.items
+            ++ stages.pending_forgets (self.now.family).completion) }
+    {
+        self.completion.pending_forgets(into)
     }
 
     /// Whether there is this transaction.

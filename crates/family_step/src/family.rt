@@ -6,9 +6,10 @@ ghost use Rattle.coordinator.specs.Names as names;
 ghost use Rattle.coordinator.specs.NodeCalls.{answer_of};
 ghost use Rattle.coordinator.specs.Phases as phases;
 ghost use Rattle.coordinator.specs.Step as steps;
+ghost use Rattle.two_phase.specs.Stages as stages;
 
 use crate::ready::Ready;
-use crate::step::step;
+use crate::step::{is_silent, step};
 use coordinator::{Entry, Event, Phase, Said, StepAnswer};
 use family_rules::State;
 use ior_refs::ObjectKey;
@@ -136,6 +137,33 @@ impl Family {
         ensures finished { result ≡ steps.is_finished self.now.family }
     {
         self.state.is_finished()
+    }
+
+    /// The place at which its decision record stands.
+    pub fn record_place(&self) -> Option<u32>
+        ensures place { result ≡ stages.record_place (self.now.family).completion }
+    {
+        self.state.record_place()
+    }
+
+    /// Puts the registrations that are still to be told to commit behind those of one list, and those that are still to be
+    /// told to forget behind those of another.
+    pub fn pending(&self, commits: &mut Vec<u32>, forgets: &mut Vec<u32>) -> Result<(), AllocError>
+        ensures commits { OnOk result (commits.new.items ≡ commits.old.items
+            ++ stages.pending_commits (self.now.family).completion) }
+        ensures forgets { OnOk result (forgets.new.items ≡ forgets.old.items
+            ++ stages.pending_forgets (self.now.family).completion) }
+    {
+        self.state.pending_commits(commits)?;
+        self.state.pending_forgets(forgets)
+    }
+
+    /// Whether an event makes no entry, where it is no call that comes again: nobody waits for such an answer, or the time
+    /// isn't over.
+    pub fn is_silent(&self, event: &Event) -> bool
+        ensures silent { result ≡ steps.is_silent event.entry.now self.now.family }
+    {
+        is_silent(&self.state, event)
     }
 
     /// What has happened, in order.

@@ -53,7 +53,7 @@ fn is_known(state: &State, event: &Event) -> bool
 }
 
 /// Whether an event makes no entry.
-fn is_silent(state: &State, event: &Event) -> bool
+pub(crate) fn is_silent(state: &State, event: &Event) -> bool
     ensures { result ≡ steps.is_silent event.entry.now state.now.family }
 {
     match &event.act {
