@@ -1,0 +1,10 @@
+mod Listed
+mod Stands
+mod Whole
+mod Free
+mod Halving
+mod Begun
+mod Keeping
+mod Asked
+mod Answered
+mod Told

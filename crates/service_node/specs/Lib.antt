@@ -1,0 +1,3 @@
+pub mod NodeState
+pub mod Faults
+pub mod Journaling

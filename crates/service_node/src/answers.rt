@@ -1,0 +1,103 @@
+// What a node answers by its records alone.
+ghost use Rattle.std.specs.Prelude.{◌≡◌, ◌==◌};
+ghost use Rattle.std.specs.List.{list_any};
+ghost use Rattle.std.specs.Option.{option_map};
+ghost use Rattle.coordinator.specs.NodeCalls as calls;
+ghost use Rattle.service_node.specs.Journaling.{IsAnsweredOrStarved, completed_by};
+
+use crate::hearing::conclude;
+use crate::node::Node;
+use crate::says::{record_of, record_says};
+use coordinator::{Act, Answers, Effect, Effects, Event, NodeFault, Said, StepAnswer};
+use ior_refs::ObjectKey;
+use ots_model::CallNumber;
+use ots_model::tree::Heard;
+use ots_outside::Disk;
+use recovery_coord::Held;
+use std::alloc::Global;
+
+/// The slot in the number of a call that tells the word of a record again: that of no family.
+const RETOLD_SLOT: u32 = u32::MAX;
+
+impl<D: Disk> Node<D> {
+    /// Answers a call by the records alone, as one whose family is gone. An answer to a word that was told again goes by its
+    /// number, whatever the key is; where it completes a record, its Done is asked of the journal. It is ObjectNotExist where no
+    /// record that is held has the key, or stands at the place in the number. Memory is taken before anything happens.
+    pub fn answer_recovered(
+        &mut self,
+        key: &ObjectKey,
+        event: &Event,
+    ) -> Result<StepAnswer, NodeFault>
+        ensures { IsAnsweredOrStarved D.told self.old self.new result
+            (completed_by (calls.retold_answer (event.entry.now).act) self.old.node)
+            (calls.answers_recovered key.now event.entry.now) }
+    {
+        match retold_answer(&event.act) {
+            Some((number, heard)) => self.hear_record(number, heard),
+            None => self.say(key, event),
+        }
+    }
+
+    /// What the record of a family that is gone answers.
+    fn say(&self, key: &ObjectKey, event: &Event) -> Result<StepAnswer, NodeFault>
+        ensures { result ≡ (calls.by_record key.now event.entry.now self.now.node).answer }
+    {
+        let held = match record_of(self.journal.service(), key, self.recovered.records()) {
+            Some(held) => held,
+            None => return Err(NodeFault::ObjectNotExist),
+        };
+        match record_says(key, event, held) {
+            Some(said) => Ok(alone(self.alloc, said, Vec::new(self.alloc))),
+            None => Err(NodeFault::ObjectNotExist),
+        }
+    }
+
+    /// An answer to a word that was told again.
+    fn hear_record(&mut self, number: &CallNumber, heard: &Heard) -> Result<StepAnswer, NodeFault>
+        ensures { IsAnsweredOrStarved D.told self.old self.new result
+            (completed_by (Some (record { number = number.now; heard = heard.now })) self.old.node)
+            (calls.hears_record number.now heard.now) }
+    {
+        if !holds(self.recovered.records(), number.generation) {
+            return Err(NodeFault::ObjectNotExist);
+        }
+        let mut happened = Vec::with_capacity(self.alloc, 1)?;
+        let complete = self.recovered.heard(number, heard);
+        conclude(
+            &mut self.journal,
+            &mut self.recovered,
+            complete,
+            &mut happened,
+        );
+        Ok(alone(self.alloc, Said::Plain, happened))
+    }
+}
+
+/// The number of a word that was told again, and what was heard of it, where this is the answer to one.
+fn retold_answer(act: &Act) -> Option<(&CallNumber, &Heard)>
+    ensures { option_map (λ a. record { number = a.0.now; heard = a.1.now }) result ≡ calls.retold_answer act.now }
+{
+    match act {
+        Act::Answer(number, heard) if number.slot == RETOLD_SLOT => Some((number, heard)),
+        _ => None,
+    }
+}
+
+/// Whether a record at this place is held.
+fn holds(records: &[Held], place: u64) -> bool
+    ensures { result ≡ list_any (λ r. r.place == place) records.now }
+{
+    records.iter().any(|held| u64::from(held.place) == place)
+}
+
+/// An answer without a family: nothing waits for it there.
+fn alone(alloc: Global, said: Said, happened: Vec<Effect>) -> StepAnswer
+    ensures { result ≡ calls.alone said happened.items }
+{
+    StepAnswer {
+        position: 0,
+        said,
+        finished: Answers::from_vec(Vec::new(alloc)),
+        effects: Effects::from_vec(happened),
+    }
+}

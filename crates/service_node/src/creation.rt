@@ -1,0 +1,124 @@
+// How a node makes a family, and tells the records again whose families are gone.
+ghost use Rattle.std.specs.Prelude.{◌≡◌, ◌<◌, ◌++◌, IfSome, IfErr, IsNone, OnOk, OnErr, Some};
+ghost use Rattle.coordinator.specs.Family.{Family as TheFamily};
+ghost use Rattle.coordinator.specs.Limits.{generation_limit, slot_limit};
+ghost use Rattle.coordinator.specs.Node as nodes;
+ghost use Rattle.coordinator.specs.NodeSlots as slots;
+ghost use Rattle.coordinator.specs.NodeTick as ticking;
+ghost use Rattle.ior_refs.specs.declared.key.ObjectKey.{ObjectKey as Key};
+ghost use Rattle.recovery_coord.specs.Telling as telling;
+ghost use Rattle.service_node.specs.NodeState.{AreToldInPart, IsMadeOrStarved};
+
+use crate::handing::{take_all_over, take_from};
+use crate::node::Node;
+use coordinator::NodeFault;
+use family_step::Family;
+use ior_refs::ObjectKey;
+use ots_outside::Disk;
+use recovery_coord::Outbox;
+
+/// How many families are made in one life at most.
+const GENERATION_LIMIT: u64 = 1 << 48;
+
+/// The letter of a coordinator's key.
+const COORDINATOR_KIND: u8 = b'K';
+
+impl<D: Disk> Node<D> {
+    /// Makes a family (`create` of TransactionFactory), in the next slot that has none or a finished one. Its time is over
+    /// after so many seconds, or never where none are given. The record of a finished family that was there is told again from
+    /// then on. The answer is the key of the coordinator of its top-level transaction. Where each slot has a family that isn't
+    /// finished, or no further number is left, it is NoResources.
+    pub fn create(&mut self, now: u64, seconds: u32) -> Result<ObjectKey, NodeFault>
+        ensures { IsMadeOrStarved self.old self.new result (slots.creates now seconds self.old.node) }
+    {
+        let slot = match self.next_slot() {
+            Some(slot) => slot,
+            None => return Err(NodeFault::NoResources),
+        };
+        let key = self.next_key(slot);
+        let family = Family::new(self.alloc, key, deadline_after(now, seconds))?;
+        self.begin(slot, family)?;
+        Ok(key)
+    }
+
+    /// The slot of the next family, where there can be one.
+    fn next_slot(&self) -> Option<u32>
+        ensures some { IfSome result (λ slot. (slots.free_slot self.now.node ≡ Some slot)
+            × (slot < slot_limit) × (self.now.node.generation < generation_limit)) }
+        ensures none { IsNone result → (make : Key → TheFamily)
+            → slots.makes make self.now.node ≡ slots.makes_no_family self.now.node }
+    {
+        if self.generation >= GENERATION_LIMIT {
+            return None;
+        }
+        self.slots.free_from(self.last)
+    }
+
+    /// The key of the next family.
+    fn next_key(&self, slot: u32) -> ObjectKey
+        requires { self.now.node.generation < generation_limit }
+        ensures { result ≡ slots.next_key self.now.node slot }
+    {
+        ObjectKey {
+            kind: COORDINATOR_KIND,
+            service: self.journal.service(),
+            life: self.journal.life(),
+            slot,
+            generation: self.generation + 1,
+            index: 0,
+        }
+    }
+
+    /// A family begins in a slot, and the record of the one that was there goes on.
+    fn begin(&mut self, slot: u32, family: Family) -> Result<(), NodeFault>
+        requires slot { slot < slot_limit }
+        requires number { self.old.node.generation < generation_limit }
+        requires key { (family.family).key ≡ slots.next_key self.old.node slot }
+        ensures ok { OnOk result (self.new.node ≡ slots.with_new (λ key. family.family) slot self.old.node) }
+        ensures journal { self.new.journal ≡ self.old.journal }
+        ensures err { IfErr result (λ fault. (self.new ≡ self.old) × (fault ≡ NodeFault.Memory)) }
+    {
+        take_from(
+            self.alloc,
+            &self.journal,
+            self.slots.family(slot),
+            &mut self.recovered,
+        )?;
+        self.slots.put(slot, family);
+        self.last = slot;
+        self.generation += 1;
+        Ok(())
+    }
+
+    /// Tells the records again whose families are gone, or finished: puts each word that is still to be told behind the others,
+    /// in record order. Want of memory leaves the words as they were.
+    pub fn tell_again(&mut self, out: &mut Outbox) -> Result<(), NodeFault>
+        ensures node { OnOk result (self.new.node ≡ ticking.tells_again self.old.node) }
+        ensures words { OnOk result (out.new.words
+            ≡ out.old.words ++ telling.words (nodes.life self.new.node) (self.new.node).recovered) }
+        ensures journal { self.new.journal ≡ self.old.journal }
+        ensures unsaid { OnErr result (out.new.words ≡ out.old.words) }
+        ensures part { OnErr result (AreToldInPart self.old.node self.new.node) }
+        ensures fault { IfErr result (λ fault. fault ≡ NodeFault.Memory) }
+        ensures room { out.new.room ≡ out.old.room }
+    {
+        take_all_over(
+            self.alloc,
+            &self.journal,
+            self.slots.items(),
+            &mut self.recovered,
+        )?;
+        self.recovered.redrive(out)?;
+        Ok(())
+    }
+}
+
+/// The moment at which the time of a family is over: none where no seconds are given.
+fn deadline_after(now: u64, seconds: u32) -> Option<u64>
+    ensures { result ≡ slots.deadline_after now seconds }
+{
+    if seconds == 0 {
+        return None;
+    }
+    Some(now.saturating_add(u64::from(seconds)))
+}

@@ -1,0 +1,116 @@
+// The Done of a record that an answer to a word told again completes.
+ghost use Rattle.std.specs.Prelude.{◌≡◌, ◌++◌, ◌∷◌, [], ◌<◌, true, false, not, find, filter, vec_len, vec_capacity, None, IsSome, if◌then◌else◌};
+ghost use Rattle.std.specs.List.{list_any};
+ghost use Rattle.std.specs.Option.{option_map};
+ghost use Rattle.decision_journal.specs.Calls.{IsAfterDone, IsRefusedAppend};
+ghost use Rattle.decision_journal.specs.Index.{AreInOrder};
+ghost use Rattle.decision_journal.specs.Journal.{is_decision_at};
+ghost use Rattle.recovery_coord.specs.Held.{without};
+ghost use Rattle.service_node.specs.Journaling as journaling;
+
+use crate::finding::decision_at;
+use coordinator::Effect;
+use decision_journal::{Journal, JournalFault, JournalRecord, Standing};
+use ots_outside::Disk;
+use recovery_coord::{Held, Recovered};
+
+/// Whether a decision or prepared record stands at this place.
+fn stands(standing: &[Standing], place: u32) -> bool
+    requires order { AreInOrder standing.now }
+    ensures { result ≡ list_any (is_decision_at place) standing.now }
+{
+    match decision_at(standing, place) {
+        Some(_) => true,
+        None => false,
+    }
+}
+
+/// The place of the first record that stands no more.
+fn first_lost(standing: &[Standing], records: &[Held]) -> Option<u32>
+    requires order { AreInOrder standing.now }
+    ensures { result ≡ option_map (λ r. r.place)
+        (find (λ r. not (list_any (is_decision_at r.place) standing.now)) records.now) }
+{
+    for held in records {
+        if !stands(standing, held.place) {
+            return Some(held.place);
+        }
+    }
+    None
+}
+
+/// Lets each record go that stands no more.
+fn keep_standing(standing: &[Standing], recovered: &mut Recovered)
+    requires order { AreInOrder standing.now }
+    ensures { recovered.new ≡ record recovered.old {
+      records = filter (λ r. list_any (is_decision_at r.place) standing.now) recovered.old.records;
+    } }
+{
+    while let Some(place) = first_lost(standing, recovered.records()) {
+        recovered.done(place);
+    }
+}
+
+/// The same where the journal was read again.
+fn keep_where(failed: bool, standing: &[Standing], recovered: &mut Recovered)
+    requires order { AreInOrder standing.now }
+    ensures { recovered.new ≡ record recovered.old {
+      records = if failed then filter (λ r. list_any (is_decision_at r.place) standing.now) recovered.old.records
+          else recovered.old.records;
+    } }
+{
+    if failed {
+        keep_standing(standing, recovered);
+    }
+}
+
+/// Lets the record at this place go, where its Done stands, and tells that.
+fn let_go(stands: bool, place: u32, recovered: &mut Recovered, happened: &mut Vec<Effect>)
+    requires room { vec_len happened.old < vec_capacity happened.old }
+    ensures records { recovered.new ≡ record recovered.old {
+      records = if stands then without place recovered.old.records else recovered.old.records;
+    } }
+    ensures happened { happened.new.items
+        ≡ (if stands then happened.old.items ++ Effect.Done ∷ [] else happened.old.items) }
+{
+    if stands {
+        recovered.done(place);
+        happened.push_reserved(Effect::Done);
+    }
+}
+
+/// Asks the journal for the Done of the record at this place, and tells whether that stands.
+fn ask_done<D: Disk>(journal: &mut Journal<D>, place: u32) -> bool
+    ensures stands { result ≡ true → IsAfterDone D.told journal.old journal.new place }
+    ensures refused { result ≡ false
+        → (fault : JournalFault) × IsRefusedAppend D.told journal.old (JournalRecord.Done place) journal.new fault }
+    ensures sure { journal.old.failed ≡ false → journal.old.doubted ≡ None }
+{
+    let _ = journal.disk();
+    match journal.done(place) {
+        Ok(()) => true,
+        Err(_) => false,
+    }
+}
+
+/// Asks the journal for the Done of the record that is complete, where there is one. Where that stands, the record is held no
+/// more; and where the journal had to be read again, no record is that stands no more.
+pub(crate) fn conclude<D: Disk>(
+    journal: &mut Journal<D>,
+    recovered: &mut Recovered,
+    complete: Option<u32>,
+    happened: &mut Vec<Effect>,
+)
+    requires none { happened.old.items ≡ [] }
+    requires room { 0 < vec_capacity happened.old }
+    ensures concluded { journaling.HasConcluded D.told complete journal.old journal.new recovered.old recovered.new
+        happened.new.items }
+    ensures sure { journal.old.failed ≡ false → IsSome complete → journal.old.doubted ≡ None }
+{
+    if let Some(place) = complete {
+        let failed = journal.failed();
+        let stands = ask_done(journal, place);
+        let_go(stands, place, recovered, happened);
+        keep_where(failed, journal.standing(), recovered);
+    }
+}

@@ -1,0 +1,14 @@
+//! A node: the transactions that a service coordinates in one life, and the records of its journal that are told again.
+#![tactic(auto)]
+
+pub use node::{Node, NodeParts};
+pub use slots::Slots;
+
+mod answers;
+mod creation;
+mod finding;
+mod handing;
+mod hearing;
+mod node;
+mod says;
+mod slots;
