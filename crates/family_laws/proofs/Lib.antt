@@ -14,3 +14,4 @@ mod Journal
 mod Closing
 mod Standing
 mod Nodes
+mod Dues

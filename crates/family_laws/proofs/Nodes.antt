@@ -106,6 +106,7 @@ load_sound : (service : ℕ) (records : List JournalRecord) → IsSoundNode (loa
 load_sound service records = record {
   slots = length-replicate {A = Option Family} slot_limit None;
   families = λ slot f e. absurd (none_in slot_limit slot f e);
+  last = omega arith;
   numbers = omega arith;
   order = found_order (in_next_life records);
   decisions = λ s c h. inl (held_loaded (found_in (in_next_life records)).standing s c h);
@@ -203,6 +204,7 @@ new_sound_node make made slot n free few h = record {
         let old = h.families other f (sym (family_other n.families slot other (Some (make (next_key n slot))) u) ∙ e) in
         (in_slot_kept n (with_new make slot n) other f f refl refl (omega arith) refl old.0, old.1)
   ];
+  last = let w = free.within in let l = h.slots in omega (arith, w, l);
   numbers = omega (arith, few);
   order = h.order;
   decisions = λ s c d. decide s c d (h.decisions s c d);
@@ -293,6 +295,7 @@ unfolding ticks
 ticked_sound law now n h = record {
   slots = map_length now n.families ∙ h.slots;
   families = λ slot f e. placed slot f (family_in n.families slot) refl (sym (family_ticked now n.families slot) ∙ e);
+  last = h.last;
   numbers = h.numbers;
   order = h.order;
   decisions = λ s c d. decide s (h.decisions s c d);
@@ -362,6 +365,7 @@ stepped_sound : TreeWordsGoRightly → TreeOutcomeStays → (f : Family) (e : Ev
 stepped_sound law stays f e stood n slot there behind lives h = record {
   slots = set_length n.families g.key.slot (Some g) ∙ h.slots;
   families = λ other x i. placed other x i (same_or_not other slot);
+  last = h.last;
   numbers = h.numbers;
   order = journaled_order (wanted f e) stood n.found behind h.order;
   decisions = λ s c d. decide s d (journaled_new (wanted f e) stood n.found s c);
@@ -428,6 +432,7 @@ heard_sound : (number : CallNumber) (heard : Heard) (stood : Option Stood) (n : 
 heard_sound number heard stood n lives h = record {
   slots = h.slots;
   families = λ slot f e. let old = h.families slot f e in (in_slot_kept n later slot f f refl lives (omega arith) refl old.0, old.1);
+  last = h.last;
   numbers = h.numbers;
   order = journaled_order (done_wanted number heard n) stood n.found (λ item place e g. absurd (not_appended complete item e)) h.order;
   decisions = λ s c d. decide s c d (stood_before s c);

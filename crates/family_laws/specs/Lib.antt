@@ -4,3 +4,4 @@ pub mod LawsOfSteps
 pub mod LawsOfTelling
 pub mod LawsOfJournal
 pub mod SoundNode
+pub mod HeldDues

@@ -53,6 +53,7 @@ pub record HasFamilyOf (families : List (Option Family)) (s : Standing) : Type 0
 pub record IsSoundNode (n : Node) : Type 0 where
   pub slots : length n.families ≡ slot_limit
   pub families : (slot : ℕ) (f : Family) → family_in n.families slot ≡ Some f → IsInSlot n slot f × IsSoundFamily f
+  pub last : n.last < slot_limit
   pub numbers : n.generation ≤ generation_limit
   pub order : AreInOrder n.found.standing
   pub decisions : (s : Standing) → Contains n.found.standing s → IsTrue (is_family_decision s.item)

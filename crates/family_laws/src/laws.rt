@@ -1,4 +1,5 @@
 // Laws of the definitions: these functions do nothing, and their contracts are the laws.
+ghost use Rattle.family_laws.specs.HeldDues.{HeldDuesEndByAnswers};
 ghost use Rattle.family_laws.specs.LawsOfJournal.{FamiliesAppendOwn, FamiliesCloseLast};
 ghost use Rattle.family_laws.specs.LawsOfSteps.{FamiliesEndInTurn, FamiliesStaySound, FamiliesWordsRest};
 ghost use Rattle.family_laws.specs.LawsOfTelling.{FamiliesNumberWords, FamiliesTellEnds, FamiliesTellOutcomes, FamiliesTellVotes};
@@ -76,3 +77,9 @@ pub fn nodes_stay_sound()
     a_tree_outcome_stays();
     nodes_keep_numbers();
 }
+
+/// In a call to a node what a registration of a held record waits for ends by its answer alone: a plain one, or OBJECT_NOT_EXIST,
+/// under the number of its word.
+pub fn held_dues_end_by_answers()
+    ensures { HeldDuesEndByAnswers }
+{}
