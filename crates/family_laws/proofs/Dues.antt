@@ -30,12 +30,12 @@ use Rattle.family_laws.specs.HeldDues.{WasDone, IsAnsweredBy, HeldDuesEndByAnswe
 
 -- ---- one of a list that was changed
 
-record IsFrom {A : Type 0} (g : A → A) (xs : List A) (y : A) : Type 0 where
-  x : A
-  there : Contains xs x
-  is : g x ≡ y
+pub record IsFrom {A : Type 0} (g : A → A) (xs : List A) (y : A) : Type 0 where
+  pub x : A
+  pub there : Contains xs x
+  pub is : g x ≡ y
 
-of_map : {A : Type 0} (g : A → A) (xs : List A) (y : A) → Contains (map g xs) y → IsFrom g xs y
+pub of_map : {A : Type 0} (g : A → A) (xs : List A) (y : A) → Contains (map g xs) y → IsFrom g xs y
 of_map {A = A} g xs y c = go xs c.0 c.1 c.2
   where
     later : (x : A) (xs : List A) → IsFrom g xs y → IsFrom g (x ∷ xs) y
@@ -46,7 +46,7 @@ of_map {A = A} g xs y c = go xs c.0 c.1 c.2
     go (x ∷ xs) zero l e = record { x = x; there = (zero, omega arith, refl); is = e }
     go (x ∷ xs) (suc k) l e = later x xs (go xs k (omega (arith, l)) e)
 
-of_filter : (test : Held → Bool) (xs : List Held) (y : Held) → Contains (filter test xs) y → Contains xs y
+pub of_filter : (test : Held → Bool) (xs : List Held) (y : Held) → Contains (filter test xs) y → Contains xs y
 of_filter test [] y c = let l = c.1 in absurd (omega (arith, l))
 of_filter test (x ∷ xs) y c = go (test x) c (of_filter test xs y)
   where
@@ -146,7 +146,7 @@ heard_all number heard e is lives records h p c d done = go (is_retold lives num
     go true x = let f = of_map (record_after number heard) records h x in by_place f.x f.there (f.x.place == number.generation) refl f.is
     go false x = inl (was_itself records h p x d done)
 
-kept_by : (o : Option ℕ) (stood : Option Stood) (records : List Held) (h : Held) → Contains (records_with o stood records) h → Contains records h
+pub kept_by : (o : Option ℕ) (stood : Option Stood) (records : List Held) (h : Held) → Contains (records_with o stood records) h → Contains records h
 kept_by (Some place) (Some (answers.Stands done)) records h c = of_filter (λ (r : Held). not (r.place == place)) records h c
 kept_by (Some place) (Some (answers.Full used need)) records h c = c
 kept_by (Some place) (Some (answers.Unsure why)) records h c = c

@@ -15,3 +15,4 @@ mod Closing
 mod Standing
 mod Nodes
 mod Dues
+mod Held

@@ -5,3 +5,4 @@ pub mod LawsOfTelling
 pub mod LawsOfJournal
 pub mod SoundNode
 pub mod HeldDues
+pub mod HeldRecords

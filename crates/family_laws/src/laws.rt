@@ -1,5 +1,6 @@
 // Laws of the definitions: these functions do nothing, and their contracts are the laws.
 ghost use Rattle.family_laws.specs.HeldDues.{HeldDuesEndByAnswers};
+ghost use Rattle.family_laws.specs.HeldRecords.{HeldRecordsStood};
 ghost use Rattle.family_laws.specs.LawsOfJournal.{FamiliesAppendOwn, FamiliesCloseLast};
 ghost use Rattle.family_laws.specs.LawsOfSteps.{FamiliesEndInTurn, FamiliesStaySound, FamiliesWordsRest};
 ghost use Rattle.family_laws.specs.LawsOfTelling.{FamiliesNumberWords, FamiliesTellEnds, FamiliesTellOutcomes, FamiliesTellVotes};
@@ -82,4 +83,10 @@ pub fn nodes_stay_sound()
 /// under the number of its word.
 pub fn held_dues_end_by_answers()
     ensures { HeldDuesEndByAnswers }
+{}
+
+/// Each record that a node holds after a load, a new family or a tick stands in its journal, or was held before; a call holds
+/// nothing new. It is held to all whom the record names, in their order.
+pub fn held_records_stood()
+    ensures { HeldRecordsStood }
 {}
