@@ -30,12 +30,12 @@ use Rattle.family_laws.specs.HeldDues.{WasDone, IsAnsweredBy, HeldDuesEndByAnswe
 
 -- ---- one of a list that was changed
 
-pub record IsFrom {A : Type 0} (g : A → A) (xs : List A) (y : A) : Type 0 where
+pub record IsFrom {A B : Type 0} (g : A → B) (xs : List A) (y : B) : Type 0 where
   pub x : A
   pub there : Contains xs x
   pub is : g x ≡ y
 
-pub of_map : {A : Type 0} (g : A → A) (xs : List A) (y : A) → Contains (map g xs) y → IsFrom g xs y
+pub of_map : {A B : Type 0} (g : A → B) (xs : List A) (y : B) → Contains (map g xs) y → IsFrom g xs y
 of_map {A = A} g xs y c = go xs c.0 c.1 c.2
   where
     later : (x : A) (xs : List A) → IsFrom g xs y → IsFrom g (x ∷ xs) y
@@ -88,7 +88,7 @@ ended_by due.Forget hears.Other e = absurd (cc e)
 ended_by due.Forget hears.Lost e = absurd (cc e)
 ended_by due.Forget hears.Starved e = absurd (cc e)
 
-was_itself : (records : List Held) (h : Held) (p : Party) → Contains records h → Contains h.parties p → p.due ≡ due.Nothing → WasDone records h.place p
+pub was_itself : (records : List Held) (h : Held) (p : Party) → Contains records h → Contains h.parties p → p.due ≡ due.Nothing → WasDone records h.place p
 was_itself records h p c d e = record { held = h; there = c; same_place = refl; party = p; among = d; number = refl; reference = refl; done = e }
 
 -- what was heard of one record

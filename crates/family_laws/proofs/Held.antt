@@ -109,7 +109,7 @@ Comes records standing h = WasHeld records h ⊎ IsOfStanding standing h
 was_itself : (records : List Held) (h : Held) → Contains records h → WasHeld records h
 was_itself records h c = record { before = h; there = c; same_place = refl; numbers = refl; references = refl }
 
-taken_from : (o : Option Held) (xs : List Held) (h : Held) → Contains (taken o xs) h → Contains xs h ⊎ (o ≡ Some h)
+pub taken_from : (o : Option Held) (xs : List Held) (h : Held) → Contains (taken o xs) h → Contains xs h ⊎ (o ≡ Some h)
 taken_from None xs h c = inl c
 taken_from (Some r) xs h c = go (is_held r.place xs) c
   where

@@ -16,3 +16,4 @@ mod Standing
 mod Nodes
 mod Dues
 mod Held
+mod TakenOver

@@ -1,17 +1,31 @@
 -- What ends a due of a record that a node holds (Transaction Service, the operations of interface Resource).
-use Rattle.std.specs.Prelude.{◌≡◌, ◌⊎◌, ℕ, List, Option, Contains}
+use Rattle.std.specs.Prelude.{◌≡◌, ◌⊎◌, ℕ, List, Option, Some, Contains, IsTrue}
+use Rattle.std.specs.List.{AllByRecursion}
 use Rattle.ior_refs.specs.declared.key.ObjectKey.{ObjectKey}
 use Rattle.ots_model.specs.declared.completion.CallNumber.{CallNumber}
+use Rattle.ots_model.specs.declared.completion.Ground.TheVariants.{Record}
+use Rattle.ots_model.specs.declared.completion.Heard.TheVariants.{Voted}
 use Rattle.ots_model.specs.declared.completion.Stood.{Stood}
+use Rattle.ots_model.specs.declared.completion.Vote.TheVariants.{VoteCommit}
 use Rattle.ots_model.specs.declared.tree.Heard.{Heard}
 use Rattle.ots_model.specs.declared.tree.Heard.TheVariants as hears
+use Rattle.ots_model.specs.declared.tree.Outcome.TheVariants.{Commit}
+use Rattle.two_phase.specs.Parties.{has_completed}
+use Rattle.two_phase.specs.Stages as stages
+use Rattle.two_phase.specs.Stages.{Standing, Waiting, Going as UnderWay}
+use Rattle.two_phase.specs.declared.party.Party.{Party as Participant}
+use Rattle.recovery_coord.specs.Held.{is_decided}
 use Rattle.recovery_coord.specs.declared.held.Due.TheVariants as due
 use Rattle.recovery_coord.specs.declared.held.Held.{Held}
 use Rattle.recovery_coord.specs.declared.held.Party.{Party}
 use Rattle.coordinator.specs.declared.event.Act.TheVariants as acts
 use Rattle.coordinator.specs.declared.event.Event.{Event}
-use Rattle.coordinator.specs.Node.{Node}
+use Rattle.coordinator.specs.Family.{Family}
+use Rattle.coordinator.specs.Node.{Node, family_in}
 use Rattle.coordinator.specs.NodeCalls.{applies}
+use Rattle.coordinator.specs.NodeSlots.{creates}
+use Rattle.coordinator.specs.NodeTick.{ticks}
+use Rattle.coordinator.specs.Step.{is_finished}
 
 -- a registration of a record at this place waited for nothing before
 pub record WasDone (records : List Held) (place : ℕ) (p : Party) : Type 0 where
@@ -32,6 +46,27 @@ pub record IsAnsweredBy (e : Event) (place : ℕ) (p : Party) : Type 0 where
   pub of_record : number.generation ≡ place
   pub of_party : number.serial ≡ p.index
   pub done : (heard ≡ hears.Done) ⊎ (heard ≡ hears.NoObject)
+
+-- a finished family is through with a registration: where it is committed, each participant of this number that has voted commit
+-- has completed
+abbrev pub IsThrough : Standing → ℕ → Type 0
+IsThrough (Waiting room) index = ⊥
+IsThrough (UnderWay c) index =
+    AllByRecursion (λ (q : Participant). q.index ≡ index → q.ballot ≡ Some (Voted VoteCommit) → IsTrue (has_completed q)) c.parties
+
+pub record IsOverFor (families : List (Option Family)) (index : ℕ) : Type 0 where
+  pub slot : ℕ
+  pub family : Family
+  pub there : family_in families slot ≡ Some family
+  pub finished : IsTrue (is_finished family)
+  pub through : stages.outcome family.completion ≡ Some (Commit Record) → IsThrough family.completion index
+
+-- what a decision that a node holds is through with, it was through with before, or the family was whose record it takes over
+pub record HeldDuesEndWithFamilies : Type 0 where
+  pub made : (now seconds : ℕ) (n : Node) (h : Held) (p : Party) → Contains (creates now seconds n).node.recovered h → IsTrue (is_decided h.kind)
+      → Contains h.parties p → p.due ≡ due.Nothing → WasDone n.recovered h.place p ⊎ IsOverFor n.families p.index
+  pub ticked : (now : ℕ) (n : Node) (h : Held) (p : Party) → Contains (ticks now n).node.recovered h → IsTrue (is_decided h.kind)
+      → Contains h.parties p → p.due ≡ due.Nothing → WasDone n.recovered h.place p ⊎ IsOverFor (ticks now n).node.families p.index
 
 -- in a call to a node a due of what it holds ends by such an answer alone
 abbrev pub HeldDuesEndByAnswers : Type 0

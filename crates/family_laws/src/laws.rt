@@ -1,5 +1,5 @@
 // Laws of the definitions: these functions do nothing, and their contracts are the laws.
-ghost use Rattle.family_laws.specs.HeldDues.{HeldDuesEndByAnswers};
+ghost use Rattle.family_laws.specs.HeldDues.{HeldDuesEndByAnswers, HeldDuesEndWithFamilies};
 ghost use Rattle.family_laws.specs.HeldRecords.{HeldRecordsStood};
 ghost use Rattle.family_laws.specs.LawsOfJournal.{FamiliesAppendOwn, FamiliesCloseLast};
 ghost use Rattle.family_laws.specs.LawsOfSteps.{FamiliesEndInTurn, FamiliesStaySound, FamiliesWordsRest};
@@ -89,4 +89,10 @@ pub fn held_dues_end_by_answers()
 /// nothing new. It is held to all whom the record names, in their order.
 pub fn held_records_stood()
     ensures { HeldRecordsStood }
+{}
+
+/// Where a new family or a tick takes over the decision of a finished family, a registration waits for nothing only if that
+/// family was through with it: where it is committed, each participant of that number that voted commit has completed.
+pub fn held_dues_end_with_families()
+    ensures { HeldDuesEndWithFamilies }
 {}
