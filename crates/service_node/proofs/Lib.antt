@@ -8,3 +8,5 @@ mod Keeping
 mod Asked
 mod Answered
 mod Told
+mod Keyed
+mod Passed

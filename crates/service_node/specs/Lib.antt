@@ -1,3 +1,4 @@
 pub mod NodeState
 pub mod Faults
 pub mod Journaling
+pub mod Ticking

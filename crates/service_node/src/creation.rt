@@ -1,5 +1,5 @@
-// How a node makes a family, and tells the records again whose families are gone.
-ghost use Rattle.std.specs.Prelude.{◌≡◌, ◌<◌, ◌++◌, IfSome, IfErr, IsNone, OnOk, OnErr, Some};
+// How a node makes a family, and what its clock does.
+ghost use Rattle.std.specs.Prelude.{◌≡◌, ◌<◌, ◌++◌, IfSome, IfErr, IsNone, OnOk, OnErr, Some, map, filter_map, IfOk};
 ghost use Rattle.coordinator.specs.Family.{Family as TheFamily};
 ghost use Rattle.coordinator.specs.Limits.{generation_limit, slot_limit};
 ghost use Rattle.coordinator.specs.Node as nodes;
@@ -8,9 +8,11 @@ ghost use Rattle.coordinator.specs.NodeTick as ticking;
 ghost use Rattle.ior_refs.specs.declared.key.ObjectKey.{ObjectKey as Key};
 ghost use Rattle.recovery_coord.specs.Telling as telling;
 ghost use Rattle.service_node.specs.NodeState.{AreToldInPart, IsMadeOrStarved};
+ghost use Rattle.service_node.specs.Ticking.{HasPassedSome, HasTickedInPart, told, words_in};
 
 use crate::handing::{take_all_over, take_from};
 use crate::node::Node;
+use crate::passing::{Happening, Happenings};
 use coordinator::NodeFault;
 use family_step::Family;
 use ior_refs::ObjectKey;
@@ -88,6 +90,43 @@ impl<D: Disk> Node<D> {
         self.last = slot;
         self.generation += 1;
         Ok(())
+    }
+
+    /// The clock of the node goes on: time is over for some families, whose words go out by slot, and then the records are told
+    /// again whose families are gone, or finished. Want of memory leaves what was done, and the words that went out.
+    #[tactic(auto, unfolding(coordinator::specs::NodeTick::ticks))]
+    pub fn tick(&mut self, now: u64, out: &mut Outbox) -> Result<Happenings, NodeFault>
+        ensures node { OnOk result (self.new.node ≡ (ticking.ticks now self.old.node).node) }
+        ensures happened { IfOk result (λ h. h ≡ map told (ticking.ticks now self.old.node).happened) }
+        ensures words { OnOk result (out.new.words ≡ out.old.words
+            ++ (words_in (ticking.ticks now self.old.node).happened ++ (ticking.ticks now self.old.node).words)) }
+        ensures journal { self.new.journal ≡ self.old.journal }
+        ensures part { OnErr result (HasTickedInPart now self.old.node self.new.node out.old.words out.new.words) }
+        ensures fault { IfErr result (λ fault. fault ≡ NodeFault.Memory) }
+    {
+        let mut happened = Vec::new(self.alloc);
+        self.pass_time(now, out, &mut happened)?;
+        self.tell_again(out)?;
+        Ok(Happenings::from_vec(happened))
+    }
+
+    /// Time passes for each family.
+    fn pass_time(
+        &mut self,
+        now: u64,
+        out: &mut Outbox,
+        happened: &mut Vec<Happening>,
+    ) -> Result<(), NodeFault>
+        ensures node { OnOk result (self.new.node ≡ ticking.passes_time now self.old.node) }
+        ensures happened { OnOk result (happened.new.items ≡ happened.old.items
+            ++ map told (filter_map (ticking.happens_in now) (self.old.node).families)) }
+        ensures words { OnOk result (out.new.words ≡ out.old.words
+            ++ words_in (filter_map (ticking.happens_in now) (self.old.node).families)) }
+        ensures journal { self.new.journal ≡ self.old.journal }
+        ensures part { OnErr result (HasPassedSome now self.old.node self.new.node out.old.words out.new.words) }
+        ensures fault { IfErr result (λ fault. fault ≡ NodeFault.Memory) }
+    {
+        self.slots.pass_time(self.alloc, now, out, happened)
     }
 
     /// Tells the records again whose families are gone, or finished: puts each word that is still to be told behind the others,

@@ -2,6 +2,7 @@
 #![tactic(auto)]
 
 pub use node::{Node, NodeParts};
+pub use passing::{Happening, Happenings};
 pub use slots::Slots;
 
 mod answers;
@@ -10,5 +11,6 @@ mod finding;
 mod handing;
 mod hearing;
 mod node;
+mod passing;
 mod says;
 mod slots;

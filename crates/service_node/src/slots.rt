@@ -1,12 +1,17 @@
-ghost use Rattle.std.specs.Prelude.{◌≡◌, ◌<◌, ◌≤◌, length, map, position, replicate, slice_set, take, None, Some, IfOk, IfSome};
+ghost use Rattle.std.specs.Prelude.{◌≡◌, ◌<◌, ◌≤◌, ◌++◌, length, map, filter_map, position, replicate, slice_set, take, None, Some, IfErr, IfOk, IfSome, OnErr, OnOk};
 ghost use Rattle.std.specs.Option.{option_copied, option_map, option_or};
 ghost use Rattle.coordinator.specs.Family.{FamilyParts as TheFamily};
 ghost use Rattle.coordinator.specs.Limits.{slot_limit};
 ghost use Rattle.coordinator.specs.Node as nodes;
 ghost use Rattle.coordinator.specs.NodeSlots as slots;
+ghost use Rattle.coordinator.specs.NodeTick.{happens_in};
 ghost use Rattle.service_node.specs.NodeState.{shown};
+ghost use Rattle.service_node.specs.Ticking.{HasPassed, HasPassedInPart, told};
 
+use crate::passing::{Happening, pass_all};
+use coordinator::NodeFault;
 use family_step::Family;
+use recovery_coord::Outbox;
 use std::alloc::{AllocError, Global};
 use std::marker::Model;
 
@@ -74,6 +79,23 @@ impl Slots {
         ensures within { IfSome result (λ slot. slot < slot_limit) }
     {
         free_in(&self.items, last as usize)
+    }
+
+    /// Time passes in all slots, one after another.
+    pub(crate) fn pass_time(
+        &mut self,
+        alloc: Global,
+        now: u64,
+        out: &mut Outbox,
+        happened: &mut Vec<Happening>,
+    ) -> Result<(), NodeFault>
+        ensures passed { OnOk result (HasPassed now (length self.old) self.old self.new out.old.words out.new.words) }
+        ensures happened { OnOk result (happened.new.items
+            ≡ happened.old.items ++ map told (filter_map (happens_in now) self.old)) }
+        ensures part { OnErr result (HasPassedInPart now self.old self.new out.old.words out.new.words) }
+        ensures fault { IfErr result (λ fault. fault ≡ NodeFault.Memory) }
+    {
+        pass_all(alloc, now, self.items.as_mut_slice(), out, happened)
     }
 
     /// A family begins in this slot.
