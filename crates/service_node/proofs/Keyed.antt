@@ -1,12 +1,7 @@
 -- A step of a family keeps its key.
 use Rattle.std.proofs.Common.{◌≡◌, ◌∙◌, ℕ, zero, suc, Bool, true, false, cond, List, [], ◌∷◌, length, Option, Some, None, refl}
-use Rattle.std.specs.Prelude.{◌==◌, is_some}
-use Rattle.ots_model.specs.declared.completion.CallNumber.{CallNumber}
-use Rattle.ots_model.specs.declared.completion.Doubted.{Doubted}
+use Rattle.std.specs.Prelude.{◌==◌}
 use Rattle.ots_model.specs.declared.completion.Receipt.{Receipt}
-use Rattle.ots_model.specs.declared.completion.Stood.{Stood}
-use Rattle.ots_model.specs.declared.completion.Stood.TheVariants as answers
-use Rattle.ots_model.specs.declared.tree.Heard.{Heard}
 use Rattle.ots_model.specs.declared.tree.Outcome.{Outcome}
 use Rattle.ots_model.specs.declared.tree.Outward.{Outward}
 use Rattle.ots_model.specs.declared.tree.Reason.{Reason}
@@ -14,7 +9,6 @@ use Rattle.ots_model.specs.declared.tree.Reason.TheVariants as reasons
 use Rattle.resource_votes.specs.declared.registration.Registration.{Registration}
 use Rattle.two_phase.specs.Stages as stages
 use Rattle.two_phase.specs.Stages.{Standing}
-use Rattle.coordinator.specs.declared.event.Event.{Event}
 use Rattle.coordinator.specs.declared.said.Said.{Said}
 use Rattle.coordinator.specs.declared.said.Said.TheVariants as said
 use Rattle.coordinator.specs.declared.call.Leg.{Leg}
@@ -22,14 +16,14 @@ use Rattle.coordinator.specs.declared.call.Leg.TheVariants.{Below, Own, Before, 
 use Rattle.coordinator.specs.declared.call.Stage.{Stage}
 use Rattle.coordinator.specs.declared.call.Stage.TheVariants.{Going, Finishing, Completing, Over}
 use Rattle.coordinator.specs.Family.{Family, Call, Duty, Aim, Commits, RollsBack}
-use Rattle.coordinator.specs.Moves.{Moved, Notice, ◌▹◌, sends, ends_call, completes_as, only, shows}
+use Rattle.coordinator.specs.Moves.{Moved, Notice, ◌▹◌, sends, ends_call, completes_as, only}
 use Rattle.coordinator.specs.Closing.{afterwards, asking, asked_of, before, begins, begun, calls_next, decides, decides_by, finishes, gives_up, next_synchronization, next_told, rests, rolling_back, tells_next, waits}
 use Rattle.coordinator.specs.Phases.{is_marked}
 use Rattle.coordinator.specs.Running.{by_leg, commits_up, duties_below, ends_below, is_held, own_duties, own_ends, passes, passes_top, runs, sweeps, sweeps_next, tells_after, tells_first, tells_own}
 use Rattle.coordinator.specs.Hearing.{marks, is_markable}
 use Rattle.coordinator.specs.History.{has_room}
 use Rattle.coordinator.specs.NodeTick.{tick_at, tick_of}
-use Rattle.coordinator.specs.Step.{acted, entered, family_step, goes_on_at, has_timed_out, is_silent, new_step, quiet, ticks, times_out}
+use Rattle.coordinator.specs.Step.{acted, entered, family_step, has_timed_out, is_silent, quiet, ticks, times_out}
 use Rattle.coordinator.specs.Table.{new_call, rolls_back_top}
 
 by_test : (b : Bool) (x y : Moved) (f : Family) → x.family.key ≡ f.key → y.family.key ≡ f.key → (cond b x y).family.key ≡ f.key

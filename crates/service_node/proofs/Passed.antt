@@ -1,6 +1,6 @@
 -- Time that passes for families: what is done of it, slot by slot.
 use Rattle.std.proofs.Common.{◌≡◌, ◌∙◌, ℕ, zero, suc, ◌+◌, ◌<◌, Bool, true, false, cond, List, [], ◌∷◌, ◌++◌, length, get_or, set, map, take, drop, Option, Some, None, Result, Ok, Err, OnOk, OnErr, refl, sym, ap, subst, arith}
-use Rattle.std.specs.List.{cons_option, filter_map, flat_map}
+use Rattle.std.specs.List.{cons_option, filter_map}
 use Rattle.std.specs.Option.{option_map, option_to_list}
 use Rattle.std.proofs.lemmas.List.{append-nil, drop_all, get_or-drop, get_or-map, length-map, length-take-le, map-append, map-set, take_all, take_more}
 use Rattle.std.proofs.lemmas.List.Concat.{flat_map-append}
@@ -12,18 +12,16 @@ use Rattle.ots_model.specs.declared.tree.Outward.{Outward}
 use Rattle.coordinator.specs.Family.{Family, FamilyParts}
 use Rattle.coordinator.specs.History.{has_room}
 use Rattle.coordinator.specs.Node.{Node, family_in}
-use Rattle.coordinator.specs.NodeParts.{IsInSlot, IsWhole}
+use Rattle.coordinator.specs.NodeParts.{IsWhole}
 use Rattle.coordinator.specs.NodeTick as ticks
 use Rattle.coordinator.specs.NodeTick.{happens_in, happens_to, tick_at, tick_of, ticked}
 use Rattle.coordinator.specs.Step.{acted, entered, family_step, is_silent, quiet, wanted, wants_journal}
 use Rattle.coordinator.specs.declared.said.Said.TheVariants as said
-use Rattle.service_node.specs.declared.passing.Happening.{Happening}
 use Rattle.decision_journal.specs.State.{JournalState}
 use Rattle.recovery_coord.specs.Held.{Recoveries}
 use Rattle.service_node.specs.NodeState.{BelongTogether, node_of, shown}
 use Rattle.service_node.specs.Ticking.{HasPassed, HasPassedInPart, told, words_in, words_of}
 use Rattle.service_node.proofs.Keyed.{tick_key}
-use Rattle.service_node.proofs.Listed.{take_map_more}
 
 -- ---- one family
 
