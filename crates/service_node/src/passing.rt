@@ -100,8 +100,10 @@ fn step_over(
 ) -> Result<Happening, NodeFault>
     requires over { steps.is_silent (ticks.tick_at now) family.old.family ≡ false }
     ensures family { OnOk result ((family.new).family ≡ (ticks.tick_of now (family.old).family).family) }
-    ensures words { OnOk result (out.new.words ≡ out.old.words ++ (ticks.tick_of now (family.old).family).words) }
-    ensures told { IfOk result (λ h. h ≡ ticking.told (ticks.happening (family.old).family (ticks.tick_of now (family.old).family))) }
+    ensures words { OnOk result (out.new.words
+        ≡ out.old.words ++ (ticks.tick_of now (family.old).family).words) }
+    ensures told { IfOk result (λ h. h
+        ≡ ticking.told (ticks.happening (family.old).family (ticks.tick_of now (family.old).family))) }
     ensures same { OnErr result ((family.new).family ≡ (family.old).family) }
     ensures unsaid { OnErr result (out.new.words ≡ out.old.words) }
     ensures fault { IfErr result (λ fault. fault ≡ NodeFault.Memory) }
@@ -171,8 +173,8 @@ pub(crate) fn pass_all(
     out: &mut Outbox,
     happened: &mut Vec<Happening>,
 ) -> Result<(), NodeFault>
-    ensures passed { OnOk result (ticking.HasPassed now (length places.old) (map shown places.old) (map shown places.new)
-        out.old.words out.new.words) }
+    ensures passed { OnOk result (ticking.HasPassed now (length places.old) (map shown places.old)
+        (map shown places.new) out.old.words out.new.words) }
     ensures happened { OnOk result (happened.new.items ≡ happened.old.items
         ++ map ticking.told (filter_map (ticks.happens_in now) (map shown places.old))) }
     ensures part { OnErr result (ticking.HasPassedInPart now (map shown places.old) (map shown places.new)

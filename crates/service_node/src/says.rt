@@ -39,7 +39,8 @@ fn is_only(kind: u8, key: &ObjectKey) -> bool
 
 /// What commit and rollback on its terminator are answered.
 fn terminator_says(key: &ObjectKey, held: &Held, by: Option<RetryKey>) -> Option<Said>
-    ensures { result ≡ (if records.is_only records.terminator_kind key.now then records.terminator_says (held.now).kind by else None) }
+    ensures { result ≡ (if records.is_only records.terminator_kind key.now
+        then records.terminator_says (held.now).kind by else None) }
 {
     if !is_only(TERMINATOR_KIND, key) {
         return None;
@@ -75,7 +76,8 @@ fn is_commit_again(called: Option<RetryKey>, by: Option<RetryKey>) -> bool
 
 /// What `replay_completion` is answered on the recovery coordinator of a registration that it names.
 fn recovery_says(key: &ObjectKey, held: &Held, resource: &RefBytes) -> Option<Said>
-    ensures { result ≡ (if (key.now).kind == recovery_kind then records.recovery_says held.now resource.now (replay.party_named key.now held.now) else None) }
+    ensures { result ≡ (if (key.now).kind == recovery_kind
+        then records.recovery_says held.now resource.now (replay.party_named key.now held.now) else None) }
 {
     if key.kind != RECOVERY_KIND {
         return None;
@@ -105,7 +107,8 @@ fn party_says(held: &Held, party: &Party, resource: &RefBytes) -> Said
 
 /// What a superior's word is answered, of a subordinate that was told to decide for itself and has decided to commit.
 fn resource_says(key: &ObjectKey, held: &Held, word: Word) -> Option<Said>
-    ensures { result ≡ (if records.is_only records.subordinate_kind key.now then records.resource_says (held.now).kind word else None) }
+    ensures { result ≡ (if records.is_only records.subordinate_kind key.now
+        then records.resource_says (held.now).kind word else None) }
 {
     if !is_only(SUBORDINATE_KIND, key) || !held.kind.is_decided() {
         return None;
