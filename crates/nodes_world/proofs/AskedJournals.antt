@@ -129,7 +129,7 @@ module _ (grow : JournalsGrow) (safe : AppendsAreSafe) (through : AppendsGoThrou
     where
       by : (b : Bool) → nat_le (used (front service rs) (found_in rs) + need area_limit (found_in rs) item) area_limit ≡ b
           → cond b (answered_by (answers.Stands (length (front service rs))) (struck_by (length (front service rs)) item disk stop))
-            (Answers (Some (answers.Full (used (front service rs) (found_in rs)) (need area_limit (found_in rs) item))) disk stop)
+          (Answers (Some (answers.Full (used (front service rs) (found_in rs)) (need area_limit (found_in rs) item))) disk stop)
           ≡ Answers stood later next
           → AskingLeaves service rs (Some (Appends item)) stood later
       by true room is =
@@ -148,7 +148,7 @@ module _ (grow : JournalsGrow) (safe : AppendsAreSafe) (through : AppendsGoThrou
     where
       by : (b : Bool) → nat_le (used (front service rs) (found_in rs) + need area_limit (found_in rs) item) area_limit ≡ b
           → cond b (answered_by (answers.Stands (length (front service rs))) (struck_by (length (front service rs)) item disk stop))
-            (Answers (Some (answers.Full (used (front service rs) (found_in rs)) (need area_limit (found_in rs) item))) disk stop)
+          (Answers (Some (answers.Full (used (front service rs) (found_in rs)) (need area_limit (found_in rs) item))) disk stop)
           ≡ Stops image
           → CrashLeaves service rs (Some (Appends item)) image
       by true room is =

@@ -140,7 +140,7 @@ begun_goes : (place : ℕ) (name node : List ℕ) (seconds : ℕ) (s : Seat) (n 
 begun_goes place name node seconds s n w (Ok key) there up free =
     let later = with_server place (OfNode (Some (creates s.clock seconds n).node)) w in
     let first = seat_becomes place s (record s { server = OfNode (Some (creates s.clock seconds n).node) }) w later there (by_family s n seconds up)
-        (on_seat_there place (λ (x : Seat). record x { server = OfNode (Some (creates s.clock seconds n).node) }) w s there) in
+    (on_seat_there place (λ (x : Seat). record x { server = OfNode (Some (creates s.clock seconds n).node) }) w s there) in
     goes_then w later (with_name name (things.Transaction key) later) first.goes (gives_name name (things.Transaction key) w later free first.names)
 begun_goes place name node seconds s n w (Err fault) there up free = still
 
@@ -152,6 +152,7 @@ begins_goes place name seconds w free = by (slice_get w.seats place) refl
     at s (Some n) there up =
         begun_goes place name s.name seconds s n w (creates s.clock seconds n).answer there (node_up s.server n up) free
     at s None there up = still
+
     by : (o : Option Seat) → slice_get w.seats place ≡ o
         → WorldGoesOn w (elim o as (λ _. Done) [ Some s ↦ begins_at place name seconds s (node_in s.server) w | None ↦ record { world = w; lines = [] } ]).world
     by (Some s) there = at s (node_in s.server) there refl
@@ -167,6 +168,7 @@ puts_goes key cell value w = by (resource_at w key) refl
         → WorldGoesOn w (end.does_by closed (codes "put") key (put_into cell value r) w).world
     at r None there may = (resource_unnamed key r (put_into cell value r) w there (by_put r cell value may)).goes
     at r (Some answer) there may = still
+
     by : (o : Option FlatResource) → resource_at w key ≡ o
         → WorldGoesOn w (elim o as (λ _. Done) [ Some r ↦ end.does_by (closed_by r.state) (codes "put") key (put_into cell value r) w | None ↦ record { world = w; lines = [] } ]).world
     by (Some r) there = at r (closed_by r.state) there refl
@@ -180,6 +182,7 @@ refuses_goes key w = by (resource_at w key) refl
         → WorldGoesOn w (end.does_by closed (codes "refuse") key (refusing r) w).world
     at r None there may = (resource_unnamed key r (refusing r) w there (by_refusal r may)).goes
     at r (Some answer) there may = still
+
     by : (o : Option FlatResource) → resource_at w key ≡ o
         → WorldGoesOn w (elim o as (λ _. Done) [ Some r ↦ end.does_by (closed_by r.state) (codes "refuse") key (refusing r) w | None ↦ record { world = w; lines = [] } ]).world
     by (Some r) there = at r (closed_by r.state) there refl
@@ -218,6 +221,7 @@ obeys_goes request o w = by (referred w o.to)
     at : (up : Option FlatResource) (named : NamedKey) → resource_at w named.key ≡ up → GoesUnnamed w (obeys_as up request named o.word w).world
     at (Some r) named there = obeys_word_unnamed (told_word o.word) request named r w there
     at None named there = replies_unnamed request said.ObjectNotExist w
+
     by : (found : Option NamedKey)
         → GoesUnnamed w (elim found as (λ _. Done) [ Some named ↦ obeys_as (resource_at w named.key) request named o.word w | None ↦ record { world = w; lines = [] } ]).world
     by (Some named) = at (resource_at w named.key) named refl
@@ -294,7 +298,7 @@ flows_goes (suc count) w = by (lowest w) (flows_goes count)
 
 -- ---- nodes and ends
 
-down : (server : Server) → is_down_node server ≡ true → server ≡ OfNode None
+pub down : (server : Server) → is_down_node server ≡ true → server ≡ OfNode None
 down (OfNode None) is = refl
 down (OfNode (Some n)) is = absurd cc
 down (OfEnd e) is = absurd cc
@@ -349,7 +353,7 @@ pub record NodeIsUp (w : World) (place : ℕ) (n : Node) : Type 0 where
   pub there : slice_get w.seats place ≡ Some seat
   pub up : seat.server ≡ OfNode (Some n)
 
-node_is_up : (w : World) (place : ℕ) (n : Node) → node_at w place ≡ Some n → NodeIsUp w place n
+pub node_is_up : (w : World) (place : ℕ) (n : Node) → node_at w place ≡ Some n → NodeIsUp w place n
 unfolding node_at
 node_is_up w place n is = by (slice_get w.seats place) refl is
   where
@@ -376,8 +380,8 @@ ticks_to_goes place seconds s (Some n) w there up =
     let now = min (s.clock + seconds) last_moment in
     let later = with_clock place now w in
     let there_now : slice_get later.seats place ≡ Some (record s { clock = now })
-        = ap (λ (v : World). slice_get v.seats place) (on_seat_there place (λ (x : Seat). record x { clock = now }) w s there)
-        ∙ get_set w.seats place s (record s { clock = now }) there in
+    = ap (λ (v : World). slice_get v.seats place) (on_seat_there place (λ (x : Seat). record x { clock = now }) w s there)
+    ∙ get_set w.seats place s (record s { clock = now }) there in
     goes_then w later (ticks_node place now n later).world (clock_goes place seconds s w there).goes
     (ticks_unnamed place now n (record s { clock = now }) later there_now (node_up s.server n up)).goes
 ticks_to_goes place seconds s None w there up = (clock_goes place seconds s w there).goes
@@ -404,7 +408,7 @@ stops_goes place stop w = by (slice_get w.seats place) refl
 
 -- ---- what a line names can be done
 
-abbrev MayBeDone : World → Deed → Type 0
+abbrev pub MayBeDone : World → Deed → Type 0
 MayBeDone w (deeds.MakeNode name) = thing w name ≡ None
 MayBeDone w (deeds.MakeEnd name) = thing w name ≡ None
 MayBeDone w (deeds.Begin place name seconds) = thing w name ≡ None
@@ -431,19 +435,19 @@ goes (deeds.Restart place) w may = restarts_down place w may
 goes (deeds.Stop place write image) w may = stops_goes place (record { write = write; image = image }) w
 
 -- what an option gives
-some_of : {A B : Type 0} (f : A → Option B) (o : Option A) (y : B) → option_and_then f o ≡ Some y → (x : A) × (o ≡ Some x) × (f x ≡ Some y)
+pub some_of : {A B : Type 0} (f : A → Option B) (o : Option A) (y : B) → option_and_then f o ≡ Some y → (x : A) × (o ≡ Some x) × (f x ≡ Some y)
 some_of f (Some x) y is = (x, refl, is)
 some_of f None y is = absurd cc
 
-mapped_of : {A B : Type 0} (f : A → B) (o : Option A) (y : B) → option_map f o ≡ Some y → (x : A) × (o ≡ Some x) × (y ≡ f x)
+pub mapped_of : {A B : Type 0} (f : A → B) (o : Option A) (y : B) → option_map f o ≡ Some y → (x : A) × (o ≡ Some x) × (y ≡ f x)
 mapped_of f (Some x) y is = (x, refl, cc)
 mapped_of f None y is = absurd cc
 
-only_of : {A : Type 0} (so : Bool) (x y : A) → only_if so x ≡ Some y → (so ≡ true) × (y ≡ x)
+pub only_of : {A : Type 0} (so : Bool) (x y : A) → only_if so x ≡ Some y → (so ≡ true) × (y ≡ x)
 only_of true x y is = (refl, cc)
 only_of false x y is = absurd cc
 
-none_of : {A : Type 0} (o : Option A) → is_none o ≡ true → o ≡ None
+pub none_of : {A : Type 0} (o : Option A) → is_none o ≡ true → o ≡ None
 none_of (Some x) is = absurd cc
 none_of None is = refl
 
@@ -491,7 +495,7 @@ registers_may w manner transaction end name deed is =
     let so = only_of (is_free w name && may_register manner w key.0) (deeds.Register manner key.0 place.0 name) deed place.2 in
     subst (MayBeDone w) (sym so.1) (none_of (thing w name) (left_of (is_free w name) (may_register manner w key.0) so.0))
 
-may_be_done : (event : ScriptEvent) (deed : Deed) (w : World) → resolve event w ≡ Some deed → MayBeDone w deed
+pub may_be_done : (event : ScriptEvent) (deed : Deed) (w : World) → resolve event w ≡ Some deed → MayBeDone w deed
 unfolding resolve begins_named creates_named puts_named refuses_named commits_named relates_named
 may_be_done (events.Node name) deed w is = free_deed w name (deeds.MakeNode name) deed is refl
 may_be_done (events.End name) deed w is = free_deed w name (deeds.MakeEnd name) deed is refl

@@ -130,7 +130,7 @@ answers_unnamed place k e n s stood disk stop w there up asked =
     let seated = with_server place (OfNode (Some a.node)) (with_disk place disk stop w) in
     let later : Seat = record s { disk = disk; stop = stop; server = OfNode (Some a.node) } in
     let becomes = seat_becomes place s later w seated there (by_call s n k e stood disk stop up asked)
-        (on_seat_twice place (λ (x : Seat). record x { disk = disk; stop = stop }) (λ (x : Seat). record x { server = OfNode (Some a.node) }) w s there) in
+    (on_seat_twice place (λ (x : Seat). record x { disk = disk; stop = stop }) (λ (x : Seat). record x { server = OfNode (Some a.node) }) w s there) in
     and_then w seated (requests_all place a.words seated).world becomes (requests_all_unnamed place a.words seated)
 
 -- a node goes down with an image
@@ -180,7 +180,7 @@ ticks_unnamed place now n s w there up =
     let seated = with_server place (OfNode (Some t.node)) w in
     let told = (happens_all place t.node t.happened seated).world in
     let becomes = seat_becomes place s (record s { server = OfNode (Some t.node) }) w seated there (by_tick s n now up)
-        (on_seat_there place (λ (x : Seat). record x { server = OfNode (Some t.node) }) w s there) in
+    (on_seat_there place (λ (x : Seat). record x { server = OfNode (Some t.node) }) w s there) in
     and_then w told (requests_all place t.words told).world
     (and_then w seated told becomes (happens_all_unnamed place t.node t.happened seated)) (requests_all_unnamed place t.words told)
 
@@ -192,7 +192,7 @@ pub record EndIsUp (w : World) (place : ℕ) (e : FlatEnd) : Type 0 where
   pub there : slice_get w.seats place ≡ Some seat
   pub up : seat.server ≡ OfEnd (Some e)
 
-end_up : (server : Server) (e : FlatEnd) → end_in server ≡ Some e → server ≡ OfEnd (Some e)
+pub end_up : (server : Server) (e : FlatEnd) → end_in server ≡ Some e → server ≡ OfEnd (Some e)
 end_up (OfEnd (Some f)) e is = cc
 end_up (OfEnd None) e is = absurd cc
 end_up (OfNode n) e is = absurd cc

@@ -71,6 +71,7 @@ is_unwritten (w ∷ others) i none =
   where
     at_least : (a b : ℕ) → nat_le a b ≡ true → a ≤ b
     at_least a b is = grind (arith, nat_tests)
+
     below : (a b : ℕ) → nat_lt a b ≡ true → a < b
     below a b is = grind (arith, nat_tests)
 

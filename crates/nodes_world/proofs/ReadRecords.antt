@@ -33,6 +33,7 @@ with_next n place found r rs behind follows within next =
   where
     below : (a b : ℕ) → a < b → IsTrue (nat_lt a b)
     below a b less = grind (arith, nat_tests)
+
     both : {A : Type 0} (x y : A) (a b : Bool) → IsTrue a → IsTrue b → cond (a && b) x y ≡ x
     both x y true true t u = refl
     both x y true false t u = absurd cc
@@ -78,6 +79,7 @@ module _ (read : BodiesAreRead) where
     where
       stale : (n : ℕ) → 17 ≤ n → nat_lt n 17 || (n == 17 && false) ≡ false
       stale n enough = grind (arith, nat_tests)
+
       same_octets : (octets : List ℕ) → bytes_eq octets octets ≡ true
       same_octets [] = refl
       same_octets (octet ∷ octets) =

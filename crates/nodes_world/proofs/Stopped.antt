@@ -72,11 +72,13 @@ is_left gate r disk (Some s) image broken =
   where
     octets_of : {x y : List ℕ} → Broken x ≡ Broken y → y ≡ x
     octets_of is = cc
+
     none : {d : DiskState} {t : Option Stop} → Whole d t ≡ Broken image → ⊥
     none is = cc
+
     by : (a b : Bool)
         → cond a (Broken (left_by s.image (first_write gate r disk)))
-          (cond b (Broken (left_by s.image (second_write gate r disk))) (Whole (appended gate (behind_gate r) disk) (Some (record s { write = s.write - 1 - 1 }))))
+        (cond b (Broken (left_by s.image (second_write gate r disk))) (Whole (appended gate (behind_gate r) disk) (Some (record s { write = s.write - 1 - 1 }))))
         ≡ Broken image
         → IsLeft gate r disk image
     by true b is = by_first s (octets_of is)

@@ -15,5 +15,7 @@ pub mod Step
 pub mod Run
 pub mod Changes
 pub mod Agreement
+pub mod AgreementInside
+pub mod AgreementSteps
 pub mod Laws
 pub mod Plays

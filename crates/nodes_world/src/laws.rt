@@ -1,9 +1,12 @@
 // Laws of the definitions: these functions do nothing, and their contracts are the laws.
+ghost use Rattle.nodes_world.specs.Agreement.{Agreement, RunsAreSafe};
+ghost use Rattle.nodes_world.specs.AgreementSteps.{DeedsGo, NodeStepsStayKnown};
 ghost use Rattle.nodes_world.specs.Changes.{DeedsAreChanges};
 ghost use Rattle.nodes_world.specs.Laws.{AppendsGoThrough, AppendsStrike, AskedJournalsKeep, AskedJournalsStop, RecordsAreRead, StoppedAppendsAreSafe, WhatIsLeftIsAnImage};
 ghost use Rattle.nodes_world.specs.Plays.{WorldsPlay};
 
-use decision_journal::{appends_are_safe, bodies_are_read, journals_grow};
+use decision_journal::{appends_are_safe, bodies_are_read, journals_grow, loads_are_safe};
+use ots_model::allowed_lines_are_safe;
 use ots_outside::writes_read_images;
 
 /// The strokes of an append leave the disk that a journal's append leaves. A crash inside each of its writes leaves what stood before
@@ -55,3 +58,21 @@ pub fn worlds_play()
 pub fn deeds_are_changes()
     ensures { DeedsAreChanges }
 {}
+
+/// Whatever a line does that passes no limit is made of few kinds of step, with the lines that tell it: a node or an end is made, a
+/// node goes down or is loaded, a call or an answer comes to it, its time passes, a resource is touched or told a word.
+pub fn deeds_are_steps()
+    ensures { DeedsGo }
+{}
+
+/// The lines of every script are safe, if what is known of a world stays known where a transaction is made, where a call or an answer
+/// comes to a node, and where its time passes. Of all other steps that is shown.
+pub fn agreement_rests_on_node_steps()
+    ensures agreement { NodeStepsStayKnown → Agreement }
+    ensures runs { NodeStepsStayKnown → RunsAreSafe }
+{
+    allowed_lines_are_safe();
+    journals_grow();
+    loads_are_safe();
+    records_are_read();
+}

@@ -3,8 +3,9 @@
 
 pub use deed::{Deed, Manner};
 pub use laws::{
-    appends_strike_disks, asked_journals_stay_in_order, deeds_are_changes, records_are_read,
-    stopped_appends_are_safe, what_is_left_is_an_image, worlds_play,
+    agreement_rests_on_node_steps, appends_strike_disks, asked_journals_stay_in_order,
+    deeds_are_changes, deeds_are_steps, records_are_read, stopped_appends_are_safe,
+    what_is_left_is_an_image, worlds_play,
 };
 pub use message::{Content, Message};
 pub use thing::Thing;

@@ -1,0 +1,516 @@
+-- What is known of a world is known of another one in which families may be gone and a record of a life may stand further, but for
+-- what is said of its seats.
+use Rattle.std.proofs.Common.{◌≡◌, ◌≢◌, ◌⊎◌, ◌↔◌, inl, inr, ℕ, zero, suc, ◌+◌, ◌<◌, ◌≤◌, ◌&&◌, Bool, true, false, not, is_some, IsTrue, List, [], ◌∷◌, ◌++◌, length, slice_get, reverse, Any, Contains, Option, Some, None, refl, sym, ap, subst, ◌∙◌, arith}
+use Rattle.std.specs.List.{list_any}
+use Rattle.std.specs.Option.{option_map, option_map_or, option_and_then}
+use Rattle.ior_refs.specs.declared.key.ObjectKey.{ObjectKey}
+use Rattle.ots_model.specs.Safe as safe
+use Rattle.ots_model.specs.Safe.{Stands, HasConsented, IsFamily, IsJoined, IsRegistered, IsSent, IsTop, TakesPart}
+use Rattle.ots_model.specs.SafeByLine.{AreAllowed}
+use Rattle.ots_model.specs.declared.completion.Ground.{Ground}
+use Rattle.ots_model.specs.declared.completion.Ground.TheVariants as grounds
+use Rattle.ots_model.specs.declared.completion.Ground.TheVariants.{Record}
+use Rattle.ots_model.specs.declared.completion.Outcome.{Outcome as ToldOutcome}
+use Rattle.ots_model.specs.declared.completion.Outcome.TheVariants as told_outcomes
+use Rattle.ots_model.specs.declared.completion.Vote.{Vote}
+use Rattle.ots_model.specs.declared.completion.Word.TheVariants as phases
+use Rattle.ots_model.specs.declared.line.Line.{Line}
+use Rattle.ots_model.specs.declared.line.Line.TheVariants as lines
+use Rattle.ots_model.specs.declared.service.RetryKey.{RetryKey}
+use Rattle.ots_model.specs.declared.tree.Outcome.{Outcome}
+use Rattle.ots_model.specs.declared.tree.Outcome.TheVariants as outcomes
+use Rattle.ots_model.specs.declared.tree.Outward.{Outward}
+use Rattle.ots_model.specs.declared.tree.Word.TheVariants as words
+use Rattle.resource_votes.specs.declared.registration.Registration.{Registration}
+use Rattle.two_phase.specs.Stages as stages
+use Rattle.two_phase.specs.Stages.{Standing as Completion, Waiting, Going as UnderWay}
+use Rattle.decision_journal.specs.Journal.{first_gate, found_in}
+use Rattle.decision_journal.specs.declared.journal.Standing.{Standing}
+use Rattle.decision_journal.specs.declared.record.JournalRecord.{JournalRecord}
+use Rattle.decision_journal.specs.declared.record.JournalRecord.TheVariants.{Life, Decision}
+use Rattle.decision_journal.specs.declared.record.Registration.{Registration as Named}
+use Rattle.recovery_coord.specs.Held.{is_nothing}
+use Rattle.recovery_coord.specs.Limits.{retold_slot}
+use Rattle.recovery_coord.specs.declared.held.Held.{Held}
+use Rattle.recovery_coord.specs.declared.held.Party.{Party as HeldParty}
+use Rattle.coordinator.specs.Family.{Family}
+use Rattle.coordinator.specs.Node.{Node, life}
+use Rattle.coordinator.specs.declared.said.Said.{Said}
+use Rattle.coordinator.specs.declared.said.Said.TheVariants as said
+use Rattle.nodes_world.specs.declared.message.Content.{Content}
+use Rattle.nodes_world.specs.declared.message.Content.TheVariants as contents
+use Rattle.nodes_world.specs.declared.message.Message.{Message}
+use Rattle.nodes_world.specs.declared.thing.Thing.{Thing}
+use Rattle.nodes_world.specs.declared.thing.Thing.TheVariants as things
+use Rattle.nodes_world.specs.Agreement as agreed
+use Rattle.nodes_world.specs.Agreement.{HasSent, IsAlone, IsClosed, IsCutOff, IsDecided, IsOutlived, IsOver, IsRolledBack, IsTransaction, IsWord, KeysAreOnce, StatesFollow, MayBeRolledBack, NumbersAreOnce, RecordsRestOnVotes, RestsOnVotes, VotesWereGiven, CommitsAreRecorded, DecisionsAreRecorded, DonesAreComplete, NoneIsBoth, OnePhaseIsAlone, RollbacksAreClosed, SubtransactionsEndOnce, has_record, is_decision_of, is_done_in, names_object, recorded_key, records_at}
+use Rattle.nodes_world.specs.AgreementInside.{Known, CompletionsAreOver, DisksAreKnown, FamiliesAreKnown, FamilyIsKnown, HasAnswered, HasHeardAll, IsBranch, IsListed, IsNamedBy, NamesAreTold, OutcomeIsTold, ResourceIsKnown, ResourcesAreKnown, RollbacksAreOutcomes, RollbacksAreTold, SeatsAreNamed, ToldIsOpen, WordsAreTold, placed}
+use Rattle.nodes_world.specs.Objects.{place_of}
+use Rattle.nodes_world.specs.Told.{Told, known}
+use Rattle.nodes_world.specs.World.{World, Seat, OfNode, FlatResource, NamedKey, family_at, referred, resource_at, seat_name, thing}
+use Rattle.nodes_world.proofs.KnownLines.{AreAmong, among_back, among_turned, cut_among, lines_of, part_among, registered_among}
+use Rattle.nodes_world.proofs.KnownFrames.{IsReason}
+use Rattle.nodes_world.proofs.KnownTelling.{TellsOn, is_bare}
+use Rattle.nodes_world.proofs.KnownRequests.{follows_kept, unvoted_kept, voted_kept}
+
+abbrev pub is_life : JournalRecord → Bool
+is_life (Life life) = true
+is_life _ = false
+
+-- records and those of before, where no decision is new and none is done that wasn't
+pub record Follows (earlier rs : List JournalRecord) : Type 0 where
+  pub life : (found_in earlier).life ≤ (found_in rs).life
+  pub standing : (found_in rs).standing ≡ (found_in earlier).standing
+  pub places : (o : Outward) → Any (IsNamedBy o) (placed first_gate earlier) → Any (IsNamedBy o) (placed first_gate rs)
+  pub others : (r : JournalRecord) → is_life r ≡ false → Contains rs r → Contains earlier r
+  pub some : (is_so : JournalRecord → Bool) → ((life : ℕ) → is_so (Life life) ≡ false) → list_any is_so rs ≡ list_any is_so earlier
+
+pub follows_self : (rs : List JournalRecord) → Follows rs rs
+follows_self rs = record {
+  life = omega arith;
+  standing = refl;
+  places = λ o any. any;
+  others = λ r other among. among;
+  some = λ is_so none. refl;
+}
+
+-- a client's call
+abbrev pub is_call : Content → Bool
+is_call (contents.Call to act) = true
+is_call (contents.Request from o) = false
+is_call (contents.Reply request answer) = false
+
+-- what is the same of two worlds, and of the lines that they have told
+pub record Frame (w v : World) (told later : List Told) : Type 0 where
+  pub tells : TellsOn is_bare told later
+  pub allowed : AreAllowed (lines_of told) → AreAllowed (lines_of later)
+  pub decided : (name : List ℕ) (key : ObjectKey) → IsTransaction w name key
+      → Stands (lines.Decide name (told_outcomes.Commit Record)) (known later) → IsDecided w told key name
+  pub outcomes : (name : List ℕ) (key : ObjectKey) (f : Family) → family_at v key ≡ Some f → IsTransaction w name f.key
+      → Stands (lines.Decide name (told_outcomes.Commit Record)) (lines_of later) → Stands (lines.Decide name (told_outcomes.Commit Record)) (lines_of told)
+  pub transaction_on : (name : List ℕ) (key : ObjectKey) → IsTransaction w name key → IsTransaction v name key
+  pub transaction_back : (name : List ℕ) (key : ObjectKey) → IsTransaction v name key → IsTransaction w name key
+  pub resource_on : (name : List ℕ) (key : ObjectKey) → thing w name ≡ Some (things.Resource key) → thing v name ≡ Some (things.Resource key)
+  pub resource_back : (name : List ℕ) (key : ObjectKey) → thing v name ≡ Some (things.Resource key) → thing w name ≡ Some (things.Resource key)
+  pub refers : (to : List ℕ) → referred v to ≡ referred w to
+  pub resources : (key : ObjectKey) → resource_at v key ≡ resource_at w key
+  pub messages_on : (nth : ℕ) (m : Message) → slice_get w.messages nth ≡ Some m
+      → (one : Message) × (slice_get v.messages nth ≡ Some one) × (one.content ≡ m.content)
+  pub messages_back : (nth : ℕ) (m : Message) → slice_get v.messages nth ≡ Some m → is_call m.content ≡ false
+      → (one : Message) × (slice_get w.messages nth ≡ Some one) × (one.content ≡ m.content)
+  pub families : (key : ObjectKey) (f : Family) → family_at v key ≡ Some f → family_at w key ≡ Some f
+  pub records : (place : ℕ) (rs : List JournalRecord) → records_at v place ≡ Some rs
+      → ((earlier : List JournalRecord) × (records_at w place ≡ Some earlier) × Follows earlier rs)
+      ⊎ ((rs ≡ []) × (slice_get w.seats place ≡ None))
+  pub has : (place : ℕ) (is_so : JournalRecord → Bool) → ((life : ℕ) → is_so (Life life) ≡ false) → has_record v place is_so ≡ has_record w place is_so
+  pub seats : (place : ℕ) (server : List ℕ) → seat_name w place ≡ Some server → seat_name v place ≡ Some server
+
+-- what is said of names in one list of lines is said in another, where its lines are there, but for these
+abbrev AreBareBack : List Line → List Line → Type 0
+AreBareBack b a = (line : Line) → is_bare line ≡ false → Stands line b → Stands line a
+
+family_bare : (b a : List Line) (t : List ℕ) → AreBareBack b a → IsFamily t b → IsFamily t a
+family_bare b a t m (inl (node, s)) = inl (node, m _ refl s)
+family_bare b a t m (inr (u, (node, s))) = inr (u, (node, m _ refl s))
+
+joined_bare : (b a : List Line) (t u : List ℕ) → AreBareBack b a → IsJoined b t u → IsJoined a t u
+joined_bare b a t _ m (safe.IsJoined.own family) = safe.IsJoined.own (family_bare b a t m family)
+joined_bare b a t _ m (safe.IsJoined.committed u parent done sub above) =
+    safe.IsJoined.committed u parent (m _ refl done) (m _ refl sub) (joined_bare b a t parent m above)
+
+part_bare : (b a : List Line) (g t : List ℕ) → AreBareBack b a → TakesPart g t b → TakesPart g t a
+part_bare b a g t m (u, registered, joined) = (u, (registered.0, m _ refl registered.1), joined_bare b a t u m joined)
+
+abbrev pub NamedOnce : World → Type 0
+NamedOnce v = (name : List ℕ) (named : Thing) → Contains v.names (name, named) → thing v name ≡ Some named
+
+abbrev pub WereGiven : World → Type 0
+WereGiven v = (place : ℕ) (s : Seat) (n : Node) (o : Outward) → slice_get v.seats place ≡ Some s → s.server ≡ OfNode (Some n)
+    → HasSent v place o → o.number.life ≡ life n → (o.number.slot ≡ retold_slot) ⊎ (o.number.generation ≤ n.generation)
+
+abbrev pub AreOverAgain : World → Type 0
+AreOverAgain v = (place : ℕ) (s : Seat) (n : Node) (h : Held) (p : HeldParty) (object : NamedKey) (r : FlatResource)
+    → slice_get v.seats place ≡ Some s → s.server ≡ OfNode (Some n) → Contains n.recovered h → Contains h.parties p
+    → IsTrue (is_nothing p.due) → referred v p.to ≡ Some object → resource_at v object.key ≡ Some r → IsOver r.state
+
+module _ (w v : World) (told later : List Told) (f : Frame w v told later) (k : Known w told) where
+  on : AreAmong (lines_of told) (lines_of later)
+  on line s = among_turned (known later) line (f.tells.on line (among_back (known told) line s))
+
+  back : (line : Line) → is_bare line ≡ false → Stands line (lines_of later) → Stands line (lines_of told)
+  back line other s = among_turned (known told) line (f.tells.back line other (among_back (known later) line s))
+
+  -- ---- lines
+
+  registered_then : (g t : List ℕ) → IsRegistered g t (lines_of later) → IsRegistered g t (lines_of told)
+  registered_then g t (end, s) = (end, back _ refl s)
+
+  part_then : (g t : List ℕ) → TakesPart g t (known later) → TakesPart g t (known told)
+  part_then g t part = part_bare (known later) (known told) g t f.tells.back part
+
+  -- ---- messages
+
+  pub word_on : (nth p : ℕ) (q : Outward) → IsWord w nth p q → IsWord v nth p q
+  word_on nth p q (one, at, says) = let there = f.messages_on nth one at in (there.0, there.1, there.2 ∙ says)
+
+  pub word_back : (nth p : ℕ) (q : Outward) → IsWord v nth p q → IsWord w nth p q
+  word_back nth p q (one, at, says) = let there = f.messages_back nth one at (ap is_call says) in (there.0, there.1, there.2 ∙ says)
+
+  pub sent_back : (p : ℕ) (q : Outward) → HasSent v p q → HasSent w p q
+  sent_back p q (nth, word) = (nth, word_back nth p q word)
+
+  pub refers_back : (to : List ℕ) (r : NamedKey) → referred v to ≡ Some r → referred w to ≡ Some r
+  refers_back to r is = sym (f.refers to) ∙ is
+
+  pub refers_on : (to : List ℕ) (r : NamedKey) → referred w to ≡ Some r → referred v to ≡ Some r
+  refers_on to r is = f.refers to ∙ is
+
+  pub at_back : (key : ObjectKey) (r : FlatResource) → resource_at v key ≡ Some r → resource_at w key ≡ Some r
+  at_back key r is = sym (f.resources key) ∙ is
+
+  -- ---- names
+
+  made_on : (name : List ℕ) → (IsTop name (lines_of told) ⊎ ((above : List ℕ) × Stands (lines.Sub name above) (lines_of told)))
+      → (IsTop name (lines_of later) ⊎ ((above : List ℕ) × Stands (lines.Sub name above) (lines_of later)))
+  made_on name (inl top) = inl (top.0, on _ top.1)
+  made_on name (inr sub) = inr (sub.0, on _ sub.1)
+
+  names_then : KeysAreOnce v → NamedOnce v → NamesAreTold v (lines_of later)
+  names_then keys once = record {
+    keys = keys;
+    once = once;
+    transactions = λ name key named. (named, made_on name (k.names.transactions name key (f.transaction_back name key named)).1);
+    kinds = λ name key named. k.names.kinds name key (f.transaction_back name key named);
+    tops = λ name node s. let at = k.names.tops name node (back _ refl s) in (at.0, f.transaction_on name at.0 at.1, at.2);
+    subs = λ name above s. let at = k.names.subs name above (back _ refl s) in
+        (at.0, at.1, f.transaction_on name at.0 at.2, f.transaction_on above at.1 at.3, at.4, at.5);
+    ended = λ name committed s. let at = k.names.ended name committed (back _ refl s) in (at.0, f.transaction_on name at.0 at.1, at.2);
+    one_parent = λ name above other s u. k.names.one_parent name above other (back _ refl s) (back _ refl u);
+    resources = λ name key named. let at = k.names.resources name key (f.resource_back name key named) in (at.0, f.resources key ∙ at.1, at.2);
+    registered = λ name t r. let at = k.names.registered name t (registered_then name t r) in
+        (at.0, at.1, f.resource_on name at.0 at.2, f.transaction_on t at.1 at.3);
+    one_transaction = λ name t other r s. k.names.one_transaction name t other (registered_then name t r) (registered_then name other s);
+    no_import = λ name above node s. k.names.no_import name above node (back _ refl s);
+  }
+
+  -- ---- words and votes
+
+  -- one that has sent a word has its seat
+  pub seated : (p : ℕ) (q : Outward) (P : Type 0) → HasSent w p q → slice_get w.seats p ≡ None → P
+  seated p q P sent none = absurd (no_some (sym (ap is_some none) ∙ k.seats.senders p q sent))
+    where
+      no_some : false ≡ true → ⊥
+      no_some e = cc
+
+  life_then : (p : ℕ) (q : Outward) (rs : List JournalRecord) → HasSent w p q
+      → ((earlier : List JournalRecord) × (records_at w p ≡ Some earlier) × Follows earlier rs) ⊎ ((rs ≡ []) × (slice_get w.seats p ≡ None))
+      → q.number.life ≤ (found_in rs).life
+  life_then p q rs sent (inl (earlier, held, follows)) =
+      let early = k.words.lives p q earlier sent held in
+      omega (arith, early, follows.life)
+  life_then p q rs sent (inr (none, gone)) = seated p q (q.number.life ≤ (found_in rs).life) sent gone
+
+  again_then : (p : ℕ) (q : Outward) (rs : List JournalRecord) → HasSent w p q → q.number.slot ≡ retold_slot
+      → ((earlier : List JournalRecord) × (records_at w p ≡ Some earlier) × Follows earlier rs) ⊎ ((rs ≡ []) × (slice_get w.seats p ≡ None))
+      → Any (IsNamedBy q) (placed first_gate rs)
+  again_then p q rs sent again (inl (earlier, held, follows)) = follows.places q (k.words.told_again p q earlier sent again held)
+  again_then p q rs sent again (inr (none, gone)) = seated p q (Any (IsNamedBy q) (placed first_gate rs)) sent gone
+
+  words_then : WereGiven v → WordsAreTold v (lines_of later)
+  words_then given = record {
+    named = λ p q sent. ap is_some (f.refers q.to) ∙ k.words.named p q (sent_back p q sent);
+    once = record {
+      one_object = λ p a b one other. k.words.once.one_object p a b (sent_back p a one) (sent_back p b other);
+      one_word = λ first second p a b one other. k.words.once.one_word first second p a b (word_back first p a one) (word_back second p b other);
+    };
+    told = λ nth p q phase r word is to. on _ (k.words.told nth p q phase r (word_back nth p q word) is (refers_back q.to r to));
+    sent = λ number phase name s. let at = k.words.sent number phase name (back _ refl s) in
+        (at.0, at.1, at.2, at.3, word_on at.0 at.1 at.2 at.4, at.5, at.6, refers_on at.2.to at.3 at.7, at.8);
+    replied = λ reply request m answer at says. let there = f.messages_back reply m at (ap is_call says) in
+        k.words.replied reply request there.0 answer there.1 (there.2 ∙ says);
+    lives = λ p q rs sent held. life_then p q rs (sent_back p q sent) (f.records p rs held);
+    given = given;
+    told_again = λ p q rs sent again held. again_then p q rs (sent_back p q sent) again (f.records p rs held);
+    serials = λ p q g key sent there. k.words.serials p q g key (sent_back p q sent) (f.families key g there);
+  }
+
+  votes_then : VotesWereGiven v later
+  votes_then name vote s =
+      let g = k.votes name vote (f.tells.back _ refl s) in
+      let there = f.messages_on g.reply g.answer g.answered in
+      record {
+        request = g.request;
+        from = g.from;
+        asked = g.asked;
+        sent = word_on g.request g.from g.asked g.sent;
+        prepare = g.prepare;
+        resource = g.resource;
+        object = refers_on g.asked.to g.resource g.object;
+        same_name = g.same_name;
+        reply = g.reply;
+        answer = there.0;
+        answered = there.1;
+        says = there.2 ∙ g.says;
+      }
+
+  -- ---- resources
+
+  answered_on : (name : List ℕ) (vote : Vote) → HasAnswered w name vote → HasAnswered v name vote
+  answered_on name vote (nth, from, reply, q, r, one, word, prepare, refers, named, at, says) =
+      let there = f.messages_on reply one at in
+      (nth, from, reply, q, r, there.0, word_on nth from q word, prepare, refers_on q.to r refers, named, there.1, there.2 ∙ says)
+
+  answered_back : (name : List ℕ) (vote : Vote) → HasAnswered v name vote → HasAnswered w name vote
+  answered_back name vote (nth, from, reply, q, r, one, word, prepare, refers, named, at, says) =
+      let there = f.messages_back reply one at (ap is_call says) in
+      (nth, from, reply, q, r, there.0, word_back nth from q word, prepare, refers_back q.to r refers, named, there.1, there.2 ∙ says)
+
+  resource_then : (name : List ℕ) (r : FlatResource) → ResourceIsKnown w (lines_of told) name r → ResourceIsKnown v (lines_of later) name r
+  resource_then name r old = record {
+    commit = λ a. voted_kept r.state name _ _ on (old.commit (answered_back name _ a));
+    read_only = λ a. old.read_only (answered_back name _ a);
+    rollback = λ a. old.rollback (answered_back name _ a);
+    none = λ no. unvoted_kept r.state name _ _ on (old.none (λ vote a. no vote (answered_on name vote a)));
+    applied = (λ s. old.applied.0 (back _ refl s), λ e. on _ (old.applied.1 e));
+    undone = (λ s. old.undone.0 (back _ refl s), λ e. on _ (old.undone.1 e));
+    follows = follows_kept r.state name _ _ on
+        (λ undone sent. (subst (λ s. StatesFollow s name (lines_of told)) undone old.follows) (sent.0, back _ refl sent.1)) old.follows;
+  }
+
+  resources_then : ResourcesAreKnown v (lines_of later)
+  resources_then name key r named at = resource_then name r (k.resources name key r (f.resource_back name key named) (at_back key r at))
+
+  -- ---- families
+
+  branch_on : (g : Family) (t : List ℕ) (b : ℕ) → IsBranch w g t b → IsBranch v g t b
+  branch_on g t b (key, named, of, is) = (key, f.transaction_on t key named, of, is)
+
+  branch_back : (g : Family) (t : List ℕ) (b : ℕ) → IsBranch v g t b → IsBranch w g t b
+  branch_back g t b (key, named, of, is) = (key, f.transaction_back t key named, of, is)
+
+  listed_on : (g : Family) (name : List ℕ) (b : ℕ) → IsListed w g name b → IsListed v g name b
+  listed_on g name b (c, r, object, among, is, refers, named) = (c, r, object, among, is, refers_on r.to object refers, named)
+
+  listed_back : (g : Family) (name : List ℕ) (b : ℕ) → IsListed v g name b → IsListed w g name b
+  listed_back g name b (c, r, object, among, is, refers, named) = (c, r, object, among, is, refers_back r.to object refers, named)
+
+  outcome_then : (s : Option Outcome) (name : List ℕ)
+      → (Stands (lines.Decide name (told_outcomes.Commit Record)) (lines_of later) → Stands (lines.Decide name (told_outcomes.Commit Record)) (lines_of told))
+      → OutcomeIsTold s name (lines_of told) → OutcomeIsTold s name (lines_of later)
+  outcome_then None name same is = λ s. is (same s)
+  outcome_then (Some (outcomes.Commit basis)) name same is = on _ is
+  outcome_then (Some (outcomes.Rollback reason)) name same is = λ s. is (same s)
+  outcome_then (Some outcomes.Unknown) name same is = λ s. is (same s)
+
+  family_then : (key : ObjectKey) (g : Family) → family_at v key ≡ Some g → FamilyIsKnown w (lines_of told) g → FamilyIsKnown v (lines_of later) g
+  family_then key g there old = record {
+    sound = old.sound;
+    name = old.name;
+    of_name = f.transaction_on old.name g.key old.of_name;
+    top = old.top;
+    branches = λ b less. let at = old.branches b less in (at.0, branch_on g at.0 b at.1);
+    no_further = λ t b branch. old.no_further t b (branch_back g t b branch);
+    parents = λ t above b p branch higher.
+        let was = old.parents t above b p (branch_back g t b branch) (branch_back g above p higher) in
+        (λ s. was.0 (back _ refl s), λ e. on _ (was.1 e));
+    ends = λ t b committed branch below.
+        let was = old.ends t b committed (branch_back g t b branch) below in
+        (λ s. was.0 (back _ refl s), λ e. on _ (was.1 e));
+    registrations = λ r t b branch.
+        let was = old.registrations r t b (branch_back g t b branch) in
+        (λ s. listed_on g r b (was.0 (registered_then r t s)), λ l. registered_among _ _ r t on (was.1 (listed_back g r b l)));
+    own = λ r object t among refers registered.
+        branch_on g t r.branch (old.own r object t among (refers_back r.to object refers) (registered_then object.name t registered));
+    votes = λ number vote r object among is refers.
+        let was = old.votes number vote r object among is (refers_back r.to object refers) in
+        (λ e. on _ (was.0 e), λ s. was.1 (back _ refl s));
+    outcome = outcome_then (stages.outcome g.completion) old.name (f.outcomes old.name key g there old.of_name) old.outcome;
+    recorded =
+        let same = f.has (place_of g.key) (is_decision_of g.key) (λ life. refl) in
+        (λ has. old.recorded.0 (sym same ∙ has), λ e. same ∙ old.recorded.1 e);
+  }
+
+  families_then : FamiliesAreKnown v (lines_of later)
+  families_then key g there = family_then key g there (k.families key g (f.families key g there))
+
+  open_then : ToldIsOpen v (lines_of later)
+  open_then = record {
+    commit = λ g t b key h sent registered there branch.
+        k.open_words.commit g t b key h (sent.0, back _ refl sent.1) (registered_then g t registered) (f.families key h there) (branch_back h t b branch);
+    one_phase = λ g t b key h sent registered there branch.
+        k.open_words.one_phase g t b key h (sent.0, back _ refl sent.1) (registered_then g t registered) (f.families key h there) (branch_back h t b branch);
+  }
+
+  -- ---- records and outcomes
+
+  consented_on : (g : List ℕ) → HasConsented g (known told) → HasConsented g (known later)
+  consented_on g (inl s) = inl (f.tells.on _ s)
+  consented_on g (inr s) = inr (f.tells.on _ s)
+
+  rests_then : (family : ObjectKey) (regs : List Named) → RestsOnVotes w told family regs → RestsOnVotes v later family regs
+  rests_then family regs old = record {
+    name = old.name;
+    of_name = f.transaction_on old.name family old.of_name;
+    consented = λ p part. consented_on p (old.consented p (part_then p old.name part));
+    named = λ to some. ap is_some (f.refers to) ∙ old.named to some;
+    voters = λ to r refers.
+        let was = old.voters to r (refers_back to r refers) in (
+          λ among. (part_among _ _ r.name old.name f.tells.on (was.0 among).0, f.tells.on _ (was.0 among).1),
+          λ voter. was.1 (part_then r.name old.name voter.0, f.tells.back _ refl voter.1),
+        );
+  }
+
+  records_then : RecordsRestOnVotes v later
+  records_then p life slot generation by asked regs rs held among = at (f.records p rs held)
+    where
+      none_of : {A : Type 0} (x : A) → Contains [] x → ⊥
+      none_of x (i, less, is) = omega (arith, less)
+
+      at : ((earlier : List JournalRecord) × (records_at w p ≡ Some earlier) × Follows earlier rs) ⊎ ((rs ≡ []) × (slice_get w.seats p ≡ None))
+          → RestsOnVotes v later (recorded_key p life slot generation) regs
+      at (inl (earlier, was, follows)) =
+          rests_then (recorded_key p life slot generation) regs
+          (k.records p life slot generation by asked regs earlier was (follows.others (Decision life slot generation by asked regs) refl among))
+      at (inr (none, gone)) = absurd (none_of _ (subst (λ (x : List JournalRecord). Contains x (Decision life slot generation by asked regs)) none among))
+
+  decided_back : (name : List ℕ) (key : ObjectKey) → IsTransaction w name key → IsDecided v later key name → IsDecided w told key name
+  decided_back name key named (inl s) = f.decided name key named s
+  decided_back name key named (inr has) = inr (sym (f.has (place_of key) (is_decision_of key) (λ life. refl)) ∙ has)
+
+  rolled_back_back : (name : List ℕ) → IsRolledBack later name → IsRolledBack told name
+  rolled_back_back name (agreed.IsRolledBack.by_known reason s) = agreed.IsRolledBack.by_known reason (f.tells.back _ refl s)
+  rolled_back_back name (agreed.IsRolledBack.by_other reason c) = agreed.IsRolledBack.by_other reason (f.tells.reasons_back _ tt c)
+  rolled_back_back name (agreed.IsRolledBack.by_synchronization reason synchronization c) =
+      agreed.IsRolledBack.by_synchronization reason synchronization (f.tells.reasons_back _ tt c)
+
+  rolled_back_on : (name : List ℕ) → IsRolledBack told name → IsRolledBack later name
+  rolled_back_on name (agreed.IsRolledBack.by_known reason s) = agreed.IsRolledBack.by_known reason (f.tells.on _ s)
+  rolled_back_on name (agreed.IsRolledBack.by_other reason c) = agreed.IsRolledBack.by_other reason (f.tells.reasons_on _ c)
+  rolled_back_on name (agreed.IsRolledBack.by_synchronization reason synchronization c) =
+      agreed.IsRolledBack.by_synchronization reason synchronization (f.tells.reasons_on _ c)
+
+  closed_on : (name : List ℕ) (key : ObjectKey) → IsTransaction w name key → IsClosed w told key name → IsClosed v later key name
+  closed_on name key named (agreed.IsClosed.rolled_back r) = agreed.IsClosed.rolled_back (rolled_back_on name r)
+  closed_on name key named (agreed.IsClosed.outlived l undecided) =
+      agreed.IsClosed.outlived
+      (record { server = l.server; named = f.seats (place_of key) l.server l.named; life = l.life; later = l.later; up = f.tells.on _ l.up })
+      (λ d. undecided (decided_back name key named d))
+
+  one_outcome_then : NoneIsBoth v later
+  one_outcome_then name key named top decided (agreed.IsClosed.rolled_back r) =
+      let was = f.transaction_back name key named in
+      k.one_outcome name key was top (decided_back name key was decided) (agreed.IsClosed.rolled_back (rolled_back_back name r))
+  one_outcome_then name key named top decided (agreed.IsClosed.outlived l undecided) = undecided decided
+
+  recorded_then : DecisionsAreRecorded v later
+  recorded_then name key named top s =
+      let was = f.transaction_back name key named in
+      f.has (place_of key) (is_decision_of key) (λ life. refl) ∙ by was (f.decided name key was s)
+    where
+      by : IsTransaction w name key → IsDecided w told key name → IsTrue (has_record w (place_of key) (is_decision_of key))
+      by was (inl line) = k.recorded name key was top line
+      by was (inr has) = has
+
+  -- ---- words of the second phase
+
+  commits_then : CommitsAreRecorded v
+  commits_then p q sent commit = f.has p (names_object q.to) (λ life. refl) ∙ k.commits p q (sent_back p q sent) commit
+
+  alone_on : (name : List ℕ) → IsAlone w told name → IsAlone v later name
+  alone_on name old = record {
+    family = old.family;
+    key = old.key;
+    of_name = f.transaction_on old.family old.key old.of_name;
+    participant = part_among _ _ name old.family f.tells.on old.participant;
+    only = λ p part. old.only p (part_then p old.family part);
+    unrecorded = λ d. old.unrecorded (decided_back old.family old.key old.of_name d);
+  }
+
+  one_phase_then : OnePhaseIsAlone v later
+  one_phase_then name (message, s) = alone_on name (k.one_phase name (message, f.tells.back _ refl s))
+
+  over_on : (transaction top : List ℕ) (key : ObjectKey) → IsTransaction w top key → (IsClosed w told key top ⊎ IsCutOff (known told) transaction)
+      → (IsClosed v later key top ⊎ IsCutOff (known later) transaction)
+  over_on transaction top key named (inl closed) = inl (closed_on top key named closed)
+  over_on transaction top key named (inr off) = inr (cut_among _ _ transaction f.tells.on off)
+
+  may_be_on : (name : List ℕ) → MayBeRolledBack w told name → MayBeRolledBack v later name
+  may_be_on name old = record {
+    transaction = old.transaction;
+    key = old.key;
+    named = f.transaction_on old.transaction old.key old.named;
+    registered = registered_among _ _ name old.transaction f.tells.on old.registered;
+    top = old.top;
+    family = f.transaction_on old.top (record old.key { index = 0 }) old.family;
+    over = over_on old.transaction old.top (record old.key { index = 0 }) old.family old.over;
+  }
+
+  rollbacks_then : RollbacksAreClosed v later
+  rollbacks_then p q r sent rollback refers = may_be_on r.name (k.rollbacks p q r (sent_back p q sent) rollback (refers_back q.to r refers))
+
+  rolled_back_then : RollbacksAreOutcomes v later
+  rolled_back_then name key g named top there back =
+      k.rolled_back name key g (f.transaction_back name key named) top (f.families key g there) (rolled_back_back name back)
+
+  told_back_then : RollbacksAreTold v later
+  told_back_then name key g there named is =
+      rolled_back_on name (k.told_back name key g (f.families key g there) (f.transaction_back name g.key named) is)
+
+  -- ---- what is over
+
+  heard_then : (s : Completion) → HasHeardAll w s → HasHeardAll v s
+  heard_then (Waiting room) h = h
+  heard_then (UnderWay c) h = λ p object r among is refers at. h p object r among is (refers_back p.to object refers) (at_back object.key r at)
+
+  over_then : AreOverAgain v → CompletionsAreOver v
+  over_then again = record {
+    answered = λ nth from reply q object one r answer word commit refers at says there.
+        let was = f.messages_back reply one at (ap is_call says) in
+        k.over.answered nth from reply q object was.0 r answer (word_back nth from q word) commit (refers_back q.to object refers) was.1
+        (was.2 ∙ says) (at_back object.key r there);
+    heard = λ key g there commits. heard_then g.completion (k.over.heard key g (f.families key g there) commits);
+    told_again = again;
+  }
+
+  dones_then : DonesAreComplete v
+  dones_then p rs key to name r held some done refers there = at (f.records p rs held)
+    where
+      is_so : JournalRecord → Bool
+      is_so item = is_decision_of key item && names_object to item
+
+      no_some : false ≡ true → ⊥
+      no_some e = cc
+
+      at : ((earlier : List JournalRecord) × (records_at w p ≡ Some earlier) × Follows earlier rs) ⊎ ((rs ≡ []) × (slice_get w.seats p ≡ None)) → IsOver r.state
+      at (inl (earlier, was, follows)) =
+          k.dones p earlier key to name r was (sym (follows.some is_so (λ life. refl)) ∙ some)
+          (ap (λ (standing : List Standing). not (list_any (λ (s : Standing). is_decision_of key s.item) standing)) (sym follows.standing) ∙ done)
+          (refers_back to name refers) (at_back name.key r there)
+      at (inr (none, gone)) = absurd (no_some (ap (λ (x : List JournalRecord). list_any is_so x) (sym none) ∙ some))
+
+  -- what is known then, where it is known of the seats
+  pub framed_known : KeysAreOnce v → NamedOnce v → SeatsAreNamed v (lines_of later) → DisksAreKnown v later → WereGiven v → AreOverAgain v → Known v later
+  framed_known keys once seats disks given again = record {
+    names = names_then keys once;
+    seats = seats;
+    disks = disks;
+    words = words_then given;
+    votes = votes_then;
+    resources = resources_then;
+    families = families_then;
+    open_words = open_then;
+    records = records_then;
+    recorded = recorded_then;
+    ends = λ before behind t committed earlier e s.
+        let at = f.tells.split (lines.SubDone t committed) before behind refl e in
+        k.ends before at.0 t committed earlier at.1 s;
+    one_outcome = one_outcome_then;
+    commits = commits_then;
+    one_phase = one_phase_then;
+    rollbacks = rollbacks_then;
+    rolled_back = rolled_back_then;
+    told_back = told_back_then;
+    over = over_then again;
+    dones = dones_then;
+    allowed = f.allowed k.allowed;
+  }

@@ -1,0 +1,311 @@
+-- What is known of every world that a script can reach, so that one more step keeps it: the parts of agreement, each of what one kind
+-- of line, message or record says. The lines so far come newest first.
+use Rattle.std.specs.Prelude.{◌≡◌, ◌↔◌, ℕ, ◌<◌, ◌≤◌, ◌⊎◌, ◌+◌, Bool, true, false, List, length, reverse, slice_get, Contains, Option, Some, None, IsTrue, is_some, ◌∷◌, []}
+use Rattle.std.specs.List.{Any}
+use Rattle.ior_refs.specs.declared.key.ObjectKey.{ObjectKey}
+use Rattle.ots_model.specs.Safe.{Stands, IsRegistered, IsSent, IsToldCommit, IsToldRollback, IsTop}
+use Rattle.ots_model.specs.SafeByLine.{AreAllowed}
+use Rattle.ots_model.specs.declared.completion.Ground.TheVariants.{Record}
+use Rattle.ots_model.specs.declared.completion.Outcome.TheVariants as told_outcomes
+use Rattle.ots_model.specs.declared.completion.Vote.{Vote}
+use Rattle.ots_model.specs.declared.completion.Vote.TheVariants.{VoteCommit, VoteReadOnly, VoteRollback}
+use Rattle.ots_model.specs.declared.completion.Word.{Word as Phase}
+use Rattle.ots_model.specs.declared.completion.Word.TheVariants as phases
+use Rattle.ots_model.specs.declared.line.Line.{Line}
+use Rattle.ots_model.specs.declared.line.Line.TheVariants as lines
+use Rattle.ots_model.specs.declared.line.ResourceState.TheVariants as shown
+use Rattle.ots_model.specs.declared.tree.Outcome.{Outcome}
+use Rattle.ots_model.specs.declared.tree.Outcome.TheVariants as outcomes
+use Rattle.ots_model.specs.declared.tree.Outward.{Outward}
+use Rattle.ots_model.specs.declared.tree.Word.{Word}
+use Rattle.ots_model.specs.declared.tree.Word.TheVariants as words
+use Rattle.resource_votes.specs.Ballots.{participants}
+use Rattle.resource_votes.specs.declared.registration.Registration.{Registration}
+use Rattle.txn_tree.specs.Rows.{parent, state}
+use Rattle.txn_tree.specs.declared.row.State.{State as BranchState}
+use Rattle.txn_tree.specs.declared.row.State.TheVariants as rows
+use Rattle.two_phase.specs.Stages as stages
+use Rattle.two_phase.specs.Stages.{Standing as Completion, Waiting, Going as UnderWay}
+use Rattle.two_phase.specs.declared.party.Party.{Party}
+use Rattle.decision_journal.specs.Journal.{Holds, first_gate, found_in}
+use Rattle.decision_journal.specs.Laws.{IsSettled}
+use Rattle.decision_journal.specs.Layout.{record_octets}
+use Rattle.decision_journal.specs.declared.journal.Standing.{Standing}
+use Rattle.decision_journal.specs.declared.record.Registration.{Registration as Named}
+use Rattle.decision_journal.specs.declared.record.JournalRecord.{JournalRecord}
+use Rattle.decision_journal.specs.declared.record.JournalRecord.TheVariants.{Prepared}
+use Rattle.recovery_coord.specs.Held.{is_nothing}
+use Rattle.recovery_coord.specs.Laws.{registrations_of}
+use Rattle.recovery_coord.specs.Limits.{retold_slot}
+use Rattle.recovery_coord.specs.declared.held.Held.{Held}
+use Rattle.recovery_coord.specs.declared.held.Party.{Party as HeldParty}
+use Rattle.resource_end.specs.declared.state.State.{State}
+use Rattle.resource_end.specs.declared.state.State.TheVariants as states
+use Rattle.coordinator.specs.Family.{Family}
+use Rattle.coordinator.specs.Names.{coordinator_kind}
+use Rattle.family_laws.specs.Sound.{IsSoundFamily, IsAsking}
+use Rattle.family_laws.specs.LawsOfTelling.{IsVoted}
+use Rattle.coordinator.specs.Node.{Node, is_of, life}
+use Rattle.coordinator.specs.declared.event.Act.{Act}
+use Rattle.coordinator.specs.NodeParts.{IsWhole}
+use Rattle.coordinator.specs.declared.event.Act.{Act}
+use Rattle.coordinator.specs.declared.said.Said.{Said}
+use Rattle.coordinator.specs.declared.said.Said.TheVariants as said
+use Rattle.nodes_world.specs.declared.message.Content.TheVariants as contents
+use Rattle.nodes_world.specs.declared.message.Message.{Message}
+use Rattle.nodes_world.specs.declared.thing.Thing.{Thing}
+use Rattle.nodes_world.specs.declared.thing.Thing.TheVariants as things
+use Rattle.nodes_world.specs.Agreement.{DecisionsAreHeld, DecisionsAreRecorded, DonesAreComplete, HasSent, IsTransaction, IsWord, KeysAreOnce, LivesRise, NodesFollowDisks, NoneIsBoth, NumbersAreOnce, OnePhaseIsAlone, RecordsRestOnVotes, RollbacksAreClosed, CommitsAreRecorded, SubtransactionsEndOnce, VotesWereGiven, WordsAreNamed, has_record, is_decision_of, records_at, IsOver, IsRolledBack, StatesFollow}
+use Rattle.nodes_world.specs.Objects.{place_of, service_at}
+use Rattle.nodes_world.specs.Told.{Told, known, operation_of}
+use Rattle.nodes_world.specs.World.{World, Seat, OfNode, FlatResource, NamedKey, family_at, referred, resource_at, thing}
+
+-- ---- names
+
+-- the transaction of this name and key was made, and a line tells it
+abbrev pub IsMade : World → List Line → List ℕ → ObjectKey → Type 0
+IsMade w h name key = IsTransaction w name key × (IsTop name h ⊎ ((above : List ℕ) × Stands (lines.Sub name above) h))
+
+pub record NamesAreTold (w : World) (h : List Line) : Type 0 where
+  pub keys : KeysAreOnce w
+  -- a name is given once
+  pub once : (name : List ℕ) (named : Thing) → Contains w.names (name, named) → thing w name ≡ Some named
+  pub transactions : (name : List ℕ) (key : ObjectKey) → IsTransaction w name key → IsMade w h name key
+  pub kinds : (name : List ℕ) (key : ObjectKey) → IsTransaction w name key → key.kind ≡ coordinator_kind
+  pub tops : (name node : List ℕ) → Stands (lines.Top name node) h → (key : ObjectKey) × IsTransaction w name key × (key.index ≡ 0)
+  pub subs : (name above : List ℕ) → Stands (lines.Sub name above) h
+      → (key : ObjectKey) × (higher : ObjectKey) × IsTransaction w name key × IsTransaction w above higher × (0 < key.index)
+      × (record key { index = higher.index } ≡ higher)
+  -- only a subtransaction is told to end
+  pub ended : (name : List ℕ) (committed : Bool) → Stands (lines.SubDone name committed) h
+      → (key : ObjectKey) × IsTransaction w name key × (0 < key.index)
+  pub one_parent : (name above other : List ℕ) → Stands (lines.Sub name above) h → Stands (lines.Sub name other) h → above ≡ other
+  pub resources : (name : List ℕ) (key : ObjectKey) → thing w name ≡ Some (things.Resource key)
+      → (r : FlatResource) × (resource_at w key ≡ Some r) × (r.key ≡ key)
+  pub registered : (name t : List ℕ) → IsRegistered name t h
+      → (key : ObjectKey) × (of : ObjectKey) × (thing w name ≡ Some (things.Resource key)) × IsTransaction w t of
+  pub one_transaction : (name t other : List ℕ) → IsRegistered name t h → IsRegistered name other h → t ≡ other
+  pub no_import : (name above node : List ℕ) → Stands (lines.Imp name above node) h → ⊥
+
+-- ---- seats
+
+pub record SeatsAreNamed (w : World) (h : List Line) : Type 0 where
+  -- a seat has its name, and a name of a seat is that of one that is there
+  pub named : (place : ℕ) (s : Seat) → slice_get w.seats place ≡ Some s → thing w s.name ≡ Some (things.Seat place)
+  pub there : (name : List ℕ) (place : ℕ) → thing w name ≡ Some (things.Seat place)
+      → (s : Seat) × (slice_get w.seats place ≡ Some s) × (s.name ≡ name)
+  -- no other one has come up
+  pub up : (name : List ℕ) (life : ℕ) → Stands (lines.Up name life) h → (place : ℕ) × (thing w name ≡ Some (things.Seat place))
+  -- nor has any other one sent a word
+  pub senders : (place : ℕ) (o : Outward) → HasSent w place o → IsTrue (is_some (slice_get w.seats place))
+  -- what clients have called is what a client may call
+  pub calls : (nth : ℕ) (m : Message) (to : ObjectKey) (act : Act) → slice_get w.messages nth ≡ Some m → m.content ≡ contents.Call to act
+      → IsTrue (is_some (operation_of act))
+
+-- ---- disks
+
+abbrev pub is_prepared : JournalRecord → Bool
+is_prepared (Prepared life slot generation recovery regs) = true
+is_prepared _ = false
+
+pub record DisksAreKnown (w : World) (told : List Told) : Type 0 where
+  pub held : (place : ℕ) (s : Seat) (up : Option Node) → slice_get w.seats place ≡ Some s → s.server ≡ OfNode up
+      → (rs : List JournalRecord) × Holds (service_at place) s.disk.reads rs × (records_at w place ≡ Some rs)
+  pub whole : (place : ℕ) (s : Seat) (n : Node) → slice_get w.seats place ≡ Some s → s.server ≡ OfNode (Some n) → IsWhole n
+  pub follows : NodesFollowDisks w
+  pub decisions : DecisionsAreHeld w
+  pub rise : LivesRise told
+  -- a life that is told isn't above that of the disk, so a load begins one that wasn't told
+  pub lives : (place : ℕ) (s : Seat) (up : Option Node) (life : ℕ) (rs : List JournalRecord) → slice_get w.seats place ≡ Some s
+      → s.server ≡ OfNode up → Stands (lines.Up s.name life) (known told) → records_at w place ≡ Some rs → life ≤ (found_in rs).life
+  -- no tree has a superior
+  pub no_superior : (place : ℕ) (rs : List JournalRecord) (r : JournalRecord) → records_at w place ≡ Some rs → Contains rs r
+      → is_prepared r ≡ false
+  -- where a node is down, all that its disk reads is synced
+  pub rests : (place : ℕ) (s : Seat) → slice_get w.seats place ≡ Some s → s.server ≡ OfNode None → IsSettled s.disk
+
+-- ---- messages and their lines
+
+abbrev pub phase_of : Word → Option Phase
+phase_of words.Prepare = Some phases.Prepare
+phase_of words.Commit = Some phases.Commit
+phase_of words.CommitOnePhase = Some phases.CommitOnePhase
+phase_of words.Rollback = Some phases.Rollback
+phase_of _ = None
+
+-- each record, with the place of its gate
+abbrev pub placed : ℕ → List JournalRecord → List Standing
+placed place [] = []
+placed place (r ∷ rs) = record { place = place; item = r } ∷ placed (place + length (record_octets r)) rs
+
+-- a word is of a registration that a record names, which stands at the place that the word's number has
+abbrev pub IsNamedBy : Outward → Standing → Type 0
+IsNamedBy o s = (s.place ≡ o.number.generation)
+    × Any (λ (r : Named). (r.index ≡ o.number.serial) × (r.reference ≡ o.to)) (registrations_of s.item)
+
+pub record WordsAreTold (w : World) (h : List Line) : Type 0 where
+  pub named : WordsAreNamed w
+  pub once : NumbersAreOnce w
+  pub told : (nth place : ℕ) (o : Outward) (phase : Phase) (r : NamedKey) → IsWord w nth place o → phase_of o.word ≡ Some phase
+      → referred w o.to ≡ Some r → Stands (lines.Send (nth + 1) phase r.name) h
+  pub sent : (number : ℕ) (phase : Phase) (name : List ℕ) → Stands (lines.Send number phase name) h
+      → (nth place : ℕ) × (o : Outward) × (r : NamedKey) × IsWord w nth place o × (number ≡ nth + 1) × (phase_of o.word ≡ Some phase)
+      × (referred w o.to ≡ Some r) × (r.name ≡ name)
+  -- a reply comes behind the message that it answers
+  pub replied : (reply request : ℕ) (m : Message) (answer : Said) → slice_get w.messages reply ≡ Some m
+      → m.content ≡ contents.Reply request answer → request ≤ reply
+  -- no number is of a later life; those of this life were given
+  pub lives : (place : ℕ) (o : Outward) (rs : List JournalRecord) → HasSent w place o → records_at w place ≡ Some rs
+      → o.number.life ≤ (found_in rs).life
+  pub given : (place : ℕ) (s : Seat) (n : Node) (o : Outward) → slice_get w.seats place ≡ Some s → s.server ≡ OfNode (Some n)
+      → HasSent w place o → o.number.life ≡ life n → (o.number.slot ≡ retold_slot) ⊎ (o.number.generation ≤ n.generation)
+  -- a word that was told again is of a record, for good
+  pub told_again : (place : ℕ) (o : Outward) (rs : List JournalRecord) → HasSent w place o → o.number.slot ≡ retold_slot
+      → records_at w place ≡ Some rs → Any (IsNamedBy o) (placed first_gate rs)
+  -- a family that is there has numbered its words so far
+  pub serials : (place : ℕ) (o : Outward) (f : Family) (key : ObjectKey) → HasSent w place o → family_at w key ≡ Some f
+      → o.number.life ≡ f.key.life → o.number.slot ≡ f.key.slot → o.number.generation ≡ f.key.generation → place_of f.key ≡ place
+      → o.number.serial ≤ f.serial
+
+-- ---- resources
+
+-- the resource of this name has answered this vote
+abbrev pub HasAnswered : World → List ℕ → Vote → Type 0
+HasAnswered w name vote = (nth from reply : ℕ) × (o : Outward) × (r : NamedKey) × (m : Message) × IsWord w nth from o × (o.word ≡ words.Prepare)
+    × (referred w o.to ≡ Some r) × (r.name ≡ name) × (slice_get w.messages reply ≡ Some m) × (m.content ≡ contents.Reply (nth + 1) (said.Voted vote))
+
+-- how it stands by the vote that it gave, and by what it was told
+abbrev pub HasVotedCommit : State → List ℕ → List Line → Type 0
+HasVotedCommit states.Prepared name h = Unit {0}
+HasVotedCommit states.Applied name h = IsToldCommit name h
+HasVotedCommit states.Undone name h = IsToldRollback name h
+HasVotedCommit _ name h = ⊥
+
+abbrev pub HasNotVoted : State → List ℕ → List Line → Type 0
+HasNotVoted states.Fresh name h = Unit {0}
+HasNotVoted states.Working name h = Unit {0}
+HasNotVoted states.Refused name h = Unit {0}
+HasNotVoted states.Applied name h = IsSent phases.CommitOnePhase name h
+HasNotVoted states.Undone name h = IsToldRollback name h ⊎ IsSent phases.CommitOnePhase name h
+HasNotVoted states.Forgotten name h = IsSent phases.CommitOnePhase name h
+HasNotVoted _ name h = ⊥
+
+pub record ResourceIsKnown (w : World) (h : List Line) (name : List ℕ) (r : FlatResource) : Type 0 where
+  pub commit : HasAnswered w name VoteCommit → HasVotedCommit r.state name h
+  pub read_only : HasAnswered w name VoteReadOnly → r.state ≡ states.Forgotten
+  pub rollback : HasAnswered w name VoteRollback → r.state ≡ states.Undone
+  pub none : ((vote : Vote) → HasAnswered w name vote → ⊥) → HasNotVoted r.state name h
+  pub applied : Stands (lines.State name shown.Applied) h ↔ (r.state ≡ states.Applied)
+  pub undone : Stands (lines.State name shown.Undone) h ↔ (r.state ≡ states.Undone)
+  -- whatever it voted
+  pub follows : StatesFollow r.state name h
+
+abbrev pub ResourcesAreKnown : World → List Line → Type 0
+ResourcesAreKnown w h = (name : List ℕ) (key : ObjectKey) (r : FlatResource) → thing w name ≡ Some (things.Resource key)
+    → resource_at w key ≡ Some r → ResourceIsKnown w h name r
+
+-- ---- families that are there
+
+abbrev pub ended_state : Bool → BranchState
+ended_state true = rows.Committed
+ended_state false = rows.RolledBack
+
+-- the name is that of a branch of the family
+abbrev pub IsBranch : World → Family → List ℕ → ℕ → Type 0
+IsBranch w f t b = (key : ObjectKey) × IsTransaction w t key × IsTrue (is_of key f) × (key.index ≡ b)
+
+-- a resource of this name is in some list of the family, registered with this branch
+abbrev pub IsListed : World → Family → List ℕ → ℕ → Type 0
+IsListed w f name b = (c : ℕ) × (r : Registration) × (object : NamedKey) × Contains (participants c f.ballots) r × (r.branch ≡ b)
+    × (referred w r.to ≡ Some object) × (object.name ≡ name)
+
+-- its outcome is told, or isn't fixed
+abbrev pub OutcomeIsTold : Option Outcome → List ℕ → List Line → Type 0
+OutcomeIsTold (Some (outcomes.Commit basis)) name h = Stands (lines.Decide name (told_outcomes.Commit basis)) h
+OutcomeIsTold _ name h = Stands (lines.Decide name (told_outcomes.Commit Record)) h → ⊥
+
+pub record FamilyIsKnown (w : World) (h : List Line) (f : Family) : Type 0 where
+  pub sound : IsSoundFamily f
+  pub name : List ℕ
+  pub of_name : IsTransaction w name f.key
+  pub top : f.key.index ≡ 0
+  pub branches : (b : ℕ) → b < length f.rows → (t : List ℕ) × IsBranch w f t b
+  pub no_further : (t : List ℕ) (b : ℕ) → IsBranch w f t b → b < length f.rows
+  pub parents : (t above : List ℕ) (b p : ℕ) → IsBranch w f t b → IsBranch w f above p → Stands (lines.Sub t above) h ↔ (parent f.rows b ≡ Some p)
+  pub ends : (t : List ℕ) (b : ℕ) (committed : Bool) → IsBranch w f t b → 0 < b
+      → Stands (lines.SubDone t committed) h ↔ (state f.rows b ≡ Some (ended_state committed))
+  pub registrations : (g t : List ℕ) (b : ℕ) → IsBranch w f t b → IsRegistered g t h ↔ IsListed w f g b
+  -- what is registered of it, by a line, is so with the branch that it has here
+  pub own : (r : Registration) (object : NamedKey) (t : List ℕ) → Contains f.ballots.registrations r → referred w r.to ≡ Some object
+      → IsRegistered object.name t h → IsBranch w f t r.branch
+  pub votes : (g : ℕ) (vote : Vote) (r : Registration) (object : NamedKey) → Contains f.ballots.registrations r → r.index ≡ g
+      → referred w r.to ≡ Some object → IsVoted f.completion g vote ↔ Stands (lines.Voted object.name vote) h
+  pub outcome : OutcomeIsTold (stages.outcome f.completion) name h
+  pub recorded : IsTrue (has_record w (place_of f.key) (is_decision_of f.key))
+      ↔ (stages.outcome f.completion ≡ Some (outcomes.Commit Record))
+
+abbrev pub FamiliesAreKnown : World → List Line → Type 0
+FamiliesAreKnown w h = (key : ObjectKey) (f : Family) → family_at w key ≡ Some f → FamilyIsKnown w h f
+
+-- what was told to a participant of a family that is there
+pub record ToldIsOpen (w : World) (h : List Line) : Type 0 where
+  pub commit : (g t : List ℕ) (b : ℕ) (key : ObjectKey) (f : Family) → IsSent phases.Commit g h → IsRegistered g t h
+      → family_at w key ≡ Some f → IsBranch w f t b → stages.outcome f.completion ≡ Some (outcomes.Commit Record)
+  pub one_phase : (g t : List ℕ) (b : ℕ) (key : ObjectKey) (f : Family) → IsSent phases.CommitOnePhase g h → IsRegistered g t h
+      → family_at w key ≡ Some f → IsBranch w f t b → IsAsking f.completion × (stages.decides_alone f.completion ≡ true)
+
+-- ---- what was rolled back, and what has completed
+
+-- a family that is there and was rolled back, by a line, has that outcome
+abbrev pub IsBack : Option Outcome → Type 0
+IsBack (Some (outcomes.Rollback reason)) = Unit {0}
+IsBack _ = ⊥
+
+abbrev pub RollbacksAreOutcomes : World → List Told → Type 0
+RollbacksAreOutcomes w told = (name : List ℕ) (key : ObjectKey) (f : Family) → IsTransaction w name key → key.index ≡ 0
+    → family_at w key ≡ Some f → IsRolledBack told name → IsBack (stages.outcome f.completion)
+
+-- and where that is its outcome, a line tells it
+abbrev pub RollbacksAreTold : World → List Told → Type 0
+RollbacksAreTold w told = (name : List ℕ) (key : ObjectKey) (f : Family) → family_at w key ≡ Some f → IsTransaction w name f.key
+    → IsBack (stages.outcome f.completion) → IsRolledBack told name
+
+-- it is over for each resource that has answered commit, and so for each that its family, or its record, has heard
+abbrev pub HasHeardAll : World → Completion → Type 0
+HasHeardAll w (Waiting room) = Unit {0}
+HasHeardAll w (UnderWay c) = (p : Party) (object : NamedKey) (r : FlatResource) → Contains c.parties p → IsTrue (is_some p.told)
+    → referred w p.to ≡ Some object → resource_at w object.key ≡ Some r → IsOver r.state
+
+pub record CompletionsAreOver (w : World) : Type 0 where
+  pub answered : (nth from reply : ℕ) (o : Outward) (object : NamedKey) (m : Message) (r : FlatResource) (answer : Said) → IsWord w nth from o
+      → o.word ≡ words.Commit → referred w o.to ≡ Some object → slice_get w.messages reply ≡ Some m
+      → m.content ≡ contents.Reply (nth + 1) answer → resource_at w object.key ≡ Some r → IsOver r.state
+  pub heard : (key : ObjectKey) (f : Family) → family_at w key ≡ Some f → stages.outcome f.completion ≡ Some (outcomes.Commit Record)
+      → HasHeardAll w f.completion
+  pub told_again : (place : ℕ) (s : Seat) (n : Node) (h : Held) (p : HeldParty) (object : NamedKey) (r : FlatResource)
+      → slice_get w.seats place ≡ Some s → s.server ≡ OfNode (Some n) → Contains n.recovered h → Contains h.parties p
+      → IsTrue (is_nothing p.due) → referred w p.to ≡ Some object → resource_at w object.key ≡ Some r → IsOver r.state
+
+-- ---- what is known together
+
+pub record Known (w : World) (told : List Told) : Type 0 where
+  pub names : NamesAreTold w (reverse (known told))
+  pub seats : SeatsAreNamed w (reverse (known told))
+  pub disks : DisksAreKnown w told
+  pub words : WordsAreTold w (reverse (known told))
+  pub votes : VotesWereGiven w told
+  pub resources : ResourcesAreKnown w (reverse (known told))
+  pub families : FamiliesAreKnown w (reverse (known told))
+  pub open_words : ToldIsOpen w (reverse (known told))
+  pub records : RecordsRestOnVotes w told
+  pub recorded : DecisionsAreRecorded w told
+  pub ends : SubtransactionsEndOnce told
+  pub one_outcome : NoneIsBoth w told
+  pub commits : CommitsAreRecorded w
+  pub one_phase : OnePhaseIsAlone w told
+  pub rollbacks : RollbacksAreClosed w told
+  pub rolled_back : RollbacksAreOutcomes w told
+  pub told_back : RollbacksAreTold w told
+  pub over : CompletionsAreOver w
+  pub dones : DonesAreComplete w
+  pub allowed : AreAllowed (reverse (known told))
