@@ -1,16 +1,20 @@
-//! How long a journal over a real file takes, in nanoseconds. The words are one of these:
+//! How long a journal or a resource end over a real file takes, in nanoseconds. The words are one of these:
 //!
 //! - `appends FILE COUNT`: so many decisions are appended to the journal in a file.
 //! - `bare FILE COUNT`: as many octets are written and synced so often, with no journal.
 //! - `load FILE COUNT`: the journal in a file is loaded.
 //! - `retells FILE COUNT`: the same, and the decisions that stand are told again, with so many words, each of which is done.
+//! - `ends FILE COUNT`: so many resources of the end in a file put a cell, prepare and commit, one after the other.
+//! - `cells FILE COUNT`: the records of as many are appended to the journal in a file, with no end.
 ghost use Rattle.std.specs.Prelude.{◌<◌, ◌^◌};
 
 use crate::records::{number, record_of};
-use decision_journal::Journal;
+use decision_journal::{CellsEnd, Journal, JournalRecord};
 use ots_model::tree::Heard;
 use ots_outside::{Disk, DiskRefusal, FileDisk};
 use recovery_coord::{Outbox, Recovered};
+use resource_end::{EndFault, ResourceEnd};
+use std::alloc::Global;
 use std::fs::File;
 use std::io;
 use std::io::{ErrorKind, Write};
@@ -40,6 +44,8 @@ pub fn run(rt: &HostRuntime, kind: &str, path: &str, count: &str) -> io::Result<
         "appends" => appends(rt, disk, count)?,
         "load" => appends(rt, disk, 0)?,
         "retells" => retells(rt, disk, count)?,
+        "ends" => ends(rt, disk, count)?,
+        "cells" => cells(rt, disk, count)?,
         _ => bare(disk, count)?,
     }
     let took = start.elapsed(rt)?.as_nanos();
@@ -76,6 +82,53 @@ fn retells(rt: &HostRuntime, disk: FileDisk, count: u32) -> io::Result<()> {
     }
     if !recovered.records().iter().all(|held| held.is_complete()) {
         return Err(ErrorKind::InvalidData.into());
+    }
+    Ok(())
+}
+
+/// Loads a resource end, of which so many resources put a cell, prepare and commit.
+fn ends(rt: &HostRuntime, disk: FileDisk, count: u32) -> io::Result<()> {
+    let Ok(mut end) = ResourceEnd::load(rt.alloc(), disk, AREA, 1) else {
+        return Err(ErrorKind::InvalidData.into());
+    };
+    for value in 0..count {
+        if commit_one(&mut end, u64::from(value)).is_err() {
+            return Err(ErrorKind::Other.into());
+        }
+    }
+    Ok(())
+}
+
+fn commit_one(end: &mut ResourceEnd<FileDisk>, value: u64) -> Result<(), EndFault> {
+    let key = end.fresh(b'R')?;
+    end.put(&key, 4, value)?;
+    end.prepare(&key)?;
+    end.commit(&key)?;
+    Ok(())
+}
+
+/// Loads a journal, and appends the records of so many resources to it.
+fn cells(rt: &HostRuntime, disk: FileDisk, count: u32) -> io::Result<()> {
+    let Ok(mut journal) = Journal::load(rt.alloc(), disk, AREA, 1) else {
+        return Err(ErrorKind::InvalidData.into());
+    };
+    for _ in 0..count {
+        append_cells(rt.alloc(), &mut journal)?;
+    }
+    Ok(())
+}
+
+/// Appends the record by which cells prepare, and their outcome.
+fn append_cells(alloc: Global, journal: &mut Journal<FileDisk>) -> io::Result<()> {
+    let item = record_of(alloc, "cells")?;
+    journal.reserve()?;
+    let Ok(place) = journal.append(item) else {
+        return Err(ErrorKind::Other.into());
+    };
+    let item = JournalRecord::CellsOutcome(place, CellsEnd::Applied);
+    journal.reserve()?;
+    if journal.failed() || !journal.takes(&item) || journal.append(item).is_err() {
+        return Err(ErrorKind::Other.into());
     }
     Ok(())
 }

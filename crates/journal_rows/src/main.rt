@@ -1,10 +1,10 @@
-//! Runs the cases on standard input, each on a journal over a disk in memory, and tells what comes of it.
+//! Runs the cases on standard input, each on a journal or a resource end over a disk in memory, and tells what comes of it.
 //!
 //! A case begins with a line `== KIND ..`. The lines behind it say what the disk holds at first, and what is done:
 //!
 //! - `octets HEX ..`: these octets too. `fill N`: so many more that are 1.
-//! - `area N`, `service N`: what the journal is loaded with.
-//! - Each other line is a call, as `calls` says.
+//! - `area N`, `service N`: what it is loaded with.
+//! - Each other line is a call, as `calls` says, or `ends`.
 //!
 //! There are these kinds:
 //!
@@ -15,6 +15,10 @@
 //! - `crashes`: of each call of the disk it is told what a crash in it leaves. In front of it come the places that were
 //!   written. Each image has the front of what was written, and behind it what stood there, or octets that are 1. Its
 //!   records are told by how many octets they and the header have, and by the life that the next load begins.
+//! - `end`: a resource end is loaded over the disk, and the calls are those that `ends` says. `crash` loads it again, and so
+//!   does `fail N`, after which the call N of its disk fails.
+//! - `stops`: the same, once for each call of the disk, from which on each fails until the end is loaded again. Where it
+//!   comes to the same for several, that is told once.
 //!
 //! With words behind its name the program is a benchmark, as `bench` says.
 #![tactic(auto)]
@@ -27,6 +31,7 @@ mod bench;
 mod calls;
 mod case;
 mod crashes;
+mod ends;
 mod records;
 
 fn main(rt: HostRuntime) -> io::Result<()> {
