@@ -1,5 +1,5 @@
 -- The end of the top-level transaction leaves sound families.
-use Rattle.std.proofs.Common.{◌≡◌, ◌≢◌, ◌⊎◌, ◌==◌, inl, inr, ℕ, ◌+◌, ◌<◌, zero, suc, List, [], ◌∷◌, length, map, get_or, ◌&&◌, not, Bool, true, false, if◌then◌else◌, Option, Some, None, is_none, is_some, Contains, refl, sym, subst, ◌∙◌, arith}
+use Rattle.std.proofs.Common.{◌≡◌, ◌≢◌, ◌⊎◌, ◌==◌, inl, inr, ℕ, ◌+◌, ◌<◌, zero, suc, List, [], ◌∷◌, length, map, get_or, ◌&&◌, not, Bool, true, false, if◌then◌else◌, Option, Some, None, is_none, is_some, Contains, Any, refl, sym, subst, ◌∙◌, arith}
 use Rattle.std.specs.List.{AllByRecursion, slice_get}
 use Rattle.std.proofs.lemmas.Option.{slice_get_within}
 use Rattle.ots_model.specs.declared.completion.Heard.{Heard as ParticipantHeard}
@@ -35,9 +35,10 @@ use Rattle.coordinator.specs.Closing.{asked_of, asking, asked_ones, rolling_back
 use Rattle.coordinator.specs.Phases.{is_before, is_marked}
 use Rattle.family_laws.specs.LawsOfSteps.{GoesBack, GoesToParticipant, Rests, IsNotAlone, IsRolledBack}
 use Rattle.family_laws.specs.Trees.{IsCutOff}
+use Rattle.family_laws.specs.LawsOfTelling.{HasVote}
 use Rattle.family_laws.specs.Sound.{NoneLive, HasParties, IsAsking, IsWaiting, IsSoundCompletion, IsInStage, IsDue, IsSoundCall}
 use Rattle.family_laws.proofs.Changes.{completion_staged, has_begun}
-use Rattle.family_laws.proofs.Lists.{has_at, all_there}
+use Rattle.family_laws.proofs.Lists.{has_at, any_there, all_there}
 use Rattle.family_laws.proofs.Seats.{IsBut, But, call_staged}
 use Rattle.family_laws.proofs.Turns.{IsFine, Fine, Quiet, chained, either, fixed_rows, fixed_turn, waits_fine, sends_fine, ends_fine, soft_rests}
 
@@ -233,19 +234,23 @@ rests_before law c some rs w o h next word number reference =
       asks = record {
         prepare = λ e. (to, (on words.Prepare e).0.undecided);
         alone = λ e. (to, (on words.CommitOnePhase e).0.undecided, (on words.CommitOnePhase e).1);
-        commit = λ e. (to, (on words.Commit e).fixed);
+        commit = λ e. (to, (on words.Commit e).fixed, any_there (HasVote o.registration VoteCommit) c.parties g.place g.party g.there (sym n, (on words.Commit e).voted));
       };
     }
 
 -- and once it has
-rests_alike : (c d : Course) (some : Ballots) (rs : List Row) (o : Outward) → course.outcome d ≡ course.outcome c → course.decides_alone d ≡ course.decides_alone c → d.overtaken ≡ c.overtaken
+rests_alike : (c d : Course) (some : Ballots) (rs : List Row) (o : Outward) → d.parties ≡ c.parties → course.outcome d ≡ course.outcome c → course.decides_alone d ≡ course.decides_alone c → d.overtaken ≡ c.overtaken
     → Rests (UnderWay c) some rs o → Rests (UnderWay d) some rs o
-rests_alike c d some rs o same alone over h = record {
+rests_alike c d some rs o parties same alone over h = record {
   back = λ e. back (h.back e);
   asks = record {
     prepare = λ e. ((h.asks.prepare e).0, same ∙ (h.asks.prepare e).1);
     alone = λ e. ((h.asks.alone e).0, same ∙ (h.asks.alone e).1, alone ∙ (h.asks.alone e).2);
-    commit = λ e. ((h.asks.commit e).0, same ∙ (h.asks.commit e).1);
+    commit = λ e. (
+      (h.asks.commit e).0,
+      same ∙ (h.asks.commit e).1,
+      subst (λ (ps : List Party). Any (HasVote o.registration VoteCommit) ps) (sym parties) (h.asks.commit e).2,
+    );
   };
 }
   where
@@ -264,7 +269,7 @@ rests_alike c d some rs o same alone over h = record {
 rests_after : TreeWordsGoRightly → (c : Course) (some : Ballots) (rs : List Row) (w o : Outward) → HasParties (UnderWay c) (ballots.participants 0 some) → course.next_word c ≡ Some w
     → o.word ≡ w.word → o.registration ≡ w.registration → o.to ≡ w.to → Rests (UnderWay (course.after_next c)) some rs o
 rests_after law c some rs w o h next word number reference =
-    rests_alike c (course.after_next c) some rs o (same_outcome c)
+    rests_alike c (course.after_next c) some rs o (next_either (λ (d : Course). d.parties ≡ c.parties) c refl refl) (same_outcome c)
     (next_either (λ (d : Course). course.decides_alone d ≡ course.decides_alone c) c refl refl)
     (next_either (λ (d : Course). d.overtaken ≡ c.overtaken) c refl refl)
     (rests_before law c some rs w o h next word number reference)

@@ -1,5 +1,5 @@
 -- What is heard of a word, and of the journal, leaves a sound family.
-use Rattle.std.proofs.Common.{◌≡◌, ◌≢◌, ◌==◌, ◌||◌, inl, inr, ℕ, zero, suc, List, [], ◌∷◌, map, Bool, true, false, if◌then◌else◌, Option, Some, None, refl, ap, sym, subst, ◌∙◌, arith}
+use Rattle.std.proofs.Common.{◌≡◌, ◌≢◌, ◌==◌, ◌||◌, not, inl, inr, ℕ, zero, suc, List, [], ◌∷◌, map, Bool, true, false, if◌then◌else◌, Option, Some, None, refl, ap, sym, subst, ◌∙◌, arith}
 use Rattle.std.specs.Prelude.{slice_set}
 use Rattle.std.specs.List.{slice_get}
 use Rattle.std.specs.Option.{option_map, option_map_or}
@@ -11,7 +11,10 @@ use Rattle.ots_model.specs.declared.completion.Heard.TheVariants as participants
 use Rattle.ots_model.specs.declared.completion.Stood.{Stood}
 use Rattle.ots_model.specs.declared.completion.Stood.TheVariants as answers
 use Rattle.ots_model.specs.declared.tree.Heard.{Heard}
+use Rattle.ots_model.specs.declared.tree.Outcome.{Outcome}
+use Rattle.ots_model.specs.declared.tree.Outcome.TheVariants as outcomes
 use Rattle.txn_tree.specs.Calls.{marked}
+use Rattle.txn_tree.specs.Calls as tree
 use Rattle.txn_tree.specs.Rows.{parent, is_live, is_live_branch}
 use Rattle.txn_tree.specs.declared.row.Row.{Row}
 use Rattle.txn_tree.specs.declared.row.State.{State}
@@ -36,17 +39,19 @@ use Rattle.two_phase.specs.declared.party.Stage.TheVariants as asks
 use Rattle.coordinator.specs.declared.call.Leg.{Leg}
 use Rattle.coordinator.specs.declared.call.Leg.TheVariants.{Below, Own, Before, Deciding, After}
 use Rattle.coordinator.specs.declared.call.Stage.{Stage}
-use Rattle.coordinator.specs.declared.call.Stage.TheVariants.{Finishing, Completing}
+use Rattle.coordinator.specs.declared.call.Stage.TheVariants.{Going, Finishing, Completing, Over}
 use Rattle.coordinator.specs.declared.effect.Effect.TheVariants as effects
 use Rattle.coordinator.specs.declared.phase.Column.TheVariants as columns
+use Rattle.coordinator.specs.declared.phase.Phase.TheVariants as phases
 use Rattle.coordinator.specs.Family.{Family, Aim, Call, Commits, RollsBack, call_at, with_call, waiting_for}
 use Rattle.coordinator.specs.Moves.{Moved, ◌▹◌, shows, completes_as}
 use Rattle.coordinator.specs.Closing.{asked_of, rolling_back, begun, begins, gives_up}
-use Rattle.coordinator.specs.Phases.{is_before, is_marked, has_parent_ended, column, is_ending, live_column}
+use Rattle.coordinator.specs.Phases.{is_before, is_marked, has_parent_ended, column, is_ending, live_column, top_column, phase, phase_by, ending_phase, ended_phase}
 use Rattle.coordinator.specs.Hearing.{is_markable_in, is_markable, marks, marks_parent, is_plain, told_commit, told_end, reason_of, told_before, vote_effects, inner_number, told_participant, told, hears_at, wants_done, answers_doubt, doubts_by, decided, done_effects, closes, settles}
 use Rattle.coordinator.specs.Running.{goes_on}
 use Rattle.coordinator.specs.Step.{hears_call, hears_for, hears, goes_on_at, answered, found_at, rereads}
-use Rattle.family_laws.specs.LawsOfSteps.{rows_told, EndInTurn}
+use Rattle.family_laws.specs.LawsOfSteps.{EndInTurn}
+use Rattle.family_laws.specs.LawsOfTelling.{rows_told}
 use Rattle.family_laws.specs.Sound.{NoneLive, HasParties, IsAsking, IsInStage, IsSoundCompletion, IsSoundFamily}
 use Rattle.family_laws.proofs.Changes.{lists_with, completion_rows}
 use Rattle.family_laws.proofs.Ending.{IsAlone, top_call, but_staged, begins_quiet, rolling_sound, begun_first, early}
@@ -65,6 +70,20 @@ is_live_in false (Some Marked) already h = refl
 is_live_in false (Some Committed) already h = absurd (cc h)
 is_live_in false (Some RolledBack) already h = absurd (cc h)
 
+-- nor is a transaction whose completion has begun
+past_open : (doubtful alone already : Bool) → is_markable_in (top_column (if doubtful then phases.Doubt else if alone then phases.OnePhase else phases.Preparing)) already ≡ true → ⊥
+past_open true alone already h = absurd (cc h)
+past_open false true already h = absurd (cc h)
+past_open false false already h = absurd (cc h)
+
+is_unmarked_in : (ending : Bool) (o : Option State) → is_markable_in (if ending then columns.Past else live_column (option_map rows.shown o)) (tree.is_marked o) ≡ true → tree.is_marked o ≡ false
+is_unmarked_in true o h = absurd (cc h)
+is_unmarked_in false None h = absurd (cc h)
+is_unmarked_in false (Some Active) h = refl
+is_unmarked_in false (Some Marked) h = absurd (cc h)
+is_unmarked_in false (Some Committed) h = absurd (cc h)
+is_unmarked_in false (Some RolledBack) h = absurd (cc h)
+
 zero_not : (b : ℕ) → b ≢ 0 → (b == 0) ≡ false
 zero_not b n = grind arith
 
@@ -74,6 +93,41 @@ live_markable f b top h =
     elim (same_or_not b 0) [
       | inl z ↦ rw z top
       | inr n ↦ is_live_in (is_ending f b) (rows.state f.rows b) (is_marked f b) (rw (zero_not b n) at h)
+    ]
+
+top_unmarked : (stage : Stage) (f : Family) → is_markable_in (top_column (phase_by stage f)) (is_marked f 0) ≡ true → is_marked f 0 ≡ false
+top_unmarked Going f h = going (is_marked f 0) h
+  where
+    going : (t : Bool) → is_markable_in (top_column (if t then phases.Marked else phases.Active)) t ≡ true → t ≡ false
+    going true h = absurd (cc h)
+    going false h = refl
+top_unmarked Finishing f h = finishing (is_marked f 0) h
+  where
+    finishing : (t : Bool) → not t ≡ true → t ≡ false
+    finishing true h = absurd (cc h)
+    finishing false h = refl
+top_unmarked Completing f h = absurd (completing (stages.outcome f.completion) h)
+  where
+    completing : (o : Option Outcome) → is_markable_in (top_column (ending_phase f.completion o)) (is_marked f 0) ≡ true → ⊥
+    completing None h = past_open (stages.is_doubtful f.completion) (stages.decides_alone f.completion) (is_marked f 0) h
+    completing (Some (outcomes.Commit basis)) h = absurd (cc h)
+    completing (Some (outcomes.Rollback reason)) h = absurd (cc h)
+    completing (Some outcomes.Unknown) h = absurd (cc h)
+top_unmarked Over f h = absurd (over (stages.outcome f.completion) h)
+  where
+    over : (o : Option Outcome) → is_markable_in (top_column (ended_phase f.completion o)) (is_marked f 0) ≡ true → ⊥
+    over None h = past_open (stages.is_doubtful f.completion) (stages.decides_alone f.completion) (is_marked f 0) h
+    over (Some (outcomes.Commit basis)) h = absurd (cc h)
+    over (Some (outcomes.Rollback reason)) h = absurd (cc h)
+    over (Some outcomes.Unknown) h = absurd (cc h)
+
+-- nor was it marked
+unmarked : (f : Family) (b : ℕ) → is_markable f b ≡ true → is_marked f b ≡ false
+unfolding is_markable column phase
+unmarked f b h =
+    elim (same_or_not b 0) [
+      | inl z ↦ rw z (top_unmarked f.stage f (rw z at h))
+      | inr n ↦ is_unmarked_in (is_ending f b) (rows.state f.rows b) (rw (zero_not b n) at h)
     ]
 
 marked_sound : (f : Family) (b : ℕ) → is_live_branch f.rows b ≡ true → IsSoundFamily f → IsSoundFamily (record f { rows = marked f.rows b })
@@ -94,7 +148,7 @@ unfolding marks
 marks_calm b f h = either_calm (is_before f.stage) f.rows (is_markable f b) _ _
     (λ e. record {
       sound = marked_sound f b (live_markable f b h.lists.top e) h;
-      quiet = record { stage = λ x. x; rows = refl; turn = tt; silent = refl };
+      quiet = record { stage = λ x. x; rows = refl; turn = ((live_markable f b h.lists.top e, unmarked f b e), tt); silent = refl };
     })
     (λ e. only_calm f h)
 

@@ -1,5 +1,5 @@
 -- What a registration and a commit make of the lists of participants.
-use Rattle.std.proofs.Common.{◌≡◌, ◌≢◌, inl, inr, ℕ, ◌+◌, ◌<◌, ◌≤◌, zero, suc, List, [], ◌∷◌, ◌++◌, length, map, Bool, true, Option, Some, None, Contains, refl, ap, ◌∙◌, arith}
+use Rattle.std.proofs.Common.{◌≡◌, ◌≢◌, inl, inr, ℕ, ◌+◌, ◌<◌, ◌≤◌, zero, suc, List, [], ◌∷◌, ◌++◌, length, map, Bool, true, Option, Some, None, Contains, Any, refl, ap, ◌∙◌, arith}
 use Rattle.std.proofs.lemmas.Grind.{common_steps}
 use Rattle.std.proofs.lemmas.List.{get_or-set_other}
 use Rattle.std.proofs.lemmas.List.Elements.{filter_map-append}
@@ -37,6 +37,9 @@ all_under P g (x ∷ xs) h = (h.0, all_under P g xs h.1)
 
 pub has_at : {A : Type 0} (xs : List A) (k : ℕ) (x : A) → slice_get xs k ≡ Some x → Contains xs x
 has_at xs k x e = (k, slice_get_within xs k x e, get_or_from_slice_get xs k x x e)
+
+pub any_there : {A : Type 0} (P : A → Type 0) (xs : List A) (i : ℕ) (x : A) → slice_get xs i ≡ Some x → P x → Any P xs
+any_there P xs i x e p = (i, x, slice_get_within xs i x e, get_or_from_slice_get xs i x x e, p)
 
 -- ---- numbered registrations
 

@@ -40,8 +40,7 @@ use Rattle.coordinator.specs.Phases.{column, is_open, has_parent_ended}
 use Rattle.coordinator.specs.History.{kept_for, repeated}
 use Rattle.coordinator.specs.Table.{Acted, new_call, on_branch, on_terminator, has_terminator, has_branch, gets_terminator, registers, creates_by, creates_in, creates_subtransaction, marks_only, rolls_back_top, rolls_back_sub, rolls_back, begins_commit, unless_orphan, commits_in, commits, rolls_back_in, rolls_back_asked, registers_resource, registers_synchronization, registers_aware, replays}
 use Rattle.coordinator.specs.Step.{hears, goes_on_at, answered, has_timed_out, times_out, ticks, found_at, rereads, acts_on, acted, is_silent, Stepped, quiet, entered, step_by, family_step}
-use Rattle.family_laws.specs.LawsOfSteps.{rows_told}
-use Rattle.family_laws.specs.LawsOfTelling.{AreNumberedFrom, decided_in, IsVoted, IsHeardVote, FamiliesTellEnds, FamiliesNumberWords, FamiliesTellOutcomes, FamiliesTellVotes}
+use Rattle.family_laws.specs.LawsOfTelling.{rows_told, AreNumberedFrom, decided_in, IsVoted, IsHeardVote, FamiliesTellEnds, FamiliesNumberWords, FamiliesTellOutcomes, FamiliesTellVotes}
 use Rattle.family_laws.specs.Sound.{IsSoundFamily}
 use Rattle.family_laws.proofs.Ending.{all_at}
 use Rattle.family_laws.proofs.Hearing.{done_rows}

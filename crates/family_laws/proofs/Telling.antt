@@ -40,8 +40,7 @@ use Rattle.coordinator.specs.Moves.{Moved, Notice, only, ◌▹◌, shows, sends
 use Rattle.coordinator.specs.Closing.{asked_of, asking, asked_ones, rolling_back, begun, begins, decides, decides_by, rests, afterwards, tells_next, next_told, finishes, next_synchronization, calls_next, gives_up, before, waits}
 use Rattle.coordinator.specs.Running.{duty_notice, tells_first, commits_up, own_ends, own_duties, tells_own, passes_top, passes, ends_below, duties_below, sweeps_next, sweeps, is_held, tells_after, by_leg, runs, runs_call, goes_on}
 use Rattle.coordinator.specs.Phases.{is_marked}
-use Rattle.family_laws.specs.LawsOfSteps.{rows_told}
-use Rattle.family_laws.specs.LawsOfTelling.{AreNumberedFrom, decided_in, HasVote, IsVoted}
+use Rattle.family_laws.specs.LawsOfTelling.{rows_told, AreNumberedFrom, decided_in, HasVote, IsVoted}
 use Rattle.family_laws.proofs.Lists.{all_joined}
 use Rattle.family_laws.proofs.Turns.{told_joined, fixed_rows}
 

@@ -20,7 +20,8 @@ use Rattle.coordinator.specs.Family.{Family, Call}
 use Rattle.coordinator.specs.Moves.{Moved, Notice, only, ◌▹◌, outward, sends, ends_call, fixed_now, completes_as}
 use Rattle.coordinator.specs.Closing.{waits}
 use Rattle.coordinator.specs.Phases.{is_before}
-use Rattle.family_laws.specs.LawsOfSteps.{rows_told, IsOpenParent, MayEnd, EndInTurn, Rests}
+use Rattle.family_laws.specs.LawsOfSteps.{IsOpenParent, MayEnd, EndInTurn, Rests}
+use Rattle.family_laws.specs.LawsOfTelling.{rows_told}
 use Rattle.family_laws.specs.Sound.{IsSoundFamily}
 use Rattle.family_laws.proofs.Seats.{But, Takes, put_back, put_away}
 
@@ -43,7 +44,7 @@ turn_earlier early later m rs [] h = h
 turn_earlier early later m rs (effects.Voted g vote ∷ some) h = turn_earlier early later m rs some h
 turn_earlier early later m rs (effects.Decided fixed ∷ some) h = turn_earlier early later m rs some h
 turn_earlier early later m rs (effects.SubtransactionEnded b committed ∷ some) h = (end_earlier early later m rs b committed h.0, turn_earlier early later m (ended rs b committed) some h.1)
-turn_earlier early later m rs (effects.Marked b ∷ some) h = turn_earlier early later m (marked rs b) some h
+turn_earlier early later m rs (effects.Marked b ∷ some) h = (h.0, turn_earlier early later m (marked rs b) some h.1)
 turn_earlier early later m rs (effects.Doubted ∷ some) h = turn_earlier early later m rs some h
 turn_earlier early later m rs (effects.Done ∷ some) h = turn_earlier early later m rs some h
 
@@ -53,7 +54,7 @@ turn_joined early later m rs [] others h k = turn_earlier early later m rs other
 turn_joined early later m rs (effects.Voted g vote ∷ some) others h k = turn_joined early later m rs some others h k
 turn_joined early later m rs (effects.Decided fixed ∷ some) others h k = turn_joined early later m rs some others h k
 turn_joined early later m rs (effects.SubtransactionEnded b committed ∷ some) others h k = (h.0, turn_joined early later m (ended rs b committed) some others h.1 k)
-turn_joined early later m rs (effects.Marked b ∷ some) others h k = turn_joined early later m (marked rs b) some others h k
+turn_joined early later m rs (effects.Marked b ∷ some) others h k = (h.0, turn_joined early later m (marked rs b) some others h.1 k)
 turn_joined early later m rs (effects.Doubted ∷ some) others h k = turn_joined early later m rs some others h k
 turn_joined early later m rs (effects.Done ∷ some) others h k = turn_joined early later m rs some others h k
 

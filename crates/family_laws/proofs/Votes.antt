@@ -3,7 +3,7 @@ use Rattle.std.proofs.Common.{◌≡◌, ◌⊎◌, ◌==◌, ◌&&◌, ◌||◌
 use Rattle.std.proofs.lemmas.Grind.{common_steps}
 use Rattle.std.proofs.lemmas.List.Elements.{Contains-append_cases, Contains-append_left}
 use Rattle.std.proofs.lemmas.List.Quantifiers.{any-set}
-use Rattle.std.proofs.lemmas.Option.{slice_get_within, get_or_from_slice_get}
+use Rattle.std.proofs.lemmas.Option.{slice_get_within}
 use Rattle.std.specs.Prelude.{slice_set}
 use Rattle.std.specs.List.{AllByRecursion, filter_map, slice_get}
 use Rattle.std.specs.Option.{option_and_then, option_map}
@@ -43,7 +43,7 @@ use Rattle.coordinator.specs.Step.{hears_call, hears_for, hears, found_at}
 use Rattle.family_laws.specs.LawsOfTelling.{decided_in, HasVote, IsVoted}
 use Rattle.family_laws.specs.Sound.{IsSoundFamily}
 use Rattle.family_laws.proofs.Ending.{all_at}
-use Rattle.family_laws.proofs.Lists.{all_joined, all_map, has_at}
+use Rattle.family_laws.proofs.Lists.{all_joined, all_map, has_at, any_there}
 use Rattle.family_laws.proofs.Sweeping.{is_top}
 use Rattle.family_laws.proofs.Telling.{Stays, Told, IsTold, told_next, IsOther, IsKept, kept_itself, Plain, plain_next, either_plain, nothing_new, only_plain, shows_plain, completes_told, completes_plain, stays_by, rolls_plain, fixed_others}
 use Rattle.family_laws.proofs.Hearing.{votes_rows}
@@ -225,9 +225,6 @@ any_set_cases {A = A} P xs i y h = go xs i h.0 h.1 h.2 h.3 h.4
     go (z ∷ xs) zero (suc k) x l e p = inl (suc k, x, l, e, p)
     go (z ∷ xs) (suc i) zero x l e p = inl (here z xs (subst P (sym e) p))
     go (z ∷ xs) (suc i) (suc k) x l e p = later z xs (go xs i k x (omega (arith, l)) e p)
-
-any_there : {A : Type 0} (P : A → Type 0) (xs : List A) (i : ℕ) (x : A) → slice_get xs i ≡ Some x → P x → Any P xs
-any_there P xs i x e p = (i, x, slice_get_within xs i x e, get_or_from_slice_get xs i x x e, p)
 
 abbrev IsHeardNow : Course → ParticipantHeard → ℕ → Vote → Type 0
 IsHeardNow k heard g vote = (heard ≡ participants.Voted vote) × (course.voter k ≡ Some g)

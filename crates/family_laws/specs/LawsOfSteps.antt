@@ -5,14 +5,15 @@ use Rattle.std.specs.List.{AllByRecursion}
 use Rattle.ior_refs.specs.declared.key.ObjectKey.{ObjectKey}
 use Rattle.ots_model.specs.declared.completion.Ground.TheVariants.{Record}
 use Rattle.ots_model.specs.declared.completion.Stood.{Stood}
+use Rattle.ots_model.specs.declared.completion.Vote.TheVariants.{VoteCommit}
 use Rattle.ots_model.specs.declared.tree.Outcome.{Outcome}
 use Rattle.ots_model.specs.declared.tree.Outcome.TheVariants as outcomes
 use Rattle.ots_model.specs.declared.tree.Outward.{Outward}
 use Rattle.ots_model.specs.declared.tree.Word.TheVariants as words
 use Rattle.resource_votes.specs.Ballots.{Ballots, participants}
 use Rattle.resource_votes.specs.declared.registration.Registration.{Registration}
-use Rattle.txn_tree.specs.Calls.{ended, marked}
-use Rattle.txn_tree.specs.Rows.{is_live_branch, parent}
+use Rattle.txn_tree.specs.Calls.{ended, marked, is_marked}
+use Rattle.txn_tree.specs.Rows.{is_live_branch, parent, state}
 use Rattle.txn_tree.specs.declared.row.Row.{Row}
 use Rattle.two_phase.specs.Course as course
 use Rattle.two_phase.specs.Stages as stages
@@ -23,6 +24,7 @@ use Rattle.coordinator.specs.declared.event.Event.{Event}
 use Rattle.coordinator.specs.Family.{Family, new_family}
 use Rattle.coordinator.specs.Phases.{is_before}
 use Rattle.coordinator.specs.Step.{family_step}
+use Rattle.family_laws.specs.LawsOfTelling.{IsVoted}
 use Rattle.family_laws.specs.Sound.{IsSoundFamily}
 use Rattle.family_laws.specs.Trees.{IsCutOff}
 
@@ -30,16 +32,6 @@ use Rattle.family_laws.specs.Trees.{IsCutOff}
 pub record FamiliesStaySound : Type 0 where
   pub new : (key : ObjectKey) (deadline : Option ℕ) → IsSoundFamily (new_family key deadline)
   pub steps : (f : Family) (e : Event) (stood : Option Stood) → IsSoundFamily f → IsSoundFamily (family_step f e stood).family
-
--- the rows once these ends and marks were told
-abbrev pub rows_told : List Effect → List Row → List Row
-rows_told [] rs = rs
-rows_told (effects.Voted g vote ∷ others) rs = rows_told others rs
-rows_told (effects.Decided fixed ∷ others) rs = rows_told others rs
-rows_told (effects.SubtransactionEnded b committed ∷ others) rs = rows_told others (ended rs b committed)
-rows_told (effects.Marked b ∷ others) rs = rows_told others (marked rs b)
-rows_told (effects.Doubted ∷ others) rs = rows_told others rs
-rows_told (effects.Done ∷ others) rs = rows_told others rs
 
 -- a parent has not ended, where this tells whether the top-level transaction hasn't
 abbrev pub IsOpenParent : Bool → List Row → Option ℕ → Type 0
@@ -51,16 +43,21 @@ abbrev pub MayEnd : Bool → List Row → ℕ → Bool → Type 0
 MayEnd early rs b true = IsTrue (is_live_branch rs b) × IsOpenParent early rs (parent rs b)
 MayEnd early rs b false = IsTrue (is_live_branch rs b)
 
+-- one that is marked was live and not marked yet, so a step marks it once
+abbrev pub MayBeMarked : List Row → ℕ → Type 0
+MayBeMarked rs b = IsTrue (is_live_branch rs b) × (is_marked (state rs b) ≡ false)
+
 abbrev pub EndInTurn : Bool → List Effect → List Row → Type 0
 EndInTurn early [] rs = Unit {0}
 EndInTurn early (effects.Voted g vote ∷ others) rs = EndInTurn early others rs
 EndInTurn early (effects.Decided fixed ∷ others) rs = EndInTurn early others rs
 EndInTurn early (effects.SubtransactionEnded b committed ∷ others) rs = MayEnd early rs b committed × EndInTurn early others (ended rs b committed)
-EndInTurn early (effects.Marked b ∷ others) rs = EndInTurn early others (marked rs b)
+EndInTurn early (effects.Marked b ∷ others) rs = MayBeMarked rs b × EndInTurn early others (marked rs b)
 EndInTurn early (effects.Doubted ∷ others) rs = EndInTurn early others rs
 EndInTurn early (effects.Done ∷ others) rs = EndInTurn early others rs
 
--- each subtransaction that ends in a step was live, and where it is committed its parent has not ended
+-- each subtransaction that ends in a step was live, and where it is committed its parent has not ended; each transaction that is
+-- marked was live and not marked
 abbrev pub FamiliesEndInTurn : Type 0
 FamiliesEndInTurn = (f : Family) (e : Event) (stood : Option Stood) → IsSoundFamily f
     → EndInTurn (is_before f.stage) (family_step f e stood).effects f.rows
@@ -90,11 +87,12 @@ pub record GoesToParticipant (some : Ballots) (o : Outward) : Type 0 where
   pub number : r.index ≡ o.registration
   pub reference : r.to ≡ o.to
 
--- where the outcome is open, one is asked, or decides alone; commit goes out where it is commit by a record
+-- where the outcome is open, one is asked, or decides alone; commit goes out where it is commit by a record, to one that voted
+-- commit
 pub record AsksRightly (s : Standing) (some : Ballots) (o : Outward) : Type 0 where
   pub prepare : o.word ≡ words.Prepare → GoesToParticipant some o × (stages.outcome s ≡ None)
   pub alone : o.word ≡ words.CommitOnePhase → GoesToParticipant some o × (stages.outcome s ≡ None) × (stages.decides_alone s ≡ true)
-  pub commit : o.word ≡ words.Commit → GoesToParticipant some o × (stages.outcome s ≡ Some (outcomes.Commit Record))
+  pub commit : o.word ≡ words.Commit → GoesToParticipant some o × (stages.outcome s ≡ Some (outcomes.Commit Record)) × IsVoted s o.registration VoteCommit
 
 -- what each word of a family rests on
 pub record Rests (s : Standing) (some : Ballots) (rs : List Row) (o : Outward) : Type 0 where

@@ -10,7 +10,8 @@ use Rattle.ots_model.specs.declared.completion.Vote.{Vote}
 use Rattle.ots_model.specs.declared.tree.Heard.TheVariants as hears_words
 use Rattle.ots_model.specs.declared.tree.Outcome.{Outcome}
 use Rattle.ots_model.specs.declared.tree.Outward.{Outward}
-use Rattle.txn_tree.specs.Calls.{created}
+use Rattle.txn_tree.specs.Calls.{created, ended, marked}
+use Rattle.txn_tree.specs.declared.row.Row.{Row}
 use Rattle.two_phase.specs.Stages as stages
 use Rattle.two_phase.specs.Stages.{Standing, Waiting, Going as UnderWay}
 use Rattle.two_phase.specs.declared.party.Party.{Party}
@@ -23,8 +24,17 @@ use Rattle.coordinator.specs.Family.{Family, waiting_for}
 use Rattle.coordinator.specs.Laws.{IsThere}
 use Rattle.coordinator.specs.Moves.{fixed_now}
 use Rattle.coordinator.specs.Step.{family_step}
-use Rattle.family_laws.specs.LawsOfSteps.{rows_told}
 use Rattle.family_laws.specs.Sound.{IsSoundFamily}
+
+-- the rows once these ends and marks were told
+abbrev pub rows_told : List Effect → List Row → List Row
+rows_told [] rs = rs
+rows_told (effects.Voted g vote ∷ others) rs = rows_told others rs
+rows_told (effects.Decided fixed ∷ others) rs = rows_told others rs
+rows_told (effects.SubtransactionEnded b committed ∷ others) rs = rows_told others (ended rs b committed)
+rows_told (effects.Marked b ∷ others) rs = rows_told others (marked rs b)
+rows_told (effects.Doubted ∷ others) rs = rows_told others rs
+rows_told (effects.Done ∷ others) rs = rows_told others rs
 
 -- what ends or is marked is told; else nothing is told, and a subtransaction is made or the tree is as it was
 abbrev pub FamiliesTellEnds : Type 0

@@ -17,7 +17,8 @@ pub fn families_stay_sound()
     tree_words_go_rightly();
 }
 
-/// Each subtransaction that ends in a step of a sound family was live, and where it is committed its parent has not ended.
+/// Each subtransaction that ends in a step of a sound family was live, and where it is committed its parent has not ended. Each
+/// transaction that a step marks was live and not marked.
 pub fn families_end_in_turn()
     ensures { FamiliesEndInTurn }
 {
@@ -25,7 +26,7 @@ pub fn families_end_in_turn()
 }
 
 /// In each step of a sound family prepare and commit_one_phase go to participants while the outcome is open, commit to
-/// participants once it is commit by a record, and rollback to registrations that are rolled back or cut off.
+/// participants that voted commit once it is commit by a record, and rollback to registrations that are rolled back or cut off.
 pub fn families_words_rest()
     ensures { FamiliesWordsRest }
 {
