@@ -43,7 +43,7 @@ use Rattle.family_laws.proofs.Seats.{IsBut, But, call_staged}
 use Rattle.family_laws.proofs.Turns.{IsFine, Fine, Quiet, chained, either, fixed_rows, fixed_turn, waits_fine, sends_fine, ends_fine, soft_rests}
 
 -- the top-level transaction's call is sound in a leg, where its duties are
-pub top_call : (stage : Stage) (rs : List Row) (some : List Registration) (aim : Aim) (leg : Leg) (left : List Duty) → IsInStage stage aim leg → NoneLive rs → AllByRecursion (IsDue rs some) left
+pub top_call : (stage : Stage) (rs : List Row) (some : Ballots) (aim : Aim) (leg : Leg) (left : List Duty) → IsInStage stage aim leg → NoneLive rs → AllByRecursion (IsDue rs some) left
     → IsSoundCall stage rs some 0 aim leg left
 top_call stage rs some aim leg left e n dues = record {
   top = λ z. record { in_stage = e; alone = λ past. n };
@@ -55,7 +55,7 @@ top_call stage rs some aim leg left e n dues = record {
 pub record IsAlone (f : Family) (c : Call) : Type 0 where
   pub but : But 0 f
   pub none : NoneLive f.rows
-  pub dues : AllByRecursion (IsDue f.rows f.ballots.registrations) c.left
+  pub dues : AllByRecursion (IsDue f.rows f.ballots) c.left
 
 -- another stage, and another completion
 pub but_staged : (f : Family) (next : Stage) (s : Standing) → IsSoundCompletion next f.rows f.ballots s → But 0 f → But 0 (record f { stage = next; completion = s })
@@ -63,7 +63,7 @@ but_staged f next s k h = record {
   lists = h.lists;
   completion = k;
   as_many = h.as_many;
-  others = λ d c o e. call_staged f.stage next f.rows f.ballots.registrations d c.aim c.leg c.left o (h.others d c o e);
+  others = λ d c o e. call_staged f.stage next f.rows f.ballots d c.aim c.leg c.left o (h.others d c o e);
   finishing = λ n. absurd (n refl);
 }
 
@@ -83,7 +83,7 @@ tells_next_fine : (early : Bool) (rs : List Row) (o : Option Registration) (call
     → IsFine early rs (tells_next o called c fixed f)
 tells_next_fine early rs (Some r) called c fixed f e a =
     sends_fine early rs 0 (record c { leg = After (called + 1) }) _ None f a.but
-    (top_call f.stage f.rows f.ballots.registrations c.aim (After (called + 1)) c.left e a.none a.dues)
+    (top_call f.stage f.rows f.ballots c.aim (After (called + 1)) c.left e a.none a.dues)
     (soft_rests f.completion f.ballots f.rows _ tt)
 tells_next_fine early rs None called c fixed f e a = finishes_fine early rs c fixed f e a
 
@@ -203,6 +203,7 @@ goes_back c some rs o h k p is number reference back hears =
     record {
       r = one.r;
       there = all_at (Contains some.registrations) (ballots.participants 0 some) one.r (all_there 0 some) one.there;
+      listed = record { branch = 0; there = one.there };
       number = one.number ∙ sym number;
       reference = one.reference ∙ sym reference;
       over = inl (rolled (course.outcome c) back, not_alone c k p back is hears (course.decides_alone c) refl c.overtaken refl, one.there);
@@ -264,7 +265,7 @@ rests_alike c d some rs o parties same alone over h = record {
     over_either r (inr k) = inr k
 
     back : GoesBack (UnderWay c) some rs o → GoesBack (UnderWay d) some rs o
-    back g = record { r = g.r; there = g.there; number = g.number; reference = g.reference; over = over_either g.r g.over }
+    back g = record { r = g.r; there = g.there; listed = g.listed; number = g.number; reference = g.reference; over = over_either g.r g.over }
 
 rests_after : TreeWordsGoRightly → (c : Course) (some : Ballots) (rs : List Row) (w o : Outward) → HasParties (UnderWay c) (ballots.participants 0 some) → course.next_word c ≡ Some w
     → o.word ≡ w.word → o.registration ≡ w.registration → o.to ≡ w.to → Rests (UnderWay (course.after_next c)) some rs o
@@ -281,7 +282,7 @@ but_completed f s k h = record { lists = h.lists; completion = k; as_many = h.as
 rests_fine : (c : Call) (o : Option Outcome) (f : Family) → f.stage ≡ Completing → c.leg ≡ Deciding → IsAlone f c → Fine f (rests c o f)
 rests_fine c (Some fixed) f e l a = afterwards_fine (is_before f.stage) f.rows 0 c fixed f e a
 rests_fine c None f e l a =
-    waits_fine 0 c f a.but (top_call f.stage f.rows f.ballots.registrations c.aim c.leg c.left (rw l e) a.none a.dues)
+    waits_fine 0 c f a.but (top_call f.stage f.rows f.ballots c.aim c.leg c.left (rw l e) a.none a.dues)
 
 sent_fine : TreeWordsGoRightly → (k : Course) (o : Option Outward) → course.next_word k ≡ o → (c : Call) (f : Family) → f.stage ≡ Completing → c.leg ≡ Deciding → IsAlone (record f { completion = UnderWay k }) c
     → Fine f (decides_by o c (record f { completion = UnderWay k }))
@@ -289,7 +290,7 @@ sent_fine law k (Some w) next c f e l a =
     let g : Family = record f { completion = UnderWay (course.after_next k) } in
     sends_fine (is_before f.stage) f.rows 0 c (notice_of w) w.receipt g
     (but_completed (record f { completion = UnderWay k }) (UnderWay (course.after_next k)) (completion_next f.stage f.rows f.ballots (UnderWay k) a.but.completion) a.but)
-    (top_call f.stage f.rows f.ballots.registrations c.aim c.leg c.left (rw l e) a.none a.dues)
+    (top_call f.stage f.rows f.ballots c.aim c.leg c.left (rw l e) a.none a.dues)
     (rests_after law k f.ballots f.rows w _ a.but.completion.parties next refl refl refl)
 sent_fine law k None next c f e l a = rests_fine c (course.outcome k) (record f { completion = UnderWay k }) e l a
 
@@ -361,7 +362,7 @@ early stage e = rw e refl
 calls_next_fine : TreeWordsGoRightly → (o : Option Registration) (called : ℕ) (c : Call) (f : Family) → f.stage ≡ Finishing → (asked : Bool) → c.aim ≡ Commits asked → IsAlone f c → Fine f (calls_next o called c f)
 calls_next_fine law (Some r) called c f e asked aim a =
     sends_fine (is_before f.stage) f.rows 0 (record c { leg = Before (called + 1) }) _ None f a.but
-    (top_call f.stage f.rows f.ballots.registrations c.aim (Before (called + 1)) c.left (rw aim e) a.none a.dues)
+    (top_call f.stage f.rows f.ballots c.aim (Before (called + 1)) c.left (rw aim e) a.none a.dues)
     (soft_rests f.completion f.ballots f.rows _ tt)
 calls_next_fine law None called c f e asked aim a =
     let first : Standing = asking (asked_of c.aim) f in

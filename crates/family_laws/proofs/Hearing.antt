@@ -138,7 +138,7 @@ marked_sound f b live h =
       lists = lists_with f.rows f.ballots b Marked live (λ e. absurd (cc e)) (live_marked f.rows b live 0 h.lists.top) h.lists;
       completion = completion_rows f.stage f.rows more f.ballots f.completion fewer h.completion;
       as_many = h.as_many ∙ sym (length_kept f.rows b Marked);
-      under_way = λ d c e. call_kept f.stage f.rows more f.ballots.registrations f.ballots.registrations d c.aim c.leg c.left
+      under_way = λ d c e. call_kept f.stage f.rows more f.ballots f.ballots d c.aim c.leg c.left
           (live_marked f.rows b live d) (cut_stays f.rows b Marked live) fewer (λ r k. k) (h.under_way d c e);
       finishing = h.finishing;
     }
@@ -174,7 +174,7 @@ given_up called b c heard f z e a h =
     subst (λ (s : Standing). IsSoundCompletion Completing f.rows f.ballots s) (sym (begun_first f.completion first (h.completion.begun.0 (early f.stage e))))
     (rolling_sound (asked_of c.aim) (reason_of called heard) f (λ x. a.none)) in
     rw z (put_back 0 (record c { leg = Deciding }) g (but_staged f Completing (begun f.completion first) sound a.but)
-    (top_call Completing f.rows f.ballots.registrations c.aim Deciding c.left refl a.none a.dues))
+    (top_call Completing f.rows f.ballots c.aim Deciding c.left refl a.none a.dues))
 
 told_before_calm : (b called : ℕ) (c : Call) (heard : Heard) (f : Family) → b ≡ 0 → f.stage ≡ Finishing → IsAlone f c → IsSoundFamily f → Calm f (told_before b called c heard f)
 unfolding told_before

@@ -1,5 +1,6 @@
 mod Trees
 mod Lists
+mod Listed
 mod Seats
 mod Changes
 mod Turns

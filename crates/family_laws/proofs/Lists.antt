@@ -114,7 +114,7 @@ still_numbered rs r (x ∷ xs) h =
     ap (λ (o : Option Registration). cons_option o (filter_map (numbered (rs ++ r ∷ [])) xs)) (numbered_before rs r x h.1)
     ∙ ap (λ (ys : List Registration). cons_option (numbered rs x) ys) (still_numbered rs r xs h.2)
 
-also_last : (rs : List Registration) (r : Registration) (xs : List ℕ) → AreNumbers (length rs) xs
+pub also_last : (rs : List Registration) (r : Registration) (xs : List ℕ) → AreNumbers (length rs) xs
     → filter_map (numbered (rs ++ r ∷ [])) (xs ++ (length rs + 1) ∷ []) ≡ filter_map (numbered rs) xs ++ r ∷ []
 also_last rs r xs h =
     filter_map-append (numbered (rs ++ r ∷ [])) xs ((length rs + 1) ∷ [])

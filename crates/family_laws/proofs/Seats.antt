@@ -1,5 +1,5 @@
 -- What becomes of a sound family where one of its calls is taken up, and is put back or is over.
-use Rattle.std.proofs.Common.{◌≡◌, ◌≢◌, inl, inr, ℕ, ◌<◌, zero, suc, List, [], ◌∷◌, length, true, Option, Some, None, is_some, Contains, IsTrue, refl, ap, sym, subst, ◌∙◌, arith}
+use Rattle.std.proofs.Common.{◌≡◌, ◌≢◌, inl, inr, ℕ, ◌<◌, zero, suc, List, [], ◌∷◌, length, true, Option, Some, None, is_some, IsTrue, refl, ap, sym, subst, ◌∙◌, arith}
 use Rattle.std.proofs.lemmas.Grind.{common_steps}
 use Rattle.std.specs.Prelude.{slice_set}
 use Rattle.std.specs.List.{AllByRecursion}
@@ -13,7 +13,7 @@ use Rattle.coordinator.specs.declared.call.Leg.{Leg}
 use Rattle.coordinator.specs.declared.call.Stage.{Stage}
 use Rattle.coordinator.specs.declared.call.Stage.TheVariants.{Finishing}
 use Rattle.family_laws.specs.Trees.{IsCutOff}
-use Rattle.family_laws.specs.Sound.{NoneLive, IsSoundLists, IsSoundCompletion, IsDue, IsSoundCall, IsSound, IsSoundFamily, called}
+use Rattle.family_laws.specs.Sound.{NoneLive, IsSoundLists, IsSoundCompletion, IsListed, IsDue, IsSoundCall, IsSound, IsSoundFamily, called}
 use Rattle.family_laws.proofs.Trees.{same_or_not}
 use Rattle.family_laws.proofs.Lists.{all_map}
 
@@ -44,7 +44,7 @@ pub record IsBut (b : ℕ) (stage : Stage) (rs : List Row) (some : Ballots) (s :
   pub lists : IsSoundLists rs some
   pub completion : IsSoundCompletion stage rs some s
   pub as_many : length calls ≡ length rs
-  pub others : (d : ℕ) (c : Call) → d ≢ b → called calls d ≡ Some c → IsSoundCall stage rs some.registrations d c.aim c.leg c.left
+  pub others : (d : ℕ) (c : Call) → d ≢ b → called calls d ≡ Some c → IsSoundCall stage rs some d c.aim c.leg c.left
   pub finishing : b ≢ 0 → stage ≡ Finishing → IsTrue (is_some (called calls 0))
 
 abbrev pub But : ℕ → Family → Type 0
@@ -52,7 +52,7 @@ But b f = IsBut b f.stage f.rows f.ballots f.completion f.calls
 
 -- its call is sound
 abbrev pub Takes : ℕ → Call → Family → Type 0
-Takes b c f = IsSoundCall f.stage f.rows f.ballots.registrations b c.aim c.leg c.left
+Takes b c f = IsSoundCall f.stage f.rows f.ballots b c.aim c.leg c.left
 
 pub taken_up : (b : ℕ) (f : Family) → IsSoundFamily f → But b f
 taken_up b f h = record {
@@ -97,14 +97,14 @@ put_away b f h n = put b None f h (λ d e. absurd (cc e)) (λ i fin. absurd (n i
 pub none_live_kept : (rs more : List Row) → ((q : ℕ) → is_live_branch more q ≡ true → is_live_branch rs q ≡ true) → NoneLive rs → NoneLive more
 none_live_kept rs more m n q p live = n q p (m q live)
 
-pub due_kept : (rs more : List Row) (some later : List Registration) → ((c : ℕ) → IsCutOff rs c → IsCutOff more c) → ((r : Registration) → Contains some r → Contains later r)
+pub due_kept : (rs more : List Row) (some later : Ballots) → ((c : ℕ) → IsCutOff rs c → IsCutOff more c) → ((r : Registration) → IsListed some r → IsListed later r)
     → (left : List Duty) → AllByRecursion (IsDue rs some) left → AllByRecursion (IsDue more later) left
 due_kept rs more some later cut there left all =
     all_map (IsDue rs some) (IsDue more later) (λ d due e. (there d.resource (due e).0, cut d.resource.branch (due e).1)) left all
 
-pub call_kept : (stage : Stage) (rs more : List Row) (some later : List Registration) (b : ℕ) (aim : Aim) (leg : Leg) (left : List Duty)
+pub call_kept : (stage : Stage) (rs more : List Row) (some later : Ballots) (b : ℕ) (aim : Aim) (leg : Leg) (left : List Duty)
     → (is_live_branch rs b ≡ true → is_live_branch more b ≡ true) → ((c : ℕ) → IsCutOff rs c → IsCutOff more c)
-    → (NoneLive rs → NoneLive more) → ((r : Registration) → Contains some r → Contains later r)
+    → (NoneLive rs → NoneLive more) → ((r : Registration) → IsListed some r → IsListed later r)
     → IsSoundCall stage rs some b aim leg left → IsSoundCall stage more later b aim leg left
 call_kept stage rs more some later b aim leg left live cut none there h = record {
   top = λ e. record { in_stage = (h.top e).in_stage; alone = λ past. none ((h.top e).alone past) };
@@ -117,6 +117,6 @@ call_kept stage rs more some later b aim leg left live cut none there h = record
 }
 
 -- that of a subtransaction has nothing of the stage
-pub call_staged : (stage later : Stage) (rs : List Row) (some : List Registration) (b : ℕ) (aim : Aim) (leg : Leg) (left : List Duty)
+pub call_staged : (stage later : Stage) (rs : List Row) (some : Ballots) (b : ℕ) (aim : Aim) (leg : Leg) (left : List Duty)
     → b ≢ 0 → IsSoundCall stage rs some b aim leg left → IsSoundCall later rs some b aim leg left
 call_staged stage later rs some b aim leg left n h = record { top = λ e. absurd (n e); sub = h.sub; dues = h.dues }

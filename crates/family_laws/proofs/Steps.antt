@@ -1,7 +1,6 @@
 -- Each step of a family leaves a sound family.
-use Rattle.std.proofs.Common.{◌≡◌, ◌≢◌, ◌==◌, inl, inr, ℕ, zero, suc, List, [], ◌∷◌, ◌++◌, length, replicate, Bool, true, false, if◌then◌else◌, Option, Some, None, is_some, Contains, refl, ap, sym, subst, ◌∙◌, arith}
+use Rattle.std.proofs.Common.{◌≡◌, ◌≢◌, ◌==◌, inl, inr, ℕ, zero, suc, List, [], ◌∷◌, ◌++◌, length, replicate, Bool, true, false, if◌then◌else◌, Option, Some, None, is_some, refl, ap, sym, subst, ◌∙◌, arith}
 use Rattle.std.proofs.lemmas.Grind.{common_steps}
-use Rattle.std.proofs.lemmas.List.Elements.{Contains-append_left}
 use Rattle.std.specs.List.{AllByRecursion, filter_map}
 use Rattle.std.specs.Option.{option_map, option_map_or, option_or}
 use Rattle.ior_refs.specs.declared.key.ObjectKey.{ObjectKey}
@@ -52,12 +51,13 @@ use Rattle.coordinator.specs.History.{kept_for, repeated}
 use Rattle.coordinator.specs.Table.{Acted, new_call, says, on_branch, on_terminator, has_terminator, has_branch, gets_terminator, registers, unless_past, aware_refusal, sync_refusal, with_sub, creates_by, creates_in, creates_subtransaction, marks_only, rolls_back_top, rolls_back_sub, rolls_back, begins_commit, unless_orphan, commits_in, commits, rolls_back_in, rolls_back_asked, registers_resource, registers_synchronization, registers_aware, replays}
 use Rattle.coordinator.specs.Step.{has_timed_out, times_out, ticks, acts_on, acted, is_silent, Stepped, quiet, entered, step_by, family_step}
 use Rattle.family_laws.specs.LawsOfSteps.{EndInTurn, WordsRest, FamiliesStaySound, FamiliesEndInTurn, FamiliesWordsRest}
-use Rattle.family_laws.specs.Sound.{NoneLive, IsAsking, IsInStage, IsSoundCall, IsSoundFamily, called}
+use Rattle.family_laws.specs.Sound.{NoneLive, IsAsking, IsInStage, IsSoundCall, IsListed, IsSoundFamily, called}
 use Rattle.family_laws.specs.Trees.{IsUpTo}
 use Rattle.family_laws.proofs.Changes.{lists_with, lists_created, lists_registered, lists_aware, completion_rows, completion_parties, completion_waiting}
 use Rattle.family_laws.proofs.Ending.{but_staged, begins_quiet, begins_but, rolling_sound}
 use Rattle.family_laws.proofs.Hearing.{marks_calm, answered_fine, rereads_fine}
-use Rattle.family_laws.proofs.Lists.{aware_same, new_one, registered_elsewhere}
+use Rattle.family_laws.proofs.Listed.{registered_listed, aware_listed}
+use Rattle.family_laws.proofs.Lists.{aware_same, registered_elsewhere}
 use Rattle.family_laws.proofs.Seats.{IsBut, But, Takes, taken_up, call_kept, due_kept, none_live_kept}
 use Rattle.family_laws.proofs.Sweeping.{runs_fine, positive}
 use Rattle.family_laws.proofs.Trees.{same_or_not, live_other, live_before, live_within, cut_stays, cut_here, grown_live, grown_cut}
@@ -128,7 +128,7 @@ ended_but f b n live h =
       lists = lists_with f.rows f.ballots b RolledBack live (λ e. absurd (cc e)) (live_other f.rows b RolledBack 0 (λ e. n (sym e)) ∙ h.lists.top) h.lists;
       completion = completion_rows f.stage f.rows more f.ballots f.completion fewer h.completion;
       as_many = h.as_many ∙ sym (length_kept f.rows b RolledBack);
-      others = λ d c o e. call_kept f.stage f.rows more f.ballots.registrations f.ballots.registrations d c.aim c.leg c.left
+      others = λ d c o e. call_kept f.stage f.rows more f.ballots f.ballots d c.aim c.leg c.left
           (λ l. live_other f.rows b RolledBack d o ∙ l) (cut_stays f.rows b RolledBack live) fewer (λ r k. k) (h.under_way d c e);
       finishing = λ o. h.finishing;
     }
@@ -277,10 +277,10 @@ top_open : (f : Family) → is_open (column f 0) ≡ true → is_before f.stage 
 unfolding column phase
 top_open f h = open_before f f.stage (stages.outcome f.completion) refl refl h
 
-calls_kept : (f : Family) (later : Ballots) → ((r : Registration) → Contains f.ballots.registrations r → Contains later.registrations r) → IsSoundFamily f
-    → (d : ℕ) (c : Call) → call_at f d ≡ Some c → IsSoundCall f.stage f.rows later.registrations d c.aim c.leg c.left
+calls_kept : (f : Family) (later : Ballots) → ((r : Registration) → IsListed f.ballots r → IsListed later r) → IsSoundFamily f
+    → (d : ℕ) (c : Call) → call_at f d ≡ Some c → IsSoundCall f.stage f.rows later d c.aim c.leg c.left
 calls_kept f later more h d c e =
-    call_kept f.stage f.rows f.rows f.ballots.registrations later.registrations d c.aim c.leg c.left (λ l. l) (λ x k. k) (λ n. n) more (h.under_way d c e)
+    call_kept f.stage f.rows f.rows f.ballots later d c.aim c.leg c.left (λ l. l) (λ x k. k) (λ n. n) more (h.under_way d c e)
 
 registered_sound : (f : Family) (b : ℕ) (to : List ℕ) (aware : Bool) → rows.state f.rows b ≡ Some Active → (b ≡ 0 → is_before f.stage ≡ true) → IsSoundFamily f
     → IsSoundFamily (record f { ballots = registered b to aware f.ballots })
@@ -291,7 +291,7 @@ registered_sound f b to aware active early h = record {
     | inr n ↦ completion_parties f.stage f.rows f.ballots (registered b to aware f.ballots) f.completion (registered_elsewhere f.ballots b to aware 0 n h.lists.numbers) h.completion
   ];
   as_many = h.as_many;
-  under_way = calls_kept f (registered b to aware f.ballots) (λ r k. Contains-append_left f.ballots.registrations (new_one b to aware f.ballots ∷ []) r k) h;
+  under_way = calls_kept f (registered b to aware f.ballots) (registered_listed f.ballots b to aware h.lists.numbers) h;
   finishing = h.finishing;
 }
 
@@ -300,7 +300,7 @@ aware_sound f b to h = record {
   lists = lists_aware f.rows f.ballots b to h.lists;
   completion = completion_parties f.stage f.rows f.ballots (registered_aware b to f.ballots) f.completion (aware_same f.ballots b to 0 h.lists.numbers) h.completion;
   as_many = h.as_many;
-  under_way = calls_kept f (registered_aware b to f.ballots) (λ r k. Contains-append_left f.ballots.registrations (new_one b to true f.ballots ∷ []) r k) h;
+  under_way = calls_kept f (registered_aware b to f.ballots) (aware_listed f.ballots b to h.lists.numbers) h;
   finishing = h.finishing;
 }
 
@@ -309,7 +309,7 @@ sync_sound f b to h = record {
   lists = record { tree = h.lists.tree; top = h.lists.top; listed = h.lists.listed; highest = h.lists.highest; numbers = h.lists.numbers };
   completion = record { begun = h.completion.begun; there = h.completion.there; parties = h.completion.parties; asking = h.completion.asking };
   as_many = h.as_many;
-  under_way = h.under_way;
+  under_way = calls_kept f (registered_sync b to f.ballots) (λ r k. record { branch = k.branch; there = k.there }) h;
   finishing = h.finishing;
 }
 
@@ -353,7 +353,7 @@ none_grows : (f : Family) (b : ℕ) → is_live_branch f.rows b ≡ true → b �
 none_grows f b live n none = absurd (none b (positive b n) live)
 
 created_call : (f : Family) (b : ℕ) → is_live_branch f.rows b ≡ true → (b ≡ 0 → f.stage ≡ Going) → (d : ℕ) (c : Call)
-    → IsSoundCall f.stage f.rows f.ballots.registrations d c.aim c.leg c.left → IsSoundCall f.stage (created f.rows b) f.ballots.registrations d c.aim c.leg c.left
+    → IsSoundCall f.stage f.rows f.ballots d c.aim c.leg c.left → IsSoundCall f.stage (created f.rows b) f.ballots d c.aim c.leg c.left
 created_call f b live going d c h = record {
   top = λ z. elim (same_or_not b 0) [
     | inl y ↦ absurd (not_going c.aim c.leg (subst (λ (x : Stage). IsInStage x c.aim c.leg) (going y) (h.top z).in_stage))
@@ -364,7 +364,7 @@ created_call f b live going d c h = record {
     commits = λ asked e. grown_live f.rows b d ((h.sub p).commits asked e);
     undoes = λ says e. grown_cut f.rows b d ((h.sub p).undoes says e);
   };
-  dues = due_kept f.rows (created f.rows b) f.ballots.registrations f.ballots.registrations (grown_cut f.rows b) (λ r k. k) c.left h.dues;
+  dues = due_kept f.rows (created f.rows b) f.ballots f.ballots (grown_cut f.rows b) (λ r k. k) c.left h.dues;
 }
 
 created_sound : (f : Family) (b : ℕ) → is_live_branch f.rows b ≡ true → (b ≡ 0 → f.stage ≡ Going) → IsSoundFamily f → IsSoundFamily (with_sub b f)

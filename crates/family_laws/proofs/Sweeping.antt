@@ -30,10 +30,11 @@ use Rattle.coordinator.specs.Closing.{notice_to, before}
 use Rattle.coordinator.specs.Phases.{is_before, has_ended, has_parent_ended}
 use Rattle.coordinator.specs.Running.{aware_of, duty_to, undo_duties, commit_duties, word_of, duty_notice, tells_first, commits_up, own_ends, own_duties, tells_own, passes_top, passes, left_below, left_by, ends_below, duties_below, sweeps_next, sweeps, is_commit, is_below, has_some, is_held, tells_after, by_leg, runs, runs_call, goes_on}
 use Rattle.family_laws.specs.LawsOfSteps.{MayEnd, Rests}
-use Rattle.family_laws.specs.Sound.{NoneLive, IsSoundLists, IsSoundCompletion, IsInStage, IsPastBelow, IsOfSub, IsDue, IsSoundCall, IsSoundFamily, called}
+use Rattle.family_laws.specs.Sound.{NoneLive, IsSoundLists, IsSoundCompletion, IsInStage, IsPastBelow, IsOfSub, IsListed, IsDue, IsSoundCall, IsSoundFamily, called}
 use Rattle.family_laws.specs.Trees.{IsUpTo, IsCutOff}
 use Rattle.family_laws.proofs.Changes.{Listed, lists_with, lists_committed, completion_rows, completion_parties, completion_waiting}
-use Rattle.family_laws.proofs.Ending.{IsAlone, top_call, afterwards_fine, decides_fine, before_fine}
+use Rattle.family_laws.proofs.Ending.{IsAlone, all_at, top_call, afterwards_fine, decides_fine, before_fine}
+use Rattle.family_laws.proofs.Listed.{all_listed, adopted_listed}
 use Rattle.family_laws.proofs.Lists.{all_joined, all_both, all_of, all_under, all_there}
 use Rattle.family_laws.proofs.Seats.{But, Takes, taken_up, called_other, called_same, call_kept, due_kept, none_live_kept, set_length}
 use Rattle.family_laws.proofs.Trees.{same_or_not, live_open, live_other, live_before, cut_stays, cut_here, cut_below, up_open, up_top, state_other, live_within, IsLaterLive, next_live, none_live, count_live, few_live, one_less, no_live}
@@ -41,34 +42,43 @@ use Rattle.family_laws.proofs.Turns.{Fine, Quiet, chained, either, only_fine, wa
 
 -- ---- a duty is told
 
-duty_rests : (f : Family) (e : Ending) (r : Registration) → IsDue f.rows f.ballots.registrations (record { ending = e; resource = r })
+duty_rests : (f : Family) (e : Ending) (r : Registration) → IsDue f.rows f.ballots (record { ending = e; resource = r })
     → Rests f.completion f.ballots f.rows (outward f (notice_to (word_of e) r) None)
 duty_rests f TellsRollback r due = soft_rests f.completion f.ballots f.rows _ tt
 duty_rests f (TellsCommit above) r due = soft_rests f.completion f.ballots f.rows _ tt
 duty_rests f RollsBackUpdates r due = record {
-  back = λ e. record { r = r; there = (due refl).0; number = refl; reference = refl; over = inr (due refl).1 };
+  back = λ e.
+      let listed : IsListed f.ballots r = (due refl).0 in
+      record {
+        r = r;
+        there = all_at (Contains f.ballots.registrations) (participants listed.branch f.ballots) r (all_there listed.branch f.ballots) listed.there;
+        listed = listed;
+        number = refl;
+        reference = refl;
+        over = inr (due refl).1;
+      };
   asks = record { prepare = λ e. absurd (cc e); alone = λ e. absurd (cc e); commit = λ e. absurd (cc e) };
 }
 
 pub tells_first_fine : (ds : List Duty) (b : ℕ) (c : Call) (next : Family → Moved) (f : Family) → But b f
-    → IsSoundCall f.stage f.rows f.ballots.registrations b c.aim c.leg ds → (ds ≡ [] → Fine f (next f)) → Fine f (tells_first ds b c next f)
+    → IsSoundCall f.stage f.rows f.ballots b c.aim c.leg ds → (ds ≡ [] → Fine f (next f)) → Fine f (tells_first ds b c next f)
 tells_first_fine [] b c next f h t fine = fine refl
 tells_first_fine (d ∷ others) b c next f h t fine =
     sends_fine (is_before f.stage) f.rows b (record c { left = others }) (duty_notice d) None f h
     (record { top = t.top; sub = t.sub; dues = t.dues.1 }) (duty_rests f d.ending d.resource t.dues.0)
 
-told_dues : (rs : List Row) (some : List Registration) (e : Ending) → e ≢ RollsBackUpdates → (xs : List Registration) → AllByRecursion (IsDue rs some) (map (duty_to e) xs)
+told_dues : (rs : List Row) (some : Ballots) (e : Ending) → e ≢ RollsBackUpdates → (xs : List Registration) → AllByRecursion (IsDue rs some) (map (duty_to e) xs)
 told_dues rs some e n xs = all_under (IsDue rs some) (duty_to e) xs (all_of (λ (r : Registration). IsDue rs some (duty_to e r)) (λ r i. absurd (n i)) xs)
 
 -- the list of one that is cut off is
-undo_dues : (rs : List Row) (some : Ballots) (b : ℕ) → IsCutOff rs b → IsSoundLists rs some → AllByRecursion (IsDue rs some.registrations) (undo_duties some b)
+undo_dues : (rs : List Row) (some : Ballots) (b : ℕ) → IsCutOff rs b → IsSoundLists rs some → AllByRecursion (IsDue rs some) (undo_duties some b)
 unfolding undo_duties
 undo_dues rs some b cut h =
-    all_joined (IsDue rs some.registrations) (map (duty_to TellsRollback) (aware_of some b)) (map (duty_to RollsBackUpdates) (participants b some))
-    (told_dues rs some.registrations TellsRollback (λ e. absurd (cc e)) (aware_of some b))
-    (all_under (IsDue rs some.registrations) (duty_to RollsBackUpdates) (participants b some)
-    (all_both (Contains some.registrations) (Listed rs b) (λ (r : Registration). IsDue rs some.registrations (duty_to RollsBackUpdates r))
-    (λ r there u e. (there, cut_below rs b r.branch cut u)) (participants b some) (all_there b some) (h.listed b)))
+    all_joined (IsDue rs some) (map (duty_to TellsRollback) (aware_of some b)) (map (duty_to RollsBackUpdates) (participants b some))
+    (told_dues rs some TellsRollback (λ e. absurd (cc e)) (aware_of some b))
+    (all_under (IsDue rs some) (duty_to RollsBackUpdates) (participants b some)
+    (all_both (IsListed some) (Listed rs b) (λ (r : Registration). IsDue rs some (duty_to RollsBackUpdates r))
+    (λ r there u e. (there, cut_below rs b r.branch cut u)) (participants b some) (all_listed b some) (h.listed b)))
 
 -- ---- a subtransaction is committed
 
@@ -128,9 +138,9 @@ joined_but f b p live n is unended h =
           (live_other f.rows b Committed 0 (λ e. n (sym e)) ∙ h.lists.top) h.lists;
       completion = joined_completion f b p live n how h.completion;
       as_many = h.as_many ∙ sym (length_kept f.rows b Committed);
-      others = λ d c o e. call_kept f.stage f.rows (ended f.rows b true) f.ballots.registrations f.ballots.registrations d c.aim c.leg c.left
+      others = λ d c o e. call_kept f.stage f.rows (ended f.rows b true) f.ballots (adopted b p f.ballots) d c.aim c.leg c.left
           (λ l. live_other f.rows b Committed d o ∙ l) (cut_stays f.rows b Committed live)
-          (none_live_kept f.rows (ended f.rows b true) (live_before f.rows b Committed live)) (λ r k. k) (h.others d c o e);
+          (none_live_kept f.rows (ended f.rows b true) (live_before f.rows b Committed live)) (adopted_listed f.ballots b p under) (h.others d c o e);
       finishing = h.finishing;
     }
 
@@ -163,13 +173,13 @@ own_ends_fine (Commits asked) b c f e n go h t =
     commits_up_fine b (parent f.rows b) c f refl n ((t.sub (positive b n)).commits asked e) (go asked refl n) h t
 own_ends_fine (RollsBack says) b c f e n go h t = ends_fine (is_before f.stage) f.rows b c says f h (λ z. absurd (n z))
 
-own_dues : (aim : Aim) (b : ℕ) (f : Family) → IsSoundLists f.rows f.ballots → ((says : Said) → aim ≡ RollsBack says → IsCutOff f.rows b) → AllByRecursion (IsDue f.rows f.ballots.registrations) (own_duties aim b f)
+own_dues : (aim : Aim) (b : ℕ) (f : Family) → IsSoundLists f.rows f.ballots → ((says : Said) → aim ≡ RollsBack says → IsCutOff f.rows b) → AllByRecursion (IsDue f.rows f.ballots) (own_duties aim b f)
 unfolding commit_duties
 own_dues (RollsBack says) b f h cut = undo_dues f.rows f.ballots b (cut says refl) h
 own_dues (Commits asked) b f h cut = commits (parent f.rows b)
   where
-    commits : (o : Option ℕ) → AllByRecursion (IsDue f.rows f.ballots.registrations) (commit_duties f.ballots b o)
-    commits (Some above) = told_dues f.rows f.ballots.registrations (TellsCommit above) (λ e. absurd (cc e)) (aware_of f.ballots b)
+    commits : (o : Option ℕ) → AllByRecursion (IsDue f.rows f.ballots) (commit_duties f.ballots b o)
+    commits (Some above) = told_dues f.rows f.ballots (TellsCommit above) (λ e. absurd (cc e)) (aware_of f.ballots b)
     commits None = tt
 
 tells_own_fine : (b : ℕ) (c : Call) (f : Family) → b ≢ 0 → MayGo f b c.aim → But b f → Takes b c f → Fine f (tells_own b c f)
@@ -177,7 +187,7 @@ unfolding tells_own
 tells_own_fine b c f n go h t =
     let own : Call = record c { leg = Own } in
     let sub = t.sub (positive b n) in
-    let ready : (left : List Duty) → AllByRecursion (IsDue f.rows f.ballots.registrations) left → IsSoundCall f.stage f.rows f.ballots.registrations b c.aim Own left =
+    let ready : (left : List Duty) → AllByRecursion (IsDue f.rows f.ballots) left → IsSoundCall f.stage f.rows f.ballots b c.aim Own left =
     λ left dues. record { top = λ z. absurd (n z); sub = λ p. record { of_sub = tt; commits = sub.commits; undoes = sub.undoes }; dues = dues } in
     tells_first_fine (own_duties c.aim b f) b own (own_ends c.aim b own) f h (ready (own_duties c.aim b f) (own_dues c.aim b f h.lists sub.undoes))
     (λ e. own_ends_fine c.aim b own f refl n go h (ready c.left t.dues))
@@ -210,7 +220,7 @@ passes_fine law b c f l go none h t =
 
 -- ---- one is rolled back below
 
-left_dues : (rs : List Row) (some : List Registration) (o : Option Call) → ((c : Call) → o ≡ Some c → AllByRecursion (IsDue rs some) c.left) → AllByRecursion (IsDue rs some) (left_by o)
+left_dues : (rs : List Row) (some : Ballots) (o : Option Call) → ((c : Call) → o ≡ Some c → AllByRecursion (IsDue rs some) c.left) → AllByRecursion (IsDue rs some) (left_by o)
 left_dues rs some None h = tt
 left_dues rs some (Some c) h = below c.leg
   where
@@ -225,9 +235,9 @@ left_dues rs some (Some c) h = below c.leg
 record IsEnded (b d : ℕ) (f : Family) : Type 0 where
   but : But b (ends_below d f).family
   quiet : Quiet f (ends_below d f)
-  dues : AllByRecursion (IsDue (ends_below d f).family.rows (ends_below d f).family.ballots.registrations) (duties_below d f)
+  dues : AllByRecursion (IsDue (ends_below d f).family.rows (ends_below d f).family.ballots) (duties_below d f)
   rows : (ends_below d f).family.rows ≡ ended f.rows d false
-  registrations : (ends_below d f).family.ballots.registrations ≡ f.ballots.registrations
+  ballots : (ends_below d f).family.ballots ≡ f.ballots
   stage : (ends_below d f).family.stage ≡ f.stage
 
 ends_below_is : (b d : ℕ) (f : Family) → IsLaterLive f.rows b d → But b f → IsEnded b d f
@@ -248,22 +258,22 @@ ends_below_is b d f k h =
         finishing = λ n fin. ap (λ (x : Option Call). is_some x) (called_other f.calls d 0 None (λ e. above (sym e))) ∙ h.finishing n fin;
       };
       quiet = record { stage = λ e. e; rows = refl; turn = (k.live, tt); silent = refl };
-      dues = all_joined (IsDue more f.ballots.registrations) (left_by (call_at f d)) (undo_duties f.ballots d)
-          (left_dues more f.ballots.registrations (call_at f d) (λ c e. due_kept f.rows more f.ballots.registrations f.ballots.registrations
+      dues = all_joined (IsDue more f.ballots) (left_by (call_at f d)) (undo_duties f.ballots d)
+          (left_dues more f.ballots (call_at f d) (λ c e. due_kept f.rows more f.ballots f.ballots
           (cut_stays f.rows d RolledBack k.live) (λ r x. x) c.left (h.others d c apart e).dues))
           (undo_dues more f.ballots d (cut_here f.rows d k.live) lists);
       rows = refl;
-      registrations = refl;
+      ballots = refl;
       stage = refl;
     }
   where
-    kept : (x : ℕ) (c : Call) → x ≢ b → x ≢ d → called f.calls x ≡ Some c → IsSoundCall f.stage (ended f.rows d false) f.ballots.registrations x c.aim c.leg c.left
-    kept x c o n e = call_kept f.stage f.rows (ended f.rows d false) f.ballots.registrations f.ballots.registrations x c.aim c.leg c.left
+    kept : (x : ℕ) (c : Call) → x ≢ b → x ≢ d → called f.calls x ≡ Some c → IsSoundCall f.stage (ended f.rows d false) f.ballots x c.aim c.leg c.left
+    kept x c o n e = call_kept f.stage f.rows (ended f.rows d false) f.ballots f.ballots x c.aim c.leg c.left
         (λ l. live_other f.rows d RolledBack x n ∙ l) (cut_stays f.rows d RolledBack k.live)
         (none_live_kept f.rows (ended f.rows d false) (live_before f.rows d RolledBack k.live)) (λ r y. y) (h.others x c o e)
 
     still : (x : ℕ) (c : Call) → x ≢ b → called (slice_set f.calls d None) x ≡ Some c → (x ≡ d) ⊎ (x ≢ d)
-        → IsSoundCall f.stage (ended f.rows d false) f.ballots.registrations x c.aim c.leg c.left
+        → IsSoundCall f.stage (ended f.rows d false) f.ballots x c.aim c.leg c.left
     still x c o e (inl i) = absurd (cc (called_same f.calls d None c (rw i at e)))
     still x c o e (inr n) = kept x c o n (sym (called_other f.calls d x None n) ∙ e)
 
@@ -291,7 +301,7 @@ still_takes : (f : Family) (b d : ℕ) (c : Call) → IsLaterLive f.rows b d →
 unfolding ends_below
 still_takes f b d c k t =
     let apart : b ≢ d = λ e. let l = k.later in absurd (omega (arith, l, e)) in
-    call_kept f.stage f.rows (ended f.rows d false) f.ballots.registrations f.ballots.registrations b c.aim c.leg c.left
+    call_kept f.stage f.rows (ended f.rows d false) f.ballots f.ballots b c.aim c.leg c.left
     (λ l. live_other f.rows d RolledBack b apart ∙ l) (cut_stays f.rows d RolledBack k.live)
     (none_live_kept f.rows (ended f.rows d false) (live_before f.rows d RolledBack k.live)) (λ r y. y) t
 
@@ -353,7 +363,7 @@ before_by_aim law called c f (RollsBack says) e i a = absurd i
 
 tells_after_fine : (o : Option Outcome) (called : ℕ) (c : Call) (f : Family) → c.leg ≡ After called → f.stage ≡ Completing → IsAlone f c → Fine f (tells_after o called c f)
 tells_after_fine (Some fixed) called c f l e a = afterwards_fine (is_before f.stage) f.rows called c fixed f e a
-tells_after_fine None called c f l e a = waits_fine 0 c f a.but (top_call f.stage f.rows f.ballots.registrations c.aim c.leg c.left (rw l e) a.none a.dues)
+tells_after_fine None called c f l e a = waits_fine 0 c f a.but (top_call f.stage f.rows f.ballots c.aim c.leg c.left (rw l e) a.none a.dues)
 
 by_leg_fine : TreeWordsGoRightly → (leg : Leg) (b : ℕ) (c : Call) (f : Family) → c.leg ≡ leg → MayGo f b c.aim → But b f → Takes b c f → Fine f (by_leg leg b c f)
 by_leg_fine law Below b c f l go h t = sweeps_fine law (length f.rows) b c l f go (few_live f.rows) h t

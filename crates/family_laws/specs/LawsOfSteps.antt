@@ -25,7 +25,7 @@ use Rattle.coordinator.specs.Family.{Family, new_family}
 use Rattle.coordinator.specs.Phases.{is_before}
 use Rattle.coordinator.specs.Step.{family_step}
 use Rattle.family_laws.specs.LawsOfTelling.{IsVoted}
-use Rattle.family_laws.specs.Sound.{IsSoundFamily}
+use Rattle.family_laws.specs.Sound.{IsListed, IsSoundFamily}
 use Rattle.family_laws.specs.Trees.{IsCutOff}
 
 -- a new family is sound, and so is each one that a step leaves of a sound one
@@ -72,10 +72,12 @@ abbrev pub IsNotAlone : Standing → Type 0
 IsNotAlone (Waiting room) = Unit {0}
 IsNotAlone (UnderWay c) = (course.decides_alone c ≡ false) ⊎ (c.overtaken ≢ None)
 
--- rollback goes to a participant of a family that is rolled back, and was not told to decide alone, or to one that is cut off
+-- rollback goes to a participant of a family that is rolled back, and was not told to decide alone, or to one that is cut off;
+-- it is in the list of some branch
 pub record GoesBack (s : Standing) (some : Ballots) (rs : List Row) (o : Outward) : Type 0 where
   pub r : Registration
   pub there : Contains some.registrations r
+  pub listed : IsListed some r
   pub number : r.index ≡ o.registration
   pub reference : r.to ≡ o.to
   pub over : (IsRolledBack (stages.outcome s) × IsNotAlone s × Contains (participants 0 some) r) ⊎ IsCutOff rs r.branch

@@ -93,14 +93,19 @@ pub record IsSubCall (rs : List Row) (b : ℕ) (aim : Aim) (leg : Leg) : Type 0 
   pub commits : (asked : Bool) → aim ≡ Commits asked → IsTrue (is_live_branch rs b)
   pub undoes : (says : Said) → aim ≡ RollsBack says → IsCutOff rs b
 
--- a rollback that is still to be told is to a registration that there is, and that is cut off
-abbrev pub IsDue : List Row → List Registration → Duty → Type 0
-IsDue rs registrations d = d.ending ≡ RollsBackUpdates → Contains registrations d.resource × IsCutOff rs d.resource.branch
+-- a registration is in the list of some branch
+pub record IsListed (some : Ballots) (r : Registration) : Type 0 where
+  pub branch : ℕ
+  pub there : Contains (participants branch some) r
 
-pub record IsSoundCall (stage : Stage) (rs : List Row) (registrations : List Registration) (b : ℕ) (aim : Aim) (leg : Leg) (left : List Duty) : Type 0 where
+-- a rollback that is still to be told is to a registration in some list, and that is cut off
+abbrev pub IsDue : List Row → Ballots → Duty → Type 0
+IsDue rs some d = d.ending ≡ RollsBackUpdates → IsListed some d.resource × IsCutOff rs d.resource.branch
+
+pub record IsSoundCall (stage : Stage) (rs : List Row) (some : Ballots) (b : ℕ) (aim : Aim) (leg : Leg) (left : List Duty) : Type 0 where
   pub top : b ≡ 0 → IsTopCall stage rs aim leg
   pub sub : 0 < b → IsSubCall rs b aim leg
-  pub dues : AllByRecursion (IsDue rs registrations) left
+  pub dues : AllByRecursion (IsDue rs some) left
 
 -- the call of a branch among these
 abbrev pub called : List (Option Call) → ℕ → Option Call
@@ -110,7 +115,7 @@ pub record IsSound (stage : Stage) (rs : List Row) (some : Ballots) (s : Standin
   pub lists : IsSoundLists rs some
   pub completion : IsSoundCompletion stage rs some s
   pub as_many : length calls ≡ length rs
-  pub under_way : (b : ℕ) (c : Call) → called calls b ≡ Some c → IsSoundCall stage rs some.registrations b c.aim c.leg c.left
+  pub under_way : (b : ℕ) (c : Call) → called calls b ≡ Some c → IsSoundCall stage rs some b c.aim c.leg c.left
   pub finishing : stage ≡ Finishing → IsTrue (is_some (called calls 0))
 
 abbrev pub IsSoundFamily : Family → Type 0

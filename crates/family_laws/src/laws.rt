@@ -26,7 +26,8 @@ pub fn families_end_in_turn()
 }
 
 /// In each step of a sound family prepare and commit_one_phase go to participants while the outcome is open, commit to
-/// participants that voted commit once it is commit by a record, and rollback to registrations that are rolled back or cut off.
+/// participants that voted commit once it is commit by a record, and rollback to registrations that are rolled back or cut off,
+/// and are in the list of some branch.
 pub fn families_words_rest()
     ensures { FamiliesWordsRest }
 {
