@@ -235,11 +235,6 @@ pub record IsNextWord (w : World) (f : Family) (o : Outward) : Type 0 where
   pub serial : o.number.serial ≤ f.serial
   pub newer : (other : Outward) → HasSent w (place_of f.key) other → other.number ≡ o.number → ⊥
 
--- what is told commit has voted so, and what is told rollback was in a list
-pub record IsOfVoter (f : Family) (o : Outward) : Type 0 where
-  pub voted : (r : Registration) → o.word ≡ words.Commit → r.index ≡ o.registration → IsVoted f.completion r.index VoteCommit
-  pub listed : (r : Registration) → o.word ≡ words.Rollback → Contains f.ballots.registrations r → r.to ≡ o.to → (c : ℕ) × Contains (participants c f.ballots) r
-
 module _ (w : World) (told : List Told) (k : Known w told) (key : ObjectKey) (f : Family) (there : family_at w key ≡ Some f) where
   own_key : recorded_key (place_of f.key) f.key.life f.key.slot f.key.generation ≡ f.key
   own_key =
@@ -392,7 +387,7 @@ module _ (w : World) (told : List Told) (k : Known w told) (key : ObjectKey) (f 
       let within = slot_within own.node.families f.key.slot f own.slotted in
       omega (arith, within, slots, is)
 
-  module _ (o : Outward) (x : NamedKey) (refers : referred w o.to ≡ Some x) (rests : Rests f.completion f.ballots f.rows o) (voters : IsOfVoter f o) where
+  module _ (o : Outward) (x : NamedKey) (refers : referred w o.to ≡ Some x) (rests : Rests f.completion f.ballots f.rows o) where
     commit_recorded : o.word ≡ words.Commit → IsTrue (has_record w (place_of f.key) (names_object o.to))
     commit_recorded word =
         let at = rests.asks.commit word in
@@ -400,7 +395,7 @@ module _ (w : World) (told : List Told) (k : Known w told) (key : ObjectKey) (f 
         let entered = all_at (Contains f.ballots.registrations) (participants 0 f.ballots) g.r
         (all_entered f.ballots.registrations (list_at f.ballots.lists 0)) g.there in
         subst (λ (to : List ℕ). IsTrue (has_record w (place_of f.key) (names_object to))) g.reference
-        (record_names g.r x g.there entered (ap (referred w) g.reference ∙ refers) at.1 (voters.voted g.r word g.number))
+        (record_names g.r x g.there entered (ap (referred w) g.reference ∙ refers) at.1 (subst (λ (y : ℕ). IsVoted f.completion y VoteCommit) (sym g.number) at.2))
 
     commit_allowed : o.word ≡ words.Commit → CanTell phases.Commit x.name (lines_of told)
     commit_allowed word =
@@ -453,5 +448,5 @@ module _ (w : World) (told : List Told) (k : Known w told) (key : ObjectKey) (f 
           subst (λ (y : Family). IsAsking y.completion × (stages.decides_alone y.completion ≡ true)) (goes_to_own own.0 t b other g registered at branch)
           (open_asking f.completion own.1 own.2, own.2);
       alone = λ word. let own = rests.asks.alone word in alone_in own.0.r x own.0.there (ap (referred w) own.0.reference ∙ refers) own.1 own.2;
-      back = λ word. let g = rests.back word in may_go_back o x g (voters.listed g.r word g.there g.reference) refers;
+      back = λ word. let g = rests.back word in may_go_back o x g (g.listed.branch, g.listed.there) refers;
     }

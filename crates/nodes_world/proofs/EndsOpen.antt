@@ -76,16 +76,6 @@ module _ (line : Line) (h : List Line) (aside : is_aside line ≡ true) where
 
 -- ---- the subtransactions that a step ends
 
--- what is marked on the way is live
-abbrev pub MarksLive : List Effect → List Row → Type 0
-MarksLive [] rs = Unit {0}
-MarksLive (effects.Voted g vote ∷ others) rs = MarksLive others rs
-MarksLive (effects.Decided fixed ∷ others) rs = MarksLive others rs
-MarksLive (effects.SubtransactionEnded b committed ∷ others) rs = MarksLive others (ended rs b committed)
-MarksLive (effects.Marked b ∷ others) rs = IsTrue (is_live_branch rs b) × MarksLive others (marked rs b)
-MarksLive (effects.Doubted ∷ others) rs = MarksLive others rs
-MarksLive (effects.Done ∷ others) rs = MarksLive others rs
-
 -- one that is committed is open in the family as it was before the step
 abbrev pub EndIsOpen : Family → Effect → Type 0
 EndIsOpen f (effects.SubtransactionEnded b true) = IsOpenBranch f b
@@ -125,18 +115,18 @@ below_top early now rs (suc b) (Some p) tree is may = omega arith
 
 -- each one that a step commits, in its turn, was open before the step
 pub ends_open : (early : Bool) (f : Family) → IsTree f.rows → (some : List Effect) (rs : List Row) → ((c : ℕ) → IsTrue (is_live_branch rs c) → IsTrue (is_live_branch f.rows c))
-    → ((c : ℕ) → parent rs c ≡ parent f.rows c) → EndInTurn early some rs → MarksLive some rs → AllByRecursion (EndIsOpen f) some
-ends_open early f tree [] rs live same turn marks = tt
-ends_open early f tree (effects.Voted g vote ∷ others) rs live same turn marks = (tt, ends_open early f tree others rs live same turn marks)
-ends_open early f tree (effects.Decided fixed ∷ others) rs live same turn marks = (tt, ends_open early f tree others rs live same turn marks)
-ends_open early f tree (effects.SubtransactionEnded b true ∷ others) rs live same turn marks =
+    → ((c : ℕ) → parent rs c ≡ parent f.rows c) → EndInTurn early some rs → AllByRecursion (EndIsOpen f) some
+ends_open early f tree [] rs live same turn = tt
+ends_open early f tree (effects.Voted g vote ∷ others) rs live same turn = (tt, ends_open early f tree others rs live same turn)
+ends_open early f tree (effects.Decided fixed ∷ others) rs live same turn = (tt, ends_open early f tree others rs live same turn)
+ends_open early f tree (effects.SubtransactionEnded b true ∷ others) rs live same turn =
     let below = below_top early rs f.rows b (parent rs b) tree (sym (same b)) turn.0.1 in (
       inr (below, live b turn.0.0),
-      ends_open early f tree others (ended rs b true) (λ c is. live c (live_ended rs b c true is)) (λ c. parent_set rs b c _ refl ∙ same c) turn.1 marks,
+      ends_open early f tree others (ended rs b true) (λ c is. live c (live_ended rs b c true is)) (λ c. parent_set rs b c _ refl ∙ same c) turn.1,
     )
-ends_open early f tree (effects.SubtransactionEnded b false ∷ others) rs live same turn marks =
-    (tt, ends_open early f tree others (ended rs b false) (λ c is. live c (live_ended rs b c false is)) (λ c. parent_set rs b c _ refl ∙ same c) turn.1 marks)
-ends_open early f tree (effects.Marked b ∷ others) rs live same turn marks =
-    (tt, ends_open early f tree others (marked rs b) (λ c is. live c (live_marked rs b c marks.0 is)) (λ c. parent_set rs b c _ refl ∙ same c) turn marks.1)
-ends_open early f tree (effects.Doubted ∷ others) rs live same turn marks = (tt, ends_open early f tree others rs live same turn marks)
-ends_open early f tree (effects.Done ∷ others) rs live same turn marks = (tt, ends_open early f tree others rs live same turn marks)
+ends_open early f tree (effects.SubtransactionEnded b false ∷ others) rs live same turn =
+    (tt, ends_open early f tree others (ended rs b false) (λ c is. live c (live_ended rs b c false is)) (λ c. parent_set rs b c _ refl ∙ same c) turn.1)
+ends_open early f tree (effects.Marked b ∷ others) rs live same turn =
+    (tt, ends_open early f tree others (marked rs b) (λ c is. live c (live_marked rs b c turn.0.0 is)) (λ c. parent_set rs b c _ refl ∙ same c) turn.1)
+ends_open early f tree (effects.Doubted ∷ others) rs live same turn = (tt, ends_open early f tree others rs live same turn)
+ends_open early f tree (effects.Done ∷ others) rs live same turn = (tt, ends_open early f tree others rs live same turn)

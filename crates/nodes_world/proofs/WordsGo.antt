@@ -14,7 +14,7 @@ use Rattle.nodes_world.specs.Objects.{place_of}
 use Rattle.nodes_world.specs.Told.{Told}
 use Rattle.nodes_world.specs.World.{World, NamedKey, family_at, node_at, referred}
 use Rattle.nodes_world.proofs.KnownRequests.{MayGo, by_sent, requests_known}
-use Rattle.nodes_world.proofs.CanGo.{IsNextWord, IsOfVoter, family_may_go}
+use Rattle.nodes_world.proofs.CanGo.{IsNextWord, family_may_go}
 
 -- it goes to one that has a name
 abbrev pub IsNamed : World → Outward → Type 0
@@ -70,16 +70,16 @@ numbers_still w told k f o m serial is before other sent life slot generation =
 
 -- they go out, and what is known is known then
 pub words_known : (some : List Outward) (w : World) (told : List Told) → Known w told → (key : ObjectKey) (f : Family) → family_at w key ≡ Some f
-    → (serial : ℕ) → AllByRecursion (IsNamed w) some → WordsRest f some → AllByRecursion (IsOfVoter f) some → AreNumberedFrom f.key serial some
+    → (serial : ℕ) → AllByRecursion (IsNamed w) some → WordsRest f some → AreNumberedFrom f.key serial some
     → serial + length some ≤ f.serial → HaveNumbersUpTo w f.key serial
     → Known (requests_all (place_of f.key) some w).world (told ++ (requests_all (place_of f.key) some w).lines)
-words_known [] w told k key f there serial named rest voters numbered room before = subst (Known w) (sym (append-nil told)) k
-words_known (o ∷ others) w told k key f there serial named rest voters numbered room before =
+words_known [] w told k key f there serial named rest numbered room before = subst (Known w) (sym (append-nil told)) k
+words_known (o ∷ others) w told k key f there serial named rest numbered room before =
     let place = place_of f.key in
     let x = named_one (referred w o.to) named.0 in
-    let m = family_may_go w told k key f there o x.0 x.1 rest.0 voters.0 (next_word w f o serial numbered.0 (omega (arith, room)) before) in
+    let m = family_may_go w told k key f there o x.0 x.1 rest.0 (next_word w f o serial numbered.0 (omega (arith, room)) before) in
     let first = requests_known w told k place o m in
     let after = words_known others (requests place o w).world (told ++ (requests place o w).lines) first key f (family_still place o w key f there) (serial + 1)
-    (named_still place o w others named.1) rest.1 voters.1 numbered.1 (omega (arith, room)) (numbers_still w told k f o m serial numbered.0 before) in
+    (named_still place o w others named.1) rest.1 numbered.1 (omega (arith, room)) (numbers_still w told k f o m serial numbered.0 before) in
     subst (Known (requests_all place others (requests place o w).world).world)
     (append_assoc told (requests place o w).lines (requests_all place others (requests place o w).world).lines) after
