@@ -92,7 +92,7 @@ live_set (z ∷ rs) (suc b) (suc c) one is =
       | inr was ↦ inr was
     ]
 
-parent_set : (rs : List Row) (b c : ℕ) (one : Row) → one.parent ≡ parent rs b → parent (slice_set rs b one) c ≡ parent rs c
+pub parent_set : (rs : List Row) (b c : ℕ) (one : Row) → one.parent ≡ parent rs b → parent (slice_set rs b one) c ≡ parent rs c
 parent_set [] b c one same = refl
 parent_set (z ∷ rs) zero zero one same = same
 parent_set (z ∷ rs) zero (suc c) one same = refl

@@ -125,7 +125,7 @@ tells_other flag told t one same = record {
   reasons_back = λ u reason c. reason_back flag told t u one reason c;
 }
 
-unknown_same : (told : List Told) (t : Told) → known (t ∷ []) ≡ [] → known (told ++ t ∷ []) ≡ known told
+pub unknown_same : (told : List Told) (t : Told) → known (t ∷ []) ≡ [] → known (told ++ t ∷ []) ≡ known told
 unknown_same told t none = filter_map-append known_in told (t ∷ []) ∙ ap (λ ls. known told ++ ls) none ∙ append-nil (known told)
 
 tells_one : (flag : Line → Bool) (told : List Told) (t : Told) → IsOne flag t → TellsOn flag told (told ++ t ∷ [])

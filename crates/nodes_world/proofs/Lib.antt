@@ -39,3 +39,14 @@ mod CanRetell
 mod EndsOpen
 mod StepsKnown
 mod ReachedKnown
+mod EffectsTold
+mod EffectsSame
+mod StepTold
+mod StepBranches
+mod KnownBegin
+mod KnownBeginSeats
+mod KnownBeginFamily
+mod KnownBeginRefused
+mod KnownBeginResources
+mod KnownBeginNodes
+mod KnownBeginWords

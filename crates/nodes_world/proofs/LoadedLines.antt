@@ -43,7 +43,7 @@ abbrev pub is_recorded_decision : Line → Bool
 is_recorded_decision (lines.Decide name (told_outcomes.Commit Record)) = true
 is_recorded_decision _ = false
 
-all_both : (P : Told → Type 0) (xs ys : List Told) → AllByRecursion P xs → AllByRecursion P ys → AllByRecursion P (xs ++ ys)
+pub all_both : (P : Told → Type 0) (xs ys : List Told) → AllByRecursion P xs → AllByRecursion P ys → AllByRecursion P (xs ++ ys)
 all_both P [] ys all also = also
 all_both P (x ∷ xs) ys (one, all) also = (one, all_both P xs ys all also)
 
@@ -102,7 +102,7 @@ standing_told w service (r ∷ others) name s =
 
 -- ---- the transaction of a name
 
-found_transaction : (p : NamedKey → Bool) (names : List (List ℕ × Thing)) (t : NamedKey)
+pub found_transaction : (p : NamedKey → Bool) (names : List (List ℕ × Thing)) (t : NamedKey)
     → find p (filter_map (λ (entry : List ℕ × Thing). transaction_in entry.0 entry.1) names) ≡ Some t
     → (p t ≡ true) × Contains names (t.name, things.Transaction t.key)
 found_transaction p [] t is = absurd cc
