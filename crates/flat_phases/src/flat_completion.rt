@@ -93,7 +93,8 @@ impl FlatCompletion {
         Ok(completion)
     }
 
-    /// The word that goes out next. There is none while one is out, while a decision is wanted, and at the end.
+    /// The word that goes out next. There is none before it starts, while one is out, while a decision is wanted or nobody
+    /// knows whether it stands, and at the end.
     pub fn next(&mut self) -> Option<Outward>
         ensures word { result ≡ next_word self.old }
         ensures after { self.new ≡ after_next self.old }

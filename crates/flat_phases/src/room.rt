@@ -126,7 +126,7 @@ impl Room {
     }
 }
 
-/// Adds blanks until there are so many.
+/// Adds blanks, so that there are so many at least.
 pub fn add_blanks(count: usize, blanks: &mut Vec<Blank>) -> Result<(), AllocError>
     ensures ok { OnOk result (count ≤ vec_len blanks.new) }
     ensures more { vec_len blanks.old ≤ vec_len blanks.new }

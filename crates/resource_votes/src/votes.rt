@@ -66,13 +66,17 @@ impl Votes {
     /// Takes memory for one more registration of any kind, where there is none yet.
     pub fn reserve(&mut self) -> Result<(), AllocError>
         ensures ok { OnOk result (0 < self.new.room) }
+        ensures there { 0 < self.old.room → IsOk result }
         ensures same { self.new.ballots ≡ self.old.ballots }
         ensures room { self.old.room ≤ self.new.room }
     {
-        self.registrations.reserve(1)?;
-        self.votes.reserve(1)?;
-        self.synchronizations.reserve(1)?;
-        self.links.reserve()
+        if self.is_packed() {
+            self.registrations.reserve(1)?;
+            self.votes.reserve(1)?;
+            self.synchronizations.reserve(1)?;
+            self.links.reserve()?;
+        }
+        Ok(())
     }
 
     /// Registers a resource that takes part in this transaction (`register_resource`). `aware` tells whether it is also told
@@ -233,10 +237,7 @@ impl Votes {
         ensures same { self.new.ballots ≡ self.old.ballots }
         ensures room { self.old.room ≤ self.new.room }
     {
-        if self.is_packed() {
-            self.reserve().map_err(|_| VoteFault::Memory)?;
-        }
-        Ok(())
+        self.reserve().map_err(|_| VoteFault::Memory)
     }
 
     /// Whether there is memory for no further registration of some kind.

@@ -9,3 +9,4 @@ pub mod Own
 pub mod Causes
 pub mod Silence
 pub mod Settling
+pub mod SettledSilent

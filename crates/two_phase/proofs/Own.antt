@@ -1,17 +1,16 @@
 -- Each participant of a top-level transaction has a number of its own.
-use Rattle.std.proofs.Common.{◌≡◌, refl, ap, sym, ◌∙◌, ℕ, ◌≤◌, Bool, true, false, List, [], ◌∷◌, map, Option, Some, None, if◌then◌else◌, arith}
+use Rattle.std.proofs.Common.{◌≡◌, refl, ap, ◌∙◌, ℕ, ◌≤◌, Bool, true, false, List, [], ◌∷◌, map, Option, Some, None, if◌then◌else◌, arith}
 use Rattle.std.specs.Option.{option_map_or}
-use Rattle.ots_model.specs.declared.tree.Outward.{Outward}
 use Rattle.txn_tree.specs.declared.row.Row.{Row}
 use Rattle.txn_tree.specs.Rows.{is_committed_up}
-use Rattle.resource_votes.specs.Ballots.{Ballots, participants}
-use Rattle.resource_votes.specs.History.{Leave, ParticipantsAreCommittedUp, times, joined, share}
+use Rattle.resource_votes.specs.Ballots.{participants}
+use Rattle.resource_votes.specs.History.{ParticipantsAreCommittedUp, times, joined, share}
 use Rattle.resource_votes.specs.declared.registration.Registration.{Registration}
-use Rattle.two_phase.specs.Course.{Course, next_word, after_next}
+use Rattle.two_phase.specs.Course.{Course}
 use Rattle.two_phase.specs.Parties.{party_of}
-use Rattle.two_phase.specs.LawsOfReached.{IsReached, TreeGoesOn, HaveOwnNumbers, numbers}
+use Rattle.two_phase.specs.LawsOfReached.{IsReached, numbers}
 use Rattle.two_phase.specs.LawsOfReached.IsReached.{begins as begins_so, rolls_back as begins_back, goes_on as further_on}
-use Rattle.two_phase.specs.LawsOfParticipants.{IsWith, IsOfTop, ParticipantsHaveNumbers, NoParticipantHearsTwice}
+use Rattle.two_phase.specs.LawsOfParticipants.{IsWith, ParticipantsHaveNumbers, NoParticipantHearsTwice}
 use Rattle.two_phase.specs.LawsOfParticipants.IsWith.{begins, rolls_back, goes_on}
 use Rattle.two_phase.specs.LawsOfParticipants.IsOfTop.{of}
 use Rattle.two_phase.specs.declared.party.Party.{Party}

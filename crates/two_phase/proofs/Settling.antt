@@ -7,7 +7,7 @@ use Rattle.ots_model.specs.declared.completion.Ground.{Ground}
 use Rattle.ots_model.specs.declared.tree.Outcome.{Outcome}
 use Rattle.ots_model.specs.declared.tree.Outcome.TheVariants as outcomes
 use Rattle.two_phase.specs.Course.{Course, decides_alone, outcome, waits_for_superior}
-use Rattle.two_phase.specs.LawsOfSettling.{AllComplete, AllLetGo, AsksMore}
+use Rattle.two_phase.specs.LawsOfSettling.{AllComplete, AllLetGo, IsThrough}
 use Rattle.two_phase.specs.Parties.{is_told, is_through, is_owed, has_completed, has_raised, has_voted_commit, lets_go}
 use Rattle.two_phase.specs.Reports.{all_through, some_owed, owed_numbers, owed_by, may_owe, is_commit, is_settled, pending_commits, pending_forgets}
 use Rattle.two_phase.specs.declared.party.Party.{Party}
@@ -104,9 +104,6 @@ all_empty stage c e = empty_if (may_owe stage c) (owed_numbers stage c.parties) 
 none_where : (stage : Stage) (c : Course) → may_owe stage c ≡ true → owed_by stage c ≡ [] → some_owed stage c.parties ≡ false
 none_where stage c may e = none_owed stage c.parties (ap (λ b. if b then owed_numbers stage c.parties else []) (sym may) ∙ e)
 
-none_may : (stage : Stage) (c : Course) → may_owe stage c ≡ false → owed_by stage c ≡ []
-none_may stage c may = ap (λ b. if b then owed_numbers stage c.parties else []) may
-
 -- after a commit each has completed exactly where nobody is owed the commit
 told_and_owed : (v d : Bool) → (not v || d) ≡ not (v && not d)
 told_and_owed true true = refl
@@ -144,52 +141,45 @@ unfolding some_owed
 release c each = none_passes (is_owed stages.Forgetting) c.parties (λ place p there.
     let_go_so (has_raised p) (option_map_or lets_go p.forgot false) (each place p there))
 
--- from settled to nothing pending
-commits_none : (c : Course) (o : Option Outcome) → outcome c ≡ o → is_commit o ≡ false → pending_commits c ≡ []
-commits_none c o is other = none_may stages.Telling c (ap is_commit is ∙ other)
+-- what is settled is through, and the other way
+through_by : (c : Course) (o : Option Outcome) → outcome c ≡ o
+    → (elim o [ Some fixed ↦ all_through (decides_alone c) fixed c.parties | None ↦ false ] && not (some_owed stages.Forgetting c.parties)) ≡ true → IsThrough c
+through_by c None is e = absurd (cc (e))
+through_by c (Some fixed) is e =
+    let parts = both (all_through (decides_alone c) fixed c.parties) (not (some_owed stages.Forgetting c.parties)) e in
+    (fixed, is, completed c fixed parts.0, released c (not_so (some_owed stages.Forgetting c.parties) parts.1))
 
-settled_by : (c : Course) (o : Option Outcome) → outcome c ≡ o
-    → (elim o [ Some fixed ↦ all_through (decides_alone c) fixed c.parties | None ↦ false ] && not (some_owed stages.Forgetting c.parties)) ≡ true
-    → (pending_commits c ≡ []) × (pending_forgets c ≡ []) × AsksMore o c
-settled_by c None is e = absurd (cc (e))
-settled_by c (Some (outcomes.Commit basis)) is e =
-    let parts = both (all_through (decides_alone c) (outcomes.Commit basis) c.parties) (not (some_owed stages.Forgetting c.parties)) e in
-    (all_empty stages.Telling c (through_each (decides_alone c) basis c.parties parts.0), all_empty stages.Forgetting c (not_so (some_owed stages.Forgetting c.parties) parts.1), tt)
-settled_by c (Some (outcomes.Rollback reason)) is e =
-    let parts = both (all_through (decides_alone c) (outcomes.Rollback reason) c.parties) (not (some_owed stages.Forgetting c.parties)) e in
-    let free = not_so (some_owed stages.Forgetting c.parties) parts.1 in
-    (commits_none c (Some (outcomes.Rollback reason)) is refl, all_empty stages.Forgetting c free, (completed c (outcomes.Rollback reason) parts.0, released c free))
-settled_by c (Some outcomes.Unknown) is e =
-    let parts = both (all_through (decides_alone c) outcomes.Unknown c.parties) (not (some_owed stages.Forgetting c.parties)) e in
-    let free = not_so (some_owed stages.Forgetting c.parties) parts.1 in
-    (commits_none c (Some outcomes.Unknown) is refl, all_empty stages.Forgetting c free, released c free)
+pub through : (c : Course) → is_settled c ≡ true → IsThrough c
+through c e = through_by c (outcome c) refl e
 
--- and back
-settles : (t : Bool) (o : Bool) → t ≡ true → o ≡ false → (t && not o) ≡ true
+settles : (t o : Bool) → t ≡ true → o ≡ false → (t && not o) ≡ true
 settles t o through free = rw (through, free) refl
 
-nobody_told : (c : Course) → all_through (decides_alone c) outcomes.Unknown c.parties ≡ true
-nobody_told c = complete c outcomes.Unknown (λ place p there told. absurd (cc (told)))
+pub settled : (c : Course) → IsThrough c → is_settled c ≡ true
+settled c (fixed, is, complete_all, free) =
+    ap (λ (o : Option Outcome). elim o [ Some x ↦ all_through (decides_alone c) x c.parties | None ↦ false ] && not (some_owed stages.Forgetting c.parties)) is
+    ∙ settles (all_through (decides_alone c) fixed c.parties) (some_owed stages.Forgetting c.parties) (complete c fixed complete_all) (release c free)
 
+-- after a commit
 commit_owes : (b w : Bool) → b ≡ true → (b || w) ≡ true
 commit_owes true w e = refl
 commit_owes false w e = absurd (cc (e))
 
-pending_by : (c : Course) (o : Option Outcome) → outcome c ≡ o → pending_commits c ≡ [] → pending_forgets c ≡ [] → AsksMore o c
-    → (elim o [ Some fixed ↦ all_through (decides_alone c) fixed c.parties | None ↦ false ] && not (some_owed stages.Forgetting c.parties)) ≡ true
-pending_by c None is commits forgets more = absurd more
-pending_by c (Some (outcomes.Commit basis)) is commits forgets more =
-    settles (all_through (decides_alone c) (outcomes.Commit basis) c.parties) (some_owed stages.Forgetting c.parties)
+by_commit : (c : Course) (basis : Ground) → outcome c ≡ Some (outcomes.Commit basis)
+    → is_settled c ≡ (all_through (decides_alone c) (outcomes.Commit basis) c.parties && not (some_owed stages.Forgetting c.parties))
+by_commit c basis is =
+    ap (λ (o : Option Outcome). elim o [ Some x ↦ all_through (decides_alone c) x c.parties | None ↦ false ] && not (some_owed stages.Forgetting c.parties)) is
+
+pub nothing_pending : (c : Course) (basis : Ground) → outcome c ≡ Some (outcomes.Commit basis) → is_settled c ≡ true
+    → (pending_commits c ≡ []) × (pending_forgets c ≡ [])
+nothing_pending c basis is e =
+    let parts = both (all_through (decides_alone c) (outcomes.Commit basis) c.parties) (not (some_owed stages.Forgetting c.parties)) (sym (by_commit c basis is) ∙ e) in
+    (all_empty stages.Telling c (through_each (decides_alone c) basis c.parties parts.0), all_empty stages.Forgetting c (not_so (some_owed stages.Forgetting c.parties) parts.1))
+
+pub pending_nothing : (c : Course) (basis : Ground) → outcome c ≡ Some (outcomes.Commit basis)
+    → (pending_commits c ≡ []) × (pending_forgets c ≡ []) → is_settled c ≡ true
+pending_nothing c basis is (commits, forgets) =
+    by_commit c basis is
+    ∙ settles (all_through (decides_alone c) (outcomes.Commit basis) c.parties) (some_owed stages.Forgetting c.parties)
     (each_through (decides_alone c) basis c.parties (none_where stages.Telling c (ap is_commit is) commits))
     (none_where stages.Forgetting c (commit_owes (is_commit (outcome c)) (waits_for_superior c) (ap is_commit is)) forgets)
-pending_by c (Some (outcomes.Rollback reason)) is commits forgets more =
-    settles (all_through (decides_alone c) (outcomes.Rollback reason) c.parties) (some_owed stages.Forgetting c.parties)
-    (complete c (outcomes.Rollback reason) more.0) (release c more.1)
-pending_by c (Some outcomes.Unknown) is commits forgets more =
-    settles (all_through (decides_alone c) outcomes.Unknown c.parties) (some_owed stages.Forgetting c.parties) (nobody_told c) (release c more)
-
-pub settled : (c : Course) → is_settled c ≡ true → (pending_commits c ≡ []) × (pending_forgets c ≡ []) × AsksMore (outcome c) c
-settled c e = settled_by c (outcome c) refl e
-
-pub nothing_pending : (c : Course) → (pending_commits c ≡ []) × (pending_forgets c ≡ []) × AsksMore (outcome c) c → is_settled c ≡ true
-nothing_pending c p = pending_by c (outcome c) refl p.0 p.1 p.2

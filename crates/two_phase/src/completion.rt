@@ -1,4 +1,4 @@
-ghost use Rattle.std.specs.Prelude.{◌≡◌, ◌≢◌, ℕ, ◌^◌, ◌<◌, ◌≤◌, ◌++◌, ◌+◌, length, IsTrue, IsOk, IfOk, OnOk, OnErr, vec_len, vec_capacity};
+ghost use Rattle.std.specs.Prelude.{◌≡◌, ◌≢◌, ℕ, ◌^◌, ◌<◌, ◌≤◌, ◌++◌, ◌+◌, length, None, IsTrue, IsOk, IfOk, OnOk, OnErr, vec_len, vec_capacity};
 ghost use Rattle.std.specs.Option.{SomeIff};
 ghost use Rattle.ots_model.specs.Heard.{of_participant};
 ghost use Rattle.ots_model.specs.Limits.{registration_limit};
@@ -85,7 +85,7 @@ impl Completion {
         ensures started { self.new
             ≡ stages.started (participants top votes.now.ballots) asked first one_phase }
     {
-        self.set_out(votes, top, asked, first, one_phase, None);
+        self.begin_with(votes, top, asked, first, one_phase, None);
     }
 
     /// Begins with a rollback for a reason from outside, as that of a transaction that was never asked to commit: nobody is
@@ -106,11 +106,11 @@ impl Completion {
             ≡ stages.started_rollback (participants top votes.now.ballots) asked first one_phase reason }
     {
         let reason = is_outside(reason).then_some(reason);
-        self.set_out(votes, top, asked, first, one_phase, reason);
+        self.begin_with(votes, top, asked, first, one_phase, reason);
     }
 
     /// Begins; where there is a reason, by rolling back. It needs no memory.
-    fn set_out(
+    fn begin_with(
         &mut self,
         votes: &Votes,
         top: u32,
@@ -155,8 +155,8 @@ impl Completion {
         Ok(completion)
     }
 
-    /// The word that goes out next. There is none while one is out, while a decision is wanted or nobody knows whether it
-    /// stands, while forget waits for those that have not completed or for the superior, and at the end.
+    /// The word that goes out next. There is none before it starts, while one is out, while a decision is wanted or nobody
+    /// knows whether it stands, while forget waits for those that have not completed or for the superior, and at the end.
     pub fn next(&mut self) -> Option<Outward>
         ensures word { result ≡ stages.next_word self.old }
         ensures after { self.new ≡ stages.after_next self.old }
@@ -185,7 +185,8 @@ impl Completion {
         }
     }
 
-    /// Whether each participant has consented, one waits for the outcome, and the journal was not asked yet.
+    /// Whether the journal is to be asked for the decision record: each participant has consented, one waits for the outcome,
+    /// none decides alone, it wasn't rolled back from outside, and the journal was not asked yet.
     pub fn wants_decision(&self) -> bool
         ensures wanted { result ≡ stages.wants_decision self.now }
     {
@@ -317,8 +318,8 @@ impl Completion {
         }
     }
 
-    /// What was heard of the participants' updates so far, in list order: a heuristic exception of prepare, and each answer to
-    /// the word that tells the outcome.
+    /// What was heard of the participants' updates so far, in list order: a heuristic exception of the first word, and each
+    /// answer to the word that tells the outcome.
     pub fn dispositions(&self) -> Dispositions
         ensures dispositions { result ≡ stages.dispositions self.now }
     {
@@ -371,9 +372,11 @@ impl Completion {
 
     /// Whether all have completed, and each that raised a heuristic exception has answered forget plainly or by
     /// OBJECT_NOT_EXIST: the decision record may be named done. A forget that waits for the superior's is sent by the
-    /// caller and isn't heard of here, so where one does this stays false.
+    /// caller and isn't heard of here, so where one does this stays false. Where all is settled there is no word to send.
+    #[tactic(auto, using(crate::proofs::SettledSilent::settled_is_silent))]
     pub fn is_settled(&self) -> bool
         ensures settled { result ≡ stages.is_settled self.now }
+        ensures silent { IsTrue result → stages.next_word self.now ≡ None }
     {
         match &self.state {
             Standing::Waiting(_) => false,

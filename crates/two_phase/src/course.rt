@@ -432,23 +432,23 @@ impl Course {
         ensures { result ≡ course.voter self.now }
     {
         match self.out {
-            Some(errand) => self.voter_at(errand),
+            Some(errand) => self.voter_of(errand),
             None => None,
         }
     }
 
     /// The registration whose vote this word asks for.
-    fn voter_at(&self, errand: Errand) -> Option<u32>
+    fn voter_of(&self, errand: Errand) -> Option<u32>
         ensures { result ≡ course.voter_at self.now errand }
     {
         match errand.stage {
-            Stage::Asking => self.voter_among(errand.place),
+            Stage::Asking => self.voter_at(errand.place),
             Stage::Telling | Stage::Forgetting => None,
         }
     }
 
     /// The registration at this place, where each is asked for its vote.
-    fn voter_among(&self, place: usize) -> Option<u32>
+    fn voter_at(&self, place: usize) -> Option<u32>
         ensures { result ≡ course.voter_at self.now (record { stage = stages.Asking; place = place }) }
     {
         if self.decides_alone() {

@@ -3,7 +3,7 @@
 ghost use Rattle.two_phase.specs.LawsOfCourses.{TreeWordsGoRightly};
 ghost use Rattle.two_phase.specs.LawsOfOutcomes.{OutcomesHaveCauses};
 ghost use Rattle.two_phase.specs.LawsOfParticipants.{NoParticipantHearsTwice, ParticipantsHaveNumbers};
-ghost use Rattle.two_phase.specs.LawsOfSettling.{SettledIsNothingPending};
+ghost use Rattle.two_phase.specs.LawsOfSettling.{SettledIsNothingPending, SettledIsSilent, SettledIsThrough};
 ghost use Rattle.two_phase.specs.LawsOfSilence.{NoWordIsLeftOut};
 ghost use Rattle.two_phase.specs.LawsOfReached.{NoCommitAfterRollback, NoRollbackAfterCommit, NoWordTwice, TreeOutcomeStays};
 
@@ -22,10 +22,13 @@ pub fn no_tree_word_is_left_out()
     ensures { NoWordIsLeftOut }
 {}
 
-/// After a commit a completion of a tree is settled exactly where nobody is still to be told commit or forget. Where the outcome
-/// is another, each that was to be told it has completed then, and each that raised a heuristic exception has let it go.
-pub fn a_settled_one_has_nothing_pending()
-    ensures { SettledIsNothingPending }
+/// A completion of a tree is settled exactly where its outcome is fixed, each participant that is told it has completed, and
+/// each that raised a heuristic exception has let it go. After a commit that is exactly where nobody is still to be told commit
+/// or forget. A settled one has no word to send.
+pub fn a_settled_one_is_through()
+    ensures through { SettledIsThrough }
+    ensures pending { SettledIsNothingPending }
+    ensures silent { SettledIsSilent }
 {}
 
 /// In a completion of a tree an outcome that is fixed stays, whatever goes out, is answered, is recorded, or comes from

@@ -66,11 +66,14 @@ impl Tree {
     /// Takes memory for one more transaction, where there is none yet.
     pub fn reserve(&mut self) -> Result<(), AllocError>
         ensures ok { OnOk result (0 < self.new.room) }
+        ensures there { 0 < self.old.room → IsOk result }
         ensures same { self.new.rows ≡ self.old.rows }
         ensures room { self.old.room ≤ self.new.room }
     {
-        self.rows.reserve(1)?;
-        self.depths.reserve(1)?;
+        if self.is_packed() {
+            self.rows.reserve(1)?;
+            self.depths.reserve(1)?;
+        }
         Ok(())
     }
 
@@ -115,10 +118,7 @@ impl Tree {
         ensures same { self.new.rows ≡ self.old.rows }
         ensures room { self.old.room ≤ self.new.room }
     {
-        if self.is_packed() {
-            self.reserve().map_err(|_| TreeFault::Memory)?;
-        }
-        Ok(())
+        self.reserve().map_err(|_| TreeFault::Memory)
     }
 
     /// Whether there is memory for no further transaction.
