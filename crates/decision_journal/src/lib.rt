@@ -9,7 +9,7 @@ pub use laws::{
 };
 pub use record::{CellsEnd, JournalRecord, Put, Puts, Registration, Registrations};
 
-/// The value of an answer that is Ok; any other ends this function. As `?`, but that the fault stays as it is.
+/// The value of an answer that is Ok; any other ends this function, with its fault as it is. It is `?` without a conversion.
 macro_rules! ok {
     ($answer:expr) => {
         match $answer {

@@ -39,7 +39,7 @@ IsPlain (Aligned n) = Unit {0}
 abbrev pub ArePlain : List Value → Type 0
 ArePlain values = AllByRecursion IsPlain values
 
--- a writer has written values; there is none any more where it wanted memory
+-- a writer has written values; there is none any more where it wanted memory, or where it would have written too much
 abbrev pub IsPut : List Value → Option Writing → Option Writing → Type 0
 IsPut values old None = Unit {0}
 IsPut values None (Some w) = ⊥

@@ -45,8 +45,7 @@ pub fn frame(place: u64, header: Header, found: Content) -> Framed
     }
 }
 
-/// The whole message whose first part has this place and header, with this content, over which a walk has gone as far
-/// as it can.
+/// The whole message whose first part has this place and header, with this content, over which a walk has gone.
 pub fn finish_framed(
     alloc: Global,
     place: u64,
@@ -56,7 +55,6 @@ pub fn finish_framed(
 ) -> Result<Framed, FrameFault>
     requires short { length content.now ≤ size_limit }
     requires walked { IsWalked header content.now walk }
-    requires far { IsAsFar header content.now walk }
     ensures whole { Finds (λ framed. Some framed) result (whole_by place header content.now) }
     ensures memory { IfErr result (λ fault. fault ≡ FrameFault.Memory → IsOk (message_by header content.now)) }
 {

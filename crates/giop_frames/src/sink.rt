@@ -22,7 +22,7 @@ pub enum FieldValue<'a> {
 pub struct Sink {
     /// The offset behind the values.
     pub end: usize,
-    /// What writes them. There is none any more where it wanted memory.
+    /// What writes them. There is none any more where it wanted memory, or where it would have written too much.
     pub writer: Option<Writer>,
 }
 

@@ -15,13 +15,13 @@ pub enum CallFault {
     BadOperation,
     /// A value isn't spelled at this offset, is out of its range, or more is left than may be (MARSHAL).
     Marshal(u32),
-    /// A reference is nil where one is needed (BAD_PARAM).
+    /// A reference is nil where one is needed, or an answer to be written isn't one of the call's (BAD_PARAM).
     BadParam,
     /// A reply isn't an answer to the call.
     Garbled(u32),
     /// The target of the request isn't an object key.
     BadTarget,
-    /// The object key is none of this service's (OBJECT_NOT_EXIST).
+    /// The object key isn't of the form that this project's keys have (OBJECT_NOT_EXIST). One of another service is.
     BadKey,
     /// Memory ran out.
     Memory,

@@ -53,6 +53,38 @@ fn a_file_is_read_within_its_octets(rt: HostRuntime) -> io::Result<()> {
     fs::remove_file(&rt, "ots_file_reads")
 }
 
+/// A disk over a device whose syncs fail, or over a file of this name whose folder can't be synced.
+fn unsynced(rt: &HostRuntime, name: &str) -> io::Result<FileDisk> {
+    let device = "/dev/null";
+    let mut options = File::options();
+    options.read(true).write(true);
+    if name == device {
+        return Ok(FileDisk::new(options.open(rt, name)?, None));
+    }
+    options.create(true).truncate(true);
+    let folder = File::open(rt, device)?;
+    Ok(FileDisk::new(options.open(rt, name)?, Some(folder)))
+}
+
+#[test]
+fn a_file_that_cannot_be_synced_is_lost(rt: HostRuntime) -> io::Result<()> {
+    let mut disk = unsynced(&rt, "/dev/null")?;
+    assert!(rt; disk.write_at(0, b"abcd") == Ok(()));
+    assert!(rt; disk.sync() == Err(DiskRefusal::Failed));
+    assert!(rt; disk.len() == Err(DiskRefusal::Failed));
+    assert!(rt; disk.write_at(0, b"abcd") == Err(DiskRefusal::Failed));
+    assert!(rt; disk.faults() == 3);
+    Ok(())
+}
+
+#[test]
+fn a_folder_that_cannot_be_synced_is_a_fault(rt: HostRuntime) -> io::Result<()> {
+    let mut disk = unsynced(&rt, "ots_file_folder")?;
+    assert!(rt; disk.write_at(0, b"abcd") == Ok(()));
+    assert!(rt; disk.sync() == Err(DiskRefusal::Failed));
+    fs::remove_file(&rt, "ots_file_folder")
+}
+
 /// The next life of the journal in the file of this name.
 fn next_life(rt: &HostRuntime, name: &str, fresh: bool) -> io::Result<Journal<FileDisk>> {
     let disk = file_disk(rt, name, fresh)?;
@@ -90,4 +122,35 @@ fn a_file_keeps_a_journal(rt: HostRuntime) -> io::Result<()> {
     let journal = next_life(&rt, "ots_file_journal", false)?;
     assert!(rt; counts(&journal) == (3, 0, 0));
     fs::remove_file(&rt, "ots_file_journal")
+}
+
+fn reread(journal: &mut Journal<FileDisk>) -> Result<(), JournalFault> {
+    journal.reopen()
+}
+
+/// What a journal of one life tells that is read again once an octet of its file is another.
+fn changed(rt: &HostRuntime, place: u64, octet: u8) -> io::Result<Result<(), JournalFault>> {
+    let name = "ots_file_changed";
+    let mut journal = next_life(rt, name, true)?;
+    let mut disk = file_disk(rt, name, false)?;
+    if keep(&mut disk, place, &[octet]).is_err() {
+        return Err(ErrorKind::Other.into());
+    }
+    let answer = reread(&mut journal);
+    fs::remove_file(rt, name)?;
+    Ok(answer)
+}
+
+#[test]
+fn a_changed_journal_is_refused_at_its_place(rt: HostRuntime) -> io::Result<()> {
+    // The mark in front, and the number of the service.
+    assert!(rt; changed(&rt, 0, 88)? == Err(JournalFault::BadHeader(0)));
+    assert!(rt; changed(&rt, 15, 2)? == Err(JournalFault::BadHeader(15)));
+    // The number of the life is told at the gate of its record, and so is a record that is gone.
+    assert!(rt; changed(&rt, 25, 2)? == Err(JournalFault::BadRecord(16)));
+    assert!(rt; changed(&rt, 16, 0)? == Err(JournalFault::BadRecord(16)));
+    // The gate at the end may be anything but 1.
+    assert!(rt; changed(&rt, 26, 7)? == Ok(()));
+    assert!(rt; changed(&rt, 26, 1)? == Err(JournalFault::BadRecord(26)));
+    Ok(())
 }
