@@ -16,10 +16,10 @@ use Rattle.family_rules.specs.Asking.{Registers}
 use Rattle.coordinator.specs.Family.{Call}
 use Rattle.family_rules.specs.Calls.{all_seated}
 use Rattle.family_rules.specs.Room.{spare}
-use Rattle.family_rules.specs.StateInside.{AreFew, IsSound, shown}
+use Rattle.family_rules.specs.StateInside.{AreFew, AreOnce, IsSound, shown}
 use Rattle.family_rules.specs.declared.state.State.TheInside.{Inside}
 use Rattle.family_rules.proofs.Added.{all_stay, order_stays, places_stay}
-use Rattle.family_rules.proofs.Kept.{added_few}
+use Rattle.family_rules.proofs.Kept.{added_few, added_once, more_once}
 
 -- what the registrations answer
 abbrev pub Answers : Option VoteFault → ℕ → Ballots → Ballots → Ballots → Result ℕ VoteFault → Type 0
@@ -64,6 +64,7 @@ sound_same s v p is = subst (λ (x : Ballots). IsSound (record s { votes = recor
   synchronizations = p.synchronizations;
   order = p.order;
   lists = p.lists;
+  once = p.once;
   tasks = p.tasks;
   places = p.places;
 })
@@ -71,8 +72,9 @@ sound_same s v p is = subst (λ (x : Ballots). IsSound (record s { votes = recor
 -- one more registration
 one_more : (s : Inside) (v : VotesParts) (b : ℕ) (to : List ℕ) (aware : Bool) (lists : List (List ℕ)) → IsSound s
     → 0 < spare s.completion (length s.votes.ballots.registrations) → AreFew lists (length s.votes.ballots.registrations + 1)
+    → AreOnce lists (length s.votes.ballots.registrations + 1)
     → IsSound (record s { votes = record v { ballots = record (entered b to aware s.votes.ballots) { lists = lists } } })
-one_more s v b to aware lists p some few =
+one_more s v b to aware lists p some few once =
     let rs : List Registration = s.votes.ballots.registrations in
     let r : Registration = record { index = length rs + 1; branch = b; to = to; aware = aware } in
     let more = length-append rs (r ∷ []) in
@@ -83,6 +85,7 @@ one_more s v b to aware lists p some few =
       synchronizations = p.synchronizations;
       order = order_stays rs r refl p.order;
       lists = omega (arith, few, more);
+      once = subst (λ (n : ℕ). AreOnce lists n) (sym more) once;
       tasks = all_stay rs r s.seats.items p.tasks;
       places = places_stay s.completion rs r some;
     }
@@ -90,12 +93,13 @@ one_more s v b to aware lists p some few =
 pub sound_registered : (s : Inside) (v : VotesParts) (b : ℕ) (to : List ℕ) (aware : Bool) → IsSound s → 0 < spare s.completion (length s.votes.ballots.registrations)
     → v.ballots ≡ registered b to aware s.votes.ballots → IsSound (record s { votes = v })
 sound_registered s v b to aware p some is = subst (λ (x : Ballots). IsSound (record s { votes = record v { ballots = x } })) (sym is)
-    (one_more s v b to aware _ p some (added_few s.votes.ballots.lists b (length s.votes.ballots.registrations + 1) (length s.votes.ballots.registrations) p.lists))
+    (one_more s v b to aware _ p some (added_few s.votes.ballots.lists b (length s.votes.ballots.registrations + 1) (length s.votes.ballots.registrations) p.lists)
+    (added_once s.votes.ballots.lists b (length s.votes.ballots.registrations) p.once))
 
 pub sound_aware : (s : Inside) (v : VotesParts) (b : ℕ) (to : List ℕ) → IsSound s → 0 < spare s.completion (length s.votes.ballots.registrations)
     → v.ballots ≡ registered_aware b to s.votes.ballots → IsSound (record s { votes = v })
 sound_aware s v b to p some is = subst (λ (x : Ballots). IsSound (record s { votes = record v { ballots = x } })) (sym is)
-    (one_more s v b to true _ p some (let few = p.lists in omega (arith, few)))
+    (one_more s v b to true _ p some (let few = p.lists in omega (arith, few)) (more_once s.votes.ballots.lists (length s.votes.ballots.registrations) p.once))
 
 pub sound_sync : (s : Inside) (v : VotesParts) (b : ℕ) (to : List ℕ) → IsSound s → length s.votes.ballots.synchronizations < synchronization_limit
     → v.ballots ≡ registered_sync b to s.votes.ballots → IsSound (record s { votes = v })
@@ -109,6 +113,7 @@ sound_sync s v b to p fits is = subst (λ (x : Ballots). IsSound (record s { vot
       synchronizations = omega (arith, fits, more);
       order = p.order;
       lists = p.lists;
+      once = p.once;
       tasks = p.tasks;
       places = p.places;
     })

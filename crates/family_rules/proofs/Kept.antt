@@ -1,21 +1,25 @@
 -- What a state keeps stays so.
-use Rattle.std.proofs.Common.{◌≡◌, ◌≢◌, ap, sym, subst, ℕ, zero, suc, ◌+◌, ◌<◌, ◌≤◌, List, [], ◌∷◌, ◌++◌, length, get_or, Option, is_some, false, arith, length-append}
-use Rattle.std.specs.Prelude.{slice_set, sum_by, replicate}
-use Rattle.std.specs.List.{filter_map}
+use Rattle.std.proofs.Common.{◌≡◌, ◌≢◌, refl, ap, sym, subst, ℕ, zero, suc, ◌+◌, ◌<◌, ◌≤◌, Bool, true, if◌then◌else◌, List, [], ◌∷◌, ◌++◌, length, map, get_or, Option, Some, None, is_some, false, arith, length-append}
+use Rattle.std.specs.Prelude.{◌==◌, slice_set, sum_by, replicate}
+use Rattle.std.specs.List.{cons_option, filter_map}
+use Rattle.std.proofs.lemmas.Bool.Decides.{nat_tests}
 use Rattle.std.proofs.lemmas.Grind.{common_steps}
 use Rattle.std.proofs.lemmas.List.{get_or-set_other}
-use Rattle.std.proofs.lemmas.List.Sums.{sum_by-cons}
+use Rattle.std.proofs.lemmas.List.Sums.{sum_by-append, sum_by-cons}
 use Rattle.ots_model.specs.declared.completion.CallNumber.{CallNumber}
 use Rattle.ots_model.specs.declared.completion.Heard.{Heard}
 use Rattle.ots_model.specs.declared.completion.Stood.{Stood}
 use Rattle.resource_votes.specs.Ballots.{Ballots, numbered, participants}
+use Rattle.resource_votes.specs.History.{times}
 use Rattle.resource_votes.specs.Lists.{list_at, added_to, handed_lists}
 use Rattle.resource_votes.specs.declared.registration.Registration.{Registration}
+use Rattle.decision_journal.specs.declared.record.Registration.{Registration as Recorded}
 use Rattle.two_phase.specs.Stages as stages
 use Rattle.two_phase.specs.Stages.{Standing, Waiting, Going as UnderWay, HasRoom}
 use Rattle.family_rules.specs.declared.call.Seat.{Seat}
 use Rattle.family_rules.specs.Calls.{AreTasks, AllTasks}
-use Rattle.family_rules.specs.StateInside.{AreFew, HasPlaces}
+use Rattle.family_rules.specs.StateInside.{AreFew, AreInOrder, AreOnce, HasPlaces, share}
+use Rattle.family_rules.specs.Recording.{recorded}
 
 -- ---- what seats have left to tell
 
@@ -66,6 +70,85 @@ handed_few lists child parent count differ few =
 pub none_few : (n : ℕ) → AreFew (replicate {A = List ℕ} n []) 0
 none_few zero = omega arith
 none_few (suc n) = omega (arith, none_few n, cons_total [] (replicate n []))
+
+-- ---- each number is in one list at most
+
+cons_times : (i : ℕ) (x : List ℕ) (lists : List (List ℕ)) → sum_by (times i) (x ∷ lists) ≡ times i x + sum_by (times i) lists
+cons_times i x lists = sum_by-cons (times i) x lists
+
+pub within_times : (i : ℕ) (lists : List (List ℕ)) (b : ℕ) → times i (list_at lists b) ≤ sum_by (times i) lists
+within_times i [] b = omega arith
+within_times i (x ∷ lists) zero = omega (arith, cons_times i x lists)
+within_times i (x ∷ lists) (suc b) = omega (arith, cons_times i x lists, within_times i lists b)
+
+set_times : (i : ℕ) (lists : List (List ℕ)) (b : ℕ) (ys : List ℕ)
+    → sum_by (times i) (slice_set lists b ys) + times i (list_at lists b) ≤ sum_by (times i) lists + times i ys
+set_times i [] b ys = omega arith
+set_times i (x ∷ lists) zero ys = omega (arith, cons_times i x lists, cons_times i ys lists)
+set_times i (x ∷ lists) (suc b) ys = omega (arith, cons_times i x lists, cons_times i x (slice_set lists b ys), set_times i lists b ys)
+
+-- a number is among those behind it as often as in both parts
+cons_once : (i x : ℕ) (xs : List ℕ) → times i (x ∷ xs) ≡ (if x == i then 1 else 0) + times i xs
+cons_once i x xs = sum_by-cons (λ (n : ℕ). if n == i then 1 else 0) x xs
+
+times_append : (i : ℕ) (xs ys : List ℕ) → times i (xs ++ ys) ≡ times i xs + times i ys
+times_append i xs ys = sum_by-append (λ (n : ℕ). if n == i then 1 else 0) xs ys
+
+share_more : (count i : ℕ) → share count i ≤ share (count + 1) i
+share_more count i = grind (arith, nat_tests)
+
+-- the next number, and any other one
+share_next : (count i : ℕ) → (if count + 1 == i then 1 else 0) + share count i ≤ share (count + 1) i
+share_next count i = grind (arith, nat_tests)
+
+pub more_once : (lists : List (List ℕ)) (count : ℕ) → AreOnce lists count → AreOnce lists (count + 1)
+more_once lists count once = λ i. omega (arith, once i, share_more count i)
+
+pub added_once : (lists : List (List ℕ)) (b count : ℕ) → AreOnce lists count → AreOnce (added_to lists b (count + 1)) (count + 1)
+added_once lists b count once = λ i.
+    let n : ℕ = count + 1 in
+    let r = set_times i lists b (list_at lists b ++ n ∷ []) in
+    let k = times_append i (list_at lists b) (n ∷ []) in
+    let one = cons_once i n [] in
+    omega (arith, r, k, one, once i, share_next count i)
+
+pub handed_once : (lists : List (List ℕ)) (child parent count : ℕ) → child ≢ parent → AreOnce lists count → AreOnce (handed_lists lists child parent) count
+handed_once lists child parent count differ once = λ i.
+    let out = set_times i lists child [] in
+    let kept : list_at (slice_set lists child []) parent ≡ list_at lists parent = get_or-set_other lists child parent [] [] (λ e. differ (sym e)) in
+    let same : times i (list_at (slice_set lists child []) parent) ≡ times i (list_at lists parent) = ap (λ (xs : List ℕ). times i xs) kept in
+    let into = set_times i (slice_set lists child []) parent (list_at lists parent ++ list_at lists child) in
+    let k = times_append i (list_at lists parent) (list_at lists child) in
+    omega (arith, out, same, into, k, once i)
+
+pub none_once : (n : ℕ) → AreOnce (replicate {A = List ℕ} n []) 0
+none_once zero = λ i. omega arith
+none_once (suc n) = λ i. omega (arith, none_once n i, cons_times i [] (replicate n []))
+
+-- those that are found have the numbers by which they were looked for
+abbrev copied_numbers : List Registration → List ℕ
+copied_numbers rs = map (λ (r : Recorded). r.index) (map recorded rs)
+
+found_times : (rs : List Registration) → AreInOrder rs → (i : ℕ) (xs : List ℕ) → times i (copied_numbers (filter_map (numbered rs) xs)) ≤ times i xs
+found_times rs order i [] = omega arith
+found_times rs order i (x ∷ xs) = by_found (numbered rs x) refl (found_times rs order i xs)
+  where
+    rest : List ℕ
+    rest = copied_numbers (filter_map (numbered rs) xs)
+
+    by_found : (o : Option Registration) → numbered rs x ≡ o → times i (copied_numbers (filter_map (numbered rs) xs)) ≤ times i xs
+        → times i (copied_numbers (cons_option o (filter_map (numbered rs) xs))) ≤ times i (x ∷ xs)
+    by_found None is more = omega (arith, more, cons_once i x xs)
+    by_found (Some r) is more =
+        let one : times i (r.index ∷ rest) ≡ times i (x ∷ rest) = ap (λ (n : ℕ). times i (n ∷ rest)) (order x r is) in
+        omega (arith, one, cons_once i x rest, cons_once i x xs, more)
+
+share_one : (count i : ℕ) → share count i ≤ 1
+share_one count i = grind (arith, nat_tests)
+
+pub each_once : (b : Ballots) → AreInOrder b.registrations → AreOnce b.lists (length b.registrations) → (i : ℕ) → times i (copied_numbers (participants 0 b)) ≤ 1
+each_once b order once i =
+    omega (arith, found_times b.registrations order i (list_at b.lists 0), within_times i b.lists 0, once i, share_one (length b.registrations) i)
 
 -- ---- room for all who take part
 

@@ -5,3 +5,4 @@ pub mod DraftInside
 pub mod Going
 pub mod StateInside
 pub mod Asking
+pub mod Recording

@@ -1,5 +1,6 @@
-use Rattle.std.specs.Prelude.{◌≡◌, ℕ, ◌+◌, ◌-◌, ◌≤◌, List, length, min, sum_by, Some, vec_len, vec_capacity}
+use Rattle.std.specs.Prelude.{◌≡◌, ℕ, ◌+◌, ◌-◌, ◌≤◌, List, length, min, nat_le, sum_by, Some, vec_len, vec_capacity, if◌then◌else◌}
 use Rattle.resource_votes.specs.Ballots.{numbered}
+use Rattle.resource_votes.specs.History.{times}
 use Rattle.resource_votes.specs.Limits.{synchronization_limit}
 use Rattle.resource_votes.specs.declared.registration.Registration.{Registration}
 use Rattle.two_phase.specs.Stages.{Standing, Waiting, Going as UnderWay}
@@ -41,14 +42,21 @@ AreInOrder registrations = (n : ℕ) (r : Registration) → numbered registratio
 abbrev pub AreFew : List (List ℕ) → ℕ → Type 0
 AreFew lists count = sum_by (λ (xs : List ℕ). length xs) lists ≤ count
 
+-- each number up to a count is in one of the lists at most, and once; no greater one is
+abbrev pub share : ℕ → ℕ → ℕ
+share count i = if nat_le i count then 1 else 0
+
+abbrev pub AreOnce : List (List ℕ) → ℕ → Type 0
+AreOnce lists count = (i : ℕ) → sum_by (times i) lists ≤ share count i
+
 -- a completion that hasn't started has room for so many participants
 abbrev pub HasPlaces : Standing → ℕ → Type 0
 HasPlaces (Waiting room) count = count ≤ room
 HasPlaces (UnderWay c) count = Unit {0}
 
 -- the history and the synchronizations keep to their limits; each entry has sent one word at most, and so has the step that
--- goes on; each transaction has a seat, and what it has left to tell is of registrations that there are; and all who are
--- registered can take part
+-- goes on; each transaction has a seat, and what it has left to tell is of registrations that there are; each registration is in
+-- one list at most; and all who are registered can take part
 pub record IsSound (s : Inside) : Type 0 where
   pub few : vec_len s.entries ≤ history_limit
   pub serial : s.serial ≤ vec_len s.entries + 1
@@ -56,5 +64,6 @@ pub record IsSound (s : Inside) : Type 0 where
   pub synchronizations : length s.votes.ballots.synchronizations ≤ synchronization_limit
   pub order : AreInOrder s.votes.ballots.registrations
   pub lists : AreFew s.votes.ballots.lists (length s.votes.ballots.registrations)
+  pub once : AreOnce s.votes.ballots.lists (length s.votes.ballots.registrations)
   pub tasks : AllTasks s.votes.ballots.registrations s.seats.items
   pub places : HasPlaces s.completion (length s.votes.ballots.registrations)

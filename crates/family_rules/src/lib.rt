@@ -12,6 +12,8 @@ mod draft;
 mod hearing;
 mod motion;
 mod names;
+mod recording;
+mod registered;
 mod running;
 mod state;
 mod tasks;

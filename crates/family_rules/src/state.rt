@@ -57,7 +57,7 @@ impl Model for State {
 
 impl State {
     /// The top-level transaction of a root alone.
-    #[tactic(auto, using(crate::proofs::Kept::none_few), unfolding(crate::specs::Calls::all_seated))]
+    #[tactic(auto, using(crate::proofs::Kept::none_few, crate::proofs::Kept::none_once), unfolding(crate::specs::Calls::all_seated))]
     pub fn new(alloc: Global, key: ObjectKey, deadline: Option<u64>) -> Result<State, AllocError>
         ensures made { IfOk result (λ s. s.family ≡ new_family key deadline) }
     {

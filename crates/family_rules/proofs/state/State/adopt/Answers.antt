@@ -3,7 +3,7 @@ use Rattle.std.proofs.lemmas.List.{length-set}
 use Rattle.txn_tree.specs.Calls.{ended}
 use Rattle.txn_tree.specs.Rows.{IsParent, parent}
 use Rattle.family_rules.specs.Room.{StateParts}
-use Rattle.family_rules.proofs.Kept.{handed_few}
+use Rattle.family_rules.proofs.Kept.{handed_few, handed_once}
 use Rattle.family_rules.proofs.state.State.adopt.Goals as goal
 
 pub invariant_of-self : goal.invariant_of-self
@@ -26,6 +26,7 @@ invariant_of-self c =
       synchronizations = c.self.invariant.synchronizations;
       order = c.self.invariant.order;
       lists = handed_few ballots.lists b above (length ballots.registrations) differ c.self.invariant.lists;
+      once = handed_once ballots.lists b above (length ballots.registrations) differ c.self.invariant.once;
       tasks = c.self.invariant.tasks;
       places = c.self.invariant.places;
     })

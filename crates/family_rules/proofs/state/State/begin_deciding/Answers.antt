@@ -23,6 +23,7 @@ invariant_of-self c =
       synchronizations = c.self.invariant.synchronizations;
       order = c.self.invariant.order;
       lists = c.self.invariant.lists;
+      once = c.self.invariant.once;
       tasks = tasks_set rs seats b c.set_deciding.new.seat c.self.invariant.tasks (subst (λ (x : Seat). AreTasks rs x.left.items) (sym c.set_deciding.ensures) all);
       places = c.self.invariant.places;
     }

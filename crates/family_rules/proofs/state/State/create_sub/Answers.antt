@@ -26,6 +26,7 @@ invariant_of-self c =
       synchronizations = c.self.invariant.synchronizations;
       order = c.self.invariant.order;
       lists = c.self.invariant.lists;
+      once = c.self.invariant.once;
       tasks = subst (λ (xs : List Seat). AllTasks s.votes.ballots.registrations xs) (sym c.push_reserved.ensures.items)
           (tasks_more s.votes.ballots.registrations s.seats.items _ c.new.ensures.items c.self.invariant.tasks);
       places = c.self.invariant.places;

@@ -27,6 +27,7 @@ invariant_of-self c =
       synchronizations = c.self.invariant.synchronizations;
       order = c.self.invariant.order;
       lists = c.self.invariant.lists;
+      once = c.self.invariant.once;
       tasks = tasks_set rs seats c.args.branch _ c.self.invariant.tasks all;
       places = c.self.invariant.places;
     }

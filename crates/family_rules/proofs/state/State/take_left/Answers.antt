@@ -28,6 +28,7 @@ invariant_of-self c =
       synchronizations = c.self.invariant.synchronizations;
       order = c.self.invariant.order;
       lists = c.self.invariant.lists;
+      once = c.self.invariant.once;
       tasks = tasks_set rs seats b c.take_task.new.seat c.self.invariant.tasks (still_tasks rs s c.take_task.new.seat.left.items c.take_task.ensures.left all);
       places = c.self.invariant.places;
     }

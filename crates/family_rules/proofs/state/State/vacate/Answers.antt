@@ -46,6 +46,7 @@ invariant_of-self c =
       synchronizations = c.self.invariant.synchronizations;
       order = c.self.invariant.order;
       lists = c.self.invariant.lists;
+      once = c.self.invariant.once;
       tasks = tasks_set rs seats b c.vacate.new.seat c.self.invariant.tasks (tasks_left_below rs s c.vacate.new.seat.left.items c.vacate.ensures.left all);
       places = c.self.invariant.places;
     }

@@ -1,0 +1,32 @@
+// Who is registered with a family.
+ghost use Rattle.std.specs.Prelude.{◌≡◌, ◌<◌};
+ghost use Rattle.std.specs.Option.{option_copied};
+ghost use Rattle.resource_votes.specs.Ballots as ballots;
+ghost use Rattle.resource_votes.specs.Limits.{list_count};
+
+use crate::state::State;
+use resource_votes::{Registration, Walk};
+
+impl State {
+    /// The registration with this number.
+    pub fn registration(&self, number: u32) -> Option<&Registration>
+        ensures { option_copied result ≡ ballots.numbered (self.now.family).ballots.registrations number }
+    {
+        self.votes.registration(number)
+    }
+
+    /// The synchronization with this number.
+    pub fn synchronization(&self, number: u32) -> Option<&Registration>
+        ensures { option_copied result ≡ ballots.numbered (self.now.family).ballots.synchronizations number }
+    {
+        self.votes.sync(number)
+    }
+
+    /// Whom a transaction asks, in the order in which it asks them.
+    pub fn participants(&self, branch: u32) -> Walk<'_>
+        requires there { branch < list_count }
+        ensures { result ≡ ballots.participants branch (self.now.family).ballots }
+    {
+        self.votes.participants(branch)
+    }
+}
