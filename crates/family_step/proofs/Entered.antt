@@ -1,5 +1,5 @@
 -- A step that makes an entry, part by part.
-use Rattle.std.proofs.Common.{◌≡◌, ◌∙◌, ◌<◌, ◌||◌, refl, ap, ℕ, Bool, true, false, not, is_some, List, [], ◌∷◌, ◌++◌, length, Option, Some, None, arith, if◌then◌else◌}
+use Rattle.std.proofs.Common.{◌≡◌, ◌∙◌, ◌<◌, ◌||◌, refl, ap, sym, ℕ, Bool, true, false, not, is_some, List, [], ◌∷◌, ◌++◌, length, Option, Some, None, arith, if◌then◌else◌}
 use Rattle.std.specs.Prelude.{nat_le}
 use Rattle.std.proofs.lemmas.Bool.Decides.{nat_tests}
 use Rattle.ots_model.specs.declared.completion.Stood.{Stood}
@@ -9,7 +9,7 @@ use Rattle.coordinator.specs.History.{has_room, is_full, is_own_act, kept_for}
 use Rattle.coordinator.specs.Limits.{call_limit, history_limit}
 use Rattle.coordinator.specs.Moves.{Moved, after}
 use Rattle.coordinator.specs.NodeCalls.{answer_of}
-use Rattle.coordinator.specs.Step.{entered, entry_of, said_later, said_now}
+use Rattle.coordinator.specs.Step.{Stepped, entered, entry_of, said_later, said_now}
 use Rattle.coordinator.specs.Table.{Acted}
 use Rattle.coordinator.specs.declared.effect.Effect.{Effect}
 use Rattle.coordinator.specs.declared.event.Event.{Event}
@@ -18,6 +18,7 @@ use Rattle.coordinator.specs.declared.said.Finished.{Finished}
 use Rattle.coordinator.specs.declared.said.Said.{Said}
 use Rattle.coordinator.specs.declared.said.StepAnswer.{StepAnswer}
 use Rattle.family_rules.specs.Changes.{Changes, DraftParts, nothing_yet, so_far}
+use Rattle.family_step.specs.Acting.{brings}
 
 -- a draft that had nothing has what the rule brought
 pub all_of : (f g : Family) (d k : DraftParts) (m : Moved) → d.changes ≡ (nothing_yet 0 0).changes → so_far g k ≡ after (so_far f d) m → so_far g k ≡ m
@@ -65,6 +66,42 @@ pub entered_words : (f : Family) (e : Event) (stood : Option Stood) (a : Acted) 
     → now ≡ before ++ (entered f e stood a).words
 unfolding entered
 entered_words f e stood a before now words is made = made ∙ ap (λ (ws : List Outward). before ++ ws) is
+
+-- a step tells the history of before, and what it has brought
+entered_at : List Entry → Event → Option Stood → Acted → Stepped
+entered_at entries e stood a =
+    let position : ℕ = length entries in
+    let answer : Said = said_now position a.moved.finished a.said in
+    let others : List Finished = said_later position a.moved.finished in
+    record {
+      family = record a.moved.family { entries = entries ++ entry_of e stood answer others ∷ [] };
+      said = answer;
+      words = a.moved.words;
+      finished = others;
+      effects = a.moved.effects;
+    }
+
+entered_is : (f : Family) (e : Event) (stood : Option Stood) (a : Acted) → entered f e stood a ≡ entered_at f.entries e stood a
+unfolding entered entered_at
+entered_is f e stood a = refl
+
+pub brought_is : (g : Family) (d : DraftParts) (answer : Said) (a : Acted) → so_far g d ≡ a.moved → answer ≡ a.said → brings g d answer ≡ a
+brought_is g d answer a all says =
+    ap (λ (m : Moved). record { moved = m; said = answer }) all ∙ ap (λ (x : Said). record { moved = a.moved; said = x }) says
+
+pub entered_same : (f g : Family) (e : Event) (stood : Option Stood) (d : DraftParts) (answer : Said) (a : Acted) → so_far g d ≡ a.moved → answer ≡ a.said → g.entries ≡ f.entries
+    → entered g e stood (brings g d answer) ≡ entered f e stood a
+entered_same f g e stood d answer a all says same =
+    entered_is g e stood (brings g d answer)
+    ∙ (ap (λ (x : Acted). entered_at g.entries e stood x) (brought_is g d answer a all says)
+    ∙ (ap (λ (xs : List Entry). entered_at xs e stood a) same ∙ sym (entered_is f e stood a)))
+
+pub answer_same : (f g : Family) (e : Event) (stood : Option Stood) (d : DraftParts) (answer : Said) (a : Acted) → so_far g d ≡ a.moved → answer ≡ a.said → g.entries ≡ f.entries
+    → answer_of g (entered g e stood (brings g d answer)) ≡ answer_of f (entered f e stood a)
+answer_same f g e stood d answer a all says same =
+    let s : Stepped = entered g e stood (brings g d answer) in
+    ap (λ (xs : List Entry). record { position = length xs; said = s.said; finished = s.finished; effects = s.effects }) same
+    ∙ ap (λ (x : Stepped). answer_of f x) (entered_same f g e stood d answer a all says same)
 
 -- ---- the history has room
 

@@ -4,3 +4,8 @@ mod Answered
 mod Registered
 mod Counted
 mod Entered
+mod Voters
+mod Parties
+mod Heard
+mod Recorded
+mod Naming

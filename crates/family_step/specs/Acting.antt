@@ -10,6 +10,7 @@ use Rattle.coordinator.specs.declared.event.Act.{Act}
 use Rattle.coordinator.specs.declared.event.Act.TheVariants as acts
 use Rattle.coordinator.specs.declared.said.Said.{Said}
 use Rattle.coordinator.specs.declared.said.Said.TheVariants as said
+use Rattle.family_rules.specs.Changes.{DraftParts, so_far}
 
 -- a call has been carried out of which nothing comes but its answer
 abbrev pub ActsAlone : Family → (Family → Acted) → Family → Said → Type 0
@@ -65,3 +66,7 @@ name_in _ b f = None
 abbrev pub name_of_said : Said → Option (List ℕ)
 name_of_said (said.Name octets) = Some octets
 name_of_said _ = None
+
+-- what a step has brought, and what is said at once
+abbrev pub brings : Family → DraftParts → Said → Acted
+brings f d answer = record { moved = so_far f d; said = answer }

@@ -1,3 +1,4 @@
 pub mod Acting
 pub mod Reserving
 pub mod FamilyInside
+pub mod Asking

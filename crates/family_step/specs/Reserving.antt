@@ -1,5 +1,7 @@
 -- What is made ready for the step of an event.
 use Rattle.std.specs.Prelude.{◌≡◌, ℕ, ◌+◌, ◌<◌, true, List, length, Option, Some, None}
+use Rattle.std.specs.Option.{option_map}
+use Rattle.std.specs.Vec.{vec_items}
 use Rattle.coordinator.specs.Family.{Family}
 use Rattle.coordinator.specs.History.{has_room, kept_for}
 use Rattle.coordinator.specs.declared.event.Event.{Event}
@@ -8,6 +10,7 @@ use Rattle.family_rules.specs.Changes.{nothing_yet}
 use Rattle.family_rules.specs.Going.{CanGo}
 use Rattle.family_rules.specs.Room.{StateParts}
 use Rattle.family_step.specs.Acting.{name_in, name_of_said, reference_in}
+use Rattle.family_step.specs.Asking.{AreReady}
 use Rattle.family_step.specs.declared.ready.Ready.{Ready}
 
 -- the name that is said in the step of an event, where one is
@@ -24,6 +27,7 @@ pub record IsReadyFor (e : Event) (f : Family) (r : Ready) : Type 0 where
   pub to : r.to ≡ reference_in e.act
   pub name : r.name ≡ name_said e f
   pub name_again : r.name_again ≡ name_said e f
+  pub named : AreReady (option_map vec_items r.named) e f
   pub nothing : r.draft.changes ≡ (nothing_yet 0 0).changes
   pub can : CanGo (length f.rows + 8) f r.draft
 

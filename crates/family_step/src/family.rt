@@ -6,15 +6,23 @@ ghost use Rattle.coordinator.specs.Names as names;
 ghost use Rattle.coordinator.specs.NodeCalls.{answer_of};
 ghost use Rattle.coordinator.specs.Phases as phases;
 ghost use Rattle.coordinator.specs.Step as steps;
+ghost use Rattle.resource_votes.specs.Ballots as ballots;
+ghost use Rattle.resource_votes.specs.Limits.{list_count};
 ghost use Rattle.two_phase.specs.Stages as stages;
+ghost use Rattle.family_step.specs.Asking.{HasStepped, is_reread};
 
+use crate::asking::step_asking;
 use crate::ready::Ready;
 use crate::step::{is_silent, step};
 use coordinator::{Entry, Event, Phase, Said, StepAnswer};
+use decision_journal::Journal;
+use family_laws::{families_number_words, families_stay_sound};
 use family_rules::State;
 use ior_refs::ObjectKey;
 use ots_model::{Octets, RetryKey, Status, Stood};
+use ots_outside::Disk;
 use recovery_coord::Outbox;
+use resource_votes::{Registration, Walk};
 use std::alloc::{AllocError, Global};
 use std::marker::Model;
 
@@ -53,6 +61,7 @@ impl Family {
     pub fn new(alloc: Global, key: ObjectKey, deadline: Option<u64>) -> Result<Family, AllocError>
         ensures made { IfOk result (λ f. f ≡ record { family = new_family key deadline; ready = None }) }
     {
+        families_stay_sound();
         Ok(Family {
             state: State::new(alloc, key, deadline)?,
             ready: None,
@@ -166,6 +175,28 @@ impl Family {
         is_silent(&self.state, event)
     }
 
+    /// The registration with this number.
+    pub fn registration(&self, number: u32) -> Option<&Registration>
+        ensures { option_copied result ≡ ballots.numbered (self.now.family).ballots.registrations number }
+    {
+        self.state.registration(number)
+    }
+
+    /// The synchronization with this number.
+    pub fn synchronization(&self, number: u32) -> Option<&Registration>
+        ensures { option_copied result ≡ ballots.numbered (self.now.family).ballots.synchronizations number }
+    {
+        self.state.synchronization(number)
+    }
+
+    /// Whom a transaction asks, in the order in which it asks them.
+    pub fn participants(&self, branch: u32) -> Walk<'_>
+        requires there { branch < list_count }
+        ensures { result ≡ ballots.participants branch (self.now.family).ballots }
+    {
+        self.state.participants(branch)
+    }
+
     /// What has happened, in order.
     pub fn entries(&self) -> &[Entry]
         ensures entries { result.now ≡ (self.now.family).entries }
@@ -257,7 +288,31 @@ impl Family {
         ensures words { IfSome self.old.ready (λ e. out.new.words
             ≡ out.old.words ++ (steps.family_step self.old.family e stood).words) }
     {
+        families_stay_sound();
         let ready = self.ready.take().unwrap();
         step(&mut self.state, ready, stood, out)
+    }
+
+    /// The step of an event for which memory was taken, which asks the journal for what is wanted in it. It takes no memory. The
+    /// journal is read again by other calls, which tell the family so.
+    pub fn step<D: Disk>(
+        &mut self,
+        journal: &mut Journal<D>,
+        event: &Event,
+        out: &mut Outbox,
+    ) -> StepAnswer
+        requires reserved { self.old.ready ≡ Some event.now }
+        requires given { is_reread (event.now).act ≡ false }
+        requires room { 0 < out.old.room }
+        ensures stepped { HasStepped D.told D.faults self.old.family event.entry.now journal.old journal.new
+            (self.new).family result out.old.words out.new.words }
+        ensures ready { (self.new).ready ≡ None }
+        ensures key { ((self.new).family).key ≡ (self.old.family).key }
+    {
+        families_stay_sound();
+        families_number_words();
+        let _ = event;
+        let ready = self.ready.take().unwrap();
+        step_asking(&mut self.state, ready, journal, out)
     }
 }

@@ -4,6 +4,7 @@
 pub use family::{Family, FamilyFault};
 
 mod acting;
+mod asking;
 mod family;
 mod ready;
 mod registering;

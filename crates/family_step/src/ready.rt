@@ -1,25 +1,29 @@
 // What is made ready for a step, so that it takes no memory.
 ghost use Rattle.std.specs.Prelude.{◌≡◌, ◌+◌, ◌≤◌, length, IfOk};
-ghost use Rattle.std.specs.Option.{option_copied};
+ghost use Rattle.std.specs.Option.{option_copied, option_map};
+ghost use Rattle.std.specs.Vec.{vec_items};
 ghost use Rattle.coordinator.specs.History as history;
 ghost use Rattle.family_rules.specs.Changes.{nothing_yet};
 ghost use Rattle.family_rules.specs.Going.{CanGo};
 ghost use Rattle.family_step.specs.Acting.{name_in, name_of_said, reference_in};
+ghost use Rattle.family_step.specs.Asking.{AreReady, may_decide, may_name};
 ghost use Rattle.family_step.specs.Reserving.{name_said};
 
 use coordinator::{Act, Event, Said, copy_event};
+use decision_journal::Registration;
 use family_rules::{Draft, State};
 use ots_model::{Octets, RefBytes};
 use std::alloc::{AllocError, Global};
 
 /// What was made ready for the step of an event: a copy of it, the reference that it registers, the name that is said, once
-/// for the caller and once for the history, and the memory for all else.
+/// for the caller and once for the history, whom a decision record of it may name, and the memory for all else.
 #[derive(Drop)]
 pub(crate) struct Ready {
     pub event: Event,
     pub to: Option<RefBytes>,
     pub name: Option<Octets>,
     pub name_again: Option<Octets>,
+    pub named: Option<Vec<Registration>>,
     pub draft: Draft,
 }
 
@@ -36,6 +40,7 @@ impl Ready {
             to: reference_of(alloc, &event.act)?,
             name: name_of(alloc, state, event)?,
             name_again: name_of(alloc, state, event)?,
+            named: named_by(alloc, state, event)?,
             draft: draft_of(alloc, state)?,
         })
     }
@@ -95,6 +100,30 @@ fn name_asked(alloc: Global, state: &State, event: &Event) -> Result<Option<Octe
     match &event.act {
         Act::GetTransactionName => Ok(Some(state.name_of(alloc, event.branch)?)),
         _ => Ok(None),
+    }
+}
+
+/// Copies of the registrations that a decision record of this step may name, where a decision may be wanted.
+fn named_by(
+    alloc: Global,
+    state: &State,
+    event: &Event,
+) -> Result<Option<Vec<Registration>>, AllocError>
+    ensures { IfOk result (λ named. AreReady (option_map vec_items named) event.entry.now state.now.family) }
+{
+    if !may_decide(state, event) {
+        return Ok(None);
+    }
+    Ok(Some(state.copy_participants(alloc)?))
+}
+
+/// Whether a decision may be wanted after this event.
+fn may_decide(state: &State, event: &Event) -> bool
+    ensures { result ≡ may_decide event.entry.now state.now.family }
+{
+    match &event.act {
+        Act::Answer(number, _) => state.waiting_for(number).is_some() && state.is_undecided(),
+        _ => false,
     }
 }
 

@@ -2,10 +2,11 @@
 ghost use Rattle.std.specs.Prelude.{◌≡◌, ◌<◌, ◌≤◌, ◌++◌, [], length, Some, None, true, is_some, IfSome};
 ghost use Rattle.std.specs.Option.{option_to_list};
 ghost use Rattle.coordinator.specs.History as history;
+ghost use Rattle.coordinator.specs.Limits.{history_limit};
 ghost use Rattle.coordinator.specs.NodeCalls.{answer_of};
 ghost use Rattle.coordinator.specs.Step as steps;
-ghost use Rattle.family_rules.specs.Changes.{nothing_yet};
-ghost use Rattle.family_step.specs.Acting.{name_of_said};
+ghost use Rattle.family_rules.specs.Changes.{IsReplied, nothing_yet};
+ghost use Rattle.family_step.specs.Acting.{brings, name_of_said};
 ghost use Rattle.family_step.specs.Reserving.{IsReadyFor, IsStocked};
 
 use crate::acting::{Given, act};
@@ -132,22 +133,45 @@ fn carry_out(
         (steps.acted ready.event stood state.old.family)).words }
     ensures serial { (state.new.family).serial ≤ length (state.new.family).entries }
 {
-    let Ready {
-        event,
-        to,
-        name,
-        name_again,
-        mut draft,
-    } = ready;
-    let mut given = Given { to, name };
-    let said = act(state, &event, stood, &mut given, &mut draft);
+    let mut ready = ready;
+    let mut given = Given {
+        to: ready.to.take(),
+        name: ready.name.take(),
+    };
+    let said = act(state, &ready.event, stood, &mut given, &mut ready.draft);
     drop(given);
-    let said = draft.said_now(position, said);
-    let said_again = again(&said, name_again);
-    let brought = draft.brought(position);
+    conclude(state, position, ready, stood, said, out)
+}
+
+/// A step has brought all, and makes its entry, where this is what the journal answered in it and what is said unless its call
+/// has ended.
+pub(crate) fn conclude(
+    state: &mut State,
+    position: u32,
+    ready: Ready,
+    stood: Option<Stood>,
+    said: Said,
+    out: &mut Outbox,
+) -> StepAnswer
+    requires position { position ≡ length (state.old.family).entries }
+    requires few { length (state.old.family).entries < history_limit }
+    requires history { 0 < state.old.history_room }
+    requires room { 0 < out.old.room }
+    requires name { (y : Said) → IsReplied said y → IfSome (name_of_said y) (λ octets. ready.name_again ≡ Some octets) }
+    ensures family { state.new.family ≡ (steps.entered state.old.family ready.event stood
+        (brings state.old.family ready.draft said)).family }
+    ensures answer { result ≡ answer_of state.old.family (steps.entered state.old.family ready.event stood
+        (brings state.old.family ready.draft said)) }
+    ensures words { out.new.words ≡ out.old.words ++ (steps.entered state.old.family ready.event stood
+        (brings state.old.family ready.draft said)).words }
+    ensures serial { (state.new.family).serial ≤ length (state.new.family).entries }
+{
+    let said = ready.draft.said_now(position, said);
+    let said_again = again(&said, ready.name_again);
+    let brought = ready.draft.brought(position);
     put_word(brought.word, out);
     state.enter(Entry {
-        event,
+        event: ready.event,
         stood,
         said: said_again,
         finished: brought.kept,

@@ -1,0 +1,35 @@
+use Rattle.std.proofs.Common.{◌≡◌, ◌∙◌, inl, inr, ℕ, List, refl, sym, ap, subst}
+use Rattle.decision_journal.specs.Calls.{HasAppended, IsRefusedAppend}
+use Rattle.decision_journal.specs.Layout.{FitsRegistrations}
+use Rattle.decision_journal.specs.declared.record.JournalRecord.{JournalRecord}
+use Rattle.decision_journal.specs.declared.record.Registration.{Registration}
+use Rattle.family_step.specs.Asking as asking
+use Rattle.family_step.proofs.Recorded.{decided_by, fits_filtered}
+use Rattle.family_step.proofs.asking.ask_decision.Goals as goal
+
+pub decision-item-requires : goal.decision-item-requires
+decision-item-requires g c = record {
+  fits = subst (λ (rs : List Registration). FitsRegistrations rs) (sym c.keep_named.ensures) (fits_filtered _ c.args.named.items c.requires.voters.fits);
+}
+
+pub returns-in-Ok : goal.returns-in-Ok
+returns-in-Ok g c =
+    let is = c.decision-item.ensures.record ∙ decided_by c.args.state.now.family _ (c.keep_named.ensures ∙ c.requires.voters.voters) in
+    inl (record {
+      place = c.in-Ok.place;
+      appended = subst (λ (r : JournalRecord). HasAppended g.D.Disk.told c.args.journal.now r c.append.new.self c.in-Ok.place) is c.in-Ok.ensures.more;
+      stood_is = refl;
+    })
+
+pub returns-in-Err : goal.returns-in-Err
+returns-in-Err g c =
+    let is = c.decision-item.ensures.record ∙ decided_by c.args.state.now.family _ (c.keep_named.ensures ∙ c.requires.voters.voters) in
+    let counts = g.D.Disk.faults in
+    inr (record {
+      fault = c.in-Err.fault;
+      left = subst (λ (r : JournalRecord). IsRefusedAppend g.D.Disk.told c.args.journal.now r c.append.new.self c.in-Err.fault) is c.in-Err.ensures.refused;
+      stood_is =
+          c.stood_by.ensures
+          ∙ ap (λ (n : ℕ). asking.stood_by c.in-Err.fault n c.fault_count.result) (c.fault_count-before.ensures ∙ ap counts c.disk.ensures.disk)
+          ∙ ap (λ (n : ℕ). asking.stood_by c.in-Err.fault (counts c.args.journal.now.disk) n) (c.fault_count.ensures ∙ ap counts c.disk-in-Err.ensures.disk);
+    })
