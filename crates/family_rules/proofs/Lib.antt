@@ -6,7 +6,6 @@ mod Closes
 mod Rested
 mod Marks
 mod Heard
-mod Settled
 mod AtSeat
 mod Posted
 mod RunsOn

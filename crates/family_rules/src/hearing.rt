@@ -260,7 +260,7 @@ impl State {
     }
 
     /// Whether the decision record is to be named done. A completion that is settled has no word to send.
-    #[tactic(auto, using(crate::proofs::Unroomed::unroomed_record_place, crate::proofs::Unroomed::unroomed_next_word, crate::proofs::Unroomed::unroomed_is_settled, crate::proofs::Settled::settled_is_silent), unfolding(coordinator::specs::Hearing::wants_done))]
+    #[tactic(auto, using(crate::proofs::Unroomed::unroomed_record_place, crate::proofs::Unroomed::unroomed_next_word, crate::proofs::Unroomed::unroomed_is_settled), unfolding(coordinator::specs::Hearing::wants_done))]
     pub fn wants_done(&self) -> bool
         ensures { result ≡ hearing.wants_done self.now.family }
     {
