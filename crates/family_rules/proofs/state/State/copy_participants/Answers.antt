@@ -14,6 +14,6 @@ where_ok (Err e) f p = tt
 pub returns-clause-once : goal.returns-clause-once
 returns-clause-once c =
     where_ok c.copy_all.result (λ copies same i.
-      subst (λ (xs : List Recorded). times i (map (λ (x : Recorded). x.index) xs) ≤ 1)
-      (sym (same ∙ ap (λ (rs : List Registration). map recorded rs) c.participants.ensures.participants))
-      (each_once c.self.inside.votes.ballots c.self.invariant.order c.self.invariant.once i)) c.copy_all.ensures.copies
+    subst (λ (xs : List Recorded). times i (map (λ (x : Recorded). x.index) xs) ≤ 1)
+    (sym (same ∙ ap (λ (rs : List Registration). map recorded rs) c.participants.ensures.participants))
+    (each_once c.self.inside.votes.ballots c.self.invariant.order c.self.invariant.once i)) c.copy_all.ensures.copies
