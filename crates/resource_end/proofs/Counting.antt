@@ -43,7 +43,7 @@ ended_same : (how : CellsEnd) (o : Option Resource) (e : End) → IsSameLife e (
 ended_same how None e = itself e
 ended_same how (Some r) e = changed_same _ r e
 
-told_same : (place : ℕ) (item : JournalRecord) (e : End) → IsSameLife e (tells place item e)
+pub told_same : (place : ℕ) (item : JournalRecord) (e : End) → IsSameLife e (tells place item e)
 told_same place (Life life) e = itself e
 told_same place (Decided life slot generation key asked regs) e = itself e
 told_same place (Done named) e = itself e

@@ -26,3 +26,6 @@ mod Asked
 mod Counting
 mod Crashing
 mod Applied
+mod Recorded
+mod Reloading
+mod Staying

@@ -32,7 +32,7 @@ use Rattle.resource_end.proofs.Writing.{seen}
 -- ---- which record it is
 
 -- what holds of the record that a change has to write, whichever it is
-by_record : (next : State) (r : Resource) (item : JournalRecord) (P : JournalRecord → Type 0) → record_for next r ≡ Some item
+pub by_record : (next : State) (r : Resource) (item : JournalRecord) (P : JournalRecord → Type 0) → record_for next r ≡ Some item
     → ((place : ℕ) (how : CellsEnd) → r.record_place ≡ Some place → P (CellsOutcome place how))
     → (r.record_place ≡ None → r.state ≡ states.Working → P (CellsPrepared r.life r.number r.recovery r.puts))
     → (r.record_place ≡ None → r.state ≡ states.Working → P (CellsOnePhase r.life r.number r.puts))

@@ -38,7 +38,7 @@ still : (id : Id) (o q : Option Standing) → option_and_then (λ s. prepared_id
 still id None q h = absurd (both_ways _ refl (ap is_some h))
 still id (Some s) q h = h
 
-still_there : (xs ys : List Standing) (place : ℕ) (id : Id) → prepared_at place xs ≡ Some id → prepared_at place (xs ++ ys) ≡ Some id
+pub still_there : (xs ys : List Standing) (place : ℕ) (id : Id) → prepared_at place xs ≡ Some id → prepared_at place (xs ++ ys) ≡ Some id
 still_there xs ys place id h =
     ap (option_and_then (λ (s : Standing). prepared_id s.item)) (find-append (λ s. s.place == place) xs ys)
     ∙ still id (find (λ s. s.place == place) xs) (find (λ s. s.place == place) ys) h

@@ -8,6 +8,7 @@ pub mod Calls
 pub mod Inside
 pub mod Journaling
 pub mod Crashes
+pub mod OnRecord
 pub mod Faults
 pub mod TableByState
 pub mod Plays

@@ -16,6 +16,7 @@ ghost use Rattle.resource_end.specs.Inside as inside;
 ghost use Rattle.resource_end.specs.Journaling as journaling;
 ghost use Rattle.resource_end.specs.Crashes as crashes;
 ghost use Rattle.resource_end.specs.Crashes.{Makes};
+ghost use Rattle.resource_end.specs.OnRecord.{AreOfEarlierLives, IsOnRecord};
 
 use crate::contents::Contents;
 use crate::fault::EndFault;
@@ -87,6 +88,7 @@ impl<D: Disk> ResourceEnd<D> {
         ensures end { IfOk result (λ e. e.end ≡ loaded service e.journal.found) }
         ensures made { IfOk result
             (λ e. IfSome (D.told disk) (λ s. Makes service s.reads e.end)) }
+        ensures stays { IfOk result (λ e. AreOfEarlierLives e.end → IsOnRecord e) }
         ensures area { IfOk result (λ e. e.journal.area ≡ area) }
         ensures service { IfOk result (λ e. e.journal.service ≡ service) }
         ensures failed { IfOk result (λ e. e.journal.failed ≡ false) }
@@ -173,7 +175,8 @@ impl<D: Disk> ResourceEnd<D> {
     /// Makes an object with a key of this letter, R, A or Y. A synchronization, Y, is no resource. It is refused where 2^48
     /// objects of this life were made, or 4,096 resources are unfinished (NoResources).
     pub fn fresh(&mut self, kind: u8) -> Result<ObjectKey, EndFault>
-        ensures { journaling.IsAloneOrStarved self.old self.new result (calls.fresh kind self.old.end) }
+        ensures called { journaling.IsAloneOrStarved self.old self.new result (calls.fresh kind self.old.end) }
+        ensures stays { IsOnRecord self.old → IsOnRecord self.new }
     {
         if self.is_spent(kind) {
             return Err(EndFault::NoResources);
@@ -221,7 +224,8 @@ impl<D: Disk> ResourceEnd<D> {
     /// A resource's recovery coordinator is this one from now on. One that has prepared keeps that of its record. It is
     /// refused where the key names no resource (ObjectNotExist).
     pub fn bind(&mut self, key: &ObjectKey, recovery: RefBytes) -> Result<(), EndFault>
-        ensures { journaling.IsAlone self.old self.new result (calls.bind key.now recovery self.old.end) }
+        ensures called { journaling.IsAlone self.old self.new result (calls.bind key.now recovery self.old.end) }
+        ensures stays { IsOnRecord self.old → IsOnRecord self.new }
     {
         match self.contents.state_of(self.journal.service(), key) {
             Some(_) => {
@@ -235,7 +239,8 @@ impl<D: Disk> ResourceEnd<D> {
 
     /// Forgets a resource that has put nothing, where the key names one.
     pub fn unmake(&mut self, key: &ObjectKey)
-        ensures { self.new ≡ record self.old { end = calls.unmake key.now self.old.end } }
+        ensures called { self.new ≡ record self.old { end = calls.unmake key.now self.old.end } }
+        ensures stays { IsOnRecord self.old → IsOnRecord self.new }
     {
         let state = match self.contents.state_of(self.journal.service(), key) {
             Some(state) => state,
@@ -254,6 +259,7 @@ impl<D: Disk> ResourceEnd<D> {
     pub fn put(&mut self, key: &ObjectKey, cell: u64, value: u64) -> Result<(), EndFault>
         ensures called { journaling.IsCalledOrStarved D.told self.old self.new result (calls.put key.now cell value) }
         ensures crash { crashes.IsCrashSafe D.told self.old self.new }
+        ensures stays { IsOnRecord self.old → IsOnRecord self.new }
         ensures fault { IfErr result (journaling.IsCause (D.told self.new.journal.disk)
             (D.faults self.old.journal.disk) (D.faults self.new.journal.disk)) }
         ensures later { D.faults self.old.journal.disk ≤ D.faults self.new.journal.disk }
@@ -289,6 +295,7 @@ impl<D: Disk> ResourceEnd<D> {
     pub fn refuse(&mut self, key: &ObjectKey) -> Result<(), EndFault>
         ensures called { journaling.IsCalled D.told self.old self.new result journaling.nothing (calls.refuse key.now) }
         ensures crash { crashes.IsCrashSafe D.told self.old self.new }
+        ensures stays { IsOnRecord self.old → IsOnRecord self.new }
         ensures fault { IfErr result (journaling.IsCause (D.told self.new.journal.disk)
             (D.faults self.old.journal.disk) (D.faults self.new.journal.disk)) }
         ensures later { D.faults self.old.journal.disk ≤ D.faults self.new.journal.disk }
@@ -320,6 +327,7 @@ impl<D: Disk> ResourceEnd<D> {
         ensures called { journaling.IsCalled D.told self.old self.new result
             (calls.wanted_by_choice d key.now) (calls.choose_heuristic key.now d) }
         ensures crash { crashes.IsCrashSafe D.told self.old self.new }
+        ensures stays { IsOnRecord self.old → IsOnRecord self.new }
         ensures fault { IfErr result (journaling.IsCause (D.told self.new.journal.disk)
             (D.faults self.old.journal.disk) (D.faults self.new.journal.disk)) }
         ensures later { D.faults self.old.journal.disk ≤ D.faults self.new.journal.disk }
@@ -355,6 +363,7 @@ impl<D: Disk> ResourceEnd<D> {
         ensures called { journaling.IsCalled D.told (journaling.afresh self.old) self.new result
             (calls.wanted Word.Prepare key.now) (calls.told Word.Prepare key.now) }
         ensures crash { crashes.IsCrashSafe D.told self.old self.new }
+        ensures stays { IsOnRecord self.old → IsOnRecord self.new }
         ensures fault { IfErr result (journaling.IsCause (D.told self.new.journal.disk)
             (D.faults self.old.journal.disk) (D.faults self.new.journal.disk)) }
         ensures later { D.faults self.old.journal.disk ≤ D.faults self.new.journal.disk }
@@ -368,6 +377,7 @@ impl<D: Disk> ResourceEnd<D> {
         ensures called { journaling.IsCalled D.told (journaling.afresh self.old) self.new result
             (calls.wanted Word.Commit key.now) (calls.told Word.Commit key.now) }
         ensures crash { crashes.IsCrashSafe D.told self.old self.new }
+        ensures stays { IsOnRecord self.old → IsOnRecord self.new }
         ensures fault { IfErr result (journaling.IsCause (D.told self.new.journal.disk)
             (D.faults self.old.journal.disk) (D.faults self.new.journal.disk)) }
         ensures later { D.faults self.old.journal.disk ≤ D.faults self.new.journal.disk }
@@ -381,6 +391,7 @@ impl<D: Disk> ResourceEnd<D> {
         ensures called { journaling.IsCalled D.told (journaling.afresh self.old) self.new result
             (calls.wanted Word.Rollback key.now) (calls.told Word.Rollback key.now) }
         ensures crash { crashes.IsCrashSafe D.told self.old self.new }
+        ensures stays { IsOnRecord self.old → IsOnRecord self.new }
         ensures fault { IfErr result (journaling.IsCause (D.told self.new.journal.disk)
             (D.faults self.old.journal.disk) (D.faults self.new.journal.disk)) }
         ensures later { D.faults self.old.journal.disk ≤ D.faults self.new.journal.disk }
@@ -394,6 +405,7 @@ impl<D: Disk> ResourceEnd<D> {
         ensures called { journaling.IsCalled D.told (journaling.afresh self.old) self.new result
             (calls.wanted Word.CommitOnePhase key.now) (calls.told Word.CommitOnePhase key.now) }
         ensures crash { crashes.IsCrashSafe D.told self.old self.new }
+        ensures stays { IsOnRecord self.old → IsOnRecord self.new }
         ensures fault { IfErr result (journaling.IsCause (D.told self.new.journal.disk)
             (D.faults self.old.journal.disk) (D.faults self.new.journal.disk)) }
         ensures later { D.faults self.old.journal.disk ≤ D.faults self.new.journal.disk }
@@ -407,6 +419,7 @@ impl<D: Disk> ResourceEnd<D> {
         ensures called { journaling.IsCalled D.told (journaling.afresh self.old) self.new result
             (calls.wanted Word.Forget key.now) (calls.told Word.Forget key.now) }
         ensures crash { crashes.IsCrashSafe D.told self.old self.new }
+        ensures stays { IsOnRecord self.old → IsOnRecord self.new }
         ensures fault { IfErr result (journaling.IsCause (D.told self.new.journal.disk)
             (D.faults self.old.journal.disk) (D.faults self.new.journal.disk)) }
         ensures later { D.faults self.old.journal.disk ≤ D.faults self.new.journal.disk }
@@ -432,6 +445,7 @@ impl<D: Disk> ResourceEnd<D> {
         ensures called { journaling.IsCalled D.told (journaling.afresh self.old) self.new result
             (calls.wanted_by_answer heard.now key.now) (calls.learn key.now heard.now) }
         ensures crash { crashes.IsCrashSafe D.told self.old self.new }
+        ensures stays { IsOnRecord self.old → IsOnRecord self.new }
         ensures fault { IfErr result (journaling.IsCause (D.told self.new.journal.disk)
             (D.faults self.old.journal.disk) (D.faults self.new.journal.disk)) }
         ensures later { D.faults self.old.journal.disk ≤ D.faults self.new.journal.disk }
@@ -468,6 +482,7 @@ impl<D: Disk> ResourceEnd<D> {
         ensures called { journaling.IsCalled D.told (journaling.afresh self.old) self.new result
             (calls.wanted word key.now) (calls.told word key.now) }
         ensures crash { crashes.IsCrashSafe D.told self.old self.new }
+        ensures stays { IsOnRecord self.old → IsOnRecord self.new }
         ensures fault { IfErr result (journaling.IsCause (D.told self.new.journal.disk)
             (D.faults self.old.journal.disk) (D.faults self.new.journal.disk)) }
         ensures later { D.faults self.old.journal.disk ≤ D.faults self.new.journal.disk }

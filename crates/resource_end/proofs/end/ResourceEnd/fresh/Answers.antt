@@ -10,16 +10,17 @@ use Rattle.resource_end.specs.Journaling.{IsAlone}
 use Rattle.resource_end.proofs.Frames.{whole_made}
 use Rattle.resource_end.proofs.Making.{can_prepare, made_none, made_resource, made_synchronization}
 use Rattle.resource_end.proofs.Writing.{seen}
+use Rattle.resource_end.proofs.Staying.{made_stays}
 use Rattle.resource_end.proofs.end.ResourceEnd.fresh.Goals as goal
 
-pub returns-then-is_spent : goal.returns-then-is_spent
-returns-then-is_spent g c =
+pub returns-then-is_spent-clause-called : goal.returns-then-is_spent-clause-called
+returns-then-is_spent-clause-called g c =
     let spent = subst (λ s. is_spent c.args.kind s.end ≡ true) (sym c.self.view_is) (sym c.is_spent.ensures.spent ∙ c.if-is_spent.true) in
     inl (subst (λ s. IsAlone s s (Err faults.NoResources) (fresh c.args.kind s.end)) c.self.view_is
     (made_none c.self.inside.journal c.self.inside.drawn c.self.inside.contents c.self.inside.changed c.args.kind spent))
 
-pub returns-then-kind-eq-SYNCHRONIZATION_KIND : goal.returns-then-kind-eq-SYNCHRONIZATION_KIND
-returns-then-kind-eq-SYNCHRONIZATION_KIND g c =
+pub returns-then-kind-eq-SYNCHRONIZATION_KIND-clause-called : goal.returns-then-kind-eq-SYNCHRONIZATION_KIND-clause-called
+returns-then-kind-eq-SYNCHRONIZATION_KIND-clause-called g c =
     let left = subst (λ s. is_spent c.args.kind s.end ≡ false) (sym c.self.view_is) (sym c.is_spent.ensures.spent ∙ c.if-is_spent.false) in
     let key = subst (λ s. c.next_key-key.result ≡ key_of c.args.kind (s.end.drawn + 1) s.end) (sym c.self.view_is) c.next_key-key.ensures.key in
     inl (subst (λ s. IsAlone s (seen c.self.inside.journal (c.self.inside.drawn + 1) c.self.inside.contents c.self.inside.changed) (Ok c.next_key-key.result) (fresh c.args.kind s.end))
@@ -38,8 +39,8 @@ invariant_of-self-2 g c =
     (whole_made c.self.inside.journal c.self.inside.drawn c.self.inside.recovery c.self.inside.contents.resources c.self.invariant
     c.self.inside.journal.found.life c.args.kind (can_prepare c.self.inside.journal.found.life c.self.inside.drawn c.args.kind life left))
 
-pub returns : goal.returns
-returns g c =
+pub returns-clause-called : goal.returns-clause-called
+returns-clause-called g c =
     let left = subst (λ s. is_spent c.args.kind s.end ≡ false) (sym c.self.view_is) (sym c.is_spent.ensures.spent ∙ c.if-is_spent.false) in
     let key = subst (λ s. c.next_key-key.result ≡ key_of c.args.kind (s.end.drawn + 1) s.end) (sym c.self.view_is) c.next_key-key.ensures.key in
     inl (subst (λ s. IsAlone s (seen c.self.inside.journal (c.self.inside.drawn + 1) c.add.new.self c.self.inside.changed) (Ok c.next_key-key.result) (fresh c.args.kind s.end))
@@ -48,3 +49,13 @@ returns g c =
     (ne_eqb c.args.kind synchronization_kind c.if-kind-eq-SYNCHRONIZATION_KIND.false) key
     (c.in_ok-add.ensures.ok
     ∙ (λ i. record c.self.inside.contents { resources = with_resource (fresh_one ((key i).life, (key i).generation) c.args.kind) c.self.inside.contents.resources }))))
+
+pub returns-then-kind-eq-SYNCHRONIZATION_KIND-clause-stays : goal.returns-then-kind-eq-SYNCHRONIZATION_KIND-clause-stays
+returns-then-kind-eq-SYNCHRONIZATION_KIND-clause-stays g c =
+    λ h. made_stays g.D.Disk.told c.args.self.now (seen c.self.inside.journal (c.self.inside.drawn + 1) c.self.inside.contents c.self.inside.changed) h
+    c.args.kind (Ok c.next_key-key.result) (returns-then-kind-eq-SYNCHRONIZATION_KIND-clause-called g c)
+
+pub returns-clause-stays : goal.returns-clause-stays
+returns-clause-stays g c =
+    λ h. made_stays g.D.Disk.told c.args.self.now (seen c.self.inside.journal (c.self.inside.drawn + 1) c.add.new.self c.self.inside.changed) h
+    c.args.kind (Ok c.next_key-key.result) (returns-clause-called g c)

@@ -3,6 +3,8 @@ use Rattle.decision_journal.specs.State.{IsWithinArea}
 use Rattle.resource_end.specs.End.{End}
 use Rattle.resource_end.specs.Recall.{new_end, recalls_all}
 use Rattle.resource_end.proofs.Crashing.{load_makes}
+use Rattle.resource_end.proofs.Staying.{loaded_on_record}
+use Rattle.resource_end.proofs.Writing.{seen}
 use Rattle.resource_end.proofs.end.ResourceEnd.load.Goals as goal
 
 pub returns-in-Ok-load_all-clause-end : goal.returns-in-Ok-load_all-clause-end
@@ -25,3 +27,8 @@ returns-in-Ok-load_all-clause-made g c =
     load_makes c.args.service c.in-Ok.journal.area c.in-Ok.journal.octets c.in-Ok.journal.found (g.D.Disk.told c.args.disk) (g.D.Disk.told c.in-Ok.journal.disk) _
     (subst (λ n. IsWithinArea c.in-Ok.journal.area n c.in-Ok.journal.octets c.in-Ok.journal.found) c.in-Ok.ensures.service c.in-Ok.ensures.current.within)
     c.in-Ok.ensures.current.rest c.in-Ok.ensures.done (returns-in-Ok-load_all-clause-end g c)
+
+pub returns-in-Ok-load_all-clause-stays : goal.returns-in-Ok-load_all-clause-stays
+returns-in-Ok-load_all-clause-stays g c =
+    loaded_on_record (seen c.in-Ok.journal 0 c.in-Ok-load_all.contents None) c.args.service (returns-in-Ok-load_all-clause-end g c) c.in-Ok.ensures.service
+    c.in-Ok.ensures.current.within.filled c.in-Ok.ensures.doubted c.in-Ok.ensures.failed

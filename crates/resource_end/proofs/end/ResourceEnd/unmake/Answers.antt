@@ -9,16 +9,17 @@ use Rattle.resource_end.proofs.Frames.{whole_unmade}
 use Rattle.resource_end.proofs.Making.{fresh_state, unmade_none, unmade_not, unmade_one}
 use Rattle.resource_end.proofs.Named.{one_number}
 use Rattle.resource_end.proofs.Writing.{seen}
+use Rattle.resource_end.proofs.Staying.{unmade_stays}
 use Rattle.resource_end.proofs.end.ResourceEnd.unmake.Goals as goal
 
-pub returns-in-None : goal.returns-in-None
-returns-in-None g c =
+pub returns-in-None-clause-called : goal.returns-in-None-clause-called
+returns-in-None-clause-called g c =
     subst (λ s. s ≡ record s { end = unmake c.args.key.now s.end }) c.self.view_is
     (unmade_none c.self.inside.journal c.self.inside.drawn c.self.inside.contents c.self.inside.changed c.args.key.now
     (subst (λ n. find (is_named n c.args.key.now) c.self.inside.contents.resources ≡ None) c.service.ensures c.in-None.ensures))
 
-pub returns-then-not-is_fresh : goal.returns-then-not-is_fresh
-returns-then-not-is_fresh g c =
+pub returns-then-not-is_fresh-clause-called : goal.returns-then-not-is_fresh-clause-called
+returns-then-not-is_fresh-clause-called g c =
     let it = c.in-Some.ensures in
     subst (λ s. s ≡ record s { end = unmake c.args.key.now s.end }) c.self.view_is
     (unmade_not c.self.inside.journal c.self.inside.drawn c.self.inside.contents c.self.inside.changed c.args.key.now it.0
@@ -41,8 +42,8 @@ invariant_of-self g c =
     (one_number (it.0.life, it.0.number) (c.args.key.now.life, c.args.key.now.generation) it.0 (itself it.0)
     (its_number (c.args.key.now.life, c.args.key.now.generation) c.self.inside.contents.resources it.0 it.1.numbered)) ∙ it.1.numbered) fresh)
 
-pub returns : goal.returns
-returns g c =
+pub returns-clause-called : goal.returns-clause-called
+returns-clause-called g c =
     let it = c.in-Some.ensures in
     let fresh = it.1.stands ∙ fresh_state c.in-Some.state (sym c.if-not-is_fresh.ensures) in
     let after = at_known (numbered (c.args.key.now.life, c.args.key.now.generation) c.self.inside.contents.resources) it.0
@@ -50,3 +51,8 @@ returns g c =
     subst (λ s. seen c.self.inside.journal c.self.inside.drawn c.change.new.self c.self.inside.changed ≡ record s { end = unmake c.args.key.now s.end }) c.self.view_is
     (unmade_one c.self.inside.journal c.self.inside.drawn c.self.inside.contents c.self.inside.changed c.args.key.now it.0 c.change.new.self
     (subst (λ n. IsNamed n c.args.key.now c.self.inside.contents.resources c.in-Some.state it.0) c.service.ensures it.1).named fresh after)
+
+pub returns-clause-stays : goal.returns-clause-stays
+returns-clause-stays g c =
+    λ h. unmade_stays g.D.Disk.told c.args.self.now (seen c.self.inside.journal c.self.inside.drawn c.change.new.self c.self.inside.changed) h
+    c.args.key.now (returns-clause-called g c)
