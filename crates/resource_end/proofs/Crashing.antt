@@ -7,16 +7,14 @@ use Rattle.ots_outside.specs.Disk.{DiskState, LeavesOnly, LeavesOnlySince, Momen
 use Rattle.decision_journal.specs.Calls as journal_calls
 use Rattle.decision_journal.specs.Calls.{HasAppended, HasDoubt, IsAppended, IsInDoubt, IsReady, IsUnwritten}
 use Rattle.decision_journal.specs.Journal.{AreInTurn, AreRecords, Found, Holds, IsFilled, StandsAt, StandsFor, StandsForEither, can_follow, found_in, front, with_record, with_records}
-use Rattle.decision_journal.specs.Laws.{CanAppend, IsOnTheWay, appended, behind_gate}
+use Rattle.decision_journal.specs.Laws.{AppendsAreSafe, CanAppend, IsOnTheWay, OctetsStandForOneList, appended, behind_gate}
 use Rattle.decision_journal.specs.Layout.{Fits, record_octets}
 use Rattle.decision_journal.specs.Loading.{LoadIsDone, next_life}
 use Rattle.decision_journal.specs.State.{BeginsWithEither, IsAtRest, IsKept, IsWithinArea, JournalState, MayFind, MayHave, StaysWithinArea}
 use Rattle.decision_journal.specs.declared.record.JournalRecord.{JournalRecord}
 use Rattle.decision_journal.specs.declared.record.JournalRecord.TheVariants.{Life}
-use Rattle.decision_journal.proofs.Append.{append_safe}
 use Rattle.decision_journal.proofs.Joined.{known_now}
 use Rattle.decision_journal.proofs.Kept.{at_rest, known, stands_from}
-use Rattle.decision_journal.proofs.OneList.{one_list}
 use Rattle.decision_journal.proofs.Scans.{more_are}
 use Rattle.decision_journal.proofs.Since.{leaves_settled, since_start, since_then, since_weaker}
 use Rattle.decision_journal.proofs.Ways.{on_the_way, tells_then, tells_weaker}
@@ -75,8 +73,8 @@ module _ (P : List ℕ → Type 0) where
     | inr same ↦ since_one s t here now same
   ]
 
-  module _ (service : ℕ) (rs : List JournalRecord) (r : JournalRecord) (octets : List ℕ) (found : Found) (are : AreRecords service octets found rs)
-      (can : CanAppend service rs r) (has : (c : List ℕ) → StandsForEither service rs r c → P c) where
+  module _ (appends : AppendsAreSafe) (service : ℕ) (rs : List JournalRecord) (r : JournalRecord) (octets : List ℕ) (found : Found)
+      (are : AreRecords service octets found rs) (can : CanAppend service rs r) (has : (c : List ℕ) → StandsForEither service rs r c → P c) where
     abbrev end_of : DiskState → DiskState
     end_of s = appended (length (front service rs)) (behind_gate r) s
 
@@ -84,7 +82,7 @@ module _ (P : List ℕ → Type 0) where
     since_append s t rest way =
         on_the_way P s (end_of s) t
         (since_weaker (StandsForEither service rs r) P s (end_of s) has
-        (append_safe service rs r s rest.settled (stands_from service octets s.reads found rs are rest.stands) can).0) way
+        (appends service rs r s rest.settled (stands_from service octets s.reads found rs are rest.stands) can).1) way
 
     run_way : (a b : Option DiskState) → IfSome a (IsAtRest octets) → Tells a b (λ s t. IsOnTheWay s (end_of s) t) → Run a b
     run_way None None rest h = tt
@@ -208,10 +206,10 @@ module _ {D : Type 0} (told : D → Option DiskState) (before after : JournalSta
   run_again j k s h = run_reread P j.failed (told j.disk) (told k.disk) (steady_now j s) (steady_now k (steady_again j k s h)) h.disk
 
   -- a record was appended
-  run_appended : (k : JournalState D) (r : JournalRecord) (place : ℕ) → IsSteady k → IsAppended told k r after place → Run P (told k.disk) (told after.disk)
-  run_appended k r place s h =
+  run_appended : AppendsAreSafe → (k : JournalState D) (r : JournalRecord) (place : ℕ) → IsSteady k → IsAppended told k r after place → Run P (told k.disk) (told after.disk)
+  run_appended appends k r place s h =
       let m = h.journal in
-      run_append P k.service m.records r k.octets k.found m.were
+      run_append P appends k.service m.records r k.octets k.found m.were
       (record { fits = fit_last m.records r m.are.fit; follows = turn_last _ _ m.records r m.are.in_turn; within = m.are.within })
       has (told k.disk) (told after.disk) place m.place_is s.rest (at_end (told k.disk) (told after.disk) place r h.disk)
     where
@@ -281,9 +279,9 @@ module _ {D : Type 0} (told : D → Option DiskState) (before after : JournalSta
       ),
     )
 
-    run_doubt : Run P (told k.disk) (told after.disk)
-    run_doubt =
-        run_append P before.service s.filled.0 r k.octets k.found s.filled.1
+    run_doubt : AppendsAreSafe → Run P (told k.disk) (told after.disk)
+    run_doubt appends =
+        run_append P appends before.service s.filled.0 r k.octets k.found s.filled.1
         (record { fits = can.fits; follows = subst (λ f. IsTrue (can_follow f r)) s.filled.1.found_is can.follows; within = more.within })
         has_doubt (told k.disk) (told after.disk) (length k.octets) refl s.rest h.disk
 
@@ -292,12 +290,12 @@ module _ {D : Type 0} (told : D → Option DiskState) (before after : JournalSta
   run_same : (j : JournalState D) → IsSteady j → told after.disk ≡ told j.disk → Run P (told j.disk) (told after.disk)
   run_same j s same = subst (λ o. Run P (told j.disk) o) (sym same) (run_none P (told j.disk) (steady_now j s))
 
-  module _ (each : StaysWithinArea after) (j : JournalState D) (s : IsSteady j) where
+  module _ (appends : AppendsAreSafe) (each : StaysWithinArea after) (j : JournalState D) (s : IsSteady j) where
     run_written : (r : JournalRecord) (written : Written) → IsWrittenWhere (Some r) told j after written → Run P (told j.disk) (told after.disk)
     run_written r (StandsThere place) h =
         let k = h.ready in
         run_then P (told j.disk) (told k.disk) (told after.disk) (run_again j k s h.is_ready)
-        (run_appended k r place (steady_again j k s h.is_ready) h.appended)
+        (run_appended appends k r place (steady_again j k s h.is_ready) h.appended)
     run_written r (Unwritten fault) (inl h) = run_same j s (ap (λ x. told x.disk) h.0)
     run_written r (Unwritten fault) (inr h) = run_again j after s h.0
     run_written r (InDoubt fault) h =
@@ -305,7 +303,7 @@ module _ {D : Type 0} (told : D → Option DiskState) (before after : JournalSta
         let same = known_now k.octets j.octets k.found j.found j.doubted s.doubted h.0.is_ready.journal.known in
         run_then P (told j.disk) (told k.disk) (told after.disk) (run_again j k s h.0.is_ready)
         (run_doubt k r (steady_again j k s h.0.is_ready) h.0.doubt
-        (record { fits = h.2.fits; follows = subst (λ f. IsTrue (can_follow f r)) (sym same.1) h.2.follows }) each)
+        (record { fits = h.2.fits; follows = subst (λ f. IsTrue (can_follow f r)) (sym same.1) h.2.follows }) each appends)
 
     run_where : (o : Option JournalRecord) (written : Written) → IsWrittenWhere o told j after written → Run P (told j.disk) (told after.disk)
     run_where (Some r) written h = run_written r written h
@@ -326,8 +324,8 @@ none_where : {A : Type 0} (o : Option A) → is_some o ≡ false → o ≡ None
 none_where None h = refl
 none_where (Some x) h = absurd (both_ways _ h refl)
 
-module _ {D : Type 0} (told : D → Option DiskState) (before after : EndState D) (kb : IsKeptWhole told before) (ka : IsKeptWhole told after)
-    (wanted : End → Option JournalRecord) (j : Journaled) (h : Journals told before.end before.journal after.journal wanted j) where
+module _ {D : Type 0} (appends : AppendsAreSafe) (told : D → Option DiskState) (before after : EndState D) (kb : IsKeptWhole told before)
+    (ka : IsKeptWhole told after) (wanted : End → Option JournalRecord) (j : Journaled) (h : Journals told before.end before.journal after.journal wanted j) where
   abbrev Q : List ℕ → Type 0
   Q = IsBeforeOrAfter before.journal after.journal
 
@@ -350,7 +348,7 @@ module _ {D : Type 0} (told : D → Option DiskState) (before after : EndState D
   goes_on : IsSteady told before.journal after.journal h.ready → Run Q (told before.journal.disk) (told h.ready.disk) → Whole
   goes_on s first =
       run_then Q (told before.journal.disk) (told h.ready.disk) (told after.journal.disk) first
-      (run_behind told before.journal after.journal ka.each h.ready s (reread j.reread before.end) wanted j.written h.wrote)
+      (run_behind told before.journal after.journal appends ka.each h.ready s (reread j.reread before.end) wanted j.written h.wrote)
 
   read_again : IsReady told before.journal h.ready → Whole
   read_again ready =
@@ -390,18 +388,19 @@ starved_journals told before after said h = (
   },
 )
 
-module _ {A D : Type 0} (told : D → Option DiskState) (before after : EndState D) (answer : Result A EndFault) (kb : IsKeptWhole told before) (ka : IsKeptWhole told after) where
+module _ {A D : Type 0} (appends : AppendsAreSafe) (told : D → Option DiskState) (before after : EndState D) (answer : Result A EndFault)
+    (kb : IsKeptWhole told before) (ka : IsKeptWhole told after) where
   pub called_safe : (wanted : End → Option JournalRecord) (called : Journaled → End → Called A) → IsCalled told before after answer wanted called → IsCrashSafe told before after
-  called_safe wanted called h = crash_safe told before after kb ka wanted h.journaled h.journal
+  called_safe wanted called h = crash_safe appends told before after kb ka wanted h.journaled h.journal
 
   pub afresh_safe : (wanted : End → Option JournalRecord) (called : Journaled → End → Called A) → IsCalled told (afresh before) after answer wanted called
       → IsCrashSafe told before after
   afresh_safe wanted called h =
-      crash_safe told (afresh before) after (record { kept = kb.kept; each = kb.each; failed = kb.failed; doubted = kb.doubted }) ka wanted h.journaled h.journal
+      crash_safe appends told (afresh before) after (record { kept = kb.kept; each = kb.each; failed = kb.failed; doubted = kb.doubted }) ka wanted h.journaled h.journal
 
   pub put_safe : (called : Journaled → End → Called A) → IsCalledOrStarved told before after answer called → IsCrashSafe told before after
   put_safe called (inl h) = called_safe nothing called h
-  put_safe called (inr h) = let j = starved_journals told before after answer h in crash_safe told before after kb ka nothing j.0 j.1
+  put_safe called (inr h) = let j = starved_journals told before after answer h in crash_safe appends told before after kb ka nothing j.0 j.1
 
 -- ---- a load
 
@@ -410,15 +409,15 @@ life_more : (found : Found) (place : ℕ) (rs : List JournalRecord) (life : ℕ)
 life_more found place [] life = refl
 life_more found place (r ∷ rs) life = life_more (with_record found place r) (place + length (record_octets r)) rs life
 
-pub load_makes : (service area : ℕ) (octets : List ℕ) (found : Found) (a b : Option DiskState) (e : End) → IsWithinArea area service octets found
+pub load_makes : OctetsStandForOneList → (service area : ℕ) (octets : List ℕ) (found : Found) (a b : Option DiskState) (e : End) → IsWithinArea area service octets found
     → IfSome b (IsAtRest octets) → Tells a b (LoadIsDone service) → e ≡ loaded service found → IfSome a (λ s. Makes service s.reads e)
-load_makes service area octets found None b e within rest done is = tt
-load_makes service area octets found (Some s) None e within rest done is = absurd done
-load_makes service area octets found (Some s) (Some t) e within rest done is = by done.held
+load_makes one service area octets found None b e within rest done is = tt
+load_makes one service area octets found (Some s) None e within rest done is = absurd done
+load_makes one service area octets found (Some s) (Some t) e within rest done is = by done.held
   where
     same : within.filled.0 ≡ done.records ++ next_life done.records ∷ []
     same =
-        one_list service t.reads within.filled.0 (done.records ++ next_life done.records ∷ [])
+        one service t.reads within.filled.0 (done.records ++ next_life done.records ∷ [])
         (stands_from service octets t.reads found within.filled.0 within.filled.1 rest.stands) done.stands
 
     found_is : found ≡ record { life = (found_in done.records).life + 1; standing = (found_in done.records).standing }

@@ -28,4 +28,5 @@ mod Crashing
 mod Applied
 mod Recorded
 mod Reloading
+mod Resting
 mod Staying

@@ -2,6 +2,7 @@ ghost use Rattle.std.specs.Prelude.{◌≡◌, ◌++◌, ◌+◌, ◌^◌, ◌<�
 ghost use Rattle.ots_outside.specs.Disk.{Tells};
 ghost use Rattle.decision_journal.specs.Limits.{area_limit};
 ghost use Rattle.decision_journal.specs.Calls.{IsCurrent};
+ghost use Rattle.decision_journal.specs.Laws.{AppendsAreSafe};
 ghost use Rattle.decision_journal.specs.Journal.{can_follow};
 ghost use Rattle.decision_journal.specs.Layout.{Fits};
 ghost use Rattle.decision_journal.specs.State.{cells_in};
@@ -23,7 +24,7 @@ use crate::fault::EndFault;
 use crate::kept::Id;
 use crate::loading::load_all;
 use crate::state::{State, Word};
-use decision_journal::{Journal, JournalRecord, Put};
+use decision_journal::{Journal, JournalRecord, Put, appends_are_safe, octets_stand_for_one_list};
 use ior_refs::ObjectKey;
 use ots_model::tree::Heard;
 use ots_model::{Decision, RefBytes, Status};
@@ -104,6 +105,7 @@ impl<D: Disk> ResourceEnd<D> {
         ensures later_ok { IfOk result (λ e. D.faults disk ≤ D.faults e.journal.disk) }
         ensures later_err { IfErr result (λ back. D.faults disk ≤ D.faults back.value) }
     {
+        octets_stand_for_one_list();
         let journal = match Journal::load(alloc, disk, area, service) {
             Ok(journal) => journal,
             Err(back) => {
@@ -129,7 +131,7 @@ impl<D: Disk> ResourceEnd<D> {
         }
     }
 
-    /// Gives the disk back, as a crash leaves it.
+    /// Gives the disk back, as the last call left it.
     pub fn into_disk(self) -> D
         ensures { result ≡ self.journal.disk }
     {
@@ -177,6 +179,7 @@ impl<D: Disk> ResourceEnd<D> {
     pub fn fresh(&mut self, kind: u8) -> Result<ObjectKey, EndFault>
         ensures called { journaling.IsAloneOrStarved self.old self.new result (calls.fresh kind self.old.end) }
         ensures stays { IsOnRecord self.old → IsOnRecord self.new }
+        ensures apart { IsOnRecord self.old → IfOk result (λ key. end.named key self.old.end ≡ None) }
     {
         if self.is_spent(kind) {
             return Err(EndFault::NoResources);
@@ -515,10 +518,12 @@ impl<D: Disk> ResourceEnd<D> {
         row.said
     }
 
-    /// What the disk holds is known.
+    /// What the disk holds is known, and what an append may leave of it.
     fn kept(&self)
-        ensures { inside.IsKeptWhole D.told self.now }
+        ensures whole { inside.IsKeptWhole D.told self.now }
+        ensures appends { AppendsAreSafe }
     {
+        appends_are_safe();
         let _disk = self.journal.disk();
     }
 

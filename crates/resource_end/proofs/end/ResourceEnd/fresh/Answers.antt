@@ -10,7 +10,7 @@ use Rattle.resource_end.specs.Journaling.{IsAlone}
 use Rattle.resource_end.proofs.Frames.{whole_made}
 use Rattle.resource_end.proofs.Making.{can_prepare, made_none, made_resource, made_synchronization}
 use Rattle.resource_end.proofs.Writing.{seen}
-use Rattle.resource_end.proofs.Staying.{made_stays}
+use Rattle.resource_end.proofs.Staying.{made_has_none, made_stays}
 use Rattle.resource_end.proofs.end.ResourceEnd.fresh.Goals as goal
 
 pub returns-then-is_spent-clause-called : goal.returns-then-is_spent-clause-called
@@ -58,4 +58,14 @@ returns-then-kind-eq-SYNCHRONIZATION_KIND-clause-stays g c =
 pub returns-clause-stays : goal.returns-clause-stays
 returns-clause-stays g c =
     λ h. made_stays g.D.Disk.told c.args.self.now (seen c.self.inside.journal (c.self.inside.drawn + 1) c.add.new.self c.self.inside.changed) h
+    c.args.kind (Ok c.next_key-key.result) (returns-clause-called g c)
+
+pub returns-then-kind-eq-SYNCHRONIZATION_KIND-clause-apart : goal.returns-then-kind-eq-SYNCHRONIZATION_KIND-clause-apart
+returns-then-kind-eq-SYNCHRONIZATION_KIND-clause-apart g c =
+    λ h. made_has_none g.D.Disk.told c.args.self.now (seen c.self.inside.journal (c.self.inside.drawn + 1) c.self.inside.contents c.self.inside.changed) h
+    c.args.kind (Ok c.next_key-key.result) (returns-then-kind-eq-SYNCHRONIZATION_KIND-clause-called g c)
+
+pub returns-clause-apart : goal.returns-clause-apart
+returns-clause-apart g c =
+    λ h. made_has_none g.D.Disk.told c.args.self.now (seen c.self.inside.journal (c.self.inside.drawn + 1) c.add.new.self c.self.inside.changed) h
     c.args.kind (Ok c.next_key-key.result) (returns-clause-called g c)

@@ -5,7 +5,7 @@ use Rattle.resource_end.proofs.end.ResourceEnd.learn.Goals as goal
 
 pub returns-clause-crash : goal.returns-clause-crash
 returns-clause-crash g c =
-    afresh_safe g.D.Disk.told c.args.self.now c.try_learn-said.new.self c.try_learn-said.result c.kept.ensures c.kept-2.ensures
+    afresh_safe c.kept.ensures.appends g.D.Disk.told c.args.self.now c.try_learn-said.new.self c.try_learn-said.result c.kept.ensures.whole c.kept-2.ensures.whole
     (wanted_by_answer c.args.heard.now c.args.key.now) (learn c.args.key.now c.args.heard.now) c.try_learn-said.ensures.called
 
 pub returns-clause-stays : goal.returns-clause-stays

@@ -24,7 +24,7 @@ returns-in-Ok-load_all-clause-end g c =
 
 pub returns-in-Ok-load_all-clause-made : goal.returns-in-Ok-load_all-clause-made
 returns-in-Ok-load_all-clause-made g c =
-    load_makes c.args.service c.in-Ok.journal.area c.in-Ok.journal.octets c.in-Ok.journal.found (g.D.Disk.told c.args.disk) (g.D.Disk.told c.in-Ok.journal.disk) _
+    load_makes c.octets_stand_for_one_list.ensures c.args.service c.in-Ok.journal.area c.in-Ok.journal.octets c.in-Ok.journal.found (g.D.Disk.told c.args.disk) (g.D.Disk.told c.in-Ok.journal.disk) _
     (subst (λ n. IsWithinArea c.in-Ok.journal.area n c.in-Ok.journal.octets c.in-Ok.journal.found) c.in-Ok.ensures.service c.in-Ok.ensures.current.within)
     c.in-Ok.ensures.current.rest c.in-Ok.ensures.done (returns-in-Ok-load_all-clause-end g c)
 

@@ -6,7 +6,7 @@ use Rattle.resource_end.proofs.end.ResourceEnd.refuse.Goals as goal
 
 pub returns-clause-crash : goal.returns-clause-crash
 returns-clause-crash g c =
-    called_safe g.D.Disk.told c.args.self.now c.try_refuse-said.new.self c.try_refuse-said.result c.kept.ensures c.kept-2.ensures
+    called_safe c.kept.ensures.appends g.D.Disk.told c.args.self.now c.try_refuse-said.new.self c.try_refuse-said.result c.kept.ensures.whole c.kept-2.ensures.whole
     nothing (refuse c.args.key.now) c.try_refuse-said.ensures.called
 
 pub returns-clause-stays : goal.returns-clause-stays
