@@ -1,6 +1,7 @@
 -- A call of an end, put together: a reread, and what happens behind it.
 use Rattle.std.proofs.Common.{◌≡◌, ◌∙◌, inl, inr, ℕ, ◌≤◌, Bool, true, false, Option, Some, None, refl, sym, ap, subst, arith}
 use Rattle.std.specs.Prelude.{IfSome, IfErr, Result, Ok, Err}
+use Rattle.std.specs.Result.{IsOk}
 use Rattle.std.proofs.lemmas.Bool.{both_ways, cases_lt}
 use Rattle.ior_refs.specs.declared.key.ObjectKey.{ObjectKey}
 use Rattle.ots_model.specs.declared.line.Decision.{Decision}
@@ -77,16 +78,19 @@ module _ {A D : Type 0} (tells : D → Option DiskState) (before : EndState D) w
         comes = subst (λ o. Comes after answer (behind o before.end (act w))) (sym is) (subst (λ e. Comes after answer (act w e)) k.0 comes);
       }
 
-  -- memory was needs behind it
-  pub behind_starved : (ready after : EndState D) → HasReadAgain tells before ready (Ok tt) → after ≡ ready → IsStarved {A = A} tells before after (Err faults.Memory)
-  behind_starved ready after h same = by (reread h.found before.end) refl h.answers
+  -- memory was wanted behind it
+  pub behind_starved : (ready : EndState D) (act : Written → End → Called A) → HasReadAgain tells before ready (Ok tt) → IsOk (act (StandsAt 0) ready.end).answer
+      → IsStarved tells before ready (Err faults.Memory) (λ j e. behind (reread j.reread e) e (act j.written))
+  behind_starved ready act h granted = by (reread h.found before.end) refl h.answers
     where
-      by : (o : Result End EndFault) → reread h.found before.end ≡ o → AnswersSo o before ready (Ok tt) → IsStarved {A = A} tells before after (Err faults.Memory)
+      by : (o : Result End EndFault) → reread h.found before.end ≡ o → AnswersSo o before ready (Ok tt)
+          → IsStarved tells before ready (Err faults.Memory) (λ j e. behind (reread j.reread e) e (act j.written))
       by (Err f) is k = absurd (both_ways _ (ap is_ok k.1) refl)
       by (Ok later) is k = record {
-        found = h.found;
-        read = subst (λ s. IsRereadWhere before.journal.failed tells before.journal s.journal h.found) (sym same) h.read;
-        end = is ∙ ap (λ e. Ok e) (sym k.0 ∙ ap (λ s. s.end) (sym same));
+        journaled = record { reread = h.found; written = StandsAt 0 };
+        read = h.read;
+        end = is ∙ ap (λ e. Ok e) (sym k.0);
+        granted = subst (λ o. IsOk (behind o before.end (act (StandsAt 0))).answer) (sym is) (subst (λ e. IsOk (act (StandsAt 0) e).answer) k.0 granted);
         answer = refl;
       }
 

@@ -2,6 +2,7 @@
 use Rattle.std.proofs.Common.{◌≡◌, inl, inr, ℕ, true, false, cond, Option, Some, None, refl, sym, ap, subst}
 use Rattle.std.specs.Prelude.{List, find, is_some, Result, Ok, Err}
 use Rattle.std.specs.Option.{option_map, unwrap_or}
+use Rattle.std.specs.Result.{IsOk}
 use Rattle.std.proofs.lemmas.Bool.{both_ways}
 use Rattle.ior_refs.specs.declared.key.ObjectKey.{ObjectKey}
 use Rattle.ots_model.specs.declared.line.Decision.{Decision}
@@ -16,8 +17,8 @@ use Rattle.resource_end.specs.End.{End, Resource, changes, named, other_holder, 
 use Rattle.resource_end.specs.End as ends
 use Rattle.resource_end.specs.Recall.{reread}
 use Rattle.resource_end.specs.Inside.{HasMoved, HasReadAgain, Id, IsNotOpen, is_other_holder, numbered}
-use Rattle.resource_end.specs.Journaling.{Comes, EndState, IsCalled, IsWrittenWhere, nothing}
-use Rattle.resource_end.proofs.Calling.{behind_called, unread_called}
+use Rattle.resource_end.specs.Journaling.{Comes, EndState, IsCalled, IsStarved, IsWrittenWhere, nothing}
+use Rattle.resource_end.proofs.Calling.{behind_called, behind_starved, unread_called}
 use Rattle.resource_end.proofs.Claims.{its_number, itself}
 use Rattle.resource_end.proofs.Named.{one_number}
 
@@ -81,6 +82,17 @@ module _ {D : Type 0} (tells : D → Option DiskState) (s : EndState D) (key : O
           (subst (λ o. Comes after (Ok tt) (puts_unheld o cell value r ready.end)) (sym none)
           (subst (λ b. Comes after (Ok tt) (cond b (done (record ready.end { resources = with_resource (with_cell cell value r) ready.end.resources })) (refused faults.NoResources ready.end)))
           (sym room) (record { end = end; answer = refl })))
+
+      pub put_starved : other_holder r cell ready.end ≡ None → has_room cell r ≡ true → IsStarved tells s ready (Err faults.Memory) (put key cell value)
+      unfolding put
+      put_starved none room =
+          let k = behind_starved tells s ready put_act h
+          (subst (λ o. IsOk (on o ready.end (puts cell value ready.end)).answer) (sym is)
+          (subst (λ b. IsOk (cond b (puts_unheld (other_holder r cell ready.end) cell value r ready.end) (refused faults.Inactive ready.end)).answer) (sym opened)
+          (subst (λ o. IsOk (puts_unheld o cell value r ready.end).answer) (sym none)
+          (subst (λ b. IsOk (cond b (done (record ready.end { resources = with_resource (with_cell cell value r) ready.end.resources })) (refused faults.NoResources ready.end)).answer)
+          (sym room) refl)))) in
+          record { journaled = k.journaled; read = k.read; end = k.end; granted = k.granted; answer = k.answer }
 
 -- who else holds a cell, by the number of the resource
 pub holder_by : (id : Id) (r : Resource) (cell : ℕ) (rs : List Resource) → numbered id rs ≡ Some r

@@ -377,10 +377,10 @@ module _ {D : Type 0} (appends : AppendsAreSafe) (told : D → Option DiskState)
   crash_safe = by_failed before.journal.failed refl h.read
 
 -- memory was wanted behind the reread
-starved_journals : {A D : Type 0} (told : D → Option DiskState) (before after : EndState D) (said : Result A EndFault) → IsStarved told before after said
-    → (j : Journaled) × Journals told before.end before.journal after.journal nothing j
-starved_journals told before after said h = (
-  record { reread = h.found; written = StandsThere 0 },
+starved_journals : {A D : Type 0} (told : D → Option DiskState) (before after : EndState D) (said : Result A EndFault) (called : Journaled → End → Called A)
+    → IsStarved told before after said called → (j : Journaled) × Journals told before.end before.journal after.journal nothing j
+starved_journals told before after said called h = (
+  record { reread = h.journaled.reread; written = StandsThere 0 },
   record {
     ready = after.journal;
     read = h.read;
@@ -400,7 +400,7 @@ module _ {A D : Type 0} (appends : AppendsAreSafe) (told : D → Option DiskStat
 
   pub put_safe : (called : Journaled → End → Called A) → IsCalledOrStarved told before after answer called → IsCrashSafe told before after
   put_safe called (inl h) = called_safe nothing called h
-  put_safe called (inr h) = let j = starved_journals told before after answer h in crash_safe appends told before after kb ka nothing j.0 j.1
+  put_safe called (inr h) = let j = starved_journals told before after answer called h in crash_safe appends told before after kb ka nothing j.0 j.1
 
 -- ---- a load
 

@@ -20,7 +20,7 @@ use Rattle.resource_end.specs.declared.state.Word.{Word}
 use Rattle.resource_end.specs.Calls.{Called, Journaled, Written, StandsAt, Unwritten, InDoubt, behind, bind, changes_with, changing, choice, choose_heuristic, chooses, chosen_of, does, fresh, learn, learns_by, learns_in, learnt_of, obeys, on, put, puts, refuse, refused, refuses, told, unchanged, unmake, wanted, wanted_by_answer, wanted_by_choice, wanted_for, wanted_of}
 use Rattle.resource_end.specs.End.{End, Resource, changes, named, record_for, with_place}
 use Rattle.resource_end.specs.Inside.{numbered}
-use Rattle.resource_end.specs.Journaling.{EndState, IsAlone, IsAloneOrStarved, IsCalled, IsCalledOrStarved, IsRereadWhere, IsWrittenWhere, WritesBehind, afresh, nothing}
+use Rattle.resource_end.specs.Journaling.{EndState, IsAlone, IsCalled, IsCalledOrStarved, IsMadeOrUnmade, IsRereadWhere, IsWrittenWhere, WritesBehind, afresh, nothing}
 use Rattle.resource_end.specs.OnRecord.{AreOfEarlierLives, HasDrawn, IsOfDrawn, IsOnRecord}
 use Rattle.resource_end.specs.Recall.{Reread, Stands, StandsNot, Unread, ends_as, is_recorded_at, loaded, new_end, recalls, recalls_all, reread, reread_by, sure, tells}
 use Rattle.resource_end.specs.States.{is_prepared, learnt}
@@ -328,20 +328,20 @@ module _ {D : Type 0} (says : D → Option DiskState) (before after : EndState D
     put_stays key cell value answer (inr is) =
         on_record_of after
         (subst (Then says before.end before.journal after.journal mine) is.end
-        (reread_rec says before.end before.journal after.journal mine is.found is.read)).0
+        (reread_rec says before.end before.journal after.journal mine is.journaled.reread is.read)).0
 
     alone_stays : {A : Type 0} (answer : Result A EndFault) (called : Called A) → IsAlone before after answer called → Rec called.end before.journal → IsOnRecord after
     alone_stays answer called is h = on_record_of after (subst (Rec after.end) (sym is.journal) (subst (λ e. Rec e before.journal) (sym is.comes.end) h))
 
-    pub made_stays : (letter : ℕ) (answer : Result ObjectKey EndFault) → IsAloneOrStarved before after answer (fresh letter before.end) → IsOnRecord after
+    pub made_stays : (letter : ℕ) (answer : Result ObjectKey EndFault) → IsMadeOrUnmade letter before after answer → IsOnRecord after
     made_stays letter answer (inl is) = alone_stays answer (fresh letter before.end) is (made_rec before.end before.journal mine letter)
-    made_stays letter answer (inr is) = subst IsOnRecord (sym is.0) rec
+    made_stays letter answer (inr is) = subst IsOnRecord (sym is.same) rec
 
-    pub made_has_none : (letter : ℕ) (answer : Result ObjectKey EndFault) → IsAloneOrStarved before after answer (fresh letter before.end)
+    pub made_has_none : (letter : ℕ) (answer : Result ObjectKey EndFault) → IsMadeOrUnmade letter before after answer
         → IfOk answer (λ key. named key before.end ≡ None)
     made_has_none letter answer (inl is) =
         subst (λ a. IfOk a (λ key. named key before.end ≡ None)) (sym is.comes.answer) (made_apart before.end before.journal mine letter)
-    made_has_none letter answer (inr is) = subst (λ a. IfOk a (λ key. named key before.end ≡ None)) (sym is.1) tt
+    made_has_none letter answer (inr is) = subst (λ a. IfOk a (λ key. named key before.end ≡ None)) (sym is.answer) tt
 
     pub bound_stays : (key : ObjectKey) (given : List ℕ) (answer : Result (Unit {0}) EndFault) → IsAlone before after answer (bind key given before.end) → IsOnRecord after
     bound_stays key given answer is = alone_stays answer (bind key given before.end) is (bound_rec before.end before.journal mine key given)

@@ -1,5 +1,7 @@
 -- What a call of an end makes of its journal, and what the journal answers in it (our profile).
-use Rattle.std.specs.Prelude.{◌≡◌, ◌⊎◌, ℕ, Bool, true, false, length, Option, Some, None, IfSome, IsTrue, Result, Ok, Err}
+use Rattle.std.specs.Prelude.{◌≡◌, ◌⊎◌, ◌==◌, ℕ, Bool, true, false, length, Option, Some, None, IfSome, IsTrue, Result, Ok, Err}
+use Rattle.std.specs.Result.{IsOk}
+use Rattle.ior_refs.specs.declared.key.ObjectKey.{ObjectKey}
 use Rattle.ots_outside.specs.Disk.{DiskState}
 use Rattle.ots_outside.specs.Source.{HasRisen}
 use Rattle.decision_journal.specs.declared.record.JournalRecord.{JournalRecord}
@@ -11,7 +13,8 @@ use Rattle.resource_end.specs.declared.fault.EndFault.{EndFault}
 use Rattle.resource_end.specs.declared.fault.EndFault.TheVariants as faults
 use Rattle.resource_end.specs.End.{End}
 use Rattle.resource_end.specs.Recall.{Reread, Stands, StandsNot, Unread, reread}
-use Rattle.resource_end.specs.Calls.{Called, Journaled, Written, StandsAt, Unwritten, InDoubt, unchanged}
+use Rattle.resource_end.specs.Limits.{synchronization_kind}
+use Rattle.resource_end.specs.Calls.{Called, Journaled, Written, StandsAt, Unwritten, InDoubt, fresh, is_spent, unchanged}
 
 -- an end, and its journal
 pub record EndState (D : Type 0) : Type 0 where
@@ -110,27 +113,34 @@ afresh before = record before { end = unchanged before.end }
 abbrev pub nothing : End → Option JournalRecord
 nothing e = None
 
--- memory was wanted behind the reread, and nothing else happened
-pub record IsStarved {A D : Type 0} (told : D → Option DiskState) (before after : EndState D) (said : Result A EndFault) : Type 0 where
-  pub found : Reread
-  pub read : IsRereadWhere before.journal.failed told before.journal after.journal found
-  pub end : reread found before.end ≡ Ok after.end
+-- the definition answers that it is done, but memory was wanted behind the reread, and nothing else happened
+pub record IsStarved {A D : Type 0} (told : D → Option DiskState) (before after : EndState D) (said : Result A EndFault)
+    (called : Journaled → End → Called A) : Type 0 where
+  pub journaled : Journaled
+  pub read : IsRereadWhere before.journal.failed told before.journal after.journal journaled.reread
+  pub end : reread journaled.reread before.end ≡ Ok after.end
+  pub granted : IsOk (called journaled before.end).answer
   pub answer : said ≡ Err faults.Memory
 
 abbrev pub IsCalledOrStarved : {A D : Type 0} → (D → Option DiskState) → EndState D → EndState D → Result A EndFault
     → (Journaled → End → Called A) → Type 0
 IsCalledOrStarved told before after answer called =
-    IsCalled told before after answer nothing called ⊎ IsStarved told before after answer
+    IsCalled told before after answer nothing called ⊎ IsStarved told before after answer called
 
 -- a call that doesn't touch the journal
 pub record IsAlone {A D : Type 0} (before after : EndState D) (answer : Result A EndFault) (called : Called A) : Type 0 where
   pub journal : after.journal ≡ before.journal
   pub comes : Comes after answer called
 
--- it is the definition's, or memory was wanted, and nothing happened
-abbrev pub IsAloneOrStarved : {A D : Type 0} → EndState D → EndState D → Result A EndFault → Called A → Type 0
-IsAloneOrStarved before after answer called =
-    IsAlone before after answer called ⊎ ((after ≡ before) × (answer ≡ Err faults.Memory))
+-- one more resource could be made, but memory was wanted for it, and nothing happened
+pub record IsUnmade {D : Type 0} (letter : ℕ) (before after : EndState D) (said : Result ObjectKey EndFault) : Type 0 where
+  pub left : is_spent letter before.end ≡ false
+  pub resource : (letter == synchronization_kind) ≡ false
+  pub same : after ≡ before
+  pub answer : said ≡ Err faults.Memory
+
+abbrev pub IsMadeOrUnmade : {D : Type 0} → ℕ → EndState D → EndState D → Result ObjectKey EndFault → Type 0
+IsMadeOrUnmade letter before after said = IsAlone before after said (fresh letter before.end) ⊎ IsUnmade letter before after said
 
 -- PersistStore comes only where the disk's count of faults rose, or a disk that tells nothing of itself gave other octets
 abbrev pub IsCause : Option DiskState → ℕ → ℕ → EndFault → Type 0

@@ -175,9 +175,10 @@ impl<D: Disk> ResourceEnd<D> {
     }
 
     /// Makes an object with a key of this letter, R, A or Y. A synchronization, Y, is no resource. It is refused where 2^48
-    /// objects of this life were made, or 4,096 resources are unfinished (NoResources).
+    /// objects of this life were made, or 4,096 resources are unfinished (NoResources). A resource that could be made may want
+    /// memory.
     pub fn fresh(&mut self, kind: u8) -> Result<ObjectKey, EndFault>
-        ensures called { journaling.IsAloneOrStarved self.old self.new result (calls.fresh kind self.old.end) }
+        ensures called { journaling.IsMadeOrUnmade kind self.old self.new result }
         ensures stays { IsOnRecord self.old → IsOnRecord self.new }
         ensures apart { IsOnRecord self.old → IfOk result (λ key. end.named key self.old.end ≡ None) }
     {
@@ -258,7 +259,8 @@ impl<D: Disk> ResourceEnd<D> {
 
     /// A resource puts a value into a cell. Where a call has failed, the journal is read again first (PersistStore). It is
     /// refused where the key names no resource (ObjectNotExist), where the resource has gone too far (Inactive), where another
-    /// one holds the cell (Transient), and where it has put 1,024 other cells (NoResources).
+    /// one holds the cell (Transient), and where it has put 1,024 other cells (NoResources). One that nothing else refuses may
+    /// want memory.
     pub fn put(&mut self, key: &ObjectKey, cell: u64, value: u64) -> Result<(), EndFault>
         ensures called { journaling.IsCalledOrStarved D.told self.old self.new result (calls.put key.now cell value) }
         ensures crash { crashes.IsCrashSafe D.told self.old self.new }

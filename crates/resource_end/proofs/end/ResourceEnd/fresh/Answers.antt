@@ -1,4 +1,4 @@
-use Rattle.std.proofs.Common.{◌≡◌, ◌∙◌, ◌+◌, ◌<◌, ◌^◌, inl, sym, subst, true, false}
+use Rattle.std.proofs.Common.{◌≡◌, ◌∙◌, ◌+◌, ◌<◌, ◌^◌, inl, inr, ap, sym, subst, true, false}
 use Rattle.std.specs.Prelude.{Ok, Err}
 use Rattle.std.proofs.lemmas.Bool.{eq-eqb, ne_eqb}
 use Rattle.resource_end.specs.declared.fault.EndFault.TheVariants as faults
@@ -9,7 +9,7 @@ use Rattle.resource_end.specs.Inside.{IsWhole, fresh_one}
 use Rattle.resource_end.specs.Journaling.{IsAlone}
 use Rattle.resource_end.proofs.Frames.{whole_made}
 use Rattle.resource_end.proofs.Making.{can_prepare, made_none, made_resource, made_synchronization}
-use Rattle.resource_end.proofs.Writing.{seen}
+use Rattle.resource_end.proofs.Writing.{memory_err, seen}
 use Rattle.resource_end.proofs.Staying.{made_has_none, made_stays}
 use Rattle.resource_end.proofs.end.ResourceEnd.fresh.Goals as goal
 
@@ -69,3 +69,12 @@ pub returns-clause-apart : goal.returns-clause-apart
 returns-clause-apart g c =
     λ h. made_has_none g.D.Disk.told c.args.self.now (seen c.self.inside.journal (c.self.inside.drawn + 1) c.add.new.self c.self.inside.changed) h
     c.args.kind (Ok c.next_key-key.result) (returns-clause-called g c)
+
+pub returns-in_err-add-clause-called : goal.returns-in_err-add-clause-called
+returns-in_err-add-clause-called g c =
+    inr (record {
+      left = sym c.is_spent.ensures.spent ∙ c.if-is_spent.false;
+      resource = ne_eqb c.args.kind synchronization_kind c.if-kind-eq-SYNCHRONIZATION_KIND.false;
+      same = ap (λ x. seen c.self.inside.journal c.self.inside.drawn x c.self.inside.changed) c.in_err-add.ensures.err ∙ c.self.view_is;
+      answer = memory_err c.from_residual.result c.from_residual.ensures.1;
+    })

@@ -1,15 +1,16 @@
-use Rattle.std.proofs.Common.{◌≡◌, ◌∙◌, inl, false, None, Some, ap, sym, subst}
-use Rattle.std.specs.Prelude.{find}
+use Rattle.std.proofs.Common.{◌≡◌, ◌∙◌, inl, inr, false, None, Some, ap, sym, subst}
+use Rattle.std.specs.Prelude.{find, Err}
 use Rattle.std.specs.Option.{option_map}
+use Rattle.resource_end.specs.declared.fault.EndFault.TheVariants as faults
 use Rattle.resource_end.specs.Calls.{has_room, put, with_cell}
 use Rattle.resource_end.specs.End.{Resource, other_holder, with_resource}
 use Rattle.resource_end.specs.Inside.{HasOwnPuts, IsWhole, IsWritable, is_other_holder, numbered}
-use Rattle.resource_end.specs.Journaling.{IsCalled, nothing}
+use Rattle.resource_end.specs.Journaling.{IsCalled, IsStarved, nothing}
 use Rattle.resource_end.proofs.Again.{if_there}
-use Rattle.resource_end.proofs.Changing.{holder_by, no_holder, put_closed, put_done, put_full, put_held, put_unread}
+use Rattle.resource_end.proofs.Changing.{holder_by, no_holder, put_closed, put_done, put_full, put_held, put_starved, put_unread}
 use Rattle.resource_end.proofs.Claims.{at_known}
 use Rattle.resource_end.proofs.Putting.{owns, whole_put}
-use Rattle.resource_end.proofs.Writing.{doubts_nothing, same_err, seen}
+use Rattle.resource_end.proofs.Writing.{doubts_nothing, memory_err, same_err, seen}
 use Rattle.resource_end.proofs.end.ResourceEnd.try_put.Goals as goal
 
 pub returns-in_err-reread-clause-called : goal.returns-in_err-reread-clause-called
@@ -68,6 +69,22 @@ invariant_of-self-2 g c =
     (whole_put c.self.inside.journal c.self.inside.drawn c.self.inside.recovery c.self.inside.contents.resources c.self.invariant
     (c.args.key.now.life, c.args.key.now.generation) it.resource (record { cell = c.args.cell; value = c.args.value }) there it.can_put (c.ranges.cell.fits, c.ranges.value.fits)
     (room ∙ c.if-not-has_room.false) none)
+
+pub returns-in_err-put-clause-called : goal.returns-in_err-put-clause-called
+returns-in_err-put-clause-called g c =
+    let it = c.in_ok-needs_open.ensures.can_put in
+    let there = subst (λ s. numbered (c.args.key.now.life, c.args.key.now.generation) s.end.resources ≡ Some it.resource) (sym c.self.view_is) it.is_numbered in
+    let others : find (is_other_holder (c.args.key.now.life, c.args.key.now.generation) c.args.cell) c.reread.new.self.end.resources ≡ other_holder it.resource c.args.cell c.reread.new.self.end =
+    holder_by (c.args.key.now.life, c.args.key.now.generation) it.resource c.args.cell c.reread.new.self.end.resources it.is_numbered in
+    let free = subst (λ s. None ≡ option_map (λ (r : Resource). r.number) (find (is_other_holder (c.args.key.now.life, c.args.key.now.generation) c.args.cell) s.end.resources)) c.self.view_is c.in_default.ensures in
+    let none = sym others ∙ no_holder (find (is_other_holder (c.args.key.now.life, c.args.key.now.generation) c.args.cell) c.reread.new.self.end.resources) free in
+    let room = sym (at_known (numbered (c.args.key.now.life, c.args.key.now.generation) c.self.inside.contents.resources) it.resource (λ r. c.has_room.result ≡ has_room c.args.cell r) there c.has_room.ensures) in
+    let same = sym c.self.view_is ∙ ap (λ x. seen c.self.inside.journal c.self.inside.drawn x c.self.inside.changed) (sym c.in_err-put.ensures.err) in
+    inr (subst (λ x. IsStarved g.D.Disk.told c.args.self.now (seen c.self.inside.journal c.self.inside.drawn c.put.new.self c.self.inside.changed) x (put c.args.key.now c.args.cell c.args.value))
+    (sym (memory_err c.from_residual-in_err-put.result c.from_residual-in_err-put.ensures.1))
+    (subst (λ s. IsStarved g.D.Disk.told c.args.self.now s (Err faults.Memory) (put c.args.key.now c.args.cell c.args.value)) same
+    (put_starved g.D.Disk.told c.args.self.now c.args.key.now c.args.cell c.args.value c.reread.new.self c.in_ok-reread.ensures.rereads it.resource it.is_named it.can_put
+    none (room ∙ c.if-not-has_room.false))))
 
 pub returns-clause-called : goal.returns-clause-called
 returns-clause-called g c =
