@@ -12,6 +12,7 @@ use Rattle.ots_model.specs.declared.tree.Heard.{Heard}
 use Rattle.ots_model.specs.declared.tree.Heard.TheVariants as heard
 use Rattle.ots_outside.specs.Disk.{DiskState}
 use Rattle.ots_outside.specs.Source.{HasRisen}
+use Rattle.decision_journal.specs.State.{JournalState}
 use Rattle.decision_journal.specs.declared.record.JournalRecord.{JournalRecord}
 use Rattle.resource_end.specs.declared.fault.EndFault.{EndFault}
 use Rattle.resource_end.specs.declared.fault.EndFault.TheVariants as faults
@@ -103,15 +104,16 @@ later_risen a b c ab bc (inr h) = elim (cases_lt a b) [
   | inr more ↦ let same : a ≡ b = omega (arith, ab, more) in inr (same ∙ h)
 ]
 
-pub later_cause : (told : Option DiskState) (a b c : ℕ) (fault : EndFault) → a ≤ b → b ≤ c → IsCause told b c fault → IsCause told a c fault
-later_cause told a b c (faults.Transient number) ab bc h = tt
-later_cause told a b c faults.Inactive ab bc h = tt
-later_cause told a b c faults.ObjectNotExist ab bc h = tt
-later_cause told a b c faults.PersistStore ab bc (inl h) = inl (later_risen a b c ab bc h)
-later_cause told a b c faults.PersistStore ab bc (inr h) = inr h
-later_cause told a b c faults.NoResources ab bc h = tt
-later_cause told a b c (faults.Start fault) ab bc h = tt
-later_cause told a b c faults.Memory ab bc h = tt
+pub later_cause : {D : Type 0} (wants : Bool) (tells : D → Option DiskState) (count : D → ℕ) (a b c : JournalState D) (fault : EndFault)
+    → count a.disk ≤ count b.disk → count b.disk ≤ count c.disk → b.failed ≡ false → IsCause wants tells count b c fault → IsCause wants tells count a c fault
+later_cause wants tells count a b c (faults.Transient number) ab bc ready h = tt
+later_cause wants tells count a b c faults.Inactive ab bc ready h = tt
+later_cause wants tells count a b c faults.ObjectNotExist ab bc ready h = tt
+later_cause wants tells count a b c faults.PersistStore ab bc ready (inl h) = inl (later_risen (count a.disk) (count b.disk) (count c.disk) ab bc h)
+later_cause wants tells count a b c faults.PersistStore ab bc ready (inr h) = absurd (both_ways b.failed ready h.0)
+later_cause wants tells count a b c faults.NoResources ab bc ready h = tt
+later_cause wants tells count a b c (faults.Start fault) ab bc ready h = tt
+later_cause wants tells count a b c faults.Memory ab bc ready h = h
 
 -- ---- where a change may lead
 

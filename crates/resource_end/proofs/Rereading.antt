@@ -1,10 +1,11 @@
 -- What reading the journal again makes of an end, and why it is refused.
 use Rattle.std.proofs.Common.{◌≡◌, ◌∙◌, inl, inr, ℕ, ◌+◌, ◌<◌, ◌≤◌, Bool, true, false, List, [], ◌∷◌, length, Option, Some, None, refl, sym, ap, subst, arith, length-append}
 use Rattle.std.specs.Prelude.{IfSome, Ok, Err, is_some}
+use Rattle.std.proofs.lemmas.Bool.{both_ways}
 use Rattle.ots_model.specs.declared.service.Status.{Status}
 use Rattle.ots_outside.specs.Disk.{DiskState, Tells, synced}
 use Rattle.decision_journal.specs.Calls as journal_calls
-use Rattle.decision_journal.specs.Calls.{IsCurrent, IsReady, IsUnready, IsUnwritten}
+use Rattle.decision_journal.specs.Calls.{IsCurrent, IsReady, IsRefusedAppend, IsUnready, IsUnwritten}
 use Rattle.decision_journal.specs.Journal.{Found, with_record}
 use Rattle.decision_journal.specs.State.{HasReread, IsAppendFault, IsReadFault, IsUnread, JournalState, MayFind, cells_in}
 use Rattle.decision_journal.specs.declared.journal.JournalFault.{JournalFault}
@@ -30,23 +31,25 @@ read_kind wants told before after (journal_faults.BadRecord place) h = tt
 read_kind wants told before after journal_faults.LivesSpent h = absurd h
 read_kind wants told before after journal_faults.Memory h = tt
 
-pub read_cause : (wants : Bool) (told : Option DiskState) (before after : ℕ) (fault : JournalFault) → IsReadFault wants told before after fault
-    → IsCause told before after (write_fault fault)
-read_cause wants told before after journal_faults.DiskFault h = inl h
-read_cause wants told before after (journal_faults.Full u n) h = absurd h
-read_cause wants told before after (journal_faults.BadHeader place) h = inr h
-read_cause wants told before after (journal_faults.BadRecord place) h = inr h
-read_cause wants told before after journal_faults.LivesSpent h = absurd h
-read_cause wants told before after journal_faults.Memory h = tt
+module _ {D : Type 0} (wants : Bool) (told : D → Option DiskState) (count : D → ℕ) (a b : JournalState D) where
+  pub read_cause : (fault : JournalFault) → a.failed ≡ true → IsReadFault wants (told b.disk) (count a.disk) (count b.disk) fault
+      → IsCause wants told count a b (write_fault fault)
+  read_cause journal_faults.DiskFault failed h = inl h
+  read_cause (journal_faults.Full u n) failed h = absurd h
+  read_cause (journal_faults.BadHeader place) failed h = inr (failed, h)
+  read_cause (journal_faults.BadRecord place) failed h = inr (failed, h)
+  read_cause journal_faults.LivesSpent failed h = absurd h
+  read_cause journal_faults.Memory failed h = inl h
 
-pub append_cause : (wants : Bool) (told : Option DiskState) (before after : ℕ) (fault : JournalFault) → IsAppendFault wants told before after fault
-    → IsCause told before after (write_fault fault)
-append_cause wants told before after journal_faults.DiskFault h = inl h
-append_cause wants told before after (journal_faults.Full u n) h = tt
-append_cause wants told before after (journal_faults.BadHeader place) h = inr h
-append_cause wants told before after (journal_faults.BadRecord place) h = inr h
-append_cause wants told before after journal_faults.LivesSpent h = absurd h
-append_cause wants told before after journal_faults.Memory h = tt
+  -- a journal that was ready doesn't read its disk again, so it finds no other octets
+  pub append_cause : (room : ℕ) (item : JournalRecord) (fault : JournalFault) → a.failed ≡ false → IsRefusedAppend told (record a { room = room }) item b fault
+      → IsAppendFault wants (told b.disk) (count a.disk) (count b.disk) fault → IsCause wants told count a b (write_fault fault)
+  append_cause room item journal_faults.DiskFault ready why h = inl h
+  append_cause room item (journal_faults.Full u n) ready why h = tt
+  append_cause room item (journal_faults.BadHeader place) ready why h = absurd (both_ways a.failed ready why.was)
+  append_cause room item (journal_faults.BadRecord place) ready why h = absurd (both_ways a.failed ready why.was)
+  append_cause room item journal_faults.LivesSpent ready why h = absurd h
+  append_cause room item journal_faults.Memory ready why h = inl h
 
 -- ---- what is found
 

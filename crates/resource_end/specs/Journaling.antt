@@ -142,12 +142,15 @@ pub record IsUnmade {D : Type 0} (letter : ℕ) (before after : EndState D) (sai
 abbrev pub IsMadeOrUnmade : {D : Type 0} → ℕ → EndState D → EndState D → Result ObjectKey EndFault → Type 0
 IsMadeOrUnmade letter before after said = IsAlone before after said (fresh letter before.end) ⊎ IsUnmade letter before after said
 
--- PersistStore comes only where the disk's count of faults rose, or a disk that tells nothing of itself gave other octets
-abbrev pub IsCause : Option DiskState → ℕ → ℕ → EndFault → Type 0
-IsCause told before after (faults.Transient number) = Unit {0}
-IsCause told before after faults.Inactive = Unit {0}
-IsCause told before after faults.ObjectNotExist = Unit {0}
-IsCause told before after faults.PersistStore = HasRisen before after ⊎ (told ≡ None)
-IsCause told before after faults.NoResources = Unit {0}
-IsCause told before after (faults.Start fault) = Unit {0}
-IsCause told before after faults.Memory = Unit {0}
+-- Why a call is refused with a fault that isn't of the resource. PersistStore: the disk's count of faults rose, or the journal was
+-- read again from a disk that tells nothing of itself, and which gave other octets. Memory: the disk may want some, or the call
+-- itself wanted some, which leaves a journal that needs no rereading
+abbrev pub IsCause : {D : Type 0} → Bool → (D → Option DiskState) → (D → ℕ) → JournalState D → JournalState D → EndFault → Type 0
+IsCause wants told count before after (faults.Transient number) = Unit {0}
+IsCause wants told count before after faults.Inactive = Unit {0}
+IsCause wants told count before after faults.ObjectNotExist = Unit {0}
+IsCause wants told count before after faults.PersistStore =
+    HasRisen (count before.disk) (count after.disk) ⊎ ((before.failed ≡ true) × (told after.disk ≡ None))
+IsCause wants told count before after faults.NoResources = Unit {0}
+IsCause wants told count before after (faults.Start fault) = Unit {0}
+IsCause wants told count before after faults.Memory = IsTrue wants ⊎ (after.failed ≡ false)

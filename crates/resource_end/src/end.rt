@@ -265,8 +265,8 @@ impl<D: Disk> ResourceEnd<D> {
         ensures called { journaling.IsCalledOrStarved D.told self.old self.new result (calls.put key.now cell value) }
         ensures crash { crashes.IsCrashSafe D.told self.old self.new }
         ensures stays { IsOnRecord self.old → IsOnRecord self.new }
-        ensures fault { IfErr result (journaling.IsCause (D.told self.new.journal.disk)
-            (D.faults self.old.journal.disk) (D.faults self.new.journal.disk)) }
+        ensures fault { IfErr result
+            (journaling.IsCause D.wants_memory D.told D.faults self.old.journal self.new.journal) }
         ensures later { D.faults self.old.journal.disk ≤ D.faults self.new.journal.disk }
     {
         self.kept();
@@ -278,8 +278,8 @@ impl<D: Disk> ResourceEnd<D> {
     /// Puts a value into a cell, or is refused.
     fn try_put(&mut self, key: &ObjectKey, cell: u64, value: u64) -> Result<(), EndFault>
         ensures called { journaling.IsCalledOrStarved D.told self.old self.new result (calls.put key.now cell value) }
-        ensures fault { IfErr result (journaling.IsCause (D.told self.new.journal.disk)
-            (D.faults self.old.journal.disk) (D.faults self.new.journal.disk)) }
+        ensures fault { IfErr result
+            (journaling.IsCause D.wants_memory D.told D.faults self.old.journal self.new.journal) }
         ensures later { D.faults self.old.journal.disk ≤ D.faults self.new.journal.disk }
     {
         self.reread()?;
@@ -301,8 +301,8 @@ impl<D: Disk> ResourceEnd<D> {
         ensures called { journaling.IsCalled D.told self.old self.new result journaling.nothing (calls.refuse key.now) }
         ensures crash { crashes.IsCrashSafe D.told self.old self.new }
         ensures stays { IsOnRecord self.old → IsOnRecord self.new }
-        ensures fault { IfErr result (journaling.IsCause (D.told self.new.journal.disk)
-            (D.faults self.old.journal.disk) (D.faults self.new.journal.disk)) }
+        ensures fault { IfErr result
+            (journaling.IsCause D.wants_memory D.told D.faults self.old.journal self.new.journal) }
         ensures later { D.faults self.old.journal.disk ≤ D.faults self.new.journal.disk }
     {
         self.kept();
@@ -314,8 +314,8 @@ impl<D: Disk> ResourceEnd<D> {
     /// Makes a resource vote rollback, or is refused.
     fn try_refuse(&mut self, key: &ObjectKey) -> Result<(), EndFault>
         ensures called { journaling.IsCalled D.told self.old self.new result journaling.nothing (calls.refuse key.now) }
-        ensures fault { IfErr result (journaling.IsCause (D.told self.new.journal.disk)
-            (D.faults self.old.journal.disk) (D.faults self.new.journal.disk)) }
+        ensures fault { IfErr result
+            (journaling.IsCause D.wants_memory D.told D.faults self.old.journal self.new.journal) }
         ensures later { D.faults self.old.journal.disk ≤ D.faults self.new.journal.disk }
     {
         self.reread()?;
@@ -333,8 +333,8 @@ impl<D: Disk> ResourceEnd<D> {
             (calls.wanted_by_choice d key.now) (calls.choose_heuristic key.now d) }
         ensures crash { crashes.IsCrashSafe D.told self.old self.new }
         ensures stays { IsOnRecord self.old → IsOnRecord self.new }
-        ensures fault { IfErr result (journaling.IsCause (D.told self.new.journal.disk)
-            (D.faults self.old.journal.disk) (D.faults self.new.journal.disk)) }
+        ensures fault { IfErr result
+            (journaling.IsCause D.wants_memory D.told D.faults self.old.journal self.new.journal) }
         ensures later { D.faults self.old.journal.disk ≤ D.faults self.new.journal.disk }
     {
         self.kept();
@@ -347,8 +347,8 @@ impl<D: Disk> ResourceEnd<D> {
     fn try_choice(&mut self, key: &ObjectKey, d: Decision) -> Result<(), EndFault>
         ensures called { journaling.IsCalled D.told self.old self.new result
             (calls.wanted_by_choice d key.now) (calls.choose_heuristic key.now d) }
-        ensures fault { IfErr result (journaling.IsCause (D.told self.new.journal.disk)
-            (D.faults self.old.journal.disk) (D.faults self.new.journal.disk)) }
+        ensures fault { IfErr result
+            (journaling.IsCause D.wants_memory D.told D.faults self.old.journal self.new.journal) }
         ensures later { D.faults self.old.journal.disk ≤ D.faults self.new.journal.disk }
     {
         self.reread()?;
@@ -369,8 +369,8 @@ impl<D: Disk> ResourceEnd<D> {
             (calls.wanted Word.Prepare key.now) (calls.told Word.Prepare key.now) }
         ensures crash { crashes.IsCrashSafe D.told self.old self.new }
         ensures stays { IsOnRecord self.old → IsOnRecord self.new }
-        ensures fault { IfErr result (journaling.IsCause (D.told self.new.journal.disk)
-            (D.faults self.old.journal.disk) (D.faults self.new.journal.disk)) }
+        ensures fault { IfErr result
+            (journaling.IsCause D.wants_memory D.told D.faults self.old.journal self.new.journal) }
         ensures later { D.faults self.old.journal.disk ≤ D.faults self.new.journal.disk }
     {
         self.told(Word::Prepare, key)
@@ -383,8 +383,8 @@ impl<D: Disk> ResourceEnd<D> {
             (calls.wanted Word.Commit key.now) (calls.told Word.Commit key.now) }
         ensures crash { crashes.IsCrashSafe D.told self.old self.new }
         ensures stays { IsOnRecord self.old → IsOnRecord self.new }
-        ensures fault { IfErr result (journaling.IsCause (D.told self.new.journal.disk)
-            (D.faults self.old.journal.disk) (D.faults self.new.journal.disk)) }
+        ensures fault { IfErr result
+            (journaling.IsCause D.wants_memory D.told D.faults self.old.journal self.new.journal) }
         ensures later { D.faults self.old.journal.disk ≤ D.faults self.new.journal.disk }
     {
         self.told(Word::Commit, key)
@@ -397,8 +397,8 @@ impl<D: Disk> ResourceEnd<D> {
             (calls.wanted Word.Rollback key.now) (calls.told Word.Rollback key.now) }
         ensures crash { crashes.IsCrashSafe D.told self.old self.new }
         ensures stays { IsOnRecord self.old → IsOnRecord self.new }
-        ensures fault { IfErr result (journaling.IsCause (D.told self.new.journal.disk)
-            (D.faults self.old.journal.disk) (D.faults self.new.journal.disk)) }
+        ensures fault { IfErr result
+            (journaling.IsCause D.wants_memory D.told D.faults self.old.journal self.new.journal) }
         ensures later { D.faults self.old.journal.disk ≤ D.faults self.new.journal.disk }
     {
         self.told(Word::Rollback, key)
@@ -411,8 +411,8 @@ impl<D: Disk> ResourceEnd<D> {
             (calls.wanted Word.CommitOnePhase key.now) (calls.told Word.CommitOnePhase key.now) }
         ensures crash { crashes.IsCrashSafe D.told self.old self.new }
         ensures stays { IsOnRecord self.old → IsOnRecord self.new }
-        ensures fault { IfErr result (journaling.IsCause (D.told self.new.journal.disk)
-            (D.faults self.old.journal.disk) (D.faults self.new.journal.disk)) }
+        ensures fault { IfErr result
+            (journaling.IsCause D.wants_memory D.told D.faults self.old.journal self.new.journal) }
         ensures later { D.faults self.old.journal.disk ≤ D.faults self.new.journal.disk }
     {
         self.told(Word::CommitOnePhase, key)
@@ -425,8 +425,8 @@ impl<D: Disk> ResourceEnd<D> {
             (calls.wanted Word.Forget key.now) (calls.told Word.Forget key.now) }
         ensures crash { crashes.IsCrashSafe D.told self.old self.new }
         ensures stays { IsOnRecord self.old → IsOnRecord self.new }
-        ensures fault { IfErr result (journaling.IsCause (D.told self.new.journal.disk)
-            (D.faults self.old.journal.disk) (D.faults self.new.journal.disk)) }
+        ensures fault { IfErr result
+            (journaling.IsCause D.wants_memory D.told D.faults self.old.journal self.new.journal) }
         ensures later { D.faults self.old.journal.disk ≤ D.faults self.new.journal.disk }
     {
         self.told(Word::Forget, key)
@@ -451,8 +451,8 @@ impl<D: Disk> ResourceEnd<D> {
             (calls.wanted_by_answer heard.now key.now) (calls.learn key.now heard.now) }
         ensures crash { crashes.IsCrashSafe D.told self.old self.new }
         ensures stays { IsOnRecord self.old → IsOnRecord self.new }
-        ensures fault { IfErr result (journaling.IsCause (D.told self.new.journal.disk)
-            (D.faults self.old.journal.disk) (D.faults self.new.journal.disk)) }
+        ensures fault { IfErr result
+            (journaling.IsCause D.wants_memory D.told D.faults self.old.journal self.new.journal) }
         ensures later { D.faults self.old.journal.disk ≤ D.faults self.new.journal.disk }
     {
         self.kept();
@@ -465,8 +465,8 @@ impl<D: Disk> ResourceEnd<D> {
     fn try_learn(&mut self, key: &ObjectKey, heard: &Heard) -> Result<(), EndFault>
         ensures called { journaling.IsCalled D.told (journaling.afresh self.old) self.new result
             (calls.wanted_by_answer heard.now key.now) (calls.learn key.now heard.now) }
-        ensures fault { IfErr result (journaling.IsCause (D.told self.new.journal.disk)
-            (D.faults self.old.journal.disk) (D.faults self.new.journal.disk)) }
+        ensures fault { IfErr result
+            (journaling.IsCause D.wants_memory D.told D.faults self.old.journal self.new.journal) }
         ensures later { D.faults self.old.journal.disk ≤ D.faults self.new.journal.disk }
     {
         self.changed = None;
@@ -488,8 +488,8 @@ impl<D: Disk> ResourceEnd<D> {
             (calls.wanted word key.now) (calls.told word key.now) }
         ensures crash { crashes.IsCrashSafe D.told self.old self.new }
         ensures stays { IsOnRecord self.old → IsOnRecord self.new }
-        ensures fault { IfErr result (journaling.IsCause (D.told self.new.journal.disk)
-            (D.faults self.old.journal.disk) (D.faults self.new.journal.disk)) }
+        ensures fault { IfErr result
+            (journaling.IsCause D.wants_memory D.told D.faults self.old.journal self.new.journal) }
         ensures later { D.faults self.old.journal.disk ≤ D.faults self.new.journal.disk }
     {
         self.kept();
@@ -502,8 +502,8 @@ impl<D: Disk> ResourceEnd<D> {
     fn try_word(&mut self, word: Word, key: &ObjectKey) -> Result<Heard, EndFault>
         ensures called { journaling.IsCalled D.told (journaling.afresh self.old) self.new result
             (calls.wanted word key.now) (calls.told word key.now) }
-        ensures fault { IfErr result (journaling.IsCause (D.told self.new.journal.disk)
-            (D.faults self.old.journal.disk) (D.faults self.new.journal.disk)) }
+        ensures fault { IfErr result
+            (journaling.IsCause D.wants_memory D.told D.faults self.old.journal self.new.journal) }
         ensures later { D.faults self.old.journal.disk ≤ D.faults self.new.journal.disk }
     {
         self.changed = None;
@@ -548,8 +548,8 @@ impl<D: Disk> ResourceEnd<D> {
     fn reread(&mut self) -> Result<(), EndFault>
         ensures rereads { inside.HasReadAgain D.told self.old self.new result }
         ensures ready { OnOk result (self.new.journal.failed ≡ false) }
-        ensures fault { IfErr result (journaling.IsCause (D.told self.new.journal.disk)
-            (D.faults self.old.journal.disk) (D.faults self.new.journal.disk)) }
+        ensures fault { IfErr result
+            (journaling.IsCause D.wants_memory D.told D.faults self.old.journal self.new.journal) }
         ensures later { D.faults self.old.journal.disk ≤ D.faults self.new.journal.disk }
         ensures shown { self.new.end.changed ≡ self.old.end.changed }
     {
@@ -578,8 +578,8 @@ impl<D: Disk> ResourceEnd<D> {
         requires ready { self.old.journal.failed ≡ false }
         ensures moves { IfSome (inside.numbered id self.old.end.resources)
             (inside.HasMoved D.told self.old self.new result next) }
-        ensures fault { IfErr result (journaling.IsCause (D.told self.new.journal.disk)
-            (D.faults self.old.journal.disk) (D.faults self.new.journal.disk)) }
+        ensures fault { IfErr result
+            (journaling.IsCause D.wants_memory D.told D.faults self.old.journal self.new.journal) }
         ensures later { D.faults self.old.journal.disk ≤ D.faults self.new.journal.disk }
         ensures shown { self.new.end.changed ≡ self.old.end.changed }
     {
@@ -600,8 +600,8 @@ impl<D: Disk> ResourceEnd<D> {
         requires recallable { inside.IsRecallable item (inside.named_by item) self.old.end.resources }
         requires ready { self.old.journal.failed ≡ false }
         ensures writes { inside.HasWrittenRecord D.told self.old self.new result item }
-        ensures fault { IfErr result (journaling.IsCause (D.told self.new.journal.disk)
-            (D.faults self.old.journal.disk) (D.faults self.new.journal.disk)) }
+        ensures fault { IfErr result
+            (journaling.IsCause D.wants_memory D.told D.faults self.old.journal self.new.journal) }
         ensures later { D.faults self.old.journal.disk ≤ D.faults self.new.journal.disk }
         ensures shown { self.new.end.changed ≡ self.old.end.changed }
     {

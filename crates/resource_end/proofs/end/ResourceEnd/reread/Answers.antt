@@ -2,8 +2,9 @@ use Rattle.std.proofs.Common.{◌∙◌, ◌<◌, ◌≤◌, ◌∷◌, [], leng
 use Rattle.std.specs.Prelude.{Ok, Err}
 use Rattle.decision_journal.specs.Journal.{Found}
 use Rattle.resource_end.specs.Faults.{write_fault}
+use Rattle.resource_end.specs.Journaling.{IsCause}
 use Rattle.resource_end.specs.Inside.{AreRecorded, HasReadAgain, IsRecallable, last_of}
-use Rattle.resource_end.proofs.Rereading.{found_more, found_same, in_doubt, is_ready, known, no_reread, read_kind, recallable_cells, stands, stands_not, unread}
+use Rattle.resource_end.proofs.Rereading.{found_more, found_same, in_doubt, is_ready, known, no_reread, read_cause, read_kind, recallable_cells, stands, stands_not, unread}
 use Rattle.resource_end.proofs.Writing.{cells_more, doubts_nothing, last_appended, last_recallable, last_told, more_recorded, seen}
 use Rattle.resource_end.proofs.end.ResourceEnd.reread.Goals as goal
 
@@ -22,6 +23,13 @@ returns-in-Err-clause-rereads g c =
     (subst (λ s. HasReadAgain g.D.Disk.told s (seen c.reopen.new.self c.self.inside.drawn c.self.inside.contents c.self.inside.changed) (Err (write_fault c.in-Err.fault))) c.self.view_is
     (unread g.D.Disk.told c.self.inside.journal c.self.inside.drawn c.self.inside.contents c.self.inside.changed c.reopen.new.self doubt.0 failed doubt.1.0 (write_fault c.in-Err.fault) c.in-Err.ensures.unread c.in-Err.ensures.unwritten
     (read_kind g.D.Disk.wants_memory (g.D.Disk.told c.reopen.new.self.disk) (g.D.Disk.faults c.self.inside.journal.disk) (g.D.Disk.faults c.reopen.new.self.disk) c.in-Err.fault c.in-Err.ensures.fault)))
+
+pub returns-in-Err-clause-fault : goal.returns-in-Err-clause-fault
+returns-in-Err-clause-fault g c =
+    subst (IsCause g.D.Disk.wants_memory g.D.Disk.told g.D.Disk.faults c.args.self.now.journal c.reopen.new.self) (sym c.of_write.ensures)
+    (subst (λ s. IsCause g.D.Disk.wants_memory g.D.Disk.told g.D.Disk.faults s.journal c.reopen.new.self (write_fault c.in-Err.fault)) c.self.view_is
+    (read_cause g.D.Disk.wants_memory g.D.Disk.told g.D.Disk.faults c.self.inside.journal c.reopen.new.self c.in-Err.fault
+    (sym c.failed.ensures ∙ c.if-not-failed.false) c.in-Err.ensures.fault))
 
 pub recall_last-requires-clause-recorded : goal.recall_last-requires-clause-recorded
 recall_last-requires-clause-recorded g c =

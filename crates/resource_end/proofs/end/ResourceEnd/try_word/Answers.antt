@@ -44,12 +44,11 @@ returns-in_err-moves-clause-called g c =
 
 pub returns-in_err-moves-clause-fault : goal.returns-in_err-moves-clause-fault
 returns-in_err-moves-clause-fault g c =
-    subst (λ x. IfErr x (IsCause (g.D.Disk.told c.moves.new.self.journal.disk) (g.D.Disk.faults c.args.self.now.journal.disk) (g.D.Disk.faults c.moves.new.self.journal.disk)))
+    subst (λ x. IfErr x (IsCause g.D.Disk.wants_memory g.D.Disk.told g.D.Disk.faults c.args.self.now.journal c.moves.new.self.journal))
     (sym (same_err c.from_residual-in_err-moves.result c.in_err-moves.field-0.0 c.from_residual-in_err-moves.ensures.1))
-    (later_cause (g.D.Disk.told c.moves.new.self.journal.disk) (g.D.Disk.faults c.args.self.now.journal.disk) (g.D.Disk.faults c.reread.new.self.journal.disk)
-    (g.D.Disk.faults c.moves.new.self.journal.disk) c.in_err-moves.field-0.0
+    (later_cause g.D.Disk.wants_memory g.D.Disk.told g.D.Disk.faults c.args.self.now.journal c.reread.new.self.journal c.moves.new.self.journal c.in_err-moves.field-0.0
     (subst (λ s. g.D.Disk.faults s.journal.disk ≤ g.D.Disk.faults c.reread.new.self.journal.disk) c.self.view_is c.reread.ensures.later)
-    c.moves.ensures.later c.in_err-moves.ensures.fault)
+    c.moves.ensures.later c.in_ok-reread.ensures.ready c.in_err-moves.ensures.fault)
 
 pub returns-in_ok-moves-clause-called : goal.returns-in_ok-moves-clause-called
 returns-in_ok-moves-clause-called g c =

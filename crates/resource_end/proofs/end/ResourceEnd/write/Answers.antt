@@ -1,11 +1,13 @@
-use Rattle.std.proofs.Common.{◌≡◌, ◌∙◌, ◌∷◌, [], false, Some, refl, ap, sym, subst}
-use Rattle.std.specs.Prelude.{IsTrue, Ok, Err}
+use Rattle.std.proofs.Common.{◌≡◌, ◌∙◌, ◌∷◌, [], inr, false, Some, refl, ap, sym, subst}
+use Rattle.std.specs.Prelude.{IfErr, IsTrue, Ok, Err}
 use Rattle.decision_journal.specs.Calls.{HasAppended, IsRefusedAppend}
 use Rattle.decision_journal.specs.Journal.{Found, can_follow}
+use Rattle.decision_journal.specs.State.{IsAppendFault}
 use Rattle.resource_end.specs.declared.fault.EndFault.TheVariants as faults
 use Rattle.resource_end.specs.Faults.{write_fault}
-use Rattle.resource_end.specs.Journaling.{CanStand}
+use Rattle.resource_end.specs.Journaling.{CanStand, IsCause}
 use Rattle.resource_end.specs.Inside.{AreRecorded, HasWritten, IsRecallable, last_of, told_by_record}
+use Rattle.resource_end.proofs.Rereading.{append_cause}
 use Rattle.resource_end.proofs.Writing.{appended_found, doubts_nothing, last_appended, last_recallable, last_told, memory_err, more_recorded, refused, seen, starved, wrote}
 use Rattle.resource_end.proofs.end.ResourceEnd.write.Goals as goal
 
@@ -79,3 +81,24 @@ returns-in-Err-clause-writes g c =
     (Some c.args.item) (λ written. told_by_record written c.args.item)) c.self.view_is
     (refused g.D.Disk.told c.self.inside.journal c.append.new.self c.reserve.new.self.room c.self.inside.drawn c.self.inside.contents c.self.inside.changed
     c.args.item none c.in-Err.fault can ready why))
+
+pub returns-in_err-recovery-clause-fault : goal.returns-in_err-recovery-clause-fault
+returns-in_err-recovery-clause-fault g c =
+    subst (λ x. IfErr x (IsCause g.D.Disk.wants_memory g.D.Disk.told g.D.Disk.faults c.args.self.now.journal c.args.self.now.journal))
+    (sym (memory_err c.from_residual.result c.from_residual.ensures.1)) (inr c.requires.ready)
+
+pub returns-in_err-reserve-clause-fault : goal.returns-in_err-reserve-clause-fault
+returns-in_err-reserve-clause-fault g c =
+    let ready = subst (λ s. s.journal.failed ≡ false) (sym c.self.view_is) c.requires.ready in
+    subst (λ x. IfErr x (IsCause g.D.Disk.wants_memory g.D.Disk.told g.D.Disk.faults c.args.self.now.journal c.reserve.new.self))
+    (sym (memory_err c.from_residual-in_err-reserve.result c.from_residual-in_err-reserve.ensures.1)) (inr (ap (λ j. j.failed) c.reserve.ensures.same ∙ ready))
+
+pub returns-in-Err-clause-fault : goal.returns-in-Err-clause-fault
+returns-in-Err-clause-fault g c =
+    let ready = subst (λ s. s.journal.failed ≡ false) (sym c.self.view_is) c.requires.ready in
+    let why = subst (λ j. IsRefusedAppend g.D.Disk.told j c.args.item c.append.new.self c.in-Err.fault) c.reserve.ensures.same c.in-Err.ensures.refused in
+    let cause = subst (λ j. IsAppendFault g.D.Disk.wants_memory (g.D.Disk.told c.append.new.self.disk) (g.D.Disk.faults j.disk) (g.D.Disk.faults c.append.new.self.disk) c.in-Err.fault)
+    c.reserve.ensures.same c.in-Err.ensures.fault in
+    subst (IsCause g.D.Disk.wants_memory g.D.Disk.told g.D.Disk.faults c.args.self.now.journal c.append.new.self) (sym c.of_write.ensures)
+    (subst (λ s. IsCause g.D.Disk.wants_memory g.D.Disk.told g.D.Disk.faults s.journal c.append.new.self (write_fault c.in-Err.fault)) c.self.view_is
+    (append_cause g.D.Disk.wants_memory g.D.Disk.told g.D.Disk.faults c.self.inside.journal c.append.new.self c.reserve.new.self.room c.args.item c.in-Err.fault ready why cause))
