@@ -1,11 +1,11 @@
 -- What stays sound where a tree, its lists or a completion changes.
-use Rattle.std.proofs.Common.{◌≡◌, ◌≢◌, ◌⊎◌, inl, inr, ℕ, ◌<◌, List, [], ◌∷◌, length, map, Bool, true, false, Some, refl, ap, sym, subst, ◌∙◌}
+use Rattle.std.proofs.Common.{◌≡◌, ◌≢◌, ◌⊎◌, inl, inr, ℕ, ◌<◌, List, [], ◌∷◌, length, map, Bool, true, false, Some, refl, ap, sym, subst, ◌∙◌, ◌+◌, ◌++◌, slice_set, arith}
 use Rattle.std.specs.List.{AllByRecursion}
 use Rattle.txn_tree.specs.Rows.{parent, state, is_live_branch}
 use Rattle.txn_tree.specs.Calls.{created, ended, with_state}
 use Rattle.txn_tree.specs.declared.row.Row.{Row}
 use Rattle.txn_tree.specs.declared.row.State.{State}
-use Rattle.txn_tree.specs.declared.row.State.TheVariants.{Committed}
+use Rattle.txn_tree.specs.declared.row.State.TheVariants.{Committed, Active}
 use Rattle.txn_tree.proofs.Lineages.{tree_kept, tree_grows}
 use Rattle.resource_votes.specs.Ballots.{Ballots, participants, adopted, registered, registered_aware}
 use Rattle.resource_votes.specs.declared.registration.Registration.{Registration}
@@ -19,6 +19,9 @@ use Rattle.family_laws.specs.Trees.IsUpTo.{same}
 use Rattle.family_laws.specs.Sound.{NoneLive, IsSoundLists, IsSoundCompletion}
 use Rattle.family_laws.proofs.Trees.{up_joined, up_open, back_up, back_down, split, up_here, live_open, grown_up, grown_down, grown_live}
 use Rattle.family_laws.proofs.Lists.{all_joined, all_map, adopted_cases, registered_cases, aware_same, numbers_adopted, numbers_registered, numbers_aware, new_one}
+use Rattle.std.proofs.lemmas.Grind.{common_steps}
+use Rattle.resource_votes.specs.Limits.{list_count}
+use Rattle.resource_votes.specs.Lists.{list_at}
 
 -- ---- lists
 
@@ -27,6 +30,15 @@ Listed rs b r = IsUpTo rs b r.branch
 
 abbrev pub Highest : List Row → ℕ → Registration → Type 0
 Highest rs b r = (c : ℕ) → IsUpTo rs c r.branch → IsUpTo rs b c
+
+lists_kept : (lists : List (List ℕ)) (b : ℕ) (xs : List ℕ) → length (slice_set lists b xs) ≡ length lists
+lists_kept lists b xs = grind (arith, common_steps)
+
+row_kept : (rs : List Row) (b : ℕ) (r : Row) → length (slice_set rs b r) ≡ length rs
+row_kept rs b r = grind (arith, common_steps)
+
+row_more : (rs : List Row) (r : Row) → length (rs ++ r ∷ []) ≡ length rs + 1
+row_more rs r = grind (arith, common_steps)
 
 -- a live branch is marked or rolled back
 pub lists_with : (rs : List Row) (some : Ballots) (d : ℕ) (s : State) → is_live_branch rs d ≡ true → s ≢ Committed → is_live_branch (with_state rs d s) 0 ≡ true
@@ -38,6 +50,8 @@ lists_with rs some d s live n top h = record {
   highest = λ b. all_map (Highest rs b) (Highest (with_state rs d s) b)
       (λ r high c u. back_up rs d s live b c (high c (back_down rs d s live n c r.branch u))) (participants b some) (h.highest b);
   numbers = h.numbers;
+  room = h.room;
+  few = let many = row_kept rs d (record { parent = parent rs d; state = s }) in let few = h.few in omega (arith, many, few);
 }
 
 -- a live branch is committed into its parent, above which nothing is committed
@@ -75,16 +89,20 @@ lists_committed rs some b p live is other none top h =
           (all_map (Highest rs b) (Highest more p) (handed_highest rs b p live is none) (participants b some) (h.highest b))))
           (λ o n. all_map (Highest rs c) (Highest more c) (still_highest rs b p c live is n) (participants c some) (h.highest c)) tt;
       numbers = numbers_adopted some b p h.numbers;
+      room = lists_kept (slice_set some.lists b []) p (list_at some.lists p ++ list_at some.lists b) ∙ lists_kept some.lists b [] ∙ h.room;
+      few = let many = row_kept rs b (record { parent = parent rs b; state = Committed }) in let few = h.few in omega (arith, many, few);
     }
 
-pub lists_created : (rs : List Row) (some : Ballots) (b : ℕ) → b < length rs → IsSoundLists rs some → IsSoundLists (created rs b) some
-lists_created rs some b within h = record {
+pub lists_created : (rs : List Row) (some : Ballots) (b : ℕ) → b < length rs → length rs < list_count → IsSoundLists rs some → IsSoundLists (created rs b) some
+lists_created rs some b within small h = record {
   tree = tree_grows rs h.tree b within;
   top = grown_live rs b 0 h.top;
   listed = λ c. all_map (Listed rs c) (Listed (created rs b) c) (λ r u. grown_up rs b c r.branch u) (participants c some) (h.listed c);
   highest = λ c. all_map (Highest rs c) (Highest (created rs b) c)
       (λ r high x u. grown_up rs b c x (high x (grown_down rs b x r.branch u))) (participants c some) (h.highest c);
   numbers = h.numbers;
+  room = h.room;
+  few = let many = row_more rs (record { parent = Some b; state = Active }) in omega (arith, many, small);
 }
 
 pub lists_registered : (rs : List Row) (some : Ballots) (b : ℕ) (to : List ℕ) (aware : Bool) → state rs b ≢ Some Committed → IsSoundLists rs some → IsSoundLists rs (registered b to aware some)
@@ -97,6 +115,8 @@ lists_registered rs some b to aware n h = record {
       (λ e. rw e (all_joined (Highest rs b) (participants b some) (new_one b to aware some ∷ []) (h.highest b)
       ((λ x u. subst (λ (y : ℕ). IsUpTo rs b y) (up_open rs x b n u) same), tt))) (λ o. h.highest c) tt;
   numbers = numbers_registered some b to aware h.numbers;
+  room = lists_kept some.lists b (list_at some.lists b ++ (length some.registrations + 1) ∷ []) ∙ h.room;
+  few = h.few;
 }
 
 pub lists_aware : (rs : List Row) (some : Ballots) (b : ℕ) (to : List ℕ) → IsSoundLists rs some → IsSoundLists rs (registered_aware b to some)
@@ -106,6 +126,8 @@ lists_aware rs some b to h = record {
   listed = λ c. rw (aware_same some b to c h.numbers) (h.listed c);
   highest = λ c. rw (aware_same some b to c h.numbers) (h.highest c);
   numbers = numbers_aware some b to h.numbers;
+  room = h.room;
+  few = h.few;
 }
 
 -- ---- completions

@@ -1,6 +1,6 @@
 mod Trees
-mod Lists
-mod Listed
+pub mod Lists
+pub mod Listed
 mod Seats
 mod Changes
 mod Turns

@@ -83,7 +83,7 @@ adopted_listed some child parent under r h =
 
 -- ---- a registration
 
-registered_at : (some : Ballots) (branch : ℕ) (to : List ℕ) (aware : Bool) → branch < length some.lists → AllNumbers some
+pub registered_at : (some : Ballots) (branch : ℕ) (to : List ℕ) (aware : Bool) → branch < length some.lists → AllNumbers some
     → participants branch (registered branch to aware some) ≡ participants branch some ++ new_one branch to aware some ∷ []
 registered_at some branch to aware k all =
     let r : Registration = new_one branch to aware some in

@@ -1,5 +1,5 @@
 -- Each step of a family leaves a sound family.
-use Rattle.std.proofs.Common.{◌≡◌, ◌≢◌, ◌==◌, inl, inr, ℕ, zero, suc, List, [], ◌∷◌, ◌++◌, length, replicate, Bool, true, false, if◌then◌else◌, Option, Some, None, is_some, refl, ap, sym, subst, ◌∙◌, arith}
+use Rattle.std.proofs.Common.{◌≡◌, ◌≢◌, ◌==◌, inl, inr, ℕ, zero, suc, List, [], ◌∷◌, ◌++◌, length, replicate, Bool, true, false, if◌then◌else◌, Option, Some, None, is_some, refl, ap, sym, subst, ◌∙◌, arith, ◌<◌, ◌||◌, nat_le}
 use Rattle.std.proofs.lemmas.Grind.{common_steps}
 use Rattle.std.specs.List.{AllByRecursion, filter_map}
 use Rattle.std.specs.Option.{option_map, option_map_or, option_or}
@@ -9,8 +9,8 @@ use Rattle.ots_model.specs.declared.tree.Outcome.{Outcome}
 use Rattle.ots_model.specs.declared.tree.Outcome.TheVariants as outcomes
 use Rattle.ots_model.specs.declared.tree.Reason.{Reason}
 use Rattle.ots_model.specs.declared.tree.Reason.TheVariants as reasons
-use Rattle.txn_tree.specs.Calls.{created, ended, creating, top_alone}
-use Rattle.txn_tree.specs.Rows.{IsTree, IsParent, parent, shown, is_live, is_live_branch}
+use Rattle.txn_tree.specs.Calls.{created, ended, creating, top_alone, creating_by, is_full}
+use Rattle.txn_tree.specs.Rows.{IsTree, IsParent, parent, shown, is_live, is_live_branch, depth}
 use Rattle.txn_tree.specs.Rows as rows
 use Rattle.txn_tree.specs.declared.row.Row.{Row}
 use Rattle.txn_tree.specs.declared.row.State.{State}
@@ -62,6 +62,8 @@ use Rattle.family_laws.proofs.Seats.{IsBut, But, Takes, taken_up, call_kept, due
 use Rattle.family_laws.proofs.Sweeping.{runs_fine, positive}
 use Rattle.family_laws.proofs.Trees.{same_or_not, live_other, live_before, live_within, cut_stays, cut_here, grown_live, grown_cut}
 use Rattle.family_laws.proofs.Turns.{IsFine, Fine, chained, either, only_fine, fine_of}
+use Rattle.std.proofs.lemmas.Bool.Decides.{nat_tests}
+use Rattle.txn_tree.specs.Limits.{depth_limit}
 
 -- ---- where a call finds a transaction
 
@@ -306,7 +308,7 @@ aware_sound f b to h = record {
 
 sync_sound : (f : Family) (b : ℕ) (to : List ℕ) → IsSoundFamily f → IsSoundFamily (record f { ballots = registered_sync b to f.ballots })
 sync_sound f b to h = record {
-  lists = record { tree = h.lists.tree; top = h.lists.top; listed = h.lists.listed; highest = h.lists.highest; numbers = h.lists.numbers };
+  lists = record { tree = h.lists.tree; top = h.lists.top; listed = h.lists.listed; highest = h.lists.highest; numbers = h.lists.numbers; room = h.lists.room; few = h.lists.few };
   completion = record { begun = h.completion.begun; there = h.completion.there; parties = h.completion.parties; asking = h.completion.asking };
   as_many = h.as_many;
   under_way = calls_kept f (registered_sync b to f.ballots) (λ r k. record { branch = k.branch; there = k.there }) h;
@@ -367,9 +369,9 @@ created_call f b live going d c h = record {
   dues = due_kept f.rows (created f.rows b) f.ballots f.ballots (grown_cut f.rows b) (λ r k. k) c.left h.dues;
 }
 
-created_sound : (f : Family) (b : ℕ) → is_live_branch f.rows b ≡ true → (b ≡ 0 → f.stage ≡ Going) → IsSoundFamily f → IsSoundFamily (with_sub b f)
-created_sound f b live going h = record {
-  lists = lists_created f.rows f.ballots b (live_within f.rows b live) h.lists;
+created_sound : (f : Family) (b : ℕ) → is_live_branch f.rows b ≡ true → length f.rows < list_count → (b ≡ 0 → f.stage ≡ Going) → IsSoundFamily f → IsSoundFamily (with_sub b f)
+created_sound f b live small going h = record {
+  lists = lists_created f.rows f.ballots b (live_within f.rows b live) small h.lists;
   completion = elim (same_or_not b 0) [
     | inl z ↦ completion_waiting f.stage f.stage f.rows (created f.rows b) f.ballots f.ballots f.completion (early_going f.stage (going z)) (early_going f.stage (going z)) h.completion
     | inr n ↦ completion_rows f.stage f.rows (created f.rows b) f.ballots f.completion (none_grows f b live n) h.completion
@@ -379,9 +381,28 @@ created_sound f b live going h = record {
   finishing = λ e. called_still f.calls (h.finishing e);
 }
 
-creates_by_fine : (fault : Option TreeFault) (b : ℕ) (f : Family) → is_live_branch f.rows b ≡ true → (b ≡ 0 → f.stage ≡ Going) → IsSoundFamily f → Does f (creates_by fault b f)
-creates_by_fine None b f live going h = record { sound = created_sound f b live going h; turn = tt; rests = tt }
-creates_by_fine (Some fault) b f live going h = only_fine f h
+-- a tree that gets one more has fewer than there may be
+not_full : (full : Bool) (o : Option State) → creating_by full o ≡ None → full ≡ false
+not_full true (Some Active) is = absurd (cc is)
+not_full false (Some Active) is = refl
+not_full full (Some Marked) is = absurd (cc is)
+not_full full (Some Committed) is = absurd (cc is)
+not_full full (Some RolledBack) is = absurd (cc is)
+not_full full None is = absurd (cc is)
+
+under_limit : (deep : Bool) (n : ℕ) → (deep || nat_le list_count n) ≡ false → n < list_count
+under_limit true n is = absurd (cc is)
+under_limit false n is = not_over n is
+  where
+    not_over : (n : ℕ) → nat_le list_count n ≡ false → n < list_count
+    not_over n is = grind (arith, nat_tests, is)
+
+has_few : (f : Family) (b : ℕ) → creating f.rows b ≡ None → length f.rows < list_count
+has_few f b is = under_limit (nat_le depth_limit (depth f.rows b)) (length f.rows) (not_full (is_full f.rows b) (rows.state f.rows b) is)
+
+creates_by_fine : (fault : Option TreeFault) (b : ℕ) (f : Family) → creating f.rows b ≡ fault → is_live_branch f.rows b ≡ true → (b ≡ 0 → f.stage ≡ Going) → IsSoundFamily f → Does f (creates_by fault b f)
+creates_by_fine None b f is live going h = record { sound = created_sound f b live (has_few f b is) going h; turn = tt; rests = tt }
+creates_by_fine (Some fault) b f is live going h = only_fine f h
 
 up_branch : (f : Family) (b : ℕ) → IsUp (column f b) → IsSoundFamily f → is_live_branch f.rows b ≡ true
 up_branch f b up h =
@@ -393,7 +414,7 @@ up_branch f b up h =
 creates_in_fine : (place : Column) (b : ℕ) (f : Family) → column f b ≡ place → IsSoundFamily f → Does f (creates_in place b f)
 creates_in_fine columns.Active b f e h =
     let up : IsUp (column f b) = subst IsUp (sym e) tt in
-    creates_by_fine (creating f.rows b) b f (up_branch f b up h) (λ z. top_going f (rw z at up)) h
+    creates_by_fine (creating f.rows b) b f refl (up_branch f b up h) (λ z. top_going f (rw z at up)) h
 creates_in_fine columns.Marked b f e h = only_fine f h
 creates_in_fine columns.Finishing b f e h = only_fine f h
 creates_in_fine columns.RolledBack b f e h = only_fine f h
@@ -486,6 +507,10 @@ empty_at zero b = refl
 empty_at (suc n) zero = refl
 empty_at (suc n) (suc b) = empty_at n b
 
+as_many : (n : ℕ) → length {A = List ℕ} (replicate n []) ≡ n
+as_many zero = refl
+as_many (suc n) = ap (λ (k : ℕ). suc k) (as_many n)
+
 none_listed : (P : Registration → Type 0) (b : ℕ) → AllByRecursion P (participants b no_ballots)
 none_listed P b = subst (λ (xs : List ℕ). AllByRecursion P (filter_map (numbered []) xs)) (sym (empty_at list_count b)) tt
 
@@ -501,6 +526,8 @@ new_sound key deadline = record {
     listed = λ b. none_listed (λ r. IsUpTo top_alone b r.branch) b;
     highest = λ b. none_listed (λ r. (c : ℕ) → IsUpTo top_alone c r.branch → IsUpTo top_alone b c) b;
     numbers = λ b. subst (λ (xs : List ℕ). AreNumbers 0 xs) (sym (empty_at list_count b)) tt;
+    room = as_many list_count;
+    few = omega arith;
   };
   completion = record { begun = ((λ e. tt), (λ w. refl)); there = tt; parties = tt; asking = λ a. absurd a };
   as_many = refl;

@@ -1,9 +1,10 @@
 -- What holds of each family that can be: of its lists, its completion and its calls under way (Transaction Service, nested
 -- transactions; that the calls of one family go on beside each other is our profile).
-use Rattle.std.specs.Prelude.{◌≡◌, ◌↔◌, ◌<◌, ℕ, Bool, List, length, map, Option, Some, None, is_some, Contains, IsTrue}
+use Rattle.std.specs.Prelude.{◌≡◌, ◌↔◌, ◌<◌, ℕ, Bool, List, length, map, Option, Some, None, is_some, Contains, IsTrue, ◌≤◌}
 use Rattle.std.specs.List.{AllByRecursion, slice_get}
 use Rattle.std.specs.Option.{option_and_then}
 use Rattle.resource_votes.specs.Ballots.{Ballots, participants}
+use Rattle.resource_votes.specs.Limits.{list_count}
 use Rattle.resource_votes.specs.Lists.{AreNumbers, list_at}
 use Rattle.resource_votes.specs.declared.registration.Registration.{Registration}
 use Rattle.txn_tree.specs.Rows.{IsTree, is_live_branch}
@@ -33,6 +34,9 @@ pub record IsSoundLists (rs : List Row) (some : Ballots) : Type 0 where
   pub listed : (b : ℕ) → AllByRecursion (λ (r : Registration). IsUpTo rs b r.branch) (participants b some)
   pub highest : (b : ℕ) → AllByRecursion (λ (r : Registration). (c : ℕ) → IsUpTo rs c r.branch → IsUpTo rs b c) (participants b some)
   pub numbers : (b : ℕ) → AreNumbers (length some.registrations) (list_at some.lists b)
+  -- each branch has its list
+  pub room : length some.lists ≡ list_count
+  pub few : length rs ≤ list_count
 
 -- a completion under way has these participants, in order
 abbrev pub HasParties : Standing → List Registration → Type 0
