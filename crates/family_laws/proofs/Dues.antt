@@ -2,6 +2,7 @@
 use Rattle.std.proofs.Common.{◌≡◌, ◌⊎◌, ◌==◌, inl, inr, ℕ, ◌<◌, zero, suc, List, [], ◌∷◌, length, map, filter, cond, not, Bool, true, false, if◌then◌else◌, Option, Some, None, Contains, refl, ap, sym, subst, ◌∙◌, arith}
 use Rattle.std.specs.Prelude.{get_or}
 use Rattle.std.specs.Option.{option_and_then}
+use Rattle.std.proofs.lemmas.Bool.Decides.{nat_tests}
 use Rattle.ior_refs.specs.declared.key.ObjectKey.{ObjectKey}
 use Rattle.ots_model.specs.declared.completion.CallNumber.{CallNumber}
 use Rattle.ots_model.specs.declared.completion.Stood.{Stood}
@@ -92,14 +93,14 @@ pub was_itself : (records : List Held) (h : Held) (p : Party) → Contains recor
 was_itself records h p c d e = record { held = h; there = c; same_place = refl; party = p; among = d; number = refl; reference = refl; done = e }
 
 -- what was heard of one record
-heard_one : (number : CallNumber) (heard : Heard) (e : Event) → e.act ≡ acts.Answer number heard → (records : List Held) (r : Held) → Contains records r → r.place ≡ number.generation
-    → (p : Party) → Contains (map (party_after number.serial heard) r.parties) p → p.due ≡ due.Nothing → WasDone records r.place p ⊎ IsAnsweredBy e r.place p
-heard_one number heard e is records r c at p d done = by_number (f.x.index == number.serial) refl f.is
+heard_one : (lives : ℕ) (number : CallNumber) (heard : Heard) (e : Event) → e.act ≡ acts.Answer number heard → is_retold lives number ≡ true → (records : List Held) (r : Held) → Contains records r → r.place ≡ number.generation
+    → (p : Party) → Contains (map (party_after number.serial heard) r.parties) p → p.due ≡ due.Nothing → WasDone records r.place p ⊎ IsAnsweredBy lives e r.place p
+heard_one lives number heard e is again records r c at p d done = by_number (f.x.index == number.serial) refl f.is
   where
     f : IsFrom (party_after number.serial heard) r.parties p
     f = of_map (party_after number.serial heard) r.parties p d
 
-    settle : (f.x.index == number.serial) ≡ true → record f.x { due = due_after f.x.due heard } ≡ p → (f.x.due ≡ due.Nothing) ⊎ ((heard ≡ hears.Done) ⊎ (heard ≡ hears.NoObject)) → WasDone records r.place p ⊎ IsAnsweredBy e r.place p
+    settle : (f.x.index == number.serial) ≡ true → record f.x { due = due_after f.x.due heard } ≡ p → (f.x.due ≡ due.Nothing) ⊎ ((heard ≡ hears.Done) ⊎ (heard ≡ hears.NoObject)) → WasDone records r.place p ⊎ IsAnsweredBy lives e r.place p
     settle t j (inl n) = inl (record {
       held = r;
       there = c;
@@ -114,12 +115,14 @@ heard_one number heard e is records r c at p d done = by_number (f.x.index == nu
       number = number;
       heard = heard;
       answer = is;
+      told_again = (let s : number.slot ≡ retold_slot = grind (arith, nat_tests, again) in s);
+      same_life = (let s : number.life ≡ lives = grind (arith, nat_tests, again) in s);
       of_record = sym at;
       of_party = (let s : f.x.index ≡ number.serial = grind (arith, t) in sym s ∙ ap (λ (q : Party). q.index) j);
       done = a;
     })
 
-    by_number : (t : Bool) → (f.x.index == number.serial) ≡ t → (if t then record f.x { due = due_after f.x.due heard } else f.x) ≡ p → WasDone records r.place p ⊎ IsAnsweredBy e r.place p
+    by_number : (t : Bool) → (f.x.index == number.serial) ≡ t → (if t then record f.x { due = due_after f.x.due heard } else f.x) ≡ p → WasDone records r.place p ⊎ IsAnsweredBy lives e r.place p
     by_number true t j = settle t j (ended_by f.x.due heard (ap (λ (q : Party). q.due) j ∙ done))
     by_number false t j = inl (record {
       held = r;
@@ -133,18 +136,18 @@ heard_one number heard e is records r c at p d done = by_number (f.x.index == nu
     })
 
 heard_all : (number : CallNumber) (heard : Heard) (e : Event) → e.act ≡ acts.Answer number heard → (lives : ℕ) (records : List Held) (h : Held) (p : Party)
-    → Contains (records_after lives number heard records) h → Contains h.parties p → p.due ≡ due.Nothing → WasDone records h.place p ⊎ IsAnsweredBy e h.place p
-heard_all number heard e is lives records h p c d done = go (is_retold lives number) c
+    → Contains (records_after lives number heard records) h → Contains h.parties p → p.due ≡ due.Nothing → WasDone records h.place p ⊎ IsAnsweredBy lives e h.place p
+heard_all number heard e is lives records h p c d done = go (is_retold lives number) refl c
   where
-    by_place : (r : Held) → Contains records r → (t : Bool) → (r.place == number.generation) ≡ t → (if t then held_after number.serial heard r else r) ≡ h → WasDone records h.place p ⊎ IsAnsweredBy e h.place p
-    by_place r x true t i =
-        subst (λ (q : ℕ). WasDone records q p ⊎ IsAnsweredBy e q p) (ap (λ (y : Held). y.place) i)
-        (heard_one number heard e is records r x (grind (arith, t)) p (subst (λ (ps : List Party). Contains ps p) (sym (ap (λ (y : Held). y.parties) i)) d) done)
-    by_place r x false t i = inl (was_itself records h p (subst (λ (y : Held). Contains records y) i x) d done)
+    by_place : is_retold lives number ≡ true → (r : Held) → Contains records r → (t : Bool) → (r.place == number.generation) ≡ t → (if t then held_after number.serial heard r else r) ≡ h → WasDone records h.place p ⊎ IsAnsweredBy lives e h.place p
+    by_place again r x true t i =
+        subst (λ (q : ℕ). WasDone records q p ⊎ IsAnsweredBy lives e q p) (ap (λ (y : Held). y.place) i)
+        (heard_one lives number heard e is again records r x (grind (arith, t)) p (subst (λ (ps : List Party). Contains ps p) (sym (ap (λ (y : Held). y.parties) i)) d) done)
+    by_place again r x false t i = inl (was_itself records h p (subst (λ (y : Held). Contains records y) i x) d done)
 
-    go : (t : Bool) → Contains (if t then map (record_after number heard) records else records) h → WasDone records h.place p ⊎ IsAnsweredBy e h.place p
-    go true x = let f = of_map (record_after number heard) records h x in by_place f.x f.there (f.x.place == number.generation) refl f.is
-    go false x = inl (was_itself records h p x d done)
+    go : (t : Bool) → is_retold lives number ≡ t → Contains (if t then map (record_after number heard) records else records) h → WasDone records h.place p ⊎ IsAnsweredBy lives e h.place p
+    go true again x = let f = of_map (record_after number heard) records h x in by_place again f.x f.there (f.x.place == number.generation) refl f.is
+    go false again x = inl (was_itself records h p x d done)
 
 pub kept_by : (o : Option ℕ) (stood : Option Stood) (records : List Held) (h : Held) → Contains (records_with o stood records) h → Contains records h
 kept_by (Some place) (Some (answers.Stands done)) records h c = of_filter (λ (r : Held). not (r.place == place)) records h c
@@ -156,7 +159,7 @@ kept_by None stood records h c = c
 -- ---- a call
 
 abbrev Ends : Event → Node → Node → Type 0
-Ends e n later = (h : Held) (p : Party) → Contains later.recovered h → Contains h.parties p → p.due ≡ due.Nothing → WasDone n.recovered h.place p ⊎ IsAnsweredBy e h.place p
+Ends e n later = (h : Held) (p : Party) → Contains later.recovered h → Contains h.parties p → p.due ≡ due.Nothing → WasDone n.recovered h.place p ⊎ IsAnsweredBy (life n) e h.place p
 
 same_ends : (e : Event) (n later : Node) → later.recovered ≡ n.recovered → Ends e n later
 same_ends e n later same h p c d done = inl (was_itself n.recovered h p (subst (λ (xs : List Held). Contains xs h) same c) d done)

@@ -3,13 +3,14 @@ use Rattle.std.proofs.Common.{◌≡◌, ◌⊎◌, ◌==◌, ◌&&◌, ◌||◌
 use Rattle.std.specs.Prelude.{nat_lt}
 use Rattle.std.specs.List.{AllByRecursion, list_any}
 use Rattle.std.specs.Option.{option_and_then, option_map_or}
+use Rattle.std.proofs.lemmas.Bool.Decides.{nat_tests}
 use Rattle.ior_refs.specs.declared.key.ObjectKey.{ObjectKey}
 use Rattle.ots_model.specs.declared.completion.Ground.TheVariants.{Record}
 use Rattle.ots_model.specs.declared.completion.Heard.TheVariants.{Voted}
 use Rattle.ots_model.specs.declared.completion.Vote.TheVariants.{VoteCommit}
 use Rattle.ots_model.specs.declared.tree.Outcome.{Outcome}
 use Rattle.ots_model.specs.declared.tree.Outcome.TheVariants as outcomes
-use Rattle.decision_journal.specs.Journal.{Found, is_decision_at}
+use Rattle.decision_journal.specs.Journal.{Found, is_decision, is_decision_at}
 use Rattle.decision_journal.specs.declared.journal.Standing.{Standing}
 use Rattle.decision_journal.specs.declared.record.JournalRecord.{JournalRecord}
 use Rattle.decision_journal.specs.declared.record.JournalRecord.TheVariants.{Life, Decision, Done, Prepared, CellsPrepared, CellsOutcome, CellsOnePhase}
@@ -155,41 +156,77 @@ taken_finished found f s e = go (is_finished f) refl e
     go true i x = i
     go false i x = absurd (cc x)
 
-over_for : (found : Found) (fs : List (Option Family)) (slot : ℕ) (f : Family) (h : Held) (p : Party) → family_in fs slot ≡ Some f → IsTaken found f h → is_decided h.kind ≡ true → Contains h.parties p → p.due ≡ due.Nothing → IsOverFor fs p.index
+-- the record stands where the family was decided
+first_so : (place : ℕ) (ss : List Standing) (s : Standing) → find (is_decision_at place) ss ≡ Some s → place ≡ s.place
+first_so place [] s e = absurd (cc e)
+first_so place (x ∷ ss) s e = go (is_decision_at place x) refl e (first_so place ss s)
+  where
+    at : (a b : ℕ) (t : Bool) → (a == b && t) ≡ true → b ≡ a
+    at a b t i = grind (arith, nat_tests)
+
+    go : (t : Bool) → is_decision_at place x ≡ t → cond t (Some x) (find (is_decision_at place) ss) ≡ Some s → (find (is_decision_at place) ss ≡ Some s → place ≡ s.place) → place ≡ s.place
+    go true i j others = at x.place place (is_decision x.item) i ∙ ap (λ (y : Standing). y.place) (same j)
+      where
+        same : {a b : Standing} → Some a ≡ Some b → a ≡ b
+        same e = cc e
+    go false i j others = others j
+
+left_at : (found : Found) (f : Family) (s : Standing) → left_record found f ≡ Some s → record_place f.completion ≡ Some s.place
+left_at found f s e = go (is_finished f) e
+  where
+    by : (o : Option ℕ) → option_and_then (λ place. find (is_decision_at place) found.standing) o ≡ Some s → o ≡ Some s.place
+    by (Some place) x = ap (λ (i : ℕ). Some i) (first_so place found.standing s x)
+    by None x = absurd (cc x)
+
+    go : (t : Bool) → (if t then option_and_then (λ place. find (is_decision_at place) found.standing) (record_place f.completion) else None) ≡ Some s → record_place f.completion ≡ Some s.place
+    go true x = by (record_place f.completion) x
+    go false x = absurd (cc x)
+
+held_at : (place : ℕ) (item : JournalRecord) (commits forgets : List ℕ) (h : Held) → held_of place item commits forgets ≡ Some h → h.place ≡ place
+held_at place (Life l) commits forgets h e = absurd (cc e)
+held_at place (Decision l slot generation by asked regs) commits forgets h e = cc e
+held_at place (Done named) commits forgets h e = absurd (cc e)
+held_at place (Prepared l slot generation recovery regs) commits forgets h e = cc e
+held_at place (CellsPrepared l number recovery puts) commits forgets h e = absurd (cc e)
+held_at place (CellsOutcome named end) commits forgets h e = absurd (cc e)
+held_at place (CellsOnePhase l number puts) commits forgets h e = absurd (cc e)
+
+over_for : (found : Found) (fs : List (Option Family)) (slot : ℕ) (f : Family) (h : Held) (p : Party) → family_in fs slot ≡ Some f → IsTaken found f h → is_decided h.kind ≡ true → Contains h.parties p → p.due ≡ due.Nothing → IsOverFor fs h.place p.index
 over_for found fs slot f h p there x d c n = record {
   slot = slot;
   family = f;
   there = there;
   finished = taken_finished found f x.stood x.left;
+  decided = left_at found f x.stood x.left ∙ ap (λ (i : ℕ). Some i) (sym (held_at x.stood.place x.stood.item (stages.pending_commits f.completion) (stages.pending_forgets f.completion) h x.held));
   through = λ o. through f.completion p.index (taken_done x.stood.place x.stood.item (stages.pending_commits f.completion) (stages.pending_forgets f.completion) h p x.held d c n) o;
 }
 
 -- ---- a family is made, or time passes
 
 made_over : (now seconds : ℕ) (n : Node) (h : Held) (p : Party) → Contains (creates now seconds n).node.recovered h → is_decided h.kind ≡ true → Contains h.parties p → p.due ≡ due.Nothing
-    → WasDone n.recovered h.place p ⊎ IsOverFor n.families p.index
+    → WasDone n.recovered h.place p ⊎ IsOverFor n.families h.place p.index
 unfolding creates makes
 made_over now seconds n h p c d q e = by_slot (free_slot n) c
   where
     make : ObjectKey → Family
     make key = new_family key (deadline_after now seconds)
 
-    same : Contains n.recovered h → WasDone n.recovered h.place p ⊎ IsOverFor n.families p.index
+    same : Contains n.recovered h → WasDone n.recovered h.place p ⊎ IsOverFor n.families h.place p.index
     same x = inl (was_itself n.recovered h p x q e)
 
-    by_family : (slot : ℕ) (o : Option Family) → family_in n.families slot ≡ o → Contains (takes_over n.found o n.recovered) h → WasDone n.recovered h.place p ⊎ IsOverFor n.families p.index
+    by_family : (slot : ℕ) (o : Option Family) → family_in n.families slot ≡ o → Contains (takes_over n.found o n.recovered) h → WasDone n.recovered h.place p ⊎ IsOverFor n.families h.place p.index
     by_family slot None i x = same x
     by_family slot (Some f) i x = sort (one_taken n.found f n.recovered h x)
       where
-        sort : Contains n.recovered h ⊎ IsTaken n.found f h → WasDone n.recovered h.place p ⊎ IsOverFor n.families p.index
+        sort : Contains n.recovered h ⊎ IsTaken n.found f h → WasDone n.recovered h.place p ⊎ IsOverFor n.families h.place p.index
         sort (inl y) = same y
         sort (inr y) = inr (over_for n.found n.families slot f h p i y d q e)
 
-    by_number : (slot : ℕ) (t : Bool) → Contains (if t then record { node = with_new make slot n; answer = Ok (next_key n slot) } else makes_no_family n).node.recovered h → WasDone n.recovered h.place p ⊎ IsOverFor n.families p.index
+    by_number : (slot : ℕ) (t : Bool) → Contains (if t then record { node = with_new make slot n; answer = Ok (next_key n slot) } else makes_no_family n).node.recovered h → WasDone n.recovered h.place p ⊎ IsOverFor n.families h.place p.index
     by_number slot true x = by_family slot (family_in n.families slot) refl x
     by_number slot false x = same x
 
-    by_slot : (o : Option ℕ) → Contains (makes_in o make n).node.recovered h → WasDone n.recovered h.place p ⊎ IsOverFor n.families p.index
+    by_slot : (o : Option ℕ) → Contains (makes_in o make n).node.recovered h → WasDone n.recovered h.place p ⊎ IsOverFor n.families h.place p.index
     by_slot None x = same x
     by_slot (Some slot) x = by_number slot (nat_lt n.generation generation_limit) x
 
@@ -205,7 +242,7 @@ retold_same r h p i c e = go (is_complete r) i
     go false j = j
 
 ticked_over : (now : ℕ) (n : Node) (h : Held) (p : Party) → Contains (ticks now n).node.recovered h → is_decided h.kind ≡ true → Contains h.parties p → p.due ≡ due.Nothing
-    → WasDone n.recovered h.place p ⊎ IsOverFor (ticks now n).node.families p.index
+    → WasDone n.recovered h.place p ⊎ IsOverFor (ticks now n).node.families h.place p.index
 unfolding ticks
 ticked_over now n h p c d q e = go (some_taken n.found (map (ticked now) n.families) n.recovered h there)
   where
@@ -215,7 +252,7 @@ ticked_over now n h p c d q e = go (some_taken n.found (map (ticked now) n.famil
     there : Contains (takes_all_over n.found (map (ticked now) n.families) n.recovered) h
     there = subst (λ (y : Held). Contains (takes_all_over n.found (map (ticked now) n.families) n.recovered) y) (retold_same f.x h p f.is q e) f.there
 
-    go : Contains n.recovered h ⊎ IsTakenFrom n.found (map (ticked now) n.families) h → WasDone n.recovered h.place p ⊎ IsOverFor (map (ticked now) n.families) p.index
+    go : Contains n.recovered h ⊎ IsTakenFrom n.found (map (ticked now) n.families) h → WasDone n.recovered h.place p ⊎ IsOverFor (map (ticked now) n.families) h.place p.index
     go (inl x) = inl (was_itself n.recovered h p x q e)
     go (inr x) = inr (over_for n.found (map (ticked now) n.families) x.slot x.family h p x.there x.taken_over d q e)
 
