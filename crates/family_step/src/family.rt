@@ -276,7 +276,7 @@ impl Family {
     }
 
     /// The step of the event for which memory was taken, where this is what the journal answers in it.
-    pub fn step_with(&mut self, stood: Option<Stood>, out: &mut Outbox) -> StepAnswer
+    fn step_with(&mut self, stood: Option<Stood>, out: &mut Outbox) -> StepAnswer
         requires reserved { IsSome self.old.ready }
         requires room { 0 < out.old.room }
         ensures family { IfSome self.old.ready (λ e. self.new ≡ record {
@@ -293,8 +293,8 @@ impl Family {
         step(&mut self.state, ready, stood, out)
     }
 
-    /// The step of an event for which memory was taken, which asks the journal for what is wanted in it. It takes no memory. The
-    /// journal is read again by other calls, which tell the family so.
+    /// The step of an event for which memory was taken, which asks the journal for what is wanted in it. It takes no memory. No
+    /// call tells a family yet that its journal was read again.
     pub fn step<D: Disk>(
         &mut self,
         journal: &mut Journal<D>,
