@@ -30,3 +30,4 @@ mod Recorded
 mod Reloading
 mod Resting
 mod Staying
+mod Leaving

@@ -1,13 +1,14 @@
 -- What of an end is on record: what a load of its journal makes of it (our profile).
 use Rattle.std.specs.Prelude.{◌≡◌, ℕ, ◌<◌, ◌≤◌, ◌⊎◌, Bool, true, ◌||◌, if◌then◌else◌, List, [], ◌∷◌, length, Option, Some, None, IfSome, IsSome, is_some}
 use Rattle.std.specs.List.{AllByRecursion, filter_map}
+use Rattle.ots_outside.specs.Disk.{DiskState, LeavesOnlySince, Tells}
 use Rattle.decision_journal.specs.Journal.{with_record}
 use Rattle.decision_journal.specs.declared.journal.Standing.{Standing}
 use Rattle.decision_journal.specs.declared.record.JournalRecord.{JournalRecord}
 use Rattle.decision_journal.specs.declared.record.JournalRecord.TheVariants.{Life, Decision, Done, Prepared, CellsPrepared, CellsOutcome, CellsOnePhase}
 use Rattle.resource_end.specs.declared.state.State.{State}
 use Rattle.resource_end.specs.declared.state.State.TheVariants as states
-use Rattle.resource_end.specs.Crashes.{restarted}
+use Rattle.resource_end.specs.Crashes.{IsCrashSafe, Makes, restarted}
 use Rattle.resource_end.specs.End.{End, Resource, comes_before}
 use Rattle.resource_end.specs.Inside.{IsRecorded}
 use Rattle.resource_end.specs.Journaling.{EndState}
@@ -101,3 +102,21 @@ pub record IsOnRecord {D : Type 0} (s : EndState D) : Type 0 where
 -- no resource is of the present life, or of one to come
 abbrev pub AreOfEarlierLives : End → Type 0
 AreOfEarlierLives e = AllByRecursion (λ r. r.life < e.life) e.resources
+
+-- ---- what a crash leaves
+
+-- a load made just what is on record of an end, as it stands or as its record in doubt tells
+abbrev pub IsLoadOfEither : {D : Type 0} → EndState D → End → Type 0
+IsLoadOfEither s e =
+    IsLoadOf s.end e
+    ⊎ ((item : JournalRecord) × ((s.journal.doubted ≡ Some item)
+    × IsLoadOf (recalls (record { place = length s.journal.octets; item = item }) s.end) e))
+
+-- each end that a load makes of these octets is just what is on record of one end or of another
+abbrev pub MakesOneOf : {D : Type 0} → EndState D → EndState D → List ℕ → Type 0
+MakesOneOf before after octets = (e : End) → Makes before.journal.service octets e → IsLoadOfEither before e ⊎ IsLoadOfEither after e
+
+-- whatever a crash leaves at any moment of a call, a load of it makes just what was on record before the call, or is behind it
+abbrev pub CrashesLeaveRecords : {D : Type 0} → (D → Option DiskState) → Type 0
+CrashesLeaveRecords {D} told = (before after : EndState D) → IsCrashSafe told before after → IsOnRecord before → IsOnRecord after
+    → Tells (told before.journal.disk) (told after.journal.disk) (LeavesOnlySince (MakesOneOf before after))

@@ -1,8 +1,12 @@
 // Laws of the definitions: these functions do nothing, and their contracts are the laws.
 ghost use Rattle.resource_end.specs.Crashes.{RestartsTellOneMore};
 ghost use Rattle.resource_end.specs.Laws.{CellsAreApplied, ChangesStoreOnce, ChoicesStay, HeldCellsAreHeld, LoadsTellOneMore, NumbersRise, PutsAreStored, RecordsTellChanges, StoresOnce};
+ghost use Rattle.resource_end.specs.OnRecord.{CrashesLeaveRecords};
 ghost use Rattle.resource_end.specs.Plays.{EndsPlay};
 ghost use Rattle.resource_end.specs.TableByState.{TableByState};
+
+use decision_journal::octets_stand_for_one_list;
+use ots_outside::Disk;
 
 /// Each word, in each state, has the answer that it must have, writes that record, and leaves that state and that cell.
 pub fn words_follow_states()
@@ -65,3 +69,11 @@ pub fn restarts_tell_one_more()
 pub fn numbers_rise()
     ensures { NumbersRise }
 {}
+
+/// Whatever a crash leaves at any moment of a call, each end that a load of it makes is just what was on record before the call,
+/// or what is behind it; where a record was in doubt, also what that record tells.
+pub fn crashes_leave_what_is_on_record<D: Disk>()
+    ensures { CrashesLeaveRecords D.told }
+{
+    octets_stand_for_one_list();
+}

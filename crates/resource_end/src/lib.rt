@@ -4,9 +4,9 @@
 pub use end::ResourceEnd;
 pub use fault::EndFault;
 pub use laws::{
-    cells_are_applied, changes_store_once, choices_stay, ends_play, held_cells_are_held,
-    loads_tell_one_more, numbers_rise, puts_are_stored, records_tell_changes, resources_store_once,
-    restarts_tell_one_more, words_follow_states,
+    cells_are_applied, changes_store_once, choices_stay, crashes_leave_what_is_on_record,
+    ends_play, held_cells_are_held, loads_tell_one_more, numbers_rise, puts_are_stored,
+    records_tell_changes, resources_store_once, restarts_tell_one_more, words_follow_states,
 };
 pub use state::{Row, State, Word};
 
