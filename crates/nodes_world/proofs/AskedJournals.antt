@@ -1,5 +1,5 @@
 -- What asking a journal leaves on its disk: the records of before, or these and the one that was asked for.
-use Rattle.std.proofs.Common.{◌≡◌, ℕ, ◌+◌, ◌*◌, ◌<◌, ◌≤◌, Bool, true, false, cond, nat_le, IsTrue, List, [], ◌∷◌, ◌++◌, length, Option, Some, None, ◌⊎◌, refl, sym, ap, subst, ◌∙◌, arith, inl, inr, append-nil}
+use Rattle.std.proofs.Common.{◌≡◌, ℕ, ◌+◌, ◌≤◌, Bool, true, false, cond, nat_le, IsTrue, List, [], ◌∷◌, ◌++◌, length, Option, Some, None, ◌⊎◌, refl, sym, ap, subst, ◌∙◌, arith, inl, inr, append-nil}
 use Rattle.std.specs.List.{list_any}
 use Rattle.std.proofs.lemmas.Bool.Decides.{nat_tests}
 use Rattle.ots_model.specs.declared.completion.Stood.{Stood}
@@ -9,14 +9,14 @@ use Rattle.decision_journal.specs.declared.record.JournalRecord.{JournalRecord}
 use Rattle.decision_journal.specs.declared.record.JournalRecord.TheVariants.{Life, Decision, Done, Prepared, CellsPrepared, CellsOutcome, CellsOnePhase}
 use Rattle.decision_journal.specs.Growing.{JournalsGrow}
 use Rattle.decision_journal.specs.Layout.{Fits}
-use Rattle.decision_journal.specs.Journal.{Found, StandsFor, StandsForEither, can_follow, found_in, front, is_decision, is_decision_at}
-use Rattle.decision_journal.specs.Laws.{CanAppend, AppendsAreSafe, IsSettled}
-use Rattle.decision_journal.specs.State.{decisions, need, used}
+use Rattle.decision_journal.specs.Journal.{Found, can_follow, found_in, front, is_decision, is_decision_at}
+use Rattle.decision_journal.specs.Laws.{CanAppend, AppendsAreSafe}
+use Rattle.decision_journal.specs.State.{need, used}
 use Rattle.coordinator.specs.Step.{Wanted, Appends, WritesDone, Rereads}
 use Rattle.coordinator.specs.NodeCalls.{journaled}
 use Rattle.nodes_world.specs.Limits.{area_limit}
-use Rattle.nodes_world.specs.Disks.{Stop, Struck, Whole, Broken, strikes}
-use Rattle.nodes_world.specs.Journals.{Asked, Answers, Stops, answered_by, append_strokes, appends, asks, asks_by, asks_for, records_on, writes_done}
+use Rattle.nodes_world.specs.Disks.{Stop, Struck, Whole, Broken}
+use Rattle.nodes_world.specs.Journals.{Answers, Stops, answered_by, appends, asks, asks_by}
 use Rattle.nodes_world.specs.Laws.{AppendsGoThrough, AskedJournalsKeep, AskedJournalsStop, AskingLeaves, CanAsk, CrashLeaves, IsInOrder, IsWanted, RecordsAreRead, StoppedAppendsAreSafe, struck_by}
 
 -- a record that fits, follows and leaves what is used within the area can be appended

@@ -102,7 +102,7 @@ below_parent early rs zero (Some p) tree is may = absurd (first_parent rs zero t
 below_parent early rs (suc b) (Some p) tree is may = omega arith
 
 -- a family that asks has nothing open
-not_asking : (f : Family) (s : Standing) (b : ℕ) → IsAsking s → (IsAsking s → NoneLive f.rows) → (IsTrue (is_before f.stage) → IsWaiting s) → IsOpenBranch f b → ⊥
+pub not_asking : (f : Family) (s : Standing) (b : ℕ) → IsAsking s → (IsAsking s → NoneLive f.rows) → (IsTrue (is_before f.stage) → IsWaiting s) → IsOpenBranch f b → ⊥
 not_asking f (Waiting room) b asking none waits may = absurd asking
 not_asking f (UnderWay c) b asking none waits (inl (is, early)) = waits early
 not_asking f (UnderWay c) b asking none waits (inr (below, live)) = none asking b below live

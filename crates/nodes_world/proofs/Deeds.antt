@@ -1,11 +1,9 @@
 -- Each deed is made of changes of a world.
-use Rattle.std.proofs.Common.{◌≡◌, ℕ, zero, suc, ◌+◌, ◌-◌, ◌&&◌, Bool, true, false, min, List, [], ◌∷◌, ◌++◌, length, slice_get, codes, Option, Some, None, Result, Ok, Err, is_some, is_none, IsTrue, refl, sym, ap, subst, ◌∙◌}
+use Rattle.std.proofs.Common.{◌≡◌, ℕ, zero, suc, ◌+◌, ◌-◌, ◌&&◌, Bool, true, false, min, List, [], length, slice_get, codes, Option, Some, None, Result, Ok, Err, is_some, is_none, refl, sym, ap, subst, ◌∙◌}
 use Rattle.std.specs.Option.{option_map, option_map_or, option_and_then}
 use Rattle.ior_refs.specs.declared.key.ObjectKey.{ObjectKey}
 use Rattle.ots_model.specs.declared.line.ResourceState.{ResourceState}
 use Rattle.ots_model.specs.declared.tree.Outward.{Outward}
-use Rattle.ots_model.specs.declared.tree.Word.{Word}
-use Rattle.ots_outside.specs.Disk.{at_first}
 use Rattle.decision_journal.specs.Loading.{loaded}
 use Rattle.decision_journal.specs.declared.record.JournalRecord.{JournalRecord}
 use Rattle.resource_end.specs.Table.{row}
@@ -20,7 +18,7 @@ use Rattle.coordinator.specs.declared.said.Said.TheVariants as said
 use Rattle.coordinator.specs.declared.said.StepAnswer.{StepAnswer}
 use Rattle.coordinator.specs.Limits.{last_moment}
 use Rattle.coordinator.specs.Node.{Node, load}
-use Rattle.coordinator.specs.NodeSlots.{Created, creates}
+use Rattle.coordinator.specs.NodeSlots.{creates}
 use Rattle.ots_world.specs.declared.script.ScriptEvent.{ScriptEvent}
 use Rattle.ots_world.specs.declared.script.ScriptEvent.TheVariants as events
 use Rattle.nodes_world.specs.declared.deed.Deed.{Deed}
@@ -32,21 +30,21 @@ use Rattle.nodes_world.specs.declared.message.Content.TheVariants as contents
 use Rattle.nodes_world.specs.declared.message.Message.{Message}
 use Rattle.nodes_world.specs.declared.thing.Thing.{Thing}
 use Rattle.nodes_world.specs.declared.thing.Thing.TheVariants as things
-use Rattle.nodes_world.specs.Journals.{records_in, records_on}
+use Rattle.nodes_world.specs.Journals.{records_on}
 use Rattle.nodes_world.specs.Objects.{branch_of, place_of, service_at}
-use Rattle.nodes_world.specs.World.{World, Seat, Server, is_free, OfNode, OfEnd, FlatEnd, end_in, FlatResource, NamedKey, end_at, is_up, message_numbered, next_message, node_at, node_in, resource_at, referred, thing, thing_in, with_clock, with_disk, with_message, with_name, with_new_seat, with_seat, with_sent, with_server}
-use Rattle.nodes_world.specs.Happenings.{Done, ◌▹◌, changes, client_message, nothing, replies}
-use Rattle.nodes_world.specs.Nodes.{Stepping, crashes, crashes_seat, steps, ticks_node}
+use Rattle.nodes_world.specs.World.{World, Seat, Server, is_free, OfNode, OfEnd, FlatEnd, end_in, FlatResource, NamedKey, is_up, message_numbered, next_message, node_at, node_in, resource_at, referred, thing, thing_in, with_clock, with_disk, with_message, with_name, with_new_seat, with_sent, with_server}
+use Rattle.nodes_world.specs.Happenings.{Done, ◌▹◌, changes, client_message, nothing}
+use Rattle.nodes_world.specs.Nodes.{Stepping, crashes, steps, ticks_node}
 use Rattle.nodes_world.specs.Ends as end
 use Rattle.nodes_world.specs.Ends.{closed_by, drawn_once, hears_only, obeys, obeys_as, obeys_row, obeys_word, puts, put_into, refuses_to, refusing, told_word, with_end, with_fresh}
-use Rattle.nodes_world.specs.Clients.{acts_at, answer_only, answered_with, begins, begins_at, begun_by, begun_with, call_event, calls, created, creates_sub, is_registered, registered, registered_if, registering, registers, registers_at, registers_object, said_in, then_answers}
+use Rattle.nodes_world.specs.Clients.{acts_at, answer_only, answered_with, begins, begins_at, begun_with, call_event, calls, created, creates_sub, is_registered, registered, registered_if, registers, registers_at, registers_object, said_in, then_answers}
 use Rattle.nodes_world.specs.Deliveries.{answer_event, comes, comes_to, delivers, flows, hears_answer, hears_if, hears_of, hears_reply, is_waited_for, lowest, reaches, receiver_of}
-use Rattle.nodes_world.specs.Lives.{comes_up, crashes_now, loads, makes_end, makes_node, new_end, new_seat, restarts, stops, ticks, ticks_seat, ticks_to, with_named_seat}
+use Rattle.nodes_world.specs.Lives.{crashes_now, loads, makes_end, makes_node, new_end, new_seat, restarts, stops, ticks, ticks_seat, ticks_to, with_named_seat}
 use Rattle.nodes_world.specs.Resolve.{as_seat, asks_for, calls_named, commits_as, commits_named, creates_named, begins_named, down_named, end_named, ends_by, if_free, is_down_at, is_down_node, may_commit, may_register, node_named, only_if, puts_named, refuses_named, registers_named, registers_with, relates_named, relation_act, resolve, status_act, transaction_named, where_so}
 use Rattle.nodes_world.specs.Step.{carried_out}
 use Rattle.nodes_world.specs.Disks.{Stop}
-use Rattle.nodes_world.specs.Changes.{DeedsAreChanges, SeatBecomes, by_clock, by_crash, by_family, by_load, by_stop, EndBecomes, by_drawing, by_making, ResourceBecomes, by_put, by_refusal, by_word, MessageBecomes, by_answer, by_delivery, IsNewSeat, node as node_seat, end as end_seat, WorldBecomes, by_name, by_new_seat, WorldGoesOn, still, further}
-use Rattle.nodes_world.proofs.Going.{GoesUnnamed, and_then, crashes_unnamed, ends_unnamed, get_last, get_set, goes_then, message_becomes, node_up, on_seat_there, on_seat_twice, once, replies_unnamed, resource_unnamed, seat_becomes, sends_one, stays, steps_unnamed, ticks_unnamed}
+use Rattle.nodes_world.specs.Changes.{DeedsAreChanges, by_clock, by_crash, by_family, by_load, by_stop, by_drawing, by_making, by_put, by_refusal, by_word, by_answer, by_delivery, IsNewSeat, node as node_seat, end as end_seat, by_name, by_new_seat, WorldGoesOn, still, further}
+use Rattle.nodes_world.proofs.Going.{GoesUnnamed, and_then, crashes_unnamed, ends_unnamed, get_last, get_set, goes_then, message_becomes, node_up, on_seat_there, on_seat_twice, replies_unnamed, resource_unnamed, seat_becomes, sends_one, stays, steps_unnamed, ticks_unnamed}
 
 -- ---- clients
 

@@ -1,11 +1,7 @@
 -- What is told of a family is the same in each world with the same names, to which references lead alike.
 use Rattle.std.proofs.Common.{◌≡◌, ℕ, ◌==◌, List, [], ◌∷◌, ◌++◌, find, Option, Some, None, refl, ap, ap₂, ◌∙◌}
-use Rattle.std.specs.List.{flat_map}
 use Rattle.std.specs.Option.{option_and_then, option_map}
 use Rattle.ior_refs.specs.declared.key.ObjectKey.{ObjectKey}
-use Rattle.ots_model.specs.declared.completion.Outcome.TheVariants as known_outcomes
-use Rattle.ots_model.specs.declared.completion.Reason.TheVariants as known_reasons
-use Rattle.ots_model.specs.declared.line.Line.TheVariants as lines
 use Rattle.ots_model.specs.declared.tree.Outcome.{Outcome}
 use Rattle.ots_model.specs.declared.tree.Outcome.TheVariants as outcomes
 use Rattle.ots_model.specs.declared.tree.Reason.{Reason}
@@ -14,7 +10,7 @@ use Rattle.resource_votes.specs.declared.registration.Registration.{Registration
 use Rattle.coordinator.specs.declared.effect.Effect.{Effect}
 use Rattle.coordinator.specs.declared.effect.Effect.TheVariants as effects
 use Rattle.nodes_world.specs.declared.thing.Thing.{Thing}
-use Rattle.nodes_world.specs.Happenings.{Cast, all_effect_lines, branch_name, decided_lines, effect_lines, name_numbered, naming, outcome_lines, registered, rollback_lines, synchronized}
+use Rattle.nodes_world.specs.Happenings.{Cast, all_effect_lines, branch_name, decided_lines, effect_lines, name_numbered, naming, rollback_lines}
 use Rattle.nodes_world.specs.Told.{Told}
 use Rattle.nodes_world.specs.World.{World, NamedKey, referred, transaction_name}
 

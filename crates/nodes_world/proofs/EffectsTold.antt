@@ -1,13 +1,13 @@
 -- What a step tells of a family is allowed, line after line.
 use Rattle.std.proofs.Common.{◌≡◌, ℕ, ◌==◌, ◌&&◌, ◌⊎◌, inl, inr, Bool, true, false, IsTrue, List, [], ◌∷◌, ◌++◌, find, reverse, append_assoc, append-nil, Contains, true≢false, Option, Some, None, refl, sym, ap, subst, ◌∙◌, arith}
-use Rattle.std.specs.List.{AllByRecursion, flat_map}
+use Rattle.std.specs.List.{AllByRecursion}
 use Rattle.std.specs.Option.{option_map}
 use Rattle.std.proofs.lemmas.Bool.Decides.{nat_tests}
 use Rattle.std.proofs.lemmas.List.{reverse-append}
 use Rattle.std.proofs.lemmas.List.Elements.{Contains-append_left}
 use Rattle.ior_refs.specs.declared.key.ObjectKey.{ObjectKey}
 use Rattle.ots_model.specs.Safe.{Stands}
-use Rattle.ots_model.specs.SafeByLine.{AreAllowed, IsAllowed, IsOpen}
+use Rattle.ots_model.specs.SafeByLine.{AreAllowed, IsAllowed}
 use Rattle.ots_model.specs.declared.line.Line.{Line}
 use Rattle.ots_model.specs.declared.line.Line.TheVariants as lines
 use Rattle.ots_model.specs.declared.tree.Outcome.{Outcome}
@@ -20,12 +20,11 @@ use Rattle.coordinator.specs.declared.said.Entry.{Entry}
 use Rattle.coordinator.specs.declared.said.Finished.{Finished}
 use Rattle.coordinator.specs.declared.said.Said.{Said}
 use Rattle.coordinator.specs.Family.{Family}
-use Rattle.coordinator.specs.Node.{is_of}
 use Rattle.family_laws.specs.LawsOfSteps.{EndInTurn}
 use Rattle.nodes_world.specs.declared.thing.Thing.TheVariants as things
 use Rattle.nodes_world.specs.Agreement.{IsTransaction}
 use Rattle.nodes_world.specs.AgreementInside.{Known, IsBranch}
-use Rattle.nodes_world.specs.Happenings.{Cast, all_effect_lines, all_finished_lines, answer_lines, branch_name, call_number, decided_lines, effect_lines, finished_lines, naming, outcome_lines, registered, rollback_lines, synchronized}
+use Rattle.nodes_world.specs.Happenings.{Cast, all_effect_lines, all_finished_lines, answer_lines, branch_name, call_number, decided_lines, effect_lines, finished_lines, naming, registered, rollback_lines, synchronized}
 use Rattle.nodes_world.specs.Objects.{branch_of, same_transaction}
 use Rattle.nodes_world.specs.Told as tell
 use Rattle.nodes_world.specs.Told.{Told, known}

@@ -1,36 +1,25 @@
 -- How changes of a world are put together, and that calls and words are made of them.
-use Rattle.std.proofs.Common.{◌≡◌, ℕ, zero, suc, ◌+◌, ◌-◌, Bool, true, false, not, ◌||◌, min, List, [], ◌∷◌, ◌++◌, length, slice_get, slice_set, find, position, Option, Some, None, Result, Ok, Err, is_some, IsTrue, refl, sym, ap, subst, ◌∙◌}
-use Rattle.std.specs.Option.{option_map, option_and_then}
+use Rattle.std.proofs.Common.{◌≡◌, ℕ, zero, suc, List, [], ◌∷◌, ◌++◌, length, slice_get, slice_set, find, Option, Some, None, refl, sym, ap, subst, ◌∙◌}
+use Rattle.std.specs.Option.{option_and_then}
 use Rattle.ior_refs.specs.declared.key.ObjectKey.{ObjectKey}
 use Rattle.ots_model.specs.declared.completion.Stood.{Stood}
 use Rattle.ots_model.specs.declared.tree.Outward.{Outward}
-use Rattle.ots_model.specs.declared.tree.Word.{Word}
 use Rattle.ots_outside.specs.Disk.{DiskState, at_first}
-use Rattle.decision_journal.specs.Loading.{loaded}
-use Rattle.decision_journal.specs.declared.record.JournalRecord.{JournalRecord}
-use Rattle.resource_end.specs.Table.{row}
-use Rattle.resource_end.specs.declared.state.Row.{Row}
-use Rattle.resource_end.specs.declared.state.State.{State}
-use Rattle.resource_end.specs.declared.state.Word.{Word as EndWord}
-use Rattle.coordinator.specs.declared.event.Act.{Act}
 use Rattle.coordinator.specs.declared.event.Event.{Event}
-use Rattle.coordinator.specs.declared.node.NodeFault.{NodeFault}
 use Rattle.coordinator.specs.declared.said.Said.{Said}
-use Rattle.coordinator.specs.declared.said.StepAnswer.{StepAnswer}
-use Rattle.coordinator.specs.Node.{Node, load}
+use Rattle.coordinator.specs.Node.{Node}
 use Rattle.coordinator.specs.NodeCalls.{Applied, applies}
 use Rattle.coordinator.specs.NodeTick.{Happening, Ticked, ticks}
-use Rattle.nodes_world.specs.declared.message.Content.{Content}
 use Rattle.nodes_world.specs.declared.message.Content.TheVariants as contents
 use Rattle.nodes_world.specs.declared.message.Message.{Message}
 use Rattle.nodes_world.specs.Disks.{Stop}
-use Rattle.nodes_world.specs.Journals.{Asked, Answers, Stops, records_on}
-use Rattle.nodes_world.specs.Objects.{place_of, service_at}
-use Rattle.nodes_world.specs.World.{World, Seat, Server, OfNode, OfEnd, FlatEnd, FlatResource, NamedKey, node_in, end_in, end_at, resource_at, has_number, referred, on_seat, with_seat, with_server, with_disk, with_clock, with_sent, with_message}
-use Rattle.nodes_world.specs.Happenings.{Done, client_message, new_message, requests, requests_all, replies}
+use Rattle.nodes_world.specs.Journals.{Asked, Answers, Stops}
+use Rattle.nodes_world.specs.Objects.{place_of}
+use Rattle.nodes_world.specs.World.{World, Seat, Server, OfNode, OfEnd, FlatEnd, FlatResource, node_in, end_in, end_at, resource_at, has_number, on_seat, with_seat, with_server, with_disk, with_sent, with_message}
+use Rattle.nodes_world.specs.Happenings.{Done, new_message, requests, requests_all, replies}
 use Rattle.nodes_world.specs.Nodes.{Stepping, steps, steps_by, steps_node, crashes, crashes_seat, happens, happens_all, ticks_node}
 use Rattle.nodes_world.specs.Ends.{with_end, with_resource, with_resource_at}
-use Rattle.nodes_world.specs.Changes.{SeatBecomes, by_call, by_crash, by_crash_inside, by_end, by_load, by_tick, EndBecomes, by_change, ResourceBecomes, WorldBecomes, by_seat, by_sending, by_message, WorldGoesOn, still, further, asked_of, left_with, MessageBecomes}
+use Rattle.nodes_world.specs.Changes.{SeatBecomes, by_call, by_crash_inside, by_end, by_tick, EndBecomes, by_change, ResourceBecomes, WorldBecomes, by_seat, by_sending, by_message, WorldGoesOn, still, further, asked_of, left_with, MessageBecomes}
 
 -- ---- places of a list
 

@@ -1,12 +1,11 @@
 -- Each deed is made of steps.
-use Rattle.std.proofs.Common.{◌≡◌, ℕ, zero, suc, ◌+◌, ◌-◌, ◌&&◌, Bool, true, false, min, List, [], ◌∷◌, ◌++◌, length, map, slice_get, slice_set, codes, Option, Some, None, Result, Ok, Err, is_some, is_none, IsTrue, refl, sym, ap, subst, ◌∙◌, append_assoc, append-nil}
+use Rattle.std.proofs.Common.{◌≡◌, ℕ, zero, suc, ◌+◌, ◌-◌, ◌&&◌, Bool, true, false, min, List, [], ◌∷◌, length, map, slice_get, slice_set, codes, Option, Some, None, Result, refl, sym, ap, subst, ◌∙◌, append_assoc, append-nil, not, ◌||◌}
 use Rattle.std.specs.List.{AllByRecursion}
-use Rattle.std.proofs.lemmas.Option.{same_Some}
+use Rattle.std.proofs.lemmas.Option.{same_Some, get_or_from_slice_get}
 use Rattle.std.proofs.lemmas.Bool.{and_parts}
 use Rattle.std.specs.Option.{option_map, option_map_or, option_and_then}
 use Rattle.ior_refs.specs.declared.key.ObjectKey.{ObjectKey}
 use Rattle.ots_model.specs.declared.tree.Outward.{Outward}
-use Rattle.ots_outside.specs.Disk.{at_first}
 use Rattle.decision_journal.specs.declared.record.JournalRecord.{JournalRecord}
 use Rattle.coordinator.specs.declared.event.Act.{Act}
 use Rattle.coordinator.specs.declared.event.Act.TheVariants as acts
@@ -34,21 +33,22 @@ use Rattle.nodes_world.specs.declared.thing.Thing.TheVariants as things
 use Rattle.nodes_world.specs.Disks.{Stop}
 use Rattle.nodes_world.specs.Journals.{records_in, records_on}
 use Rattle.nodes_world.specs.Objects.{place_of, service_at}
-use Rattle.nodes_world.specs.Limits.{area_limit}
-use Rattle.nodes_world.specs.Told.{Told, Dropped, Answered, operation_of}
-use Rattle.nodes_world.specs.World.{World, Seat, Server, is_free, OfNode, OfEnd, FlatEnd, FlatResource, end_in, is_up, message_numbered, next_message, node_at, node_in, resource_at, thing, transaction_name, with_clock, with_disk, with_message, with_new_seat, with_seat, with_sent}
-use Rattle.nodes_world.specs.Happenings.{Done, ◌▹◌, after, changes, client_message, nothing, tells}
+use Rattle.nodes_world.specs.Told.{Told, Dropped, operation_of}
+use Rattle.nodes_world.specs.World.{World, Seat, is_free, OfNode, FlatEnd, FlatResource, end_in, is_up, message_numbered, next_message, node_at, node_in, resource_at, thing, transaction_name, with_clock, with_disk, with_message, with_seat, with_sent}
+use Rattle.nodes_world.specs.Happenings.{Done, ◌▹◌, after, changes, client_message, nothing}
 use Rattle.nodes_world.specs.Nodes.{Stepping, crashes, crashes_seat, steps, ticks_node}
 use Rattle.nodes_world.specs.Ends as end
 use Rattle.nodes_world.specs.Ends.{closed_by, puts, put_into, refuses_to, refusing}
-use Rattle.nodes_world.specs.Clients.{acts_at, answer_only, answered_with, begins, begins_at, call_event, called_line, calls, creates_sub, registers, registers_at, said_in, said_lines, then_answers}
+use Rattle.nodes_world.specs.Clients.{acts_at, answer_only, answered_with, begins, begins_at, call_event, called_line, calls, registers, registers_at, said_in, said_lines, then_answers}
 use Rattle.nodes_world.specs.Deliveries.{comes, comes_to, delivers, flows, hears_answer, hears_if, hears_of, hears_reply, is_waited_for, lowest, reaches, receiver_of}
-use Rattle.nodes_world.specs.Lives.{crashes_now, loads, makes_end, makes_node, new_seat, restarts, stops, ticks, ticks_seat, ticks_to, with_named_seat}
-use Rattle.nodes_world.specs.Resolve.{as_resource, as_seat, asks_for, begins_named, calls_named, commits_as, commits_named, creates_named, down_named, end_named, ends_by, if_free, is_down_at, is_down_node, is_key_up, may_commit, may_put, may_refuse, may_register, resource_named, where_so, node_named, only_if, puts_named, refuses_named, registers_named, registers_with, relates_named, relation_act, resolve, status_act, transaction_named}
+use Rattle.nodes_world.specs.Lives.{crashes_now, loads, makes_node, new_seat, restarts, stops, ticks, ticks_seat, ticks_to, with_named_seat}
+use Rattle.nodes_world.specs.Resolve.{as_resource, asks_for, begins_named, calls_named, commits_as, commits_named, creates_named, end_named, ends_by, if_free, is_down_at, is_down_node, is_key_up, may_commit, may_put, may_refuse, may_register, resource_named, where_so, node_named, puts_named, refuses_named, registers_named, registers_with, relates_named, relation_act, resolve, status_act, transaction_named}
 use Rattle.nodes_world.specs.Step.{carried_out, is_full, lacks_life, lacks_life_at, lacks_life_on, limit_before, limit_where}
-use Rattle.nodes_world.specs.AgreementSteps.{DeedsGo, Goes, by_alike, by_receipt, by_node, by_end, by_load, by_crash, by_begin, by_calling, by_call, by_sub, by_register, by_touch, by_word, by_hearing, by_tick, GoesOn, still, further, IsAlike, IsQuiet, IsTouched, by_put, by_refusal, content_of, kept_seat}
+use Rattle.nodes_world.specs.AgreementSteps.{DeedsGo, Goes, by_alike, by_receipt, by_node, by_end, by_load, by_crash, by_begin, by_calling, by_call, by_sub, by_register, by_touch, by_word, by_hearing, by_tick, GoesOn, still, further, IsAlike, IsQuiet, by_put, by_refusal, kept_seat, by_no_call, is_asked, is_call, kept_message}
 use Rattle.nodes_world.proofs.Going.{get_last, get_set, node_up, on_seat_there, end_up}
-use Rattle.nodes_world.proofs.Deeds.{NodeIsUp, MayBeDone, down, mapped_of, may_be_done, node_is_up, none_of, only_of, some_of}
+use Rattle.nodes_world.proofs.Deeds.{MayBeDone, down, mapped_of, may_be_done, node_is_up, only_of, some_of}
+use Rattle.std.proofs.lemmas.List.Quantifiers.{position-Some}
+use Rattle.nodes_world.specs.Agreement.{GoesOnFrom}
 
 -- ---- one step after another
 
@@ -71,10 +71,16 @@ map_set f (z ∷ xs) (suc i) x y there same = ap (λ us. f z ∷ us) (map_set f 
 alike_self : (w : World) → IsAlike w w
 alike_self w = record { names = refl; seats = refl; messages = refl }
 
-alike_message : (place : ℕ) (m later : Message) (w : World) → slice_get w.messages place ≡ Some m → later.content ≡ m.content
+alike_message : (place : ℕ) (m later : Message) (w : World) → slice_get w.messages place ≡ Some m → kept_message later ≡ kept_message m
     → IsAlike w (with_message place later w)
 alike_message place m later w there same =
-    record { names = refl; seats = refl; messages = map_set content_of w.messages place m later there same }
+    record { names = refl; seats = refl; messages = map_set kept_message w.messages place m later there same }
+
+-- a message that is no call comes to its receiver
+delivered_alike : (m : Message) → is_call m.content ≡ false → kept_message (record m { delivered = true }) ≡ kept_message m
+delivered_alike m none =
+    ap (λ (b : Bool). record m { delivered = b && true; lost = false; answered = false }) none
+    ∙ sym (ap (λ (b : Bool). record m { delivered = b && m.delivered; lost = false; answered = false }) none)
 
 alike_seat : (place : ℕ) (s later : Seat) (w : World) → slice_get w.seats place ≡ Some s → kept_seat later ≡ kept_seat s
     → IsAlike w (with_seat place later w)
@@ -95,9 +101,9 @@ answered_on message None v = still
 
 -- a call that is among the messages comes to its node
 acts_on : (nth : ℕ) (to : ObjectKey) (act : Act) (m : Message) (w : World) → slice_get w.messages nth ≡ Some m → m.content ≡ contents.Call to act
-    → GoesOn w (acts_at (nth + 1) to act answer_only w)
+    → is_asked act ≡ true → GoesOn w (acts_at (nth + 1) to act answer_only w)
 unfolding acts_at
-acts_on nth to act m w there is = by (slice_get w.seats (place_of to))
+acts_on nth to act m w there is asked = by (slice_get w.seats (place_of to))
   where
     by : (o : Option Seat)
         → GoesOn w (elim o as (λ _. Done) [
@@ -107,25 +113,25 @@ acts_on nth to act m w there is = by (slice_get w.seats (place_of to))
     by (Some s) =
         let step : Stepping = steps (place_of to) to (call_event (nth + 1) to act s.clock) w in
         on_then w step.done (answered_with (nth + 1) answer_only step.answer step.done.world)
-        (one w step.done (by_call nth s.clock to act m there is)) (answered_on (nth + 1) step.answer step.done.world)
+        (one w step.done (by_call nth s.clock to act m there is asked)) (answered_on (nth + 1) step.answer step.done.world)
     by None = still
 
-calls_on : (to : ObjectKey) (act : Act) (w : World) → IsTrue (is_some (operation_of act)) → GoesOn w (calls to act answer_only w)
+calls_on : (to : ObjectKey) (act : Act) (w : World) → is_asked act ≡ true → GoesOn w (calls to act answer_only w)
 unfolding calls
-calls_on to act w named =
+calls_on to act w asked =
     let m = client_message (contents.Call to act) in
     let sent = with_sent m w in
     let first : Done = record { world = sent; lines = called_line (next_message w) (operation_of act) (transaction_name w to) } in
-    on_then w first (acts_at (next_message w) to act answer_only sent) (one w first (by_calling to act named))
-    (acts_on (length w.messages) to act m sent (get_last w.messages m) refl)
+    on_then w first (acts_at (next_message w) to act answer_only sent) (one w first (by_calling to act asked))
+    (acts_on (length w.messages) to act m sent (get_last w.messages m) refl asked)
 
 registers_on : (manner : Manner) (transaction : ObjectKey) (place : ℕ) (name : List ℕ) (w : World) → thing w name ≡ None
-    → may_register manner w transaction ≡ true → GoesOn w (registers manner transaction place name w)
+    → may_register manner w transaction ≡ true → GoesOnFrom w → GoesOn w (registers manner transaction place name w)
 unfolding registers
-registers_on manner transaction place name w free may = by (slice_get w.seats place) refl
+registers_on manner transaction place name w free may few = by (slice_get w.seats place) refl
   where
     at : (s : Seat) (up : Option FlatEnd) → slice_get w.seats place ≡ Some s → end_in s.server ≡ up → GoesOn w (registers_at manner transaction place s up name w)
-    at s (Some e) there up = one w _ (by_register manner transaction place name s e there (end_up s.server e up) free may)
+    at s (Some e) there up = one w _ (by_register manner transaction place name s e there (end_up s.server e up) free may few)
     at s None there up = still
 
     by : (o : Option Seat) → slice_get w.seats place ≡ o
@@ -210,49 +216,74 @@ hears_reply_on request reply back answer w replied says = by (message_numbered w
     by (Some m) there = hears_of_on request m m.content reply back answer w there refl replied says
     by None there = still
 
-reaches_on : (nth : ℕ) (content : Content) (m : Message) (w : World) → slice_get w.messages nth ≡ Some m → m.content ≡ content
+reaches_on : (nth : ℕ) (content : Content) (m : Message) (w : World) → slice_get w.messages nth ≡ Some m → m.content ≡ content → is_call content ≡ false
     → GoesOn w (reaches (nth + 1) content w)
 unfolding reaches
-reaches_on nth (contents.Call to act) m w there is = acts_on nth to act m w there is
-reaches_on nth (contents.Request from o) m w there is = one w _ (by_word nth from o (m, there, is))
-reaches_on nth (contents.Reply request answer) m w there is = hears_reply_on request nth m answer w there is
+reaches_on nth (contents.Call to act) m w there is none = absurd cc
+reaches_on nth (contents.Request from o) m w there is none = one w _ (by_word nth from o (m, there, is))
+reaches_on nth (contents.Reply request answer) m w there is none = hears_reply_on request nth m answer w there is
 
-comes_on : (receiver : Option ℕ) (nth : ℕ) (m : Message) (w : World) → slice_get w.messages nth ≡ Some m
+comes_on : (receiver : Option ℕ) (nth : ℕ) (m : Message) (w : World) → slice_get w.messages nth ≡ Some m → is_call m.content ≡ false
     → GoesOn w (comes receiver (nth + 1) m.content w)
-comes_on (Some receiver) nth m w there = by (is_up w receiver)
+comes_on (Some receiver) nth m w there none = by (is_up w receiver)
   where
     by : (up : Bool) → GoesOn w (comes_to up (nth + 1) m.content w)
-    by true = on_then w _ (reaches (nth + 1) m.content w) (one w _ (by_receipt (nth + 1))) (reaches_on nth m.content m w there refl)
+    by true = on_then w _ (reaches (nth + 1) m.content w) (one w _ (by_receipt (nth + 1))) (reaches_on nth m.content m w there refl none)
     by false = one w _ (by_alike w (Dropped (nth + 1) ∷ []) (alike_self w) (tt, tt))
-comes_on None nth m w there = still
+comes_on None nth m w there none = still
 
-delivers_on : (place : ℕ) (w : World) → GoesOn w (delivers place w)
+-- a message that wasn't delivered yet is; so it is no call
+delivers_on : (place : ℕ) (w : World) → ((m : Message) → slice_get w.messages place ≡ Some m → m.delivered ≡ false) → GoesOn w (delivers place w)
 unfolding delivers
-delivers_on place w = by (slice_get w.messages place) refl
+delivers_on place w new = by (slice_get w.messages place) refl
   where
+    taken : Message → Message
+    taken m = record m { delivered = true }
+
+    reached : (m : Message) → slice_get w.messages place ≡ Some m → is_call m.content ≡ false
+        → GoesOn w (changes (with_message place (taken m) w) ▹ comes (receiver_of w m.content) (place + 1) m.content)
+    reached m there none =
+        let later = with_message place (taken m) w in
+        on_then w (changes later) (comes (receiver_of w m.content) (place + 1) m.content later)
+        (one w _ (by_alike later [] (alike_message place m (taken m) w there (delivered_alike m none)) tt))
+        (comes_on (receiver_of w m.content) place (taken m) later (get_set w.messages place m (taken m) there) none)
+
+    of : (m : Message) (content : Content) → slice_get w.messages place ≡ Some m → m.content ≡ content
+        → GoesOn w (changes (with_message place (taken m) w) ▹ comes (receiver_of w m.content) (place + 1) m.content)
+    of m (contents.Call to act) there is = one w _ (by_no_call place to act m _ there is (new m there))
+    of m (contents.Request from o) there is = reached m there (ap is_call is)
+    of m (contents.Reply request answer) there is = reached m there (ap is_call is)
+
     by : (found : Option Message) → slice_get w.messages place ≡ found
         → GoesOn w (elim found as (λ _. Done) [
           | Some m ↦ changes (with_message place (record m { delivered = true }) w) ▹ comes (receiver_of w m.content) (place + 1) m.content
           | None ↦ record { world = w; lines = [] }
         ])
-    by (Some m) there =
-        let taken : Message = record m { delivered = true } in
-        let later = with_message place taken w in
-        on_then w (changes later) (comes (receiver_of w m.content) (place + 1) m.content later)
-        (one w _ (by_alike later [] (alike_message place m taken w there refl) tt))
-        (comes_on (receiver_of w m.content) place taken later (get_set w.messages place m taken there))
+    by (Some m) there = of m m.content there refl
     by None there = still
+
+-- the lowest one is such
+lowest_new : (w : World) (place : ℕ) (m : Message) → lowest w ≡ Some place → slice_get w.messages place ≡ Some m → m.delivered ≡ false
+unfolding lowest
+lowest_new w place m first there =
+    let passes = position-Some (λ (x : Message). not (x.delivered || x.lost)) w.messages place m first in
+    neither m.delivered m.lost (sym (ap (λ (x : Message). not (x.delivered || x.lost)) (get_or_from_slice_get w.messages place m m there)) ∙ passes.1)
+  where
+    neither : (a b : Bool) → not (a || b) ≡ true → a ≡ false
+    neither true b is = absurd cc
+    neither false b is = refl
 
 flows_on : (count : ℕ) (w : World) → GoesOn w (flows count w)
 unfolding flows
 flows_on zero w = still
-flows_on (suc count) w = by (lowest w) (flows_on count)
+flows_on (suc count) w = by (lowest w) refl (flows_on count)
   where
-    by : (found : Option ℕ) → ((v : World) → GoesOn v (flows count v))
+    by : (found : Option ℕ) → lowest w ≡ found → ((v : World) → GoesOn v (flows count v))
         → GoesOn w (elim found as (λ _. Done) [ Some place ↦ delivers place w ▹ flows count | None ↦ nothing w ])
-    by (Some place) others =
-        on_then w (delivers place w) (flows count (delivers place w).world) (delivers_on place w) (others (delivers place w).world)
-    by None others = still
+    by (Some place) first others =
+        on_then w (delivers place w) (flows count (delivers place w).world) (delivers_on place w (λ m there. lowest_new w place m first there))
+        (others (delivers place w).world)
+    by None first others = still
 
 -- ---- nodes and ends
 
@@ -360,27 +391,27 @@ stops_on place stop w = by (slice_get w.seats place) refl
 
 -- besides what any deed needs
 abbrev MayGo : World → Deed → Type 0
-MayGo w (deeds.Call to act) = IsTrue (is_some (operation_of act))
+MayGo w (deeds.Call to act) = is_asked act ≡ true
 MayGo w (deeds.Register manner transaction place name) = may_register manner w transaction ≡ true
 MayGo w (deeds.Put key cell value) = (name : List ℕ) × (thing w name ≡ Some (things.Resource key))
 MayGo w (deeds.Refuse key) = (name : List ℕ) × (thing w name ≡ Some (things.Resource key))
 MayGo w _ = Unit {0}
 
-deed_on : (deed : Deed) (w : World) → MayBeDone w deed → MayGo w deed → limit_before deed w ≡ None → GoesOn w (carried_out deed w)
+deed_on : (deed : Deed) (w : World) → GoesOnFrom w → MayBeDone w deed → MayGo w deed → limit_before deed w ≡ None → GoesOn w (carried_out deed w)
 unfolding carried_out
-deed_on (deeds.MakeNode name) w may go limit = makes_node_on name w may (not_passed _ _ limit)
-deed_on (deeds.MakeEnd name) w may go limit = one w _ (by_end name may (not_passed _ _ limit))
-deed_on (deeds.Begin place name seconds) w may go limit = begins_on place name seconds w may
-deed_on (deeds.Call to act) w may go limit = calls_on to act w go
-deed_on (deeds.Create parent name) w may go limit = one w _ (by_sub parent name may)
-deed_on (deeds.Register manner transaction place name) w may go limit = registers_on manner transaction place name w may go
-deed_on (deeds.Put resource cell value) w may go limit = puts_on go.0 resource cell value w go.1
-deed_on (deeds.Refuse resource) w may go limit = refuses_on go.0 resource w go.1
-deed_on (deeds.Flow count) w may go limit = flows_on count w
-deed_on (deeds.Tick place seconds) w may go limit = ticks_on place seconds w
-deed_on (deeds.Crash place) w may go limit = crashes_on place may.0 w may.1
-deed_on (deeds.Restart place) w may go limit = restarts_down_on place w may (not_passed _ _ limit)
-deed_on (deeds.Stop place write image) w may go limit = stops_on place (record { write = write; image = image }) w
+deed_on (deeds.MakeNode name) w few may go limit = makes_node_on name w may (not_passed _ _ limit)
+deed_on (deeds.MakeEnd name) w few may go limit = one w _ (by_end name may (not_passed _ _ limit))
+deed_on (deeds.Begin place name seconds) w few may go limit = begins_on place name seconds w may
+deed_on (deeds.Call to act) w few may go limit = calls_on to act w go
+deed_on (deeds.Create parent name) w few may go limit = one w _ (by_sub parent name may)
+deed_on (deeds.Register manner transaction place name) w few may go limit = registers_on manner transaction place name w may go few
+deed_on (deeds.Put resource cell value) w few may go limit = puts_on go.0 resource cell value w go.1
+deed_on (deeds.Refuse resource) w few may go limit = refuses_on go.0 resource w go.1
+deed_on (deeds.Flow count) w few may go limit = flows_on count w
+deed_on (deeds.Tick place seconds) w few may go limit = ticks_on place seconds w
+deed_on (deeds.Crash place) w few may go limit = crashes_on place may.0 w may.1
+deed_on (deeds.Restart place) w few may go limit = restarts_down_on place w may (not_passed _ _ limit)
+deed_on (deeds.Stop place write image) w few may go limit = stops_on place (record { write = write; image = image }) w
 
 free_go : (w : World) (name : List ℕ) (made deed : Deed) → if_free w name made ≡ Some deed → MayGo w made → MayGo w deed
 free_go w name made deed is may = subst (MayGo w) (sym (only_of (is_free w name) made deed is).1) may
@@ -395,12 +426,12 @@ call_go : (w : World) (name : List ℕ) (make : ObjectKey → Deed) (deed : Deed
     → ((key : ObjectKey) → MayGo w (make key)) → MayGo w deed
 call_go w name make deed is may = mapped_go make (transaction_named w name) w deed is may
 
-status_called : (whose : Whose) → IsTrue (is_some (operation_of (status_act whose)))
+status_called : (whose : Whose) → is_asked (status_act whose) ≡ true
 status_called whoses.Own = refl
 status_called whoses.Parent = refl
 status_called whoses.Top = refl
 
-relation_called : (relation : Relation) (key : ObjectKey) → IsTrue (is_some (operation_of (relation_act relation key)))
+relation_called : (relation : Relation) (key : ObjectKey) → is_asked (relation_act relation key) ≡ true
 relation_called relations.Same key = refl
 relation_called relations.Ancestor key = refl
 relation_called relations.Descendant key = refl
@@ -471,4 +502,4 @@ may_go (events.Stop server write image) deed w is = mapped_go (λ (place : ℕ).
 may_go _ deed w is = absurd cc
 
 pub deeds_go : DeedsGo
-deeds_go event deed w is limit = deed_on deed w (may_be_done event deed w is) (may_go event deed w is) limit
+deeds_go event deed w few is limit = deed_on deed w few (may_be_done event deed w is) (may_go event deed w is) limit

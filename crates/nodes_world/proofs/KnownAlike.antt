@@ -1,5 +1,5 @@
 -- What is known of a world is known of one that differs from it in clocks, in stops to come and in what became of messages alone.
-use Rattle.std.proofs.Common.{◌≡◌, ◌⊎◌, inl, inr, ℕ, ◌<◌, zero, suc, Bool, true, false, cond, find, is_some, IsTrue, List, [], ◌∷◌, ◌++◌, map, slice_get, Contains, Option, Some, None, refl, sym, ap, ap₂, subst, ◌∙◌, bytes_eq}
+use Rattle.std.proofs.Common.{◌≡◌, inl, ℕ, ◌<◌, zero, suc, Bool, true, false, cond, find, is_some, IsTrue, List, [], ◌∷◌, ◌++◌, map, slice_get, Contains, Option, Some, None, refl, sym, ap, ap₂, subst, ◌∙◌, bytes_eq, ◌&&◌, length, ◌≤◌}
 use Rattle.std.specs.List.{AllByRecursion, list_any}
 use Rattle.std.specs.Option.{option_map, option_map_or, option_and_then}
 use Rattle.ior_refs.specs.declared.key.ObjectKey.{ObjectKey}
@@ -11,7 +11,6 @@ use Rattle.ots_outside.specs.Disk.{DiskState}
 use Rattle.decision_journal.specs.Journal.{Holds}
 use Rattle.decision_journal.specs.Laws.{IsSettled}
 use Rattle.decision_journal.specs.declared.record.JournalRecord.{JournalRecord}
-use Rattle.coordinator.specs.Family.{Family}
 use Rattle.coordinator.specs.Node.{Node, family_of}
 use Rattle.nodes_world.specs.declared.message.Message.{Message}
 use Rattle.nodes_world.specs.declared.thing.Thing.{Thing}
@@ -20,14 +19,15 @@ use Rattle.nodes_world.specs.Journals.{records_on}
 use Rattle.nodes_world.specs.Objects.{place_of, reference, service_at}
 use Rattle.nodes_world.specs.Told as tell
 use Rattle.nodes_world.specs.Told.{Told, known}
-use Rattle.nodes_world.specs.World.{World, Seat, OfNode, FlatEnd, FlatResource, NamedKey, end_at, end_in, family_at, has_number, is_referred_to, node_at, node_in, reference_to_object, referred, resource_at, resources, seat_name, thing, thing_in}
-use Rattle.nodes_world.specs.Agreement.{FollowsDisk, HasSent, HoldsDecisions, IsTransaction, IsWord, has_record, records_at}
+use Rattle.nodes_world.specs.World.{World, Seat, OfNode, FlatEnd, NamedKey, end_at, end_in, family_at, has_number, is_referred_to, node_at, node_in, referred, resource_at, resources, seat_name, thing, thing_in}
+use Rattle.nodes_world.specs.Agreement.{HasSent, has_record, records_at}
 use Rattle.nodes_world.specs.AgreementInside.{Known, DisksAreKnown, SeatsAreNamed}
-use Rattle.nodes_world.specs.AgreementSteps.{IsAlike, IsQuiet, StaysKnown, content_of, kept_seat}
+use Rattle.nodes_world.specs.AgreementSteps.{IsAlike, IsQuiet, StaysKnown, kept_seat, is_call, kept_message}
 use Rattle.nodes_world.specs.Happenings.{tells}
 use Rattle.nodes_world.proofs.KnownLines.{among_back, among_turned, lines_of}
-use Rattle.nodes_world.proofs.KnownTelling.{IsOne, TellsOn, allowed_on, bare_not_plain, each_bare, is_bare, is_plain, tells_on}
-use Rattle.nodes_world.proofs.KnownWorlds.{Frame, follows_self, framed_known, word_back, sent_back, at_back, refers_back}
+use Rattle.nodes_world.proofs.KnownTelling.{IsOne, TellsOn, allowed_on, each_bare, is_bare, is_plain, tells_on}
+use Rattle.nodes_world.proofs.KnownWorlds.{Frame, follows_self, framed_known, sent_back}
+use Rattle.nodes_world.specs.Limits.{seat_limit}
 
 -- ---- lists of which the same is kept
 
@@ -47,6 +47,13 @@ map_get g (u ∷ xs) (z ∷ ys) (suc i) x same there = map_get g xs ys i x (tail
   where
     tail_of : {C : Type 0} (a b : C) (xs ys : List C) → a ∷ xs ≡ b ∷ ys → xs ≡ ys
     tail_of a b xs ys e = cc
+
+pub as_many : {A B : Type 0} (g : A → B) (xs ys : List A) → map g xs ≡ map g ys → length xs ≡ length ys
+as_many g xs ys same = sym (map_length g xs) ∙ ap length same ∙ map_length g ys
+  where
+    map_length : {A B : Type 0} (g : A → B) (xs : List A) → length (map g xs) ≡ length xs
+    map_length g [] = refl
+    map_length g (x ∷ xs) = ap suc (map_length g xs)
 
 -- what is read of an element through what is kept of it
 pub read_through : {A B C : Type 0} (g : A → B) (read : A → Option C) (kept : B → Option C) → ((x : A) → kept (g x) ≡ read x)
@@ -159,6 +166,7 @@ module _ (w v : World) (told some : List Told) (alike : IsAlike w v) (plain : Al
     tells = tells_on is_bare told some (each_bare some plain);
     allowed = allowed_on told some (each_bare some plain);
     decided = λ name key named s. inl (plain_tells.back _ refl s);
+    named = λ name s. inl (plain_tells.back _ refl s);
     outcomes = λ name key f there named s. among_turned _ _ (plain_tells.back _ refl (among_back _ _ s));
     transaction_on = λ name key is. things_same name ∙ is;
     transaction_back = λ name key is. sym (things_same name) ∙ is;
@@ -166,12 +174,28 @@ module _ (w v : World) (told some : List Told) (alike : IsAlike w v) (plain : Al
     resource_back = λ name key is. sym (things_same name) ∙ is;
     refers = λ to. referred_by w v to alike.names (named_same w v alike.seats);
     resources = λ key. resources_by w v key (ends_same w v alike.seats (place_of key));
-    messages_on = λ nth m there. map_get content_of w.messages v.messages nth m (sym alike.messages) there;
-    messages_back = λ nth m there heard. map_get content_of v.messages w.messages nth m alike.messages there;
+    messages_on = λ nth m there.
+        let was = map_get kept_message w.messages v.messages nth m (sym alike.messages) there in
+        (was.0, was.1, ap (λ (x : Message). x.content) was.2);
+    messages_back = λ nth m there heard.
+        let was = map_get kept_message v.messages w.messages nth m alike.messages there in
+        (was.0, was.1, ap (λ (x : Message). x.content) was.2);
     families = λ key f there. sym (families_same w v alike.seats key) ∙ there;
     records = λ place rs held. inl (rs, sym (records_same w v alike.seats place) ∙ held, follows_self rs);
-    has = λ place is_so none. has_same place is_so;
+    has = λ place is_so none other. has_same place is_so;
     seats = λ place server is. named_same w v alike.seats place ∙ is;
+    nodes = λ place n is. inl (record {
+      up = sym (nodes_same w v alike.seats place) ∙ is;
+      records = records_same w v alike.seats place;
+      disks = λ s there.
+          let was = map_get kept_seat v.seats w.seats place s alike.seats there in
+          (was.0, was.1, ap (λ (x : Seat). x.disk) was.2);
+    });
+    counted = λ was. record {
+      numbers = λ place e is. was.numbers place e (sym (ends_same w v alike.seats place) ∙ is);
+      messages = λ place e is.
+          subst (λ (many : ℕ). e.drawn ≤ many) (as_many kept_message w.messages v.messages (sym alike.messages)) (was.messages place e (sym (ends_same w v alike.seats place) ∙ is));
+    };
   }
 
   -- ---- seats and disks
@@ -185,6 +209,9 @@ module _ (w v : World) (told some : List Told) (alike : IsAlike w v) (plain : Al
 
     word_by : (p : ℕ) (q : Outward) → HasSent v p q → HasSent w p q
     word_by p q sent = sent_back w v told (told ++ some) alike_frame k p q sent
+
+    delivered_so : {a : Bool} (b : Bool) → a ≡ true → (a && b) ≡ b
+    delivered_so b is = ap (λ x. x && b) is
 
     seat_there : (p : ℕ) → IsTrue (is_some (slice_get w.seats p)) → IsTrue (is_some (slice_get v.seats p))
     seat_there p is = by (slice_get w.seats p) refl is
@@ -205,9 +232,12 @@ module _ (w v : World) (told some : List Told) (alike : IsAlike w v) (plain : Al
           (now.0, now.1, ap (λ (x : Seat). x.name) now.2 ∙ was.2);
       up = λ name life s. let at = up name life s in (at.0, things_same name ∙ at.1);
       senders = λ p q sent. seat_there p (k.seats.senders p q (word_by p q sent));
+      few = subst (λ (many : ℕ). many ≤ seat_limit) (as_many kept_seat w.seats v.seats (sym alike.seats)) k.seats.few;
       calls = λ nth m to act there says.
-          let was = map_get content_of v.messages w.messages nth m alike.messages there in
-          k.seats.calls nth was.0 to act was.1 (was.2 ∙ says);
+          let was = map_get kept_message v.messages w.messages nth m alike.messages there in
+          let so = ap (λ (x : Message). x.content) was.2 ∙ says in
+          sym (delivered_so m.delivered (ap is_call says)) ∙ sym (ap (λ (x : Message). x.delivered) was.2)
+          ∙ delivered_so was.0.delivered (ap is_call so) ∙ k.seats.calls nth was.0 to act was.1 so;
     }
 
     disks_alike : ((before behind : List Line) (server : List ℕ) (life earlier : ℕ) → known (told ++ some) ≡ before ++ (lines.Up server life ∷ behind)
@@ -262,10 +292,6 @@ module _ (w v : World) (told some : List Told) (alike : IsAlike w v) (plain : Al
         (λ place s n q there is sent same.
         let was = map_get kept_seat v.seats w.seats place s alike.seats there in
         k.words.given place was.0 n q was.1 (seat_up s was.0 n was.2 is) (word_by place q sent) same)
-        (λ place s n h p object r there is held among nothing refers at.
-        let was = map_get kept_seat v.seats w.seats place s alike.seats there in
-        k.over.told_again place was.0 n h p object r was.1 (seat_up s was.0 n was.2 is) held among nothing
-        (refers_back w v told (told ++ some) alike_frame k p.to object refers) (at_back w v told (told ++ some) alike_frame k object.key r at))
 
 -- nothing but a receipt, or lines that aren't known
 abbrev is_receipt : Line → Bool

@@ -1,5 +1,5 @@
 -- What is known of names, and of what is allowed, once a top-level transaction has its name.
-use Rattle.std.proofs.Common.{◌≡◌, ◌⊎◌, inl, inr, ℕ, ◌<◌, Bool, List, [], ◌∷◌, ◌++◌, slice_get, Contains, Option, Some, None, refl, sym, ap, subst, ◌∙◌}
+use Rattle.std.proofs.Common.{◌≡◌, inl, inr, ℕ, Bool, List, [], ◌∷◌, ◌++◌, Some, None, sym, ap, subst, ◌∙◌}
 use Rattle.std.proofs.lemmas.List.Elements.{Contains-push_cases}
 use Rattle.ior_refs.specs.declared.key.ObjectKey.{ObjectKey}
 use Rattle.ots_model.specs.Safe.{Stands, IsRegistered}
@@ -11,7 +11,7 @@ use Rattle.nodes_world.specs.declared.thing.Thing.{Thing}
 use Rattle.nodes_world.specs.declared.thing.Thing.TheVariants as things
 use Rattle.nodes_world.specs.Told as tell
 use Rattle.nodes_world.specs.Told.{Told, known}
-use Rattle.nodes_world.specs.World.{World, Seat, FlatResource, resource_at, thing, with_name}
+use Rattle.nodes_world.specs.World.{World, Seat, resource_at, thing, with_name}
 use Rattle.nodes_world.specs.Agreement.{IsTransaction, KeysAreOnce}
 use Rattle.nodes_world.specs.AgreementInside.{Known, IsMade, NamesAreTold}
 use Rattle.nodes_world.proofs.KnownLines.{lines_of}
@@ -19,6 +19,7 @@ use Rattle.nodes_world.proofs.KnownFrames.{newest_phase}
 use Rattle.nodes_world.proofs.CanRegister.{can_make}
 use Rattle.nodes_world.proofs.KnownWorlds.{NamedOnce}
 use Rattle.nodes_world.proofs.KnownMakings.{thing_cases, thing_given, thing_kept}
+use Rattle.ots_model.specs.declared.line.ResourceState.{ResourceState}
 
 -- a name that was free is given to the top-level transaction of a key that no name had
 module _ (w : World) (name node : List ℕ) (key : ObjectKey) (seats : List Seat) (told : List Told) (free : thing w name ≡ None) (k : Known w told)
@@ -107,6 +108,10 @@ module _ (w : World) (name node : List ℕ) (key : ObjectKey) (seats : List Seat
   was_done n committed (inl e) = absurd cc
   was_done n committed (inr s) = s
 
+  was_shown : (n : List ℕ) (state : ResourceState) → Stands (lines.State n state) (line ∷ h) → Stands (lines.State n state) h
+  was_shown n state (inl e) = absurd cc
+  was_shown n state (inr s) = s
+
   was_registered : (n t : List ℕ) → IsRegistered n t (line ∷ h) → IsRegistered n t h
   was_registered n t (end, inl e) = absurd cc
   was_registered n t (end, inr s) = (end, s)
@@ -134,6 +139,8 @@ module _ (w : World) (name node : List ℕ) (key : ObjectKey) (seats : List Seat
         (was.0, was.1, on n (things.Resource was.0) was.2, on t (things.Transaction was.1) was.3);
     one_transaction = λ n t other s also. k.names.one_transaction n t other (was_registered n t s) (was_registered n other also);
     no_import = no_import_begun;
+    objects = λ n r is. k.names.objects n r (resource_was n r is);
+    shown = λ n state s. let was = k.names.shown n state (was_shown n state s) in (was.0, on n (things.Resource was.0) was.1);
   })
 
   -- it is allowed

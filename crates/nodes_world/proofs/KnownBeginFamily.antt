@@ -1,5 +1,5 @@
 -- What is known of the family of a top-level transaction that is made.
-use Rattle.std.proofs.Common.{◌≡◌, ◌⊎◌, inl, inr, ℕ, zero, suc, ◌<◌, Bool, IsTrue, List, [], ◌∷◌, ◌++◌, filter_map, length, Contains, Option, Some, None, refl, sym, ap, subst, ◌∙◌, arith}
+use Rattle.std.proofs.Common.{◌≡◌, inl, inr, ℕ, zero, suc, ◌<◌, IsTrue, List, [], ◌∷◌, ◌++◌, filter_map, length, Contains, Option, Some, None, refl, sym, ap, subst, ◌∙◌, arith}
 use Rattle.ior_refs.specs.declared.key.ObjectKey.{ObjectKey}
 use Rattle.ots_model.specs.Safe.{Stands, IsRegistered}
 use Rattle.ots_model.specs.declared.completion.Ground.TheVariants.{Record}
@@ -10,7 +10,8 @@ use Rattle.resource_votes.specs.Lists.{list_at}
 use Rattle.resource_votes.specs.Ballots.{no_ballots, numbered, participants}
 use Rattle.resource_votes.specs.declared.registration.Registration.{Registration}
 use Rattle.txn_tree.specs.Rows.{parent}
-use Rattle.coordinator.specs.Family.{Family, new_family}
+use Rattle.coordinator.specs.declared.said.Entry.{Entry}
+use Rattle.coordinator.specs.Family.{Family, new_family, Call, call_at}
 use Rattle.coordinator.specs.Node.{is_of}
 use Rattle.family_laws.specs.Sound.{IsSoundFamily}
 use Rattle.nodes_world.specs.declared.thing.Thing.{Thing}
@@ -95,6 +96,13 @@ module _ (w : World) (name node : List ℕ) (key : ObjectKey) (deadline : Option
   no_parent zero p is e = cc
   no_parent (suc b) p is e = omega (arith, is)
 
+  no_call : (b : ℕ) (c : Call) → call_at f b ≡ Some c → ⊥
+  no_call zero c is = cc
+  no_call (suc b) c is = cc
+
+  no_entry : (e : Entry) → Contains [] e → ⊥
+  no_entry e among = let l = among.1 in omega (arith, l)
+
   pub family_begun : IsSoundFamily f → (IsTrue (has_record v (place_of key) (is_decision_of key)) → ⊥)
       → FamilyIsKnown v (lines_of (told ++ tell.Known line ∷ [])) f
   family_begun sound unrecorded = subst (λ (x : List Line). FamilyIsKnown v x f) (sym (newest_phase told line)) (record {
@@ -112,6 +120,15 @@ module _ (w : World) (name node : List ℕ) (key : ObjectKey) (deadline : Option
       λ listed. absurd (none_takes_part listed.0 listed.1 listed.3),
     );
     own = λ r object t among refers registered. absurd (none_of r among);
+    numbered = λ i r is. absurd cc;
+    unsynchronized = refl;
+    named = λ r among. absurd (none_of r among);
+    apart = λ r other among. absurd (none_of r among);
+    within = λ r among. absurd (none_of r among);
+    came = λ e r among is. absurd (no_entry e among);
+    dues = λ b c is. absurd (no_call b c is);
+    legs = λ b c is. absurd (no_call b c is);
+    settled = refl;
     votes = λ g vote r object among is refers. absurd (none_of r among);
     outcome = no_decision;
     recorded = (λ has. absurd (unrecorded has), λ e. absurd cc);

@@ -1,10 +1,8 @@
 -- What is known of a world is known when no top-level transaction could be made.
-use Rattle.std.proofs.Common.{ℕ, List, [], ◌∷◌, refl}
-use Rattle.std.specs.Prelude.{Result, Ok, Err}
-use Rattle.ior_refs.specs.declared.key.ObjectKey.{ObjectKey}
+use Rattle.std.proofs.Common.{ℕ, List, refl}
+use Rattle.std.specs.Prelude.{Err}
 use Rattle.coordinator.specs.Node.{Node}
 use Rattle.coordinator.specs.declared.node.NodeFault.{NodeFault}
-use Rattle.nodes_world.specs.Told.{Refused}
 use Rattle.nodes_world.specs.World.{World}
 use Rattle.nodes_world.specs.Clients.{begun_with}
 use Rattle.nodes_world.specs.AgreementSteps.{StaysKnown}

@@ -1,5 +1,5 @@
 -- What is known of seats, resources and records once a node has made a top-level transaction.
-use Rattle.std.proofs.Common.{◌≡◌, ◌⊎◌, inl, inr, ℕ, ◌<◌, ◌≤◌, List, [], ◌∷◌, ◌++◌, slice_get, filter_map, find, append-nil, Bool, bytes_eq, false, Contains, Option, Some, None, refl, sym, ap, subst, ◌∙◌}
+use Rattle.std.proofs.Common.{◌≡◌, inl, inr, ℕ, ◌≤◌, List, [], ◌∷◌, ◌++◌, slice_get, find, append-nil, Bool, false, Option, Some, None, refl, sym, ap, subst, ◌∙◌}
 use Rattle.std.specs.List.{list_any}
 use Rattle.std.specs.Option.{option_map_or}
 use Rattle.std.proofs.lemmas.List.Elements.{filter_map-append}
@@ -19,7 +19,7 @@ use Rattle.nodes_world.specs.Told as tell
 use Rattle.nodes_world.specs.Told.{Told, known}
 use Rattle.nodes_world.specs.World.{World, Seat, OfNode, end_at, end_in, is_referred_to, referred, resource_at, resource_in, resources, thing, with_name, with_seat}
 use Rattle.nodes_world.specs.Agreement.{FollowsDisk, HoldsDecisions, has_record, records_at}
-use Rattle.nodes_world.specs.AgreementInside.{Known, DisksAreKnown, SeatsAreNamed, is_prepared}
+use Rattle.nodes_world.specs.AgreementInside.{Known, DisksAreKnown, SeatsAreNamed}
 use Rattle.nodes_world.proofs.KnownLines.{lines_of}
 use Rattle.nodes_world.proofs.KnownFrames.{known_phase, last_cases, newest_phase, split_last}
 use Rattle.nodes_world.proofs.KnownMakings.{thing_cases, thing_kept}
@@ -60,6 +60,7 @@ module _ (w : World) (place : ℕ) (name : List ℕ) (key : ObjectKey) (s : Seat
         ];
         up = λ x life stands. let at = was.up x life (was_up x life stands) in (at.0, thing_kept w.names ((name, own) ∷ []) x (things.Seat at.0) at.1);
         senders = was.senders;
+        few = was.few;
         calls = was.calls;
       })
     where

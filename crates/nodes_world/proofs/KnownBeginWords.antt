@@ -1,5 +1,5 @@
 -- What is known of words once a node has made a top-level transaction.
-use Rattle.std.proofs.Common.{◌≡◌, ◌≤◌, ◌⊎◌, inl, inr, ℕ, is_some, List, [], ◌∷◌, ◌++◌, slice_get, Some, None, refl, sym, ap, subst, ◌∙◌}
+use Rattle.std.proofs.Common.{◌≡◌, ◌≤◌, ◌⊎◌, inl, inr, ℕ, is_some, List, [], ◌∷◌, ◌++◌, slice_get, Some, None, sym, ap, subst, ◌∙◌}
 use Rattle.ior_refs.specs.declared.key.ObjectKey.{ObjectKey}
 use Rattle.ots_model.specs.Safe.{Stands}
 use Rattle.ots_model.specs.declared.completion.Word.{Word as Phase}
@@ -61,6 +61,8 @@ module _ (w : World) (place : ℕ) (name : List ℕ) (key : ObjectKey) (s : Seat
         let was = k.words.sent number phase g (send_back number phase g stands) in
         (was.0, was.1, was.2, was.3, was.4, was.5, was.6, refers was.2.to ∙ was.7, was.8);
     replied = k.words.replied;
+    asked = k.words.asked;
+    voters = k.words.voters;
     lives = λ p o rs sent held. k.words.lives p o rs sent (sym (records p) ∙ held);
     given = given;
     told_again = λ p o rs sent slot held. k.words.told_again p o rs sent slot (sym (records p) ∙ held);

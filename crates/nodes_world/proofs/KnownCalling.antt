@@ -1,31 +1,29 @@
 -- What is known of a world is known once a client's call has gone out.
-use Rattle.std.proofs.Common.{◌≡◌, ◌⊎◌, inl, inr, ℕ, Bool, true, false, is_some, IsTrue, List, [], ◌∷◌, ◌++◌, length, slice_get, Option, Some, None, refl, sym, ap, subst, ◌∙◌, true≢false}
+use Rattle.std.proofs.Common.{◌≡◌, inl, inr, ℕ, Bool, true, false, List, [], ◌∷◌, ◌++◌, slice_get, Option, Some, None, refl, sym, ap, ◌∙◌, true≢false, arith, length-append}
 use Rattle.std.specs.List.{AllByRecursion}
 use Rattle.ior_refs.specs.declared.key.ObjectKey.{ObjectKey}
 use Rattle.ots_model.specs.declared.line.Line.{Line}
-use Rattle.ots_model.specs.declared.line.Line.TheVariants as lines
 use Rattle.coordinator.specs.declared.event.Act.{Act}
 use Rattle.nodes_world.specs.declared.message.Content.TheVariants as contents
 use Rattle.nodes_world.specs.declared.message.Message.{Message}
-use Rattle.nodes_world.specs.Told as tell
-use Rattle.nodes_world.specs.Told.{Told, known, operation_of}
-use Rattle.nodes_world.specs.World.{World, end_at, family_at, next_message, node_at, referred, resource_at, transaction_name, with_sent}
+use Rattle.nodes_world.specs.Told.{Told, operation_of}
+use Rattle.nodes_world.specs.World.{World, end_at, next_message, node_at, referred, resource_at, transaction_name, with_sent}
 use Rattle.nodes_world.specs.Happenings.{client_message}
 use Rattle.nodes_world.specs.Clients.{called_line}
 use Rattle.nodes_world.specs.AgreementInside.{Known, DisksAreKnown, SeatsAreNamed}
-use Rattle.nodes_world.specs.AgreementSteps.{StaysKnown}
+use Rattle.nodes_world.specs.AgreementSteps.{StaysKnown, is_asked, is_call}
 use Rattle.nodes_world.proofs.KnownLines.{among_back, among_turned, lines_of}
 use Rattle.nodes_world.proofs.KnownFrames.{push_cases, push_kept}
-use Rattle.nodes_world.proofs.KnownTelling.{IsOne, TellsOn, allowed_on, each_bare, is_bare, is_plain, tells_on}
+use Rattle.nodes_world.proofs.KnownTelling.{IsOne, TellsOn, allowed_on, is_bare, is_plain, tells_on}
 use Rattle.nodes_world.proofs.KnownSeats.{is_none}
-use Rattle.nodes_world.proofs.KnownWorlds.{Frame, follows_self, framed_known, is_call, sent_back}
+use Rattle.nodes_world.proofs.KnownWorlds.{Frame, follows_self, framed_known, sent_back}
 
-called_one : (flag : Line → Bool) (message : ℕ) (operation name : Option (List ℕ)) → AllByRecursion (IsOne flag) (called_line message operation name)
+pub called_one : (flag : Line → Bool) (message : ℕ) (operation name : Option (List ℕ)) → AllByRecursion (IsOne flag) (called_line message operation name)
 called_one flag message (Some operation) (Some name) = (tt, tt)
 called_one flag message (Some operation) None = tt
 called_one flag message None name = tt
 
-module _ (w : World) (told more : List Told) (to : ObjectKey) (act : Act) (k : Known w told) (named : IsTrue (is_some (operation_of act)))
+module _ (w : World) (told more : List Told) (to : ObjectKey) (act : Act) (k : Known w told)
     (one : (flag : Line → Bool) → AllByRecursion (IsOne flag) more) where
   abbrev call : Message
   call = client_message (contents.Call to act)
@@ -55,6 +53,7 @@ module _ (w : World) (told more : List Told) (to : ObjectKey) (act : Act) (k : K
     tells = tells_on is_bare told more (one is_bare);
     allowed = allowed_on told more (one is_bare);
     decided = λ name key is stands. inl (plain.back _ refl stands);
+    named = λ name stands. inl (plain.back _ refl stands);
     outcomes = λ name key f there is stands. among_turned _ _ (plain.back _ refl (among_back _ _ stands));
     transaction_on = λ name key is. is;
     transaction_back = λ name key is. is;
@@ -66,8 +65,13 @@ module _ (w : World) (told more : List Told) (to : ObjectKey) (act : Act) (k : K
     messages_back = old_message;
     families = λ key f there. there;
     records = λ p rs held. inl (rs, held, follows_self rs);
-    has = λ p is_so never. refl;
+    has = λ p is_so never other. refl;
     seats = λ p server is. is;
+    nodes = λ p n is. inl (record { up = is; records = refl; disks = λ s there. (s, there, refl) });
+    counted = λ was. record {
+      numbers = was.numbers;
+      messages = λ p e is. let low = was.messages p e is in let many = length-append w.messages (call ∷ []) in omega (arith, low, many);
+    };
   }
 
   seats_called : SeatsAreNamed v (lines_of later)
@@ -76,14 +80,12 @@ module _ (w : World) (told more : List Told) (to : ObjectKey) (act : Act) (k : K
     there = k.seats.there;
     up = λ name life stands. k.seats.up name life (among_turned _ _ (none.back _ refl (among_back _ _ stands)));
     senders = λ p q sent. k.seats.senders p q (sent_back w v told later called_frame k p q sent);
+    few = k.seats.few;
     calls = λ nth m key other at says. elim (push_cases w.messages nth call m at) [
       | inl was ↦ k.seats.calls nth m key other was says
-      | inr new ↦ subst (λ (x : Act). IsTrue (is_some (operation_of x))) (act_of (sym (ap (λ (x : Message). x.content) new.1) ∙ says)) named
+      | inr new ↦ ap (λ (x : Message). x.delivered) new.1
     ];
   }
-    where
-      act_of : {key : ObjectKey} {other : Act} → contents.Call to act ≡ contents.Call key other → act ≡ other
-      act_of e = cc
 
   disks_called : DisksAreKnown v later
   disks_called = record {
@@ -99,18 +101,17 @@ module _ (w : World) (told more : List Told) (to : ObjectKey) (act : Act) (k : K
     rests = k.disks.rests;
   }
 
-  called_known : Known v later
+  pub called_known : Known v later
   unfolding referred resource_at end_at
   called_known =
       framed_known w v told later called_frame k k.names.keys k.names.once seats_called disks_called
       (λ p s n q there is sent same. k.words.given p s n q there is (sent_back w v told later called_frame k p q sent) same)
-      k.over.told_again
 
-pub known_calling : (w : World) (to : ObjectKey) (act : Act) → IsTrue (is_some (operation_of act))
+pub known_calling : (w : World) (to : ObjectKey) (act : Act) → is_asked act ≡ true
     → StaysKnown w (record {
       world = with_sent (client_message (contents.Call to act)) w;
       lines = called_line (next_message w) (operation_of act) (transaction_name w to);
     })
 known_calling w to act named told k =
-    called_known w told (called_line (next_message w) (operation_of act) (transaction_name w to)) to act k named
+    called_known w told (called_line (next_message w) (operation_of act) (transaction_name w to)) to act k
     (λ flag. called_one flag (next_message w) (operation_of act) (transaction_name w to))

@@ -1,7 +1,7 @@
 -- What is known of a world is known once a node has come up.
-use Rattle.std.proofs.Common.{◌≡◌, ◌⊎◌, inl, inr, ℕ, ◌+◌, ◌-◌, ◌^◌, ◌<◌, ◌≤◌, ◌==◌, ◌&&◌, zero, suc, Bool, true, false, is_some, IsTrue, List, [], ◌∷◌, ◌++◌, length, replicate, slice_get, slice_set, Contains, Option, Some, None, refl, sym, ap, subst, ◌∙◌, arith, append_assoc}
+use Rattle.std.proofs.Common.{◌≡◌, ◌⊎◌, inl, inr, ℕ, ◌+◌, ◌^◌, ◌<◌, ◌≤◌, ◌==◌, ◌&&◌, Bool, true, false, IsTrue, List, [], ◌∷◌, ◌++◌, slice_get, slice_set, Contains, Option, Some, None, refl, sym, ap, subst, ◌∙◌, arith, append_assoc, nat_lt}
 use Rattle.std.specs.List.{AllByRecursion, flat_map, list_any}
-use Rattle.std.specs.Option.{option_map, option_map_or, option_and_then}
+use Rattle.std.specs.Option.{option_map_or, option_and_then}
 use Rattle.std.proofs.lemmas.Bool.Decides.{nat_tests}
 use Rattle.std.proofs.lemmas.List.Elements.{Contains-push_cases}
 use Rattle.std.proofs.lemmas.List.Folds.{list_any-from_Any}
@@ -11,49 +11,51 @@ use Rattle.ots_model.specs.declared.completion.Ground.TheVariants.{Record}
 use Rattle.ots_model.specs.declared.completion.Outcome.TheVariants as told_outcomes
 use Rattle.ots_model.specs.declared.line.Line.{Line}
 use Rattle.ots_model.specs.declared.line.Line.TheVariants as lines
-use Rattle.ots_model.specs.declared.tree.Outward.{Outward}
 use Rattle.decision_journal.specs.Journal.{Holds, StandsFor, found_in}
 use Rattle.decision_journal.specs.Laws.{IsSettled}
 use Rattle.decision_journal.specs.Loading.{LoadsAreSafe, loaded, next_life}
 use Rattle.decision_journal.specs.declared.journal.Standing.{Standing}
 use Rattle.decision_journal.specs.declared.record.JournalRecord.{JournalRecord}
 use Rattle.decision_journal.specs.declared.record.JournalRecord.TheVariants.{Life, Decision, Done, Prepared, CellsPrepared, CellsOutcome, CellsOnePhase}
-use Rattle.recovery_coord.specs.Held.{held_of, is_decided, is_nothing}
+use Rattle.recovery_coord.specs.Held.{held_of, is_decided}
 use Rattle.recovery_coord.specs.Limits.{retold_slot}
 use Rattle.recovery_coord.specs.declared.held.Held.{Held}
-use Rattle.recovery_coord.specs.declared.held.Party.{Party as HeldParty}
 use Rattle.coordinator.specs.Family.{Family}
 use Rattle.coordinator.specs.Limits.{slot_limit}
-use Rattle.coordinator.specs.Node.{Node, family_in, family_of, in_next_life, life, load, only_of}
+use Rattle.coordinator.specs.Node.{Node, family_of, in_next_life, life, load, only_of}
 use Rattle.coordinator.specs.NodeParts.{IsWhole}
-use Rattle.nodes_world.specs.declared.thing.Thing.{Thing}
 use Rattle.nodes_world.specs.declared.thing.Thing.TheVariants as things
 use Rattle.nodes_world.specs.Journals.{records_on}
-use Rattle.nodes_world.specs.Laws.{RecordsAreRead}
+use Rattle.nodes_world.specs.Laws.{RecordsAreRead, IsInOrder}
 use Rattle.decision_journal.specs.Growing.{JournalsGrow}
-use Rattle.nodes_world.specs.Objects.{place_of, same_transaction, service_at}
+use Rattle.nodes_world.specs.Objects.{place_of, service_at}
 use Rattle.nodes_world.specs.Told as tell
 use Rattle.nodes_world.specs.Told.{Told, known}
-use Rattle.nodes_world.specs.World.{World, Seat, OfNode, FlatResource, NamedKey, end_at, end_in, family_at, node_at, node_in, referred, resource_at, seat_name, thing, transaction_name, with_seat}
+use Rattle.nodes_world.specs.World.{World, Seat, OfNode, end_in, family_at, node_at, node_in, thing, transaction_name, with_seat}
 use Rattle.nodes_world.specs.Nodes.{key_of_record}
 use Rattle.nodes_world.specs.Lives.{loads, standing_lines, up_lines}
 use Rattle.nodes_world.specs.Step.{lacks_life}
-use Rattle.nodes_world.specs.Agreement.{FollowsDisk, HasSent, HoldsDecisions, IsDecided, IsOver, IsTransaction, has_record, is_decision_of, records_at}
-use Rattle.nodes_world.specs.AgreementInside.{Known, DisksAreKnown, SeatsAreNamed, is_prepared}
-use Rattle.nodes_world.specs.AgreementSteps.{StaysKnown}
+use Rattle.nodes_world.specs.Agreement.{FollowsDisk, HasSent, HoldsDecisions, IsTransaction, has_record, is_decision_of, records_at, recorded_key}
+use Rattle.nodes_world.specs.AgreementInside.{Known, DisksAreKnown, SeatsAreNamed, is_prepared, IsHeldAs, IsNamed, NodeIsKnown}
 use Rattle.nodes_world.proofs.Going.{get_set, on_seat_twice}
 use Rattle.nodes_world.proofs.KnownLines.{among_back, among_turned, lines_of}
 use Rattle.nodes_world.proofs.KnownFamilies.{seated}
 use Rattle.nodes_world.proofs.KnownTelling.{IsOne, TellsOn, allowed_on, is_bare, tells_on}
-use Rattle.nodes_world.proofs.KnownWorlds.{Follows, Frame, follows_self, framed_known, is_life, sent_back, at_back, refers_back}
+use Rattle.nodes_world.proofs.KnownWorlds.{Follows, Frame, follows_self, framed_known, is_mark, WasUp, node_there}
 use Rattle.nodes_world.proofs.KnownAlike.{referred_by, resources_by}
 use Rattle.nodes_world.proofs.KnownSeats.{ends_kept, families_kept, seat_names_kept, seats_kept, set_at}
 use Rattle.nodes_world.proofs.KnownMakings.{split_cases}
-use Rattle.nodes_world.proofs.LoadedNodes.{load_holds, load_whole, no_family, none_complete, recovered_of, standing_record}
+use Rattle.nodes_world.proofs.LoadedNodes.{load_holds, load_whole, no_family, recovered_of, standing_record, decision_held_as, held_so, standing_placed}
 use Rattle.nodes_world.proofs.LoadedDisks.{life_follows, load_leaves, next_found}
-use Rattle.nodes_world.proofs.LoadedLines.{IsTold, is_recorded_decision, name_is, standing_one, standing_told, stands_both}
+use Rattle.nodes_world.proofs.LoadedLines.{IsTold, is_recorded_decision, name_is, standing_one, standing_told, stands_both, told_standing, transaction_found, stands_behind}
 use Rattle.nodes_world.proofs.KnownFrames.{known_phase}
 use Rattle.nodes_world.proofs.Reaching.{known_more}
+use Rattle.family_laws.specs.SoundNode.{NodesStaySound}
+use Rattle.nodes_world.proofs.Deeds.{node_is_up}
+use Rattle.nodes_world.proofs.EffectsTold.{name_named}
+use Rattle.decision_journal.specs.declared.record.Registration.{Registration as Named}
+use Rattle.decision_journal.specs.Limits.{area_limit}
+use Rattle.ots_model.specs.declared.service.RetryKey.{RetryKey}
 
 inner : {A : Type 0} (x y : A) → Some x ≡ Some y → x ≡ y
 inner x y e = cc
@@ -73,7 +75,7 @@ same_three a b c p q r e f g = grind (arith, nat_tests)
 
 -- what is held as a decision is one, of the family that it says
 decision_is : (place : ℕ) (item : JournalRecord) (h : Held) (key : ObjectKey) → held_of place item [] [] ≡ Some h → is_decided h.kind ≡ true
-    → h.life ≡ key.life → h.slot ≡ key.slot → h.generation ≡ key.generation → (is_decision_of key item ≡ true) × (is_life item ≡ false)
+    → h.life ≡ key.life → h.slot ≡ key.slot → h.generation ≡ key.generation → (is_decision_of key item ≡ true) × (is_mark item ≡ false)
 decision_is place (Life life) h key is so a b c = absurd cc
 decision_is place (Decision life slot generation retry asked regs) h key is so a b c =
     let same = inner _ h is in (
@@ -99,7 +101,7 @@ held_as w place s rs told there down held k =
     subst (Holds (service_at place) s.disk.reads)
     (inner was.0 rs (sym was.2 ∙ ap (λ (o : Option Seat). option_and_then (λ (x : Seat). records_on (service_at place) x.disk) o) there ∙ held)) was.1
 
-module _ (grow : JournalsGrow) (safe : LoadsAreSafe) (read : RecordsAreRead) (w : World) (place : ℕ) (s : Seat) (rs : List JournalRecord) (told : List Told)
+module _ (grow : JournalsGrow) (safe : LoadsAreSafe) (read : RecordsAreRead) (sound : NodesStaySound) (w : World) (place : ℕ) (s : Seat) (rs : List JournalRecord) (told : List Told)
     (there : slice_get w.seats place ≡ Some s) (down : s.server ≡ OfNode None) (held : records_on (service_at place) s.disk ≡ Some rs)
     (lacks : lacks_life (service_at place) rs ≡ false) (fits : (found_in rs).life + 1 < 2 ^ 32) (k : Known w told) where
   abbrev n : Node
@@ -239,6 +241,82 @@ module _ (grow : JournalsGrow) (safe : LoadsAreSafe) (read : RecordsAreRead) (w 
       same_own : (a b c d p q r s : ℕ) → IsTrue (a == p && b == q && c == r && d == s) → a ≡ p
       same_own a b c d p q r s e = grind (arith, nat_tests)
 
+  -- ---- what is known of the node that came up
+
+  is_named : (name : List ℕ) → IsTold w (service_at place) n.recovered name → IsNamed w name
+  is_named name t =
+      let at = name_named w told k (key_of_record (service_at place) t.held) name t.named in
+      (at.0, at.1)
+
+  -- its decisions are told
+  line_of : (s : Standing) (h : Held) → Contains (found_in rs_then).standing s → held_of s.place s.item [] [] ≡ Some h → Contains n.recovered h
+      → (of_life slot generation : ℕ) (retry : Option RetryKey) (asked : Bool) (regs : List Named) → s.item ≡ Decision of_life slot generation retry asked regs
+      → (name : List ℕ) × IsTransaction w name (recorded_key place of_life slot generation)
+      × Stands (lines.Decide name (told_outcomes.Commit Record)) (known later)
+  line_of s h stands is among of_life slot generation retry asked regs decision =
+      let item : JournalRecord = Decision of_life slot generation retry asked regs in
+      let so = decision_held_as s.place of_life slot generation retry asked regs h (ap (λ (x : JournalRecord). held_of s.place x [] []) (sym decision) ∙ is) in
+      let there = follows.others item refl (subst (Contains rs_then) decision (standing_record rs_then s stands)) in
+      let rests = k.records place of_life slot generation retry asked regs rs records_was there in
+      let same : key_of_record (service_at place) h ≡ recorded_key place of_life slot generation = same_record so.1 so.2 so.3 in
+      let named = ap (transaction_name w) same ∙ transaction_found w told k (recorded_key place of_life slot generation) rests.name rests.of_name in
+      let line = told_standing w (service_at place) n.recovered h rests.name among so.0 named in (
+        rests.name,
+        rests.of_name,
+        subst (Stands (lines.Decide rests.name (told_outcomes.Commit Record))) (sym (known_more told (tell.Known up_line ∷ decides)))
+            (stands_behind (known told) (up_line ∷ known decides) (lines.Decide rests.name (told_outcomes.Commit Record)) (inr line)),
+      )
+    where
+      same_record : {a b c : ℕ} → h.life ≡ a → h.slot ≡ b → h.generation ≡ c → key_of_record (service_at place) h ≡ recorded_key place a b c
+      same_record e f g = cc
+
+  held_up : (h : Held) → Contains n.recovered h → IsHeldAs v later place rs_then h
+  held_up h among =
+      let at = recovered_of (found_in rs_then).standing h among in
+      let so = held_so at.0.place at.0.item h at.2 in
+      record {
+        stood = at.0;
+        there = standing_placed rs_then at.0 at.1;
+        same_place = so.0;
+        numbers = so.2;
+        references = so.1;
+        line = line_of at.0 h at.1 at.2 among;
+      }
+
+  order_up : IsInOrder (service_at place) up_seat.disk rs_then
+  order_up = record { settled = left.1; stands = left.0; room = grow.room area_limit (service_at place) rs (next_life rs) (at_most _ area_limit lacks) }
+    where
+      at_most : (a b : ℕ) → nat_lt b a ≡ false → a ≤ b
+      at_most a b is = grind (arith, nat_tests)
+
+  node_up_known : NodeIsKnown v later place n
+  node_up_known = record {
+    sound = sound.loaded (service_at place) rs;
+    given = λ name key named at in_life.
+        let low = k.transactions.lives name key rs named (ap (records_at w) at ∙ records_was) in
+        let next = next_found grow (service_at place) rs in
+        absurd (omega (arith, low, next, in_life));
+    order = λ x ps at has.
+        subst (λ (y : List JournalRecord). IsInOrder (service_at place) x.disk y) (inner rs_then ps (sym records_there ∙ has))
+        (subst (λ (y : Seat). IsInOrder (service_at place) y.disk rs_then) (inner up_seat x (sym (get_set w.seats place s up_seat there) ∙ at)) order_up);
+    held = λ ps h has among. subst (λ (y : List JournalRecord). IsHeldAs v later place y h) (inner rs_then ps (sym records_there ∙ has)) (held_up h among);
+  }
+
+  nodes_up : (p : ℕ) (m : Node) → node_at v p ≡ Some m → WasUp w v p m ⊎ NodeIsKnown v later p m
+  nodes_up p m is =
+      let at = node_is_up v p m is in
+      elim (set_at w.seats place s up_seat p there) [
+        | inl here ↦
+            let same = inner up_seat at.seat (sym here.1 ∙ at.there) in
+            let own = node_of n m (ap (λ (x : Seat). x.server) same ∙ at.up) in
+            inr (subst (λ (i : ℕ). NodeIsKnown v later i m) (sym here.0) (subst (NodeIsKnown v later place) own node_up_known))
+        | inr same ↦ inl (record {
+          up = node_there w p at.seat m (sym same ∙ at.there) at.up;
+          records = records_other p same;
+          disks = λ x now. (x, sym same ∙ now, refl);
+        })
+      ]
+
   load_frame : Frame w v told later
   load_frame = record {
     tells = tells_on is_bare told (tell.Known up_line ∷ decides) all_bare;
@@ -250,6 +328,10 @@ module _ (grow : JournalsGrow) (safe : LoadsAreSafe) (read : RecordsAreRead) (w 
     outcomes = λ name key f at named stands. elim (decisions_told name (among_back _ _ stands)) [
       | inl was ↦ among_turned _ _ was
       | inr new ↦ absurd (other_place name key f at named new)
+    ];
+    named = λ name stands. elim (decisions_told name stands) [
+      | inl was ↦ inl was
+      | inr new ↦ inr (is_named name new)
     ];
     transaction_on = λ name key is. is;
     transaction_back = λ name key is. is;
@@ -264,15 +346,20 @@ module _ (grow : JournalsGrow) (safe : LoadsAreSafe) (read : RecordsAreRead) (w 
       | inl here ↦ inl (rs, ap (records_at w) here.0 ∙ records_was, subst (Follows rs) here.1 follows)
       | inr was ↦ inl (ps, was, follows_self ps)
     ];
-    has = λ p is_so never. elim (set_at w.seats place s up_seat p there) [
+    has = λ p is_so never other. elim (set_at w.seats place s up_seat p there) [
       | inl here ↦ ap (λ (i : ℕ). has_record v i is_so) here.0
           ∙ ap (λ (o : Option (List JournalRecord)). option_map_or (λ (ps : List JournalRecord). list_any is_so ps) o false) records_there
-          ∙ follows.some is_so never
+          ∙ follows.some is_so never other
           ∙ sym (ap (λ (o : Option (List JournalRecord)). option_map_or (λ (ps : List JournalRecord). list_any is_so ps) o false) records_was)
           ∙ ap (λ (i : ℕ). has_record w i is_so) (sym here.0)
       | inr same ↦ ap (λ (o : Option (List JournalRecord)). option_map_or (λ (ps : List JournalRecord). list_any is_so ps) o false) (records_other p same)
     ];
     seats = λ p server is. seat_names_kept w place s up_seat there refl p ∙ is;
+    nodes = nodes_up;
+    counted = λ was. record {
+      numbers = λ p e is. was.numbers p e (sym (ends_kept w place s up_seat there refl (sym (ap end_in down)) p) ∙ is);
+      messages = λ p e is. was.messages p e (sym (ends_kept w place s up_seat there refl (sym (ap end_in down)) p) ∙ is);
+    };
   }
 
   -- ---- its seat
@@ -345,12 +432,6 @@ module _ (grow : JournalsGrow) (safe : LoadsAreSafe) (read : RecordsAreRead) (w 
             | inr rest ↦ k.disks.rise before rest.0 server l earlier rest.1 stands
           ]
 
-  own_item : (st : Standing) → Contains (found_in rs_then).standing st → is_prepared st.item ≡ false
-  own_item st c = elim (Contains-push_cases rs (next_life rs) st.item (standing_record rs_then st c)) [
-    | inl was ↦ k.disks.no_superior place rs st.item records_was was
-    | inr new ↦ ap is_prepared (sym new)
-  ]
-
   loaded_known : Known v later
   loaded_known =
       framed_known w v told later load_frame k k.names.keys k.names.once seats_up disks_up
@@ -362,13 +443,6 @@ module _ (grow : JournalsGrow) (safe : LoadsAreSafe) (read : RecordsAreRead) (w 
       let of = ap (λ (y : Node). y.found.life) (node_of n m is) in
       absurd (omega (arith, low, next, of, same)))
       (λ p x old same is sent life. k.words.given p x m q old is sent life) p x)
-      (λ p x m h party object r. seats_by (λ (p : ℕ) (x : Seat). x.server ≡ OfNode (Some m) → Contains m.recovered h → Contains h.parties party
-      → IsTrue (is_nothing party.due) → referred v party.to ≡ Some object → resource_at v object.key ≡ Some r → IsOver r.state)
-      (λ is among of nothing refers found.
-      let at = recovered_of (found_in (in_next_life rs)).standing h (subst (λ (y : Node). Contains y.recovered h) (sym (node_of n m is)) among) in
-      absurd (none_complete at.0.place at.0.item h party at.2 (own_item at.0 at.1) of nothing))
-      (λ p x old same is among of nothing refers found. k.over.told_again p x m h party object r old is among of nothing
-      (refers_back w v told later load_frame k party.to object refers) (at_back w v told later load_frame k object.key r found)) p x)
 
   -- so it is of what a load does
   pub known_load : Known (loads place s (Some rs) w).world (told ++ (loads place s (Some rs) w).lines)

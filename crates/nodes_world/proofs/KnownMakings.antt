@@ -1,5 +1,5 @@
 -- What is known of a world is known once a node that is still to be loaded, or an end, is made.
-use Rattle.std.proofs.Common.{◌≡◌, ◌⊎◌, inl, inr, ℕ, ◌+◌, ◌<◌, ◌≤◌, zero, suc, Bool, true, false, cond, find, bytes_eq, is_some, IsTrue, List, [], ◌∷◌, ◌++◌, length, filter_map, slice_get, Contains, Option, Some, None, refl, sym, ap, subst, ◌∙◌, append-nil, arith}
+use Rattle.std.proofs.Common.{◌≡◌, ◌⊎◌, inl, inr, ℕ, ◌<◌, ◌≤◌, zero, suc, Bool, true, false, cond, find, bytes_eq, is_some, List, [], ◌∷◌, ◌++◌, length, filter_map, slice_get, Contains, Option, Some, None, refl, sym, ap, subst, ◌∙◌, append-nil, arith, nat_le, length-append}
 use Rattle.std.specs.List.{AllByRecursion, list_any}
 use Rattle.std.specs.Option.{option_map, option_map_or, option_and_then}
 use Rattle.std.proofs.lemmas.List.Elements.{Contains-append_right, Contains-push_cases, filter_map-append}
@@ -8,34 +8,32 @@ use Rattle.ior_refs.specs.declared.key.ObjectKey.{ObjectKey}
 use Rattle.ots_model.specs.Safe.{Stands}
 use Rattle.ots_model.specs.declared.line.Line.{Line}
 use Rattle.ots_model.specs.declared.line.Line.TheVariants as lines
-use Rattle.ots_outside.specs.Disk.{at_first}
 use Rattle.decision_journal.specs.Journal.{Holds, found_in}
 use Rattle.decision_journal.specs.Laws.{IsSettled}
 use Rattle.decision_journal.specs.declared.record.JournalRecord.{JournalRecord}
-use Rattle.coordinator.specs.Family.{Family}
 use Rattle.coordinator.specs.Node.{Node, family_of}
 use Rattle.coordinator.specs.NodeParts.{IsWhole}
-use Rattle.recovery_coord.specs.Held.{is_nothing}
 use Rattle.recovery_coord.specs.Limits.{retold_slot}
 use Rattle.nodes_world.specs.declared.thing.Thing.{Thing}
 use Rattle.nodes_world.specs.declared.thing.Thing.TheVariants as things
 use Rattle.nodes_world.specs.Journals.{records_in, records_on}
-use Rattle.nodes_world.specs.Limits.{only_life}
+use Rattle.nodes_world.specs.Limits.{only_life, seat_limit}
 use Rattle.nodes_world.specs.Objects.{place_of, reference, service_at}
 use Rattle.nodes_world.specs.Told as tell
 use Rattle.nodes_world.specs.Told.{Told, known}
-use Rattle.nodes_world.specs.World.{World, Seat, Server, OfNode, OfEnd, FlatEnd, FlatResource, NamedKey, end_at, end_in, family_at, has_number, is_referred_to, node_at, node_in, referred, resource_at, resource_in, resources, seat_name, thing, thing_in, with_new_seat}
+use Rattle.nodes_world.specs.World.{World, Seat, Server, OfNode, OfEnd, FlatEnd, FlatResource, NamedKey, end_at, end_in, has_number, is_referred_to, node_at, node_in, referred, resource_at, resource_in, resources, thing, thing_in}
 use Rattle.nodes_world.specs.Happenings.{changes}
 use Rattle.nodes_world.specs.Lives.{makes_end, new_end, new_seat, with_named_seat}
 use Rattle.nodes_world.specs.Step.{is_full}
-use Rattle.nodes_world.specs.Agreement.{FollowsDisk, HoldsDecisions, HasSent, IsOver, KeysAreOnce, has_record, records_at}
-use Rattle.nodes_world.specs.AgreementInside.{Known, DisksAreKnown, SeatsAreNamed}
+use Rattle.nodes_world.specs.Agreement.{FollowsDisk, HoldsDecisions, HasSent, KeysAreOnce, has_record, records_at}
+use Rattle.nodes_world.specs.AgreementInside.{Known, DisksAreKnown, SeatsAreNamed, EndsHaveCounted}
 use Rattle.nodes_world.specs.AgreementSteps.{StaysKnown}
 use Rattle.nodes_world.proofs.KnownLines.{among_back, among_turned, lines_of}
 use Rattle.nodes_world.proofs.KnownFrames.{known_phase, last_cases, push_cases, push_kept, push_last}
 use Rattle.nodes_world.proofs.KnownTelling.{IsOne, TellsOn, allowed_on, each_bare, is_bare, is_plain, tells_on}
-use Rattle.nodes_world.proofs.KnownWorlds.{Frame, NamedOnce, follows_self, framed_known, sent_back, at_back, refers_back}
-use Rattle.nodes_world.proofs.KnownAlike.{found_same, mapped_through}
+use Rattle.nodes_world.proofs.KnownWorlds.{Frame, NamedOnce, follows_self, framed_known, WasUp}
+use Rattle.nodes_world.proofs.KnownAlike.{found_same}
+use Rattle.std.proofs.lemmas.Bool.Decides.{nat_tests}
 
 -- ---- names
 
@@ -124,6 +122,7 @@ finds key e = find (has_number key) e.resources
 -- a seat of this name is made, at which no node is up and which has no resource
 module _ (w : World) (name : List ℕ) (server : Server) (told more : List Told) (free : thing w name ≡ None) (k : Known w told)
     (nodeless : node_in server ≡ None) (barren : (key : ObjectKey) → option_and_then (finds key) (end_in server) ≡ None)
+    (room : is_full w ≡ false) (empty : (e : FlatEnd) → end_in server ≡ Some e → (e.resources ≡ []) × (e.drawn ≡ 0))
     (plain : AllByRecursion (IsOne is_plain) more) where
   abbrev seat : Seat
   seat = new_seat name server
@@ -217,6 +216,38 @@ module _ (w : World) (name : List ℕ) (server : Server) (told more : List Told)
     | inr same ↦ ap (λ (o : Option (List JournalRecord)). option_map_or (λ (rs : List JournalRecord). list_any is_so rs) o false) (records_old p same)
   ]
 
+  no_node : (p : ℕ) (n : Node) → node_at w p ≡ Some n → slice_get w.seats p ≡ None → ⊥
+  unfolding node_at
+  no_node p n is none = no (sym is ∙ ap (λ (o : Option Seat). option_and_then (λ (s : Seat). node_in s.server) o) none)
+    where
+      no : {x : Node} → Some x ≡ None → ⊥
+      no e = cc
+
+  was_up : (p : ℕ) (n : Node) → node_at v p ≡ Some n → WasUp w v p n
+  was_up p n is = elim (push_at w.seats seat p) [
+    | inl here ↦ absurd (no_node p n (sym (nodes_kept p) ∙ is) here.1)
+    | inr same ↦ record { up = sym (nodes_kept p) ∙ is; records = records_old p same; disks = λ s there. (s, sym same ∙ there, refl) }
+  ]
+
+  ends_then : (p : ℕ) (e : FlatEnd) → end_at v p ≡ Some e → (end_at w p ≡ Some e) ⊎ (end_in server ≡ Some e)
+  unfolding end_at
+  ends_then p e is = elim (push_at w.seats seat p) [
+    | inl here ↦ inr (sym (ap (λ (o : Option Seat). option_and_then (λ (s : Seat). end_in s.server) o) here.2) ∙ is)
+    | inr same ↦ inl (sym (ap (λ (o : Option Seat). option_and_then (λ (s : Seat). end_in s.server) o) same) ∙ is)
+  ]
+
+  counted_then : EndsHaveCounted w → EndsHaveCounted v
+  counted_then was = record {
+    numbers = λ p e is. elim (ends_then p e is) [
+      | inl old ↦ was.numbers p e old
+      | inr new ↦ subst (λ (xs : List FlatResource). AllByRecursion (λ (r : FlatResource). r.key.generation ≤ e.drawn) xs) (sym (empty e new).0) tt
+    ];
+    messages = λ p e is. elim (ends_then p e is) [
+      | inl old ↦ was.messages p e old
+      | inr new ↦ let none = (empty e new).1 in omega (arith, none)
+    ];
+  }
+
   plain_tells : TellsOn is_plain told later
   plain_tells = tells_on is_plain told more plain
 
@@ -225,6 +256,7 @@ module _ (w : World) (name : List ℕ) (server : Server) (told more : List Told)
     tells = tells_on is_bare told more (each_bare more plain);
     allowed = allowed_on told more (each_bare more plain);
     decided = λ n key named stands. inl (plain_tells.back _ refl stands);
+    named = λ n stands. inl (plain_tells.back _ refl stands);
     outcomes = λ n key f there named stands. among_turned _ _ (plain_tells.back _ refl (among_back _ _ stands));
     transaction_on = λ n key is. on n (things.Transaction key) is;
     transaction_back = λ n key is. back n (things.Transaction key) is (not_transaction key);
@@ -239,17 +271,28 @@ module _ (w : World) (name : List ℕ) (server : Server) (told more : List Told)
       | inl here ↦ inr (records_new p rs here.2 held, here.1)
       | inr same ↦ inl (rs, sym (records_old p same) ∙ held, follows_self rs)
     ];
-    has = λ p is_so none. has_kept p is_so;
+    has = λ p is_so none other. has_kept p is_so;
     seats = λ p n is. elim (push_at w.seats seat p) [
       | inl here ↦ absurd (no (sym is ∙ ap (option_map (λ (s : Seat). s.name)) here.1))
       | inr same ↦ ap (option_map (λ (s : Seat). s.name)) same ∙ is
     ];
+    nodes = λ p n is. inl (was_up p n is);
+    counted = counted_then;
   }
     where
       no : {x : List ℕ} → Some x ≡ None → ⊥
       no e = cc
 
   -- ---- what is said of seats
+
+  more_seats : length (w.seats ++ seat ∷ []) ≤ seat_limit
+  more_seats =
+      let many = length-append w.seats (seat ∷ []) in
+      let less = not_full (length w.seats) seat_limit room in
+      omega (arith, many, less)
+    where
+      not_full : (many limit : ℕ) → nat_le limit many ≡ false → many < limit
+      not_full many limit is = grind (arith, nat_tests)
 
   no_such : (n : List ℕ) → thing w n ≡ Some own → ⊥
   no_such n is =
@@ -307,6 +350,7 @@ module _ (w : World) (name : List ℕ) (server : Server) (told more : List Told)
         | inl here ↦ ap is_some here.2
         | inr same ↦ ap is_some same ∙ k.seats.senders p o sent
       ];
+      few = more_seats;
       calls = k.seats.calls;
     }
       where
@@ -375,17 +419,13 @@ module _ (w : World) (name : List ℕ) (server : Server) (told more : List Told)
         (λ p s n q there. seats_then (λ (s : Seat) (p : ℕ). s.server ≡ OfNode (Some n) → HasSent w p q → q.number.life ≡ n.found.life
         → (q.number.slot ≡ retold_slot) ⊎ (q.number.generation ≤ n.generation)) (λ is. not_up _ n is)
         (λ p s was is sent same. k.words.given p s n q was is sent same) p s there)
-        (λ p s n h party object r there. seats_then (λ (s : Seat) (p : ℕ). s.server ≡ OfNode (Some n) → Contains n.recovered h → Contains h.parties party
-        → IsTrue (is_nothing party.due) → referred v party.to ≡ Some object → resource_at v object.key ≡ Some r → IsOver r.state) (λ is. not_up _ n is)
-        (λ p s was is held among nothing refers at. k.over.told_again p s n h party object r was is held among nothing
-        (sym (refers_kept party.to) ∙ refers) (sym (resources_kept object.key) ∙ at)) p s there)
 
 -- ---- a node, or an end
 
 pub known_node : (w : World) (name : List ℕ) → thing w name ≡ None → is_full w ≡ false → StaysKnown w (changes (with_named_seat name (OfNode None) w))
 known_node w name free room told k =
     let same = append-nil told in
-    made_known w name (OfNode None) told [] free k refl (λ key. refl) tt
+    made_known w name (OfNode None) told [] free k refl (λ key. refl) room (λ e is. absurd cc) tt
     (λ n life stands. inl (subst (λ (x : List Told). Stands (lines.Up n life) (known x)) same stands))
     (λ before behind server life earlier e stands. k.disks.rise before behind server life earlier (sym (ap known same) ∙ e) stands)
     (λ up life is stands. absurd (unnamed life (subst (λ (x : List Told). Stands (lines.Up name life) (known x)) same stands)))
@@ -427,9 +467,13 @@ end_line name = lines.Up name only_life
 pub known_end : (w : World) (name : List ℕ) → thing w name ≡ None → is_full w ≡ false → StaysKnown w (makes_end name w)
 unfolding makes_end
 known_end w name free room told k =
-    made_known w name (OfEnd (Some new_end)) told (tell.Known (end_line name) ∷ []) free k refl (λ key. refl) (refl, tt) ups rise
+    made_known w name (OfEnd (Some new_end)) told (tell.Known (end_line name) ∷ []) free k refl (λ key. refl) room
+    (λ e is. (ap (λ (x : FlatEnd). x.resources) (sym (own_end e is)), ap (λ (x : FlatEnd). x.drawn) (sym (own_end e is)))) (refl, tt) ups rise
     (λ up life is stands. absurd (no_node up is))
   where
+    own_end : (e : FlatEnd) → Some new_end ≡ Some e → new_end ≡ e
+    own_end e is = cc
+
     no_node : (up : Option Node) → OfEnd (Some new_end) ≡ OfNode up → ⊥
     no_node up e = cc
 

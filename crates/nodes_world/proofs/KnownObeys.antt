@@ -25,7 +25,7 @@ use Rattle.coordinator.specs.declared.said.Said.TheVariants as said
 use Rattle.nodes_world.specs.declared.message.Content.TheVariants as contents
 use Rattle.nodes_world.specs.declared.message.Message.{Message}
 use Rattle.nodes_world.specs.Agreement.{IsOver, IsWord, StatesFollow, records_at}
-use Rattle.nodes_world.specs.AgreementInside.{Known, HasAnswered, HasNotVoted, HasVotedCommit, ResourceIsKnown}
+use Rattle.nodes_world.specs.AgreementInside.{Known, HasAnswered, HasNotVoted, HasVotedCommit, ResourceIsKnown, EndsHaveCounted}
 use Rattle.nodes_world.specs.Happenings.{new_message}
 use Rattle.nodes_world.specs.Told as tell
 use Rattle.nodes_world.specs.Told.{Told, known, known_in}
@@ -113,6 +113,8 @@ pub record Replies (w v : World) (x : NamedKey) (r next : FlatResource) (reply :
   pub turned : (key : ObjectKey) (q : FlatResource) → resource_at v key ≡ Some q
       → ((key ≡ x.key → ⊥) × (resource_at w key ≡ Some q)) ⊎ ((q ≡ next) × (resource_at w key ≡ Some r))
   pub turned_on : (key : ObjectKey) (q : FlatResource) → resource_at w key ≡ Some q → (one : FlatResource) × (resource_at v key ≡ Some one) × (one.key ≡ q.key)
+  pub counted : EndsHaveCounted w → EndsHaveCounted v
+  pub many : length v.seats ≡ length w.seats
 
 -- what a word and its answer make of what is known of a resource
 pub record Obeys (h : List Line) (name : List ℕ) (s n : State) (word : Word) (answer : Said) (shows : Option ResourceState) : Type 0 where
@@ -126,6 +128,7 @@ pub record Obeys (h : List Line) (name : List ℕ) (s n : State) (word : Word) (
   pub follows : StatesFollow n name h
   pub over : IsOver s → IsOver n
   pub ends : word ≡ words.Commit → IsOver n
+  pub voter : (vote : Vote) → answer ≡ said.Voted vote → word ≡ words.Prepare
   pub applied_on : s ≡ states.Applied → n ≡ states.Applied
   pub applied_shown : shows ≡ Some shown.Applied → n ≡ states.Applied
   pub applied_now : n ≡ states.Applied → (s ≡ states.Applied) ⊎ (shows ≡ Some shown.Applied)
@@ -194,8 +197,9 @@ module _ (w v : World) (told : List Told) (k : Known w told) (nth place : ℕ) (
 
   reply_back : (reply request : ℕ) (m : Message) (other : Said) → slice_get v.messages reply ≡ Some m → m.content ≡ contents.Reply request other
       → (slice_get w.messages reply ≡ Some m)
-      ⊎ ((request ≤ reply) × ((i p : ℕ) (q : Outward) → request ≡ i + 1 → IsWord w i p q
-      → (referred w q.to ≡ Some x) × (q.word ≡ words.Commit → IsOver next.state)))
+      ⊎ ((request ≤ reply) × ((i p : ℕ) × (q : Outward) × IsWord w i p q × (request ≡ i + 1)) × ((i p : ℕ) (q : Outward) → request ≡ i + 1 → IsWord w i p q
+      → (referred w q.to ≡ Some x) × (q.word ≡ words.Commit → IsOver next.state)
+      × ((vote : Vote) → other ≡ said.Voted vote → q.word ≡ words.Prepare)))
   reply_back reply request m other at says =
       elim (message_cases reply m at) [
         | inl there ↦ inl there
@@ -205,9 +209,13 @@ module _ (w v : World) (told : List Told) (k : Known w told) (nth place : ℕ) (
             let place_is = here.0 in
             inr (
               omega (arith, is, within, place_is),
+              (nth, place, o, asked, is),
               λ i p q same word.
-                  let own = word_at i p q (sym is ∙ same) word in
-                  (ap (λ (z : Outward). referred w z.to) own ∙ refers_to, λ commit. b.ends (sym (ap (λ (z : Outward). z.word) own) ∙ commit)),
+                  let own = word_at i p q (sym is ∙ same) word in (
+                    ap (λ (z : Outward). referred w z.to) own ∙ refers_to,
+                    λ commit. b.ends (sym (ap (λ (z : Outward). z.word) own) ∙ commit),
+                    λ vote voted. ap (λ (z : Outward). z.word) own ∙ b.voter vote (sym (reply_says (nth + 1) request answer other m here.1 says).1 ∙ voted),
+                  ),
             )
       ]
 
@@ -309,6 +317,8 @@ module _ (w v : World) (told : List Told) (k : Known w told) (nth place : ℕ) (
     words_back = word_back;
     calls = call_back;
     replies = reply_back;
+    counted = c.counted;
+    many = c.many;
     over = b.over;
     known_next = obeyed_resource;
   }

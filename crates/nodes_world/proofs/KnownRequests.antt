@@ -1,5 +1,5 @@
 -- A word goes out: what is known of a world is known once it has.
-use Rattle.std.proofs.Common.{◌≡◌, ◌⊎◌, inl, inr, ℕ, ◌+◌, ◌≤◌, true, is_some, IsTrue, List, [], ◌∷◌, ◌++◌, length, slice_get, Any, Option, Some, None, refl, sym, ap, subst, ◌∙◌, arith}
+use Rattle.std.proofs.Common.{◌≡◌, ◌⊎◌, inl, inr, ℕ, ◌+◌, ◌≤◌, true, is_some, IsTrue, List, [], ◌∷◌, ◌++◌, length, slice_get, Any, Option, Some, None, refl, sym, ap, subst, ◌∙◌, arith, length-append}
 use Rattle.std.specs.Option.{option_map}
 use Rattle.ior_refs.specs.declared.key.ObjectKey.{ObjectKey}
 use Rattle.ots_model.specs.Safe.{Stands, HasConsented, IsRegistered, IsSent, IsTop, IsToldCommit}
@@ -34,7 +34,7 @@ use Rattle.nodes_world.specs.declared.message.Content.TheVariants as contents
 use Rattle.nodes_world.specs.declared.message.Message.{Message}
 use Rattle.nodes_world.specs.Agreement as agreed
 use Rattle.nodes_world.specs.Agreement.{HasSent, IsAlone, IsClosed, IsCutOff, IsDecided, IsOutlived, IsRolledBack, IsTransaction, IsWord, MayBeRolledBack, NumbersAreOnce, RecordsRestOnVotes, RestsOnVotes, StatesFollow, VotesWereGiven, CommitsAreRecorded, DecisionsAreRecorded, DonesAreComplete, NoneIsBoth, OnePhaseIsAlone, RollbacksAreClosed, SubtransactionsEndOnce, has_record, names_object, records_at}
-use Rattle.nodes_world.specs.AgreementInside.{Known, CompletionsAreOver, DisksAreKnown, FamiliesAreKnown, FamilyIsKnown, HasAnswered, HasHeardAll, HasNotVoted, HasVotedCommit, IsBranch, IsNamedBy, NamesAreTold, OutcomeIsTold, ResourceIsKnown, ResourcesAreKnown, SeatsAreNamed, ToldIsOpen, WordsAreTold, phase_of, placed}
+use Rattle.nodes_world.specs.AgreementInside.{Known, CompletionsAreOver, DisksAreKnown, FamiliesAreKnown, FamilyIsKnown, HasAnswered, HasHeardAll, HasNotVoted, HasVotedCommit, IsBranch, IsNamedBy, NamesAreTold, OutcomeIsTold, ResourceIsKnown, ResourcesAreKnown, SeatsAreNamed, ToldIsOpen, WordsAreTold, phase_of, placed, EndsHaveCounted, NodesAreKnown, TransactionsAreKnown}
 use Rattle.nodes_world.specs.Happenings.{naming, new_message, requests}
 use Rattle.nodes_world.specs.Objects.{place_of}
 use Rattle.nodes_world.specs.Told as tell
@@ -275,6 +275,8 @@ module _ (w : World) (told : List Told) (k : Known w told) (place : ℕ) (o : Ou
     registered = λ name t r. k.names.registered name t (registered_back _ _ name t back r);
     one_transaction = λ name t other r s. k.names.one_transaction name t other (registered_back _ _ name t back r) (registered_back _ _ name other back s);
     no_import = λ name above node s. k.names.no_import name above node (back _ refl s);
+    objects = k.names.objects;
+    shown = λ name state s. k.names.shown name state (back _ refl s);
   }
 
   disks_after : DisksAreKnown (world_with place o w) (lines_with w o m.resource.name told)
@@ -303,6 +305,7 @@ module _ (w : World) (told : List Told) (k : Known w told) (place : ℕ) (o : Ou
     there = k.seats.there;
     up = λ name life s. k.seats.up name life (back _ refl s);
     senders = λ p q sent. by_sent (λ (x : ℕ) (y : Outward). IsTrue (is_some (slice_get w.seats x))) (λ x y early. k.seats.senders x y early) m.seat p q sent;
+    few = k.seats.few;
     calls = λ nth one to act at says.
         elim (push_cases w.messages nth (new_message (contents.Request place o)) one at) [
           | inl there ↦ k.seats.calls nth one to act there says
@@ -351,6 +354,26 @@ module _ (w : World) (told : List Told) (k : Known w told) (place : ℕ) (o : Ou
   word_new : IsWord (world_with place o w) (length w.messages) place o
   word_new = (new_message (contents.Request place o), push_last w.messages (new_message (contents.Request place o)), refl)
 
+  -- a reply is none to the new message
+  no_answer : (reply nth : ℕ) (one : Message) (answer : Said) → slice_get w.messages reply ≡ Some one → one.content ≡ contents.Reply (nth + 1) answer
+      → nth ≡ length w.messages → ⊥
+  no_answer reply nth one answer at says is =
+      let behind = k.words.replied reply (nth + 1) one answer at says in
+      let within = place_within w.messages reply one at in
+      omega (arith, behind, within, is)
+
+  -- the answer to a word that was there comes in a message that was there
+  old_answer : (P : ℕ → ℕ → Outward → Type 0) (nth p reply : ℕ) (q : Outward) (one : Message) (answer : Said) → IsWord (world_with place o w) nth p q
+      → slice_get (world_with place o w).messages reply ≡ Some one → one.content ≡ contents.Reply (nth + 1) answer
+      → (IsWord w nth p q → slice_get w.messages reply ≡ Some one → P nth p q) → P nth p q
+  old_answer P nth p reply q one answer word at says then =
+      elim (push_cases w.messages reply (new_message (contents.Request place o)) one at) [
+        | inl there ↦
+            by_word (λ (i x : ℕ) (y : Outward). one.content ≡ contents.Reply (i + 1) answer → (IsWord w i x y → slice_get w.messages reply ≡ Some one → P i x y) → P i x y)
+            (λ i x y early reads so. so early there) (λ reads so. absurd (no_answer reply (length w.messages) one answer there reads refl)) nth p q word says then
+        | inr here ↦ absurd (no_reply place (nth + 1) o answer one here.1 says)
+      ]
+
   words_after : WordsAreTold (world_with place o w) (lines_of (lines_with w o m.resource.name told))
   unfolding referred node_at
   words_after = record {
@@ -368,6 +391,16 @@ module _ (w : World) (told : List Told) (k : Known w told) (place : ℕ) (o : Ou
           | inl there ↦ k.words.replied reply request one answer there says
           | inr here ↦ absurd (no_reply place request o answer one here.1 says)
         ];
+    asked = λ reply request one answer at says.
+        elim (push_cases w.messages reply (new_message (contents.Request place o)) one at) [
+          | inl there ↦ let was = k.words.asked reply request one answer there says in
+              (was.0, was.1, was.2, word_on was.0 was.1 was.2 was.3, was.4)
+          | inr here ↦ absurd (no_reply place request o answer one here.1 says)
+        ];
+    voters = λ reply nth p one vote q at says word.
+        old_answer (λ (i x : ℕ) (y : Outward). one.content ≡ contents.Reply (i + 1) (said.Voted vote) → y.word ≡ words.Prepare)
+        nth p reply q one (said.Voted vote) word at says
+        (λ early there reads. k.words.voters reply nth p one vote q there says early) says;
     lives = λ p q rs sent held. by_sent (λ (x : ℕ) (y : Outward). (rs : List JournalRecord) → records_at w x ≡ Some rs → y.number.life ≤ (found_in rs).life)
         (λ x y early rs held. k.words.lives x y rs early held) m.life p q sent rs held;
     given = λ p s n q there up sent alike.
@@ -403,26 +436,6 @@ module _ (w : World) (told : List Told) (k : Known w told) (place : ℕ) (o : Ou
       }
 
   -- ---- resources
-
-  -- a reply is none to the new message
-  no_answer : (reply nth : ℕ) (one : Message) (answer : Said) → slice_get w.messages reply ≡ Some one → one.content ≡ contents.Reply (nth + 1) answer
-      → nth ≡ length w.messages → ⊥
-  no_answer reply nth one answer at says is =
-      let behind = k.words.replied reply (nth + 1) one answer at says in
-      let within = place_within w.messages reply one at in
-      omega (arith, behind, within, is)
-
-  -- the answer to a word that was there comes in a message that was there
-  old_answer : (P : ℕ → ℕ → Outward → Type 0) (nth p reply : ℕ) (q : Outward) (one : Message) (answer : Said) → IsWord (world_with place o w) nth p q
-      → slice_get (world_with place o w).messages reply ≡ Some one → one.content ≡ contents.Reply (nth + 1) answer
-      → (IsWord w nth p q → slice_get w.messages reply ≡ Some one → P nth p q) → P nth p q
-  old_answer P nth p reply q one answer word at says then =
-      elim (push_cases w.messages reply (new_message (contents.Request place o)) one at) [
-        | inl there ↦
-            by_word (λ (i x : ℕ) (y : Outward). one.content ≡ contents.Reply (i + 1) answer → (IsWord w i x y → slice_get w.messages reply ≡ Some one → P i x y) → P i x y)
-            (λ i x y early reads so. so early there) (λ reads so. absurd (no_answer reply (length w.messages) one answer there reads refl)) nth p q word says then
-        | inr here ↦ absurd (no_reply place (nth + 1) o answer one here.1 says)
-      ]
 
   answered_back : (name : List ℕ) (vote : Vote) → HasAnswered (world_with place o w) name vote → HasAnswered w name vote
   unfolding referred
@@ -476,6 +489,15 @@ module _ (w : World) (told : List Told) (k : Known w told) (place : ℕ) (o : Ou
     registrations = λ g t b branch.
         (λ r. (old.registrations g t b branch).0 (registered_back _ _ g t back r), λ l. registered_among _ _ g t on ((old.registrations g t b branch).1 l));
     own = λ r object t among refers registered. old.own r object t among refers (registered_back _ _ object.name t back registered);
+    numbered = old.numbered;
+    unsynchronized = old.unsynchronized;
+    named = old.named;
+    apart = old.apart;
+    within = old.within;
+    came = λ e r among is. let at = old.came e r among is in (at.0, at.1, push_kept w.messages at.0 (new_message (contents.Request place o)) at.1 at.2, at.3);
+    dues = old.dues;
+    legs = old.legs;
+    settled = old.settled;
     votes = λ g vote r object among is refers. (λ v. on _ ((old.votes g vote r object among is refers).0 v), λ s. (old.votes g vote r object among is refers).1 (back _ refl s));
     outcome = outcome_kept (stages.outcome f.completion) old.name _ _ on back old.outcome;
     recorded = old.recorded;
@@ -520,6 +542,7 @@ module _ (w : World) (told : List Told) (k : Known w told) (place : ℕ) (o : Ou
       λ among. (part_among _ _ r.name old.name carried.on ((old.voters to r refers).0 among).0, carried.on _ ((old.voters to r refers).0 among).1),
       λ voter. (old.voters to r refers).1 (part_back _ _ r.name old.name carried.back voter.0, carried.back _ refl voter.1),
     );
+    once = old.once;
   }
 
   records_after : RecordsRestOnVotes (world_with place o w) (lines_with w o m.resource.name told)
@@ -612,20 +635,62 @@ module _ (w : World) (told : List Told) (k : Known w told) (place : ℕ) (o : Ou
   heard_after (Waiting room) h = h
   heard_after (UnderWay c) h = λ p object r among is refers at. h p object r among is refers at
 
-  over_after : CompletionsAreOver (world_with place o w)
+  pub over_after : CompletionsAreOver w → CompletionsAreOver (world_with place o w)
   unfolding referred resource_at end_at node_at
-  over_after = record {
+  over_after over = record {
     answered = λ nth from reply q object one r answer word commit refers at says there.
         old_answer (λ (i x : ℕ) (y : Outward). y.word ≡ words.Commit → referred w y.to ≡ Some object → one.content ≡ contents.Reply (i + 1) answer → agreed.IsOver r.state)
         nth from reply q one answer word at says
-        (λ early was prepares to reads. k.over.answered nth from reply q object one r answer early prepares to was reads there) commit refers says;
-    heard = λ key f there commits. heard_after f.completion (k.over.heard key f there commits);
-    told_again = k.over.told_again;
+        (λ early was prepares to reads. over.answered nth from reply q object one r answer early prepares to was reads there) commit refers says;
+    heard = λ key f there commits. heard_after f.completion (over.heard key f there commits);
+    told_again = over.told_again;
   }
 
-  dones_after : DonesAreComplete (world_with place o w)
+  pub dones_after : DonesAreComplete w → DonesAreComplete (world_with place o w)
   unfolding referred resource_at end_at
-  dones_after = k.dones
+  dones_after dones = dones
+
+  -- ---- transactions, nodes and ends
+
+  transactions_after : TransactionsAreKnown (world_with place o w) (lines_with w o m.resource.name told)
+  transactions_after = record {
+    seated = k.transactions.seated;
+    lives = k.transactions.lives;
+    decided = λ name outcome s. k.transactions.decided name outcome (carried.back _ refl s);
+    rolled_back = λ name back. k.transactions.rolled_back name (rolled_back_back name back);
+  }
+
+  nodes_after : NodesAreKnown (world_with place o w) (lines_with w o m.resource.name told)
+  unfolding node_at
+  nodes_after p n is =
+      let old = k.nodes p n is in
+      record {
+        sound = old.sound;
+        given = old.given;
+        order = old.order;
+        held = λ rs held has among.
+            let was = old.held rs held has among in
+            record {
+              stood = was.stood;
+              there = was.there;
+              same_place = was.same_place;
+              numbers = was.numbers;
+              references = was.references;
+              line = λ life slot generation retry asked regs at.
+                  let line = was.line life slot generation retry asked regs at in
+                  (line.0, line.1, carried.on _ line.2);
+            };
+      }
+
+  counted_after : EndsHaveCounted (world_with place o w)
+  unfolding end_at
+  counted_after = record {
+    numbers = k.counted.numbers;
+    messages = λ p e is.
+        let low = k.counted.messages p e is in
+        let many = length-append w.messages (new_message (contents.Request place o) ∷ []) in
+        omega (arith, low, many);
+  }
 
   -- what is known once the word is sent
   pub request_known : Known (world_with place o w) (lines_with w o m.resource.name told)
@@ -650,8 +715,9 @@ module _ (w : World) (told : List Told) (k : Known w told) (place : ℕ) (o : Ou
     rollbacks = rollbacks_after;
     rolled_back = λ name key f named first there back. k.rolled_back name key f named first there (rolled_back_back name back);
     told_back = λ name key f there named back. rolled_back_on name (k.told_back name key f there named back);
-    over = over_after;
-    dones = dones_after;
+    transactions = transactions_after;
+    nodes = nodes_after;
+    counted = counted_after;
     allowed = word_allowed told (next_message w) o.word m.resource.name m.allowed k.allowed;
   }
 

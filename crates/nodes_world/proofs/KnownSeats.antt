@@ -1,35 +1,35 @@
 -- What is known of a world is known once a seat has changed, its name apart; so it is when a node goes down.
-use Rattle.std.proofs.Common.{◌≡◌, ◌⊎◌, inl, inr, ℕ, ◌<◌, ◌≤◌, zero, suc, Bool, true, false, find, is_some, IsTrue, List, [], ◌∷◌, ◌++◌, slice_get, slice_set, Contains, Option, Some, None, refl, sym, ap, subst, ◌∙◌}
-use Rattle.std.specs.List.{AllByRecursion, list_any}
-use Rattle.std.specs.Option.{option_map, option_map_or, option_and_then}
+use Rattle.std.proofs.Common.{◌≡◌, ◌⊎◌, inl, inr, ℕ, ◌≤◌, zero, suc, Bool, false, is_some, IsTrue, List, [], ◌∷◌, ◌++◌, slice_get, slice_set, Option, Some, None, refl, sym, ap, subst, ◌∙◌, length}
+use Rattle.std.specs.List.{list_any}
+use Rattle.std.specs.Option.{option_map_or, option_and_then}
 use Rattle.ior_refs.specs.declared.key.ObjectKey.{ObjectKey}
 use Rattle.ots_model.specs.Safe.{Stands}
 use Rattle.ots_model.specs.declared.line.Line.{Line}
 use Rattle.ots_model.specs.declared.line.Line.TheVariants as lines
-use Rattle.ots_model.specs.declared.tree.Outward.{Outward}
-use Rattle.ots_outside.specs.Disk.{DiskState, at_first}
+use Rattle.ots_outside.specs.Disk.{at_first}
 use Rattle.decision_journal.specs.Journal.{Holds, found_in}
 use Rattle.decision_journal.specs.Laws.{IsSettled}
 use Rattle.decision_journal.specs.declared.record.JournalRecord.{JournalRecord}
 use Rattle.coordinator.specs.Family.{Family}
 use Rattle.coordinator.specs.Node.{Node, family_of}
-use Rattle.nodes_world.specs.declared.thing.Thing.{Thing}
 use Rattle.nodes_world.specs.declared.thing.Thing.TheVariants as things
 use Rattle.nodes_world.specs.Journals.{records_in, records_on}
 use Rattle.nodes_world.specs.Objects.{place_of, service_at}
 use Rattle.nodes_world.specs.Told as tell
 use Rattle.nodes_world.specs.Told.{Told, known}
-use Rattle.nodes_world.specs.World.{World, Seat, OfNode, FlatEnd, end_at, end_in, family_at, node_at, node_in, resource_at, seat_name, thing, with_seat}
+use Rattle.nodes_world.specs.World.{World, Seat, OfNode, FlatEnd, end_at, end_in, family_at, node_at, node_in, seat_name, thing, with_seat}
 use Rattle.nodes_world.specs.Nodes.{crashes_seat}
-use Rattle.nodes_world.specs.Agreement.{HasSent, has_record, records_at}
+use Rattle.nodes_world.specs.Agreement.{records_at}
 use Rattle.nodes_world.specs.AgreementInside.{Known, DisksAreKnown, SeatsAreNamed}
 use Rattle.nodes_world.specs.AgreementSteps.{StaysKnown}
 use Rattle.nodes_world.specs.Changes.{left_with}
-use Rattle.nodes_world.proofs.Going.{get_set, on_seat_twice}
+use Rattle.nodes_world.proofs.Going.{on_seat_twice}
 use Rattle.nodes_world.proofs.KnownLines.{among_back, among_turned, lines_of}
-use Rattle.nodes_world.proofs.KnownTelling.{IsOne, TellsOn, allowed_on, each_bare, is_bare, is_plain, tells_on}
-use Rattle.nodes_world.proofs.KnownWorlds.{Frame, follows_self, framed_known, sent_back, at_back, refers_back}
+use Rattle.nodes_world.proofs.KnownTelling.{TellsOn, allowed_on, is_bare, is_plain, tells_on}
+use Rattle.nodes_world.proofs.KnownWorlds.{Frame, follows_self, framed_known, node_there}
 use Rattle.nodes_world.proofs.KnownAlike.{mapped_through, referred_by, resources_by}
+use Rattle.nodes_world.proofs.Deeds.{node_is_up}
+use Rattle.nodes_world.specs.Limits.{seat_limit}
 
 -- ---- one place of a list is written
 
@@ -61,6 +61,11 @@ set_cases xs i x y k u there is = elim (set_at xs i x y k there) [
   | inl here ↦ inl (here.0, inner_of y u (sym here.1 ∙ is))
   | inr other ↦ inr (sym other ∙ is)
 ]
+
+pub as_long : {A : Type 0} (xs : List A) (i : ℕ) (y : A) → length (slice_set xs i y) ≡ length xs
+as_long [] i y = refl
+as_long (z ∷ xs) zero y = refl
+as_long (z ∷ xs) (suc i) y = ap suc (as_long xs i y)
 
 -- no line is one of these
 abbrev pub is_none : Line → Bool
@@ -103,6 +108,7 @@ module _ (w : World) (place : ℕ) (s later : Seat) (there : slice_get w.seats p
     there = λ other p is. let was = k.there other p is in by other p was.0 was.1 was.2;
     up = up;
     senders = λ p o sent. seated p (k.senders p o sent);
+    few = subst (λ (many : ℕ). many ≤ seat_limit) (sym (as_long w.seats place later)) k.few;
     calls = k.calls;
   }
     where
@@ -146,11 +152,23 @@ module _ (w : World) (place : ℕ) (s : Seat) (n : Node) (told : List Told) (the
   records_left : (p : ℕ) → records_at v p ≡ records_at w p
   records_left p = disks_kept w place s left there refl refl p
 
+  -- a node that is up is one that was
+  up_before : (P : Type 0) (p : ℕ) (x : Seat) (m : Node) → slice_get v.seats p ≡ Some x → x.server ≡ OfNode (Some m)
+      → (slice_get w.seats p ≡ Some x → P) → P
+  up_before P p x m at is then = elim (set_cases w.seats place s left p x there at) [
+    | inl here ↦ absurd (down (ap (λ (y : Seat). y.server) here.1 ∙ is))
+    | inr was ↦ then was
+  ]
+    where
+      down : OfNode None ≡ OfNode (Some m) → ⊥
+      down e = cc
+
   down_frame : Frame w v told more
   down_frame = record {
     tells = tells_on is_bare told (tell.Down s.name ∷ []) (tt, tt);
     allowed = allowed_on told (tell.Down s.name ∷ []) (tt, tt);
     decided = λ name key named stands. inl (plain.back _ refl stands);
+    named = λ name stands. inl (plain.back _ refl stands);
     outcomes = λ name key f at named stands. among_turned _ _ (plain.back _ refl (among_back _ _ stands));
     transaction_on = λ name key is. is;
     transaction_back = λ name key is. is;
@@ -162,20 +180,20 @@ module _ (w : World) (place : ℕ) (s : Seat) (n : Node) (told : List Told) (the
     messages_back = λ nth m at heard. (m, at, refl);
     families = families_kept w place s left there refl (λ key f is. absurd cc);
     records = λ p rs held. inl (rs, sym (records_left p) ∙ held, follows_self rs);
-    has = λ p is_so none. ap (λ (o : Option (List JournalRecord)). option_map_or (λ (rs : List JournalRecord). list_any is_so rs) o false) (records_left p);
+    has = λ p is_so none other. ap (λ (o : Option (List JournalRecord)). option_map_or (λ (rs : List JournalRecord). list_any is_so rs) o false) (records_left p);
     seats = λ p server is. seat_names_kept w place s left there refl p ∙ is;
+    nodes = λ p m is.
+        let at = node_is_up v p m is in
+        up_before _ p at.seat m at.there at.up (λ was. inl (record {
+          up = node_there w p at.seat m was at.up;
+          records = records_left p;
+          disks = λ x now. (at.seat, was, ap (λ (y : Seat). y.disk) (inner_of at.seat x (sym at.there ∙ now)));
+        }));
+    counted = λ was. record {
+      numbers = λ p e is. was.numbers p e (sym (ends_left p) ∙ is);
+      messages = λ p e is. was.messages p e (sym (ends_left p) ∙ is);
+    };
   }
-
-  -- a node that is up is one that was
-  up_before : (P : Type 0) (p : ℕ) (x : Seat) (m : Node) → slice_get v.seats p ≡ Some x → x.server ≡ OfNode (Some m)
-      → (slice_get w.seats p ≡ Some x → P) → P
-  up_before P p x m at is then = elim (set_cases w.seats place s left p x there at) [
-    | inl here ↦ absurd (down (ap (λ (y : Seat). y.server) here.1 ∙ is))
-    | inr was ↦ then was
-  ]
-    where
-      down : OfNode None ≡ OfNode (Some m) → ⊥
-      down e = cc
 
   disks_left : DisksAreKnown v more
   disks_left = record {
@@ -224,9 +242,6 @@ module _ (w : World) (place : ℕ) (s : Seat) (n : Node) (told : List Told) (the
       (λ name life stands. k.seats.up name life (among_turned _ _ ((tells_on is_none told (tell.Down s.name ∷ []) (tt, tt)).back _ refl (among_back _ _ stands)))))
       disks_left
       (λ p x m q at is sent same. up_before _ p x m at is (λ was. k.words.given p x m q was is sent same))
-      (λ p x m h party object r at is held among nothing refers found. up_before _ p x m at is (λ was.
-      k.over.told_again p x m h party object r was is held among nothing (refers_back w v told more down_frame k party.to object refers)
-      (at_back w v told more down_frame k object.key r found)))
 
 pub known_crash : (w : World) (place : ℕ) (s : Seat) (n : Node) → slice_get w.seats place ≡ Some s → s.server ≡ OfNode (Some n)
     → StaysKnown w (crashes_seat place s.disk.reads s w)

@@ -31,6 +31,7 @@ abbrev pub is_bare : Line → Bool
 is_bare (lines.Recv number) = true
 is_bare (lines.Up server life) = true
 is_bare (lines.Decide name outcome) = is_recorded outcome
+is_bare (lines.Done name) = true
 is_bare _ = false
 
 pub bare_not_plain : (line : Line) → is_bare line ≡ false → is_plain line ≡ false
@@ -47,6 +48,7 @@ pub bare_allowed : (line : Line) (h : List Line) → is_bare line ≡ true → I
 bare_allowed (lines.Recv number) h is = tt
 bare_allowed (lines.Up server life) h is = tt
 bare_allowed (lines.Decide name outcome) h is = tt
+bare_allowed (lines.Done name) h is = tt
 bare_allowed _ h is = absurd cc
 
 -- a line is one of these, or isn't known and tells no rollback

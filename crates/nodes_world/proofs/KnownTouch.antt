@@ -1,5 +1,5 @@
 -- A script puts something for a resource, or has it refuse: what is known stays known.
-use Rattle.std.proofs.Common.{◌≡◌, ◌≢◌, ◌⊎◌, inl, inr, ℕ, zero, suc, ◌==◌, Bool, true, false, cond, List, [], ◌∷◌, map, find, slice_get, slice_set, append-nil, Option, Some, None, refl, sym, ap, ap₂, subst, ◌∙◌, arith, true≢false}
+use Rattle.std.proofs.Common.{◌≡◌, ◌≢◌, ◌⊎◌, inl, inr, ℕ, zero, suc, ◌==◌, Bool, true, false, cond, List, [], ◌∷◌, map, find, slice_get, slice_set, append-nil, Option, Some, None, refl, sym, ap, ap₂, subst, ◌∙◌, arith, true≢false, ◌≤◌, length}
 use Rattle.std.specs.Option.{option_map, option_map_or, option_and_then}
 use Rattle.std.specs.Prelude.{bytes_eq}
 use Rattle.std.proofs.lemmas.Bool.Decides.{nat_tests}
@@ -11,7 +11,7 @@ use Rattle.coordinator.specs.Node.{Node, family_of}
 use Rattle.nodes_world.specs.declared.message.Message.{Message}
 use Rattle.nodes_world.specs.declared.thing.Thing.TheVariants as things
 use Rattle.nodes_world.specs.Agreement.{IsOver, StatesFollow, records_at}
-use Rattle.nodes_world.specs.AgreementInside.{Known, HasAnswered, HasNotVoted, HasVotedCommit, ResourceIsKnown}
+use Rattle.nodes_world.specs.AgreementInside.{Known, HasAnswered, HasNotVoted, HasVotedCommit, ResourceIsKnown, EndsHaveCounted}
 use Rattle.nodes_world.specs.Ends.{closed_by, in_place_of, with_resource, with_resource_at}
 use Rattle.nodes_world.specs.Journals.{records_on}
 use Rattle.nodes_world.specs.Objects.{place_of, reference, service_at}
@@ -21,6 +21,8 @@ use Rattle.nodes_world.proofs.Going.{EndIsUp, end_is_up, get_set, on_seat_there}
 use Rattle.nodes_world.proofs.KnownLines.{lines_of}
 use Rattle.nodes_world.proofs.KnownTelling.{TellsOn, tells_on}
 use Rattle.nodes_world.proofs.KnownTurns.{Turns, is_state, turned_known}
+use Rattle.std.specs.List.{AllByRecursion}
+use Rattle.nodes_world.proofs.KnownSeats.{as_long}
 
 -- ---- one element of a list in place of another
 
@@ -242,6 +244,49 @@ module _ (w : World) (place : ℕ) (s : Seat) (e : FlatEnd) (next : FlatResource
   unfolding resource_at
   elsewhere k other = ap (λ (o : Option FlatEnd). option_and_then (λ (z : FlatEnd). find (has_number k) z.resources) o) (end_other (place_of k) other)
 
+  -- its objects keep their numbers
+  number_kept : (q : FlatResource) (b : Bool) → has_number next.key q ≡ b → (cond b next q).key.generation ≡ q.key.generation
+  number_kept q true is = sym (same_number q.key.generation next.key.generation is)
+  number_kept q false is = refl
+
+  all_counted : (drawn : ℕ) (xs : List FlatResource) → AllByRecursion (λ (q : FlatResource). q.key.generation ≤ drawn) xs
+      → AllByRecursion (λ (q : FlatResource). q.key.generation ≤ drawn) (map (in_place_of next) xs)
+  all_counted drawn [] all = tt
+  all_counted drawn (q ∷ xs) (one, all) =
+      (subst (λ (g : ℕ). g ≤ drawn) (sym (number_kept q (has_number next.key q) refl)) one, all_counted drawn xs all)
+
+  numbers_same : EndsHaveCounted w → (p : ℕ) (d : FlatEnd) → end_at (replaced w place s e next ms) p ≡ Some d
+      → AllByRecursion (λ (q : FlatResource). q.key.generation ≤ d.drawn) d.resources
+  numbers_same all p d is =
+      elim (same_or_not p place) [
+        | inl here ↦ subst (λ (x : FlatEnd). AllByRecursion (λ (q : FlatResource). q.key.generation ≤ x.drawn) x.resources)
+            (same_end (sym (end_is p here) ∙ is)) (all_counted e.drawn e.resources (all.numbers p e (end_was p here)))
+        | inr other ↦ all.numbers p d (sym (end_other p other) ∙ is)
+      ]
+    where
+      same_end : {a b : FlatEnd} → Some a ≡ Some b → a ≡ b
+      same_end e = cc
+
+  messages_same : length w.messages ≤ length ms → EndsHaveCounted w → (p : ℕ) (d : FlatEnd) → end_at (replaced w place s e next ms) p ≡ Some d → d.drawn ≤ length ms
+  messages_same more all p d is =
+      elim (same_or_not p place) [
+        | inl here ↦
+            let low = all.messages p e (end_was p here) in
+            let own = ap (λ (x : FlatEnd). x.drawn) (one_end (sym (end_is p here) ∙ is)) in
+            omega (arith, more, low, own)
+        | inr other ↦ let low = all.messages p d (sym (end_other p other) ∙ is) in omega (arith, more, low)
+      ]
+    where
+      one_end : {a b : FlatEnd} → Some a ≡ Some b → a ≡ b
+      one_end e = cc
+
+  -- where no message is lost
+  pub counted_same : length w.messages ≤ length ms → EndsHaveCounted w → EndsHaveCounted (replaced w place s e next ms)
+  counted_same more all = record {
+    numbers = λ p d is. numbers_same all p d is;
+    messages = λ p d is. messages_same more all p d is;
+  }
+
   module _ (key : ObjectKey) (r : FlatResource) (at : place_of key ≡ place) (was : resource_at w key ≡ Some r) (same : next.key ≡ r.key) where
     found_r : find (has_number key) e.resources ≡ Some r
     found_r = sym (here_w key at) ∙ was
@@ -398,6 +443,8 @@ module _ (w : World) (told : List Told) (k : Known w told) (name : List ℕ) (ke
     words_back = λ nth p q word. word;
     calls = λ nth m to act there says. there;
     replies = λ reply request m answer there says. inl there;
+    counted = counted_same w (place_of key) at.seat e next w.messages at.there at.up (omega arith);
+    many = as_long w.seats (place_of key) (record at.seat { server = OfEnd (Some (with_resource next e)) });
     over = λ over. absurd (not_over_open r.state open_now over);
     known_next = touched_known e at;
   }

@@ -1,5 +1,5 @@
 -- A resource changes, and may answer: what is known of a world is known then, where it is of that resource.
-use Rattle.std.proofs.Common.{◌≡◌, ◌⊎◌, inl, inr, ℕ, ◌+◌, ◌≤◌, Bool, true, false, is_some, IsTrue, List, slice_get, Contains, Option, Some, None, refl, sym, ap, subst, ◌∙◌}
+use Rattle.std.proofs.Common.{◌≡◌, ◌⊎◌, inl, inr, ℕ, ◌+◌, ◌≤◌, Bool, true, false, is_some, IsTrue, List, slice_get, Contains, Option, Some, None, refl, sym, ap, subst, ◌∙◌, length}
 use Rattle.std.specs.List.{list_any}
 use Rattle.std.specs.Option.{option_map, option_map_or}
 use Rattle.ior_refs.specs.declared.key.ObjectKey.{ObjectKey}
@@ -32,13 +32,17 @@ use Rattle.nodes_world.specs.declared.thing.Thing.{Thing}
 use Rattle.nodes_world.specs.declared.thing.Thing.TheVariants as things
 use Rattle.nodes_world.specs.Agreement as agreed
 use Rattle.nodes_world.specs.Agreement.{HasSent, IsAlone, IsClosed, IsCutOff, IsDecided, IsOutlived, IsOver, IsRolledBack, IsTransaction, IsWord, MayBeRolledBack, RecordsRestOnVotes, RestsOnVotes, VotesWereGiven, CommitsAreRecorded, DonesAreComplete, NoneIsBoth, OnePhaseIsAlone, RollbacksAreClosed, has_record, names_object, records_at}
-use Rattle.nodes_world.specs.AgreementInside.{Known, CompletionsAreOver, DisksAreKnown, FamiliesAreKnown, FamilyIsKnown, HasAnswered, HasHeardAll, IsBranch, IsListed, NamesAreTold, OutcomeIsTold, ResourceIsKnown, ResourcesAreKnown, SeatsAreNamed, ToldIsOpen, WordsAreTold}
+use Rattle.nodes_world.specs.AgreementInside.{Known, CompletionsAreOver, DisksAreKnown, FamiliesAreKnown, FamilyIsKnown, HasAnswered, HasHeardAll, IsBranch, IsListed, NamesAreTold, OutcomeIsTold, ResourceIsKnown, ResourcesAreKnown, SeatsAreNamed, ToldIsOpen, WordsAreTold, EndsHaveCounted, IsHeldAs, NodesAreKnown, TransactionsAreKnown}
 use Rattle.nodes_world.specs.Objects.{place_of}
 use Rattle.nodes_world.specs.Told.{Told, known}
 use Rattle.nodes_world.specs.World.{World, Seat, OfNode, FlatResource, NamedKey, family_at, referred, resource_at, seat_name, thing, thing_in}
 use Rattle.nodes_world.proofs.KnownLines.{AreAmong, among_back, among_turned, cut_among, lines_of, part_among, registered_among, same_resource}
 use Rattle.nodes_world.proofs.KnownTelling.{TellsOn}
 use Rattle.nodes_world.proofs.KnownRequests.{follows_kept, unvoted_kept, voted_kept}
+use Rattle.nodes_world.proofs.KnownWorlds.{node_there}
+use Rattle.nodes_world.proofs.Deeds.{node_is_up}
+use Rattle.recovery_coord.specs.declared.held.Held.{Held}
+use Rattle.nodes_world.specs.Limits.{seat_limit}
 
 -- the line of a resource's state
 abbrev pub is_state : Line → Bool
@@ -68,8 +72,12 @@ pub record Turns (w v : World) (told later : List Told) (x : NamedKey) (r next :
       → slice_get w.messages nth ≡ Some m
   pub replies : (reply request : ℕ) (m : Message) (answer : Said) → slice_get v.messages reply ≡ Some m → m.content ≡ contents.Reply request answer
       → (slice_get w.messages reply ≡ Some m)
-      ⊎ ((request ≤ reply) × ((nth p : ℕ) (q : Outward) → request ≡ nth + 1 → IsWord w nth p q
-      → (referred w q.to ≡ Some x) × (q.word ≡ words.Commit → IsOver next.state)))
+      ⊎ ((request ≤ reply) × ((nth p : ℕ) × (q : Outward) × IsWord w nth p q × (request ≡ nth + 1))
+      × ((nth p : ℕ) (q : Outward) → request ≡ nth + 1 → IsWord w nth p q
+      → (referred w q.to ≡ Some x) × (q.word ≡ words.Commit → IsOver next.state)
+      × ((vote : Vote) → answer ≡ said.Voted vote → q.word ≡ words.Prepare)))
+  pub counted : EndsHaveCounted w → EndsHaveCounted v
+  pub many : length v.seats ≡ length w.seats
   pub over : IsOver r.state → IsOver next.state
   pub known_next : ResourceIsKnown v (lines_of later) x.name next
 
@@ -167,6 +175,11 @@ module _ (w v : World) (told later : List Told) (k : Known w told) (x : NamedKey
     registered = λ name u s. let at = k.names.registered name u (registered_back _ _ name u back s) in (at.0, at.1, to_v name _ at.2, to_v u _ at.3);
     one_transaction = λ name u other s z. k.names.one_transaction name u other (registered_back _ _ name u back s) (registered_back _ _ name other back z);
     no_import = λ name above node s. k.names.no_import name above node (back _ refl s);
+    objects = λ name key named. k.names.objects name key (to_w name _ named);
+    shown = λ name state s. elim (t.shows name state (among_back (known later) _ s)) [
+      | inl was ↦ let at = k.names.shown name state (among_turned (known told) _ was) in (at.0, to_v name _ at.1)
+      | inr own ↦ (x.key, to_v name _ (subst (λ (y : List ℕ). thing w y ≡ Some (things.Resource x.key)) (sym own) t.named))
+    ];
   }
 
   some_on : (p : ℕ) (o : Option Seat) → slice_get w.seats p ≡ o → IsTrue (is_some o) → IsTrue (is_some (slice_get v.seats p))
@@ -182,6 +195,7 @@ module _ (w v : World) (told later : List Told) (k : Known w told) (x : NamedKey
         (one.0, one.1, one.2 ∙ old.2);
     up = λ name life s. let at = k.seats.up name life (back _ refl s) in (at.0, to_v name _ at.1);
     senders = λ p q sent. some_on p (slice_get w.seats p) refl (k.seats.senders p q (sent_w p q sent));
+    few = subst (λ (many : ℕ). many ≤ seat_limit) (sym t.many) k.seats.few;
     calls = λ nth one to act at says. k.seats.calls nth one to act (t.calls nth one to act at says) says;
   }
 
@@ -215,6 +229,18 @@ module _ (w v : World) (told later : List Told) (k : Known w told) (x : NamedKey
         elim (t.replies reply request m answer at says) [
           | inl there ↦ k.words.replied reply request m answer there says
           | inr new ↦ new.0
+        ];
+    asked = λ reply request m answer at says.
+        elim (t.replies reply request m answer at says) [
+          | inl there ↦ let was = k.words.asked reply request m answer there says in
+              (was.0, was.1, was.2, word_v was.0 was.1 was.2 was.3, was.4)
+          | inr new ↦ let was = new.1 in
+              (was.0, was.1, was.2, word_v was.0 was.1 was.2 was.3, was.4)
+        ];
+    voters = λ reply nth p m vote q at says word.
+        elim (t.replies reply (nth + 1) m (said.Voted vote) at says) [
+          | inl there ↦ k.words.voters reply nth p m vote q there says (t.words_back nth p q word)
+          | inr new ↦ (new.2 nth p q refl (t.words_back nth p q word)).2 vote refl
         ];
     lives = λ p q rs sent held. k.words.lives p q rs (sent_w p q sent) (records_w p rs held);
     given = λ p s n q there runs sent alike. k.words.given p s n q (t.nodes p s (Some n) there runs) runs (sent_w p q sent) alike;
@@ -251,7 +277,7 @@ module _ (w v : World) (told later : List Told) (k : Known w told) (x : NamedKey
       elim (t.replies reply (nth + 1) one (said.Voted vote) at says) [
         | inl there ↦ (nth, from, reply, q, y, one, t.words_back nth from q word, prepare, refers_w q.to y refers, named, there, says)
         | inr new ↦
-            let to_x = (new.1 nth from q refl (t.words_back nth from q word)).0 in
+            let to_x = (new.2 nth from q refl (t.words_back nth from q word)).0 in
             let same : y ≡ x = inner (sym (refers_w q.to y refers) ∙ to_x) in
             absurd (other (sym named ∙ ap (λ (z : NamedKey). z.name) same))
       ]
@@ -325,6 +351,17 @@ module _ (w v : World) (told later : List Told) (k : Known w told) (x : NamedKey
         let known_one = old.registrations g u b (branch_w f u b branch) in
         (λ s. listed_v f g b (known_one.0 (registered_back _ _ g u back s)), λ l. registered_among _ _ g u on (known_one.1 (listed_w f g b l)));
     own = λ z object u among refers s. branch_v f u z.branch (old.own z object u among (refers_w z.to object refers) (registered_back _ _ object.name u back s));
+    numbered = old.numbered;
+    unsynchronized = old.unsynchronized;
+    named = λ z among. subst (λ (o : Option NamedKey). IsTrue (is_some o)) (sym (t.refers z.to)) (old.named z among);
+    apart = old.apart;
+    within = old.within;
+    came = λ e r among is.
+        let at = old.came e r among is in
+        (at.0, at.1, t.messages at.0 at.1 at.2, at.3);
+    dues = old.dues;
+    legs = old.legs;
+    settled = old.settled;
     votes = λ g vote z object among is refers.
         let known_one = old.votes g vote z object among is (refers_w z.to object refers) in
         (λ voted. on _ (known_one.0 voted), λ s. known_one.1 (back _ refl s));
@@ -360,6 +397,7 @@ module _ (w v : World) (told later : List Told) (k : Known w told) (x : NamedKey
           λ among. (part_among _ _ z.name old.name t.tells.on (known_one.0 among).0, t.tells.on _ (known_one.0 among).1),
           λ voter. known_one.1 (part_back _ _ z.name old.name t.tells.back voter.0, t.tells.back _ refl voter.1),
         );
+    once = old.once;
   }
 
   records_turned : RecordsRestOnVotes v later
@@ -463,29 +501,64 @@ module _ (w v : World) (told later : List Told) (k : Known w told) (x : NamedKey
   heard_turned (UnderWay c) h = λ p object q among is refers at.
       still_over object.key q at (λ old was. h p object old among is (refers_w p.to object refers) was)
 
-  over_turned : CompletionsAreOver v
-  over_turned = record {
+  pub over_turned : CompletionsAreOver w → CompletionsAreOver v
+  over_turned over = record {
     answered = λ nth from reply q object one z answer word commit refers at says there.
         elim (t.replies reply (nth + 1) one answer at says) [
           | inl old ↦ still_over object.key z there
-              (λ was held. k.over.answered nth from reply q object one was answer (t.words_back nth from q word) commit (refers_w q.to object refers) old says held)
+              (λ was held. over.answered nth from reply q object one was answer (t.words_back nth from q word) commit (refers_w q.to object refers) old says held)
           | inr new ↦
-              let so = new.1 nth from q refl (t.words_back nth from q word) in
+              let so = new.2 nth from q refl (t.words_back nth from q word) in
               let same : object ≡ x = inner (sym (refers_w q.to object refers) ∙ so.0) in
               elim (t.turned object.key z there) [
                 | inl other ↦ absurd (other.0 (ap (λ (y : NamedKey). y.key) same))
                 | inr here ↦ subst (λ (y : FlatResource). IsOver y.state) (sym here.0) (so.1 commit)
               ]
         ];
-    heard = λ key f there commits. heard_turned f.completion (k.over.heard key f (family_w key f there) commits);
+    heard = λ key f there commits. heard_turned f.completion (over.heard key f (family_w key f there) commits);
     told_again = λ place s n h p object q there runs among party is refers at.
         still_over object.key q at
-        (λ was held. k.over.told_again place s n h p object was (t.nodes place s (Some n) there runs) runs among party is (refers_w p.to object refers) held);
+        (λ was held. over.told_again place s n h p object was (t.nodes place s (Some n) there runs) runs among party is (refers_w p.to object refers) held);
   }
 
-  dones_turned : DonesAreComplete v
-  dones_turned p rs key to name q held some done refers at =
-      still_over name.key q at (λ was there. k.dones p rs key to name was (records_w p rs held) some done (refers_w to name refers) there)
+  pub dones_turned : DonesAreComplete w → DonesAreComplete v
+  dones_turned dones p rs key to name q held some done refers at =
+      still_over name.key q at (λ was there. dones p rs key to name was (records_w p rs held) some done (refers_w to name refers) there)
+
+  -- ---- transactions and nodes
+
+  transactions_turned : TransactionsAreKnown v later
+  transactions_turned = record {
+    seated = λ name key named. some_on (place_of key) (slice_get w.seats (place_of key)) refl (k.transactions.seated name key (to_w name _ named));
+    lives = λ name key rs named held. k.transactions.lives name key rs (to_w name _ named) (records_w (place_of key) rs held);
+    decided = λ name outcome s. let was = k.transactions.decided name outcome (t.tells.back _ refl s) in (was.0, to_v name _ was.1);
+    rolled_back = λ name rolled. let was = k.transactions.rolled_back name (rolled_back_back name rolled) in (was.0, to_v name _ was.1);
+  }
+
+  held_turned : (p : ℕ) (rs : List JournalRecord) (held : Held) → IsHeldAs w told p rs held → IsHeldAs v later p rs held
+  held_turned p rs held old = record {
+    stood = old.stood;
+    there = old.there;
+    same_place = old.same_place;
+    numbers = old.numbers;
+    references = old.references;
+    line = λ life slot generation retry asked regs is.
+        let was = old.line life slot generation retry asked regs is in
+        (was.0, to_v was.0 _ was.1, t.tells.on _ was.2);
+  }
+
+  nodes_turned : NodesAreKnown v later
+  nodes_turned p n is =
+      let at = node_is_up v p n is in
+      let seat = t.nodes p at.seat (Some n) at.there at.up in
+      let old = k.nodes p n (node_there w p at.seat n seat at.up) in
+      record {
+        sound = old.sound;
+        given = λ name key named here in_life. old.given name key (to_w name _ named) here in_life;
+        order = λ s rs there held.
+            old.order s rs (seat ∙ sym at.there ∙ there) (records_w p rs held);
+        held = λ rs held has among. held_turned p rs held (old.held rs held (records_w p rs has) among);
+      }
 
   -- what is known then
   pub turned_known : Known v later
@@ -509,7 +582,8 @@ module _ (w v : World) (told later : List Told) (k : Known w told) (x : NamedKey
     rollbacks = λ p q z sent rollback refers. may_be_on z.name (k.rollbacks p q z (sent_w p q sent) rollback (refers_w q.to z refers));
     rolled_back = λ name key f named first there rolled. k.rolled_back name key f (to_w name _ named) first (family_w key f there) (rolled_back_back name rolled);
     told_back = λ name key f there named rolled. rolled_back_on name (k.told_back name key f (family_w key f there) (to_w name _ named) rolled);
-    over = over_turned;
-    dones = dones_turned;
+    transactions = transactions_turned;
+    nodes = nodes_turned;
+    counted = t.counted k.counted;
     allowed = t.allowed;
   }

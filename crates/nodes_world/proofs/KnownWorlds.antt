@@ -1,33 +1,28 @@
 -- What is known of a world is known of another one in which families may be gone and a record of a life may stand further, but for
 -- what is said of its seats.
-use Rattle.std.proofs.Common.{◌≡◌, ◌≢◌, ◌⊎◌, ◌↔◌, inl, inr, ℕ, zero, suc, ◌+◌, ◌<◌, ◌≤◌, ◌&&◌, Bool, true, false, not, is_some, IsTrue, List, [], ◌∷◌, ◌++◌, length, slice_get, reverse, Any, Contains, Option, Some, None, refl, sym, ap, subst, ◌∙◌, arith}
+use Rattle.std.proofs.Common.{◌≡◌, ◌⊎◌, inl, inr, ℕ, ◌≤◌, ◌&&◌, Bool, true, false, not, is_some, IsTrue, List, [], slice_get, Any, Contains, Option, Some, None, refl, sym, ap, subst, ◌∙◌, arith}
 use Rattle.std.specs.List.{list_any}
-use Rattle.std.specs.Option.{option_map, option_map_or, option_and_then}
+use Rattle.std.specs.Option.{option_map, option_and_then}
 use Rattle.ior_refs.specs.declared.key.ObjectKey.{ObjectKey}
 use Rattle.ots_model.specs.Safe as safe
 use Rattle.ots_model.specs.Safe.{Stands, HasConsented, IsFamily, IsJoined, IsRegistered, IsSent, IsTop, TakesPart}
 use Rattle.ots_model.specs.SafeByLine.{AreAllowed}
-use Rattle.ots_model.specs.declared.completion.Ground.{Ground}
 use Rattle.ots_model.specs.declared.completion.Ground.TheVariants as grounds
 use Rattle.ots_model.specs.declared.completion.Ground.TheVariants.{Record}
 use Rattle.ots_model.specs.declared.completion.Outcome.{Outcome as ToldOutcome}
 use Rattle.ots_model.specs.declared.completion.Outcome.TheVariants as told_outcomes
 use Rattle.ots_model.specs.declared.completion.Vote.{Vote}
-use Rattle.ots_model.specs.declared.completion.Word.TheVariants as phases
 use Rattle.ots_model.specs.declared.line.Line.{Line}
 use Rattle.ots_model.specs.declared.line.Line.TheVariants as lines
-use Rattle.ots_model.specs.declared.service.RetryKey.{RetryKey}
 use Rattle.ots_model.specs.declared.tree.Outcome.{Outcome}
 use Rattle.ots_model.specs.declared.tree.Outcome.TheVariants as outcomes
 use Rattle.ots_model.specs.declared.tree.Outward.{Outward}
-use Rattle.ots_model.specs.declared.tree.Word.TheVariants as words
-use Rattle.resource_votes.specs.declared.registration.Registration.{Registration}
 use Rattle.two_phase.specs.Stages as stages
 use Rattle.two_phase.specs.Stages.{Standing as Completion, Waiting, Going as UnderWay}
 use Rattle.decision_journal.specs.Journal.{first_gate, found_in}
 use Rattle.decision_journal.specs.declared.journal.Standing.{Standing}
 use Rattle.decision_journal.specs.declared.record.JournalRecord.{JournalRecord}
-use Rattle.decision_journal.specs.declared.record.JournalRecord.TheVariants.{Life, Decision}
+use Rattle.decision_journal.specs.declared.record.JournalRecord.TheVariants.{Life, Decision, Done}
 use Rattle.decision_journal.specs.declared.record.Registration.{Registration as Named}
 use Rattle.recovery_coord.specs.Held.{is_nothing}
 use Rattle.recovery_coord.specs.Limits.{retold_slot}
@@ -35,50 +30,61 @@ use Rattle.recovery_coord.specs.declared.held.Held.{Held}
 use Rattle.recovery_coord.specs.declared.held.Party.{Party as HeldParty}
 use Rattle.coordinator.specs.Family.{Family}
 use Rattle.coordinator.specs.Node.{Node, life}
-use Rattle.coordinator.specs.declared.said.Said.{Said}
-use Rattle.coordinator.specs.declared.said.Said.TheVariants as said
-use Rattle.nodes_world.specs.declared.message.Content.{Content}
-use Rattle.nodes_world.specs.declared.message.Content.TheVariants as contents
 use Rattle.nodes_world.specs.declared.message.Message.{Message}
 use Rattle.nodes_world.specs.declared.thing.Thing.{Thing}
 use Rattle.nodes_world.specs.declared.thing.Thing.TheVariants as things
 use Rattle.nodes_world.specs.Agreement as agreed
 use Rattle.nodes_world.specs.Agreement.{HasSent, IsAlone, IsClosed, IsCutOff, IsDecided, IsOutlived, IsOver, IsRolledBack, IsTransaction, IsWord, KeysAreOnce, StatesFollow, MayBeRolledBack, NumbersAreOnce, RecordsRestOnVotes, RestsOnVotes, VotesWereGiven, CommitsAreRecorded, DecisionsAreRecorded, DonesAreComplete, NoneIsBoth, OnePhaseIsAlone, RollbacksAreClosed, SubtransactionsEndOnce, has_record, is_decision_of, is_done_in, names_object, recorded_key, records_at}
-use Rattle.nodes_world.specs.AgreementInside.{Known, CompletionsAreOver, DisksAreKnown, FamiliesAreKnown, FamilyIsKnown, HasAnswered, HasHeardAll, IsBranch, IsListed, IsNamedBy, NamesAreTold, OutcomeIsTold, ResourceIsKnown, ResourcesAreKnown, RollbacksAreOutcomes, RollbacksAreTold, SeatsAreNamed, ToldIsOpen, WordsAreTold, placed}
-use Rattle.nodes_world.specs.Objects.{place_of}
+use Rattle.nodes_world.specs.AgreementInside.{Known, CompletionsAreOver, DisksAreKnown, FamiliesAreKnown, FamilyIsKnown, HasAnswered, HasHeardAll, IsBranch, IsListed, IsNamedBy, NamesAreTold, OutcomeIsTold, ResourceIsKnown, ResourcesAreKnown, RollbacksAreOutcomes, RollbacksAreTold, SeatsAreNamed, ToldIsOpen, WordsAreTold, placed, EndsHaveCounted, IsHeldAs, IsNamed, NodeIsKnown, NodesAreKnown, TransactionsAreKnown}
+use Rattle.nodes_world.specs.Objects.{place_of, service_at}
 use Rattle.nodes_world.specs.Told.{Told, known}
-use Rattle.nodes_world.specs.World.{World, Seat, OfNode, FlatResource, NamedKey, family_at, referred, resource_at, seat_name, thing}
+use Rattle.nodes_world.specs.World.{World, Seat, OfNode, FlatResource, NamedKey, family_at, referred, resource_at, seat_name, thing, node_at, node_in}
 use Rattle.nodes_world.proofs.KnownLines.{AreAmong, among_back, among_turned, cut_among, lines_of, part_among, registered_among}
-use Rattle.nodes_world.proofs.KnownFrames.{IsReason}
-use Rattle.nodes_world.proofs.KnownTelling.{TellsOn, is_bare}
+use Rattle.nodes_world.proofs.KnownTelling.{TellsOn, is_bare, is_recorded}
 use Rattle.nodes_world.proofs.KnownRequests.{follows_kept, unvoted_kept, voted_kept}
+use Rattle.nodes_world.specs.Laws.{IsInOrder}
+use Rattle.nodes_world.specs.AgreementSteps.{is_call}
+use Rattle.ots_outside.specs.Disk.{DiskState}
 
-abbrev pub is_life : JournalRecord → Bool
-is_life (Life life) = true
-is_life _ = false
+-- a life, or the Done of a decision
+abbrev pub is_mark : JournalRecord → Bool
+is_mark (Life life) = true
+is_mark (Done named) = true
+is_mark _ = false
 
--- records and those of before, where no decision is new and none is done that wasn't
+-- records and those of before, where no decision is new
 pub record Follows (earlier rs : List JournalRecord) : Type 0 where
   pub life : (found_in earlier).life ≤ (found_in rs).life
-  pub standing : (found_in rs).standing ≡ (found_in earlier).standing
   pub places : (o : Outward) → Any (IsNamedBy o) (placed first_gate earlier) → Any (IsNamedBy o) (placed first_gate rs)
-  pub others : (r : JournalRecord) → is_life r ≡ false → Contains rs r → Contains earlier r
-  pub some : (is_so : JournalRecord → Bool) → ((life : ℕ) → is_so (Life life) ≡ false) → list_any is_so rs ≡ list_any is_so earlier
+  pub others : (r : JournalRecord) → is_mark r ≡ false → Contains rs r → Contains earlier r
+  pub some : (is_so : JournalRecord → Bool) → ((life : ℕ) → is_so (Life life) ≡ false) → ((named : ℕ) → is_so (Done named) ≡ false)
+      → list_any is_so rs ≡ list_any is_so earlier
 
 pub follows_self : (rs : List JournalRecord) → Follows rs rs
 follows_self rs = record {
   life = omega arith;
-  standing = refl;
   places = λ o any. any;
   others = λ r other among. among;
-  some = λ is_so none. refl;
+  some = λ is_so none other. refl;
 }
 
--- a client's call
-abbrev pub is_call : Content → Bool
-is_call (contents.Call to act) = true
-is_call (contents.Request from o) = false
-is_call (contents.Reply request answer) = false
+-- a node was up before, with the same disk
+pub record WasUp (w v : World) (place : ℕ) (n : Node) : Type 0 where
+  pub up : node_at w place ≡ Some n
+  pub records : records_at v place ≡ records_at w place
+  pub disks : (s : Seat) → slice_get v.seats place ≡ Some s → (t : Seat) × (slice_get w.seats place ≡ Some t) × (t.disk ≡ s.disk)
+
+pub node_there : (w : World) (place : ℕ) (s : Seat) (n : Node) → slice_get w.seats place ≡ Some s → s.server ≡ OfNode (Some n) → node_at w place ≡ Some n
+unfolding node_at
+node_there w place s n there up = ap (λ (o : Option Seat). option_and_then (λ (x : Seat). node_in x.server) o) there ∙ ap node_in up
+
+-- a decision that is recorded is by a record
+recorded_is : (outcome : ToldOutcome (List ℕ)) → is_recorded outcome ≡ true → outcome ≡ told_outcomes.Commit Record
+recorded_is (told_outcomes.Commit grounds.Record) is = refl
+recorded_is (told_outcomes.Commit grounds.OnePhase) is = absurd cc
+recorded_is (told_outcomes.Commit grounds.Nobody) is = absurd cc
+recorded_is (told_outcomes.Rollback reason) is = absurd cc
+recorded_is told_outcomes.Unknown is = absurd cc
 
 -- what is the same of two worlds, and of the lines that they have told
 pub record Frame (w v : World) (told later : List Told) : Type 0 where
@@ -88,6 +94,8 @@ pub record Frame (w v : World) (told later : List Told) : Type 0 where
       → Stands (lines.Decide name (told_outcomes.Commit Record)) (known later) → IsDecided w told key name
   pub outcomes : (name : List ℕ) (key : ObjectKey) (f : Family) → family_at v key ≡ Some f → IsTransaction w name f.key
       → Stands (lines.Decide name (told_outcomes.Commit Record)) (lines_of later) → Stands (lines.Decide name (told_outcomes.Commit Record)) (lines_of told)
+  pub named : (name : List ℕ) → Stands (lines.Decide name (told_outcomes.Commit Record)) (known later)
+      → Stands (lines.Decide name (told_outcomes.Commit Record)) (known told) ⊎ IsNamed w name
   pub transaction_on : (name : List ℕ) (key : ObjectKey) → IsTransaction w name key → IsTransaction v name key
   pub transaction_back : (name : List ℕ) (key : ObjectKey) → IsTransaction v name key → IsTransaction w name key
   pub resource_on : (name : List ℕ) (key : ObjectKey) → thing w name ≡ Some (things.Resource key) → thing v name ≡ Some (things.Resource key)
@@ -102,8 +110,11 @@ pub record Frame (w v : World) (told later : List Told) : Type 0 where
   pub records : (place : ℕ) (rs : List JournalRecord) → records_at v place ≡ Some rs
       → ((earlier : List JournalRecord) × (records_at w place ≡ Some earlier) × Follows earlier rs)
       ⊎ ((rs ≡ []) × (slice_get w.seats place ≡ None))
-  pub has : (place : ℕ) (is_so : JournalRecord → Bool) → ((life : ℕ) → is_so (Life life) ≡ false) → has_record v place is_so ≡ has_record w place is_so
+  pub has : (place : ℕ) (is_so : JournalRecord → Bool) → ((life : ℕ) → is_so (Life life) ≡ false) → ((named : ℕ) → is_so (Done named) ≡ false)
+      → has_record v place is_so ≡ has_record w place is_so
   pub seats : (place : ℕ) (server : List ℕ) → seat_name w place ≡ Some server → seat_name v place ≡ Some server
+  pub nodes : (place : ℕ) (n : Node) → node_at v place ≡ Some n → WasUp w v place n ⊎ NodeIsKnown v later place n
+  pub counted : EndsHaveCounted w → EndsHaveCounted v
 
 -- what is said of names in one list of lines is said in another, where its lines are there, but for these
 abbrev AreBareBack : List Line → List Line → Type 0
@@ -191,6 +202,8 @@ module _ (w v : World) (told later : List Told) (f : Frame w v told later) (k : 
         (at.0, at.1, f.resource_on name at.0 at.2, f.transaction_on t at.1 at.3);
     one_transaction = λ name t other r s. k.names.one_transaction name t other (registered_then name t r) (registered_then name other s);
     no_import = λ name above node s. k.names.no_import name above node (back _ refl s);
+    objects = λ name key named. k.names.objects name key (f.resource_back name key named);
+    shown = λ name state s. let at = k.names.shown name state (back _ refl s) in (at.0, f.resource_on name at.0 at.1);
   }
 
   -- ---- words and votes
@@ -228,6 +241,13 @@ module _ (w v : World) (told later : List Told) (f : Frame w v told later) (k : 
         (at.0, at.1, at.2, at.3, word_on at.0 at.1 at.2 at.4, at.5, at.6, refers_on at.2.to at.3 at.7, at.8);
     replied = λ reply request m answer at says. let there = f.messages_back reply m at (ap is_call says) in
         k.words.replied reply request there.0 answer there.1 (there.2 ∙ says);
+    asked = λ reply request m answer at says.
+        let there = f.messages_back reply m at (ap is_call says) in
+        let was = k.words.asked reply request there.0 answer there.1 (there.2 ∙ says) in
+        (was.0, was.1, was.2, word_on was.0 was.1 was.2 was.3, was.4);
+    voters = λ reply nth p m vote q at says word.
+        let there = f.messages_back reply m at (ap is_call says) in
+        k.words.voters reply nth p there.0 vote q there.1 (there.2 ∙ says) (word_back nth p q word);
     lives = λ p q rs sent held. life_then p q rs (sent_back p q sent) (f.records p rs held);
     given = given;
     told_again = λ p q rs sent again held. again_then p q rs (sent_back p q sent) again (f.records p rs held);
@@ -321,12 +341,24 @@ module _ (w v : World) (told later : List Told) (f : Frame w v told later) (k : 
         (λ s. listed_on g r b (was.0 (registered_then r t s)), λ l. registered_among _ _ r t on (was.1 (listed_back g r b l)));
     own = λ r object t among refers registered.
         branch_on g t r.branch (old.own r object t among (refers_back r.to object refers) (registered_then object.name t registered));
+    numbered = old.numbered;
+    unsynchronized = old.unsynchronized;
+    named = λ r among. ap is_some (f.refers r.to) ∙ old.named r among;
+    apart = old.apart;
+    within = old.within;
+    came = λ e r among is.
+        let at = old.came e r among is in
+        let there = f.messages_on at.0 at.1 at.2 in
+        (at.0, there.0, there.1, at.3);
+    dues = old.dues;
+    legs = old.legs;
+    settled = old.settled;
     votes = λ number vote r object among is refers.
         let was = old.votes number vote r object among is (refers_back r.to object refers) in
         (λ e. on _ (was.0 e), λ s. was.1 (back _ refl s));
     outcome = outcome_then (stages.outcome g.completion) old.name (f.outcomes old.name key g there old.of_name) old.outcome;
     recorded =
-        let same = f.has (place_of g.key) (is_decision_of g.key) (λ life. refl) in
+        let same = f.has (place_of g.key) (is_decision_of g.key) (λ life. refl) (λ named. refl) in
         (λ has. old.recorded.0 (sym same ∙ has), λ e. same ∙ old.recorded.1 e);
   }
 
@@ -358,6 +390,7 @@ module _ (w v : World) (told later : List Told) (f : Frame w v told later) (k : 
           λ among. (part_among _ _ r.name old.name f.tells.on (was.0 among).0, f.tells.on _ (was.0 among).1),
           λ voter. was.1 (part_then r.name old.name voter.0, f.tells.back _ refl voter.1),
         );
+    once = old.once;
   }
 
   records_then : RecordsRestOnVotes v later
@@ -375,7 +408,7 @@ module _ (w v : World) (told later : List Told) (f : Frame w v told later) (k : 
 
   decided_back : (name : List ℕ) (key : ObjectKey) → IsTransaction w name key → IsDecided v later key name → IsDecided w told key name
   decided_back name key named (inl s) = f.decided name key named s
-  decided_back name key named (inr has) = inr (sym (f.has (place_of key) (is_decision_of key) (λ life. refl)) ∙ has)
+  decided_back name key named (inr has) = inr (sym (f.has (place_of key) (is_decision_of key) (λ life. refl) (λ named. refl)) ∙ has)
 
   rolled_back_back : (name : List ℕ) → IsRolledBack later name → IsRolledBack told name
   rolled_back_back name (agreed.IsRolledBack.by_known reason s) = agreed.IsRolledBack.by_known reason (f.tells.back _ refl s)
@@ -405,7 +438,7 @@ module _ (w v : World) (told later : List Told) (f : Frame w v told later) (k : 
   recorded_then : DecisionsAreRecorded v later
   recorded_then name key named top s =
       let was = f.transaction_back name key named in
-      f.has (place_of key) (is_decision_of key) (λ life. refl) ∙ by was (f.decided name key was s)
+      f.has (place_of key) (is_decision_of key) (λ life. refl) (λ named. refl) ∙ by was (f.decided name key was s)
     where
       by : IsTransaction w name key → IsDecided w told key name → IsTrue (has_record w (place_of key) (is_decision_of key))
       by was (inl line) = k.recorded name key was top line
@@ -414,7 +447,7 @@ module _ (w v : World) (told later : List Told) (f : Frame w v told later) (k : 
   -- ---- words of the second phase
 
   commits_then : CommitsAreRecorded v
-  commits_then p q sent commit = f.has p (names_object q.to) (λ life. refl) ∙ k.commits p q (sent_back p q sent) commit
+  commits_then p q sent commit = f.has p (names_object q.to) (λ life. refl) (λ named. refl) ∙ k.commits p q (sent_back p q sent) commit
 
   alone_on : (name : List ℕ) → IsAlone w told name → IsAlone v later name
   alone_on name old = record {
@@ -462,18 +495,20 @@ module _ (w v : World) (told later : List Told) (f : Frame w v told later) (k : 
   heard_then (Waiting room) h = h
   heard_then (UnderWay c) h = λ p object r among is refers at. h p object r among is (refers_back p.to object refers) (at_back object.key r at)
 
-  over_then : AreOverAgain v → CompletionsAreOver v
-  over_then again = record {
+  pub over_then : AreOverAgain v → CompletionsAreOver w → CompletionsAreOver v
+  over_then again over = record {
     answered = λ nth from reply q object one r answer word commit refers at says there.
         let was = f.messages_back reply one at (ap is_call says) in
-        k.over.answered nth from reply q object was.0 r answer (word_back nth from q word) commit (refers_back q.to object refers) was.1
+        over.answered nth from reply q object was.0 r answer (word_back nth from q word) commit (refers_back q.to object refers) was.1
         (was.2 ∙ says) (at_back object.key r there);
-    heard = λ key g there commits. heard_then g.completion (k.over.heard key g (f.families key g there) commits);
+    heard = λ key g there commits. heard_then g.completion (over.heard key g (f.families key g there) commits);
     told_again = again;
   }
 
-  dones_then : DonesAreComplete v
-  dones_then p rs key to name r held some done refers there = at (f.records p rs held)
+  -- where none is done that wasn't
+  pub dones_then : ((p : ℕ) (earlier rs : List JournalRecord) → records_at w p ≡ Some earlier → records_at v p ≡ Some rs
+      → (found_in rs).standing ≡ (found_in earlier).standing) → DonesAreComplete w → DonesAreComplete v
+  dones_then still dones p rs key to name r held some done refers there = at (f.records p rs held)
     where
       is_so : JournalRecord → Bool
       is_so item = is_decision_of key item && names_object to item
@@ -483,14 +518,87 @@ module _ (w v : World) (told later : List Told) (f : Frame w v told later) (k : 
 
       at : ((earlier : List JournalRecord) × (records_at w p ≡ Some earlier) × Follows earlier rs) ⊎ ((rs ≡ []) × (slice_get w.seats p ≡ None)) → IsOver r.state
       at (inl (earlier, was, follows)) =
-          k.dones p earlier key to name r was (sym (follows.some is_so (λ life. refl)) ∙ some)
-          (ap (λ (standing : List Standing). not (list_any (λ (s : Standing). is_decision_of key s.item) standing)) (sym follows.standing) ∙ done)
+          dones p earlier key to name r was (sym (follows.some is_so (λ life. refl) (λ named. refl)) ∙ some)
+          (ap (λ (standing : List Standing). not (list_any (λ (s : Standing). is_decision_of key s.item) standing)) (sym (still p earlier rs was held)) ∙ done)
           (refers_back to name refers) (at_back name.key r there)
       at (inr (none, gone)) = absurd (no_some (ap (λ (x : List JournalRecord). list_any is_so x) (sym none) ∙ some))
 
+  -- ---- transactions, nodes and ends
+
+  seated_then : (p : ℕ) → IsTrue (is_some (slice_get w.seats p)) → IsTrue (is_some (slice_get v.seats p))
+  seated_then p is = by (slice_get w.seats p) refl is
+    where
+      named_one : (o : Option Seat) (name : List ℕ) → option_map (λ (s : Seat). s.name) o ≡ Some name → is_some o ≡ true
+      named_one (Some s) name e = refl
+      named_one None name e = absurd cc
+
+      by : (o : Option Seat) → slice_get w.seats p ≡ o → is_some o ≡ true → is_some (slice_get v.seats p) ≡ true
+      by (Some s) there is = named_one (slice_get v.seats p) s.name (f.seats p s.name (ap (option_map (λ (x : Seat). x.name)) there))
+      by None there is = absurd cc
+
+  made_then : (name : List ℕ) (key : ObjectKey) (rs : List JournalRecord) → IsTransaction w name key
+      → ((earlier : List JournalRecord) × (records_at w (place_of key) ≡ Some earlier) × Follows earlier rs)
+      ⊎ ((rs ≡ []) × (slice_get w.seats (place_of key) ≡ None))
+      → key.life ≤ (found_in rs).life
+  made_then name key rs named (inl (earlier, held, follows)) =
+      let early = k.transactions.lives name key earlier named held in
+      omega (arith, early, follows.life)
+  made_then name key rs named (inr (none, gone)) = absurd (no_some (sym (ap is_some gone) ∙ k.transactions.seated name key named))
+    where
+      no_some : false ≡ true → ⊥
+      no_some e = cc
+
+  named_on : (name : List ℕ) → IsNamed w name → IsNamed v name
+  named_on name (key, named) = (key, f.transaction_on name key named)
+
+  outcome_named : (name : List ℕ) (outcome : ToldOutcome (List ℕ)) (b : Bool) → is_recorded outcome ≡ b → Stands (lines.Decide name outcome) (known later)
+      → IsNamed v name
+  outcome_named name outcome true is s =
+      elim (f.named name (subst (λ (x : ToldOutcome (List ℕ)). Stands (lines.Decide name x) (known later)) (recorded_is outcome is) s)) [
+        | inl was ↦ named_on name (k.transactions.decided name (told_outcomes.Commit Record) was)
+        | inr new ↦ named_on name new
+      ]
+  outcome_named name outcome false is s = named_on name (k.transactions.decided name outcome (f.tells.back (lines.Decide name outcome) is s))
+
+  transactions_then : TransactionsAreKnown v later
+  transactions_then = record {
+    seated = λ name key named. seated_then (place_of key) (k.transactions.seated name key (f.transaction_back name key named));
+    lives = λ name key rs named held. made_then name key rs (f.transaction_back name key named) (f.records (place_of key) rs held);
+    decided = λ name outcome s. outcome_named name outcome (is_recorded outcome) refl s;
+    rolled_back = λ name back. named_on name (k.transactions.rolled_back name (rolled_back_back name back));
+  }
+
+  held_then : (p : ℕ) (rs : List JournalRecord) (held : Held) → IsHeldAs w told p rs held → IsHeldAs v later p rs held
+  held_then p rs held old = record {
+    stood = old.stood;
+    there = old.there;
+    same_place = old.same_place;
+    numbers = old.numbers;
+    references = old.references;
+    line = λ life slot generation retry asked regs is.
+        let was = old.line life slot generation retry asked regs is in
+        (was.0, f.transaction_on was.0 (recorded_key p life slot generation) was.1, f.tells.on _ was.2);
+  }
+
+  node_then : (p : ℕ) (n : Node) → WasUp w v p n → NodeIsKnown w told p n → NodeIsKnown v later p n
+  node_then p n was old = record {
+    sound = old.sound;
+    given = λ name key named at in_life. old.given name key (f.transaction_back name key named) at in_life;
+    order = λ s rs there held.
+        let t = was.disks s there in
+        subst (λ (d : DiskState). IsInOrder (service_at p) d rs) t.2 (old.order t.0 rs t.1 (sym was.records ∙ held));
+    held = λ rs held has among. held_then p rs held (old.held rs held (sym was.records ∙ has) among);
+  }
+
+  nodes_then : NodesAreKnown v later
+  nodes_then p n is = elim (f.nodes p n is) [
+    | inl was ↦ node_then p n was (k.nodes p n was.up)
+    | inr new ↦ new
+  ]
+
   -- what is known then, where it is known of the seats
-  pub framed_known : KeysAreOnce v → NamedOnce v → SeatsAreNamed v (lines_of later) → DisksAreKnown v later → WereGiven v → AreOverAgain v → Known v later
-  framed_known keys once seats disks given again = record {
+  pub framed_known : KeysAreOnce v → NamedOnce v → SeatsAreNamed v (lines_of later) → DisksAreKnown v later → WereGiven v → Known v later
+  framed_known keys once seats disks given = record {
     names = names_then keys once;
     seats = seats;
     disks = disks;
@@ -510,7 +618,8 @@ module _ (w v : World) (told later : List Told) (f : Frame w v told later) (k : 
     rollbacks = rollbacks_then;
     rolled_back = rolled_back_then;
     told_back = told_back_then;
-    over = over_then again;
-    dones = dones_then;
+    transactions = transactions_then;
+    nodes = nodes_then;
+    counted = f.counted k.counted;
     allowed = f.allowed k.allowed;
   }

@@ -1,8 +1,7 @@
 -- What a crash inside a write leaves is an image of that moment.
-use Rattle.std.proofs.Common.{◌≡◌, inl, inr, ℕ, zero, suc, ◌+◌, ◌-◌, ◌<◌, ◌≤◌, ◌≢◌, Bool, true, false, ◌&&◌, ◌||◌, nat_le, nat_lt, List, [], ◌∷◌, ◌++◌, length, max, get_or, slice_index, refl, sym, ap, subst, ◌∙◌, arith, true≢false}
+use Rattle.std.proofs.Common.{◌≡◌, inl, inr, ℕ, zero, suc, ◌+◌, ◌<◌, ◌≤◌, Bool, true, false, ◌&&◌, ◌||◌, nat_le, nat_lt, List, [], ◌∷◌, length, get_or, refl, ap, ◌∙◌, arith, true≢false}
 use Rattle.std.proofs.lemmas.Bool.Decides.{nat_tests}
 use Rattle.ots_outside.specs.Disk.{DiskState, Write, IsImage, IsWritten, length_after}
-use Rattle.ots_world.specs.declared.script.Image.{Image}
 use Rattle.ots_world.specs.declared.script.Image.TheVariants as images
 use Rattle.nodes_world.specs.Disks.{is_written, is_unsynced, left_over, with_first, dealt, filled, left_by}
 use Rattle.nodes_world.specs.Laws.{WhatIsLeftIsAnImage}

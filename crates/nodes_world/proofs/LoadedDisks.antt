@@ -1,24 +1,23 @@
 -- What a load leaves on a disk of which all that it reads is synced: its records and the next life.
-use Rattle.std.proofs.Common.{◌≡◌, ◌⊎◌, inl, inr, ℕ, ◌+◌, ◌*◌, ◌^◌, ◌<◌, ◌≤◌, ◌==◌, ◌||◌, zero, suc, Bool, true, false, nat_lt, IsTrue, List, [], ◌∷◌, ◌++◌, length, get_or, Any, Contains, Option, Some, None, refl, sym, ap, subst, ◌∙◌, arith, length-append}
-use Rattle.std.specs.List.{flat_map, list_any}
+use Rattle.std.proofs.Common.{◌≡◌, inl, inr, ℕ, ◌+◌, ◌^◌, ◌<◌, ◌≤◌, ◌==◌, ◌||◌, Bool, true, false, nat_lt, List, [], ◌∷◌, ◌++◌, length, Any, refl, sym, ap, subst, ◌∙◌, arith}
+use Rattle.std.specs.List.{list_any}
 use Rattle.std.proofs.lemmas.Bool.Decides.{nat_tests}
 use Rattle.std.proofs.lemmas.List.{ext_get_or}
 use Rattle.std.proofs.lemmas.List.Elements.{Contains-append_left, Contains-push_cases}
 use Rattle.std.proofs.lemmas.List.Folds.{list_any-append}
-use Rattle.ots_outside.specs.Disk.{DiskState, IsImage, LeavesOnly, Moment}
-use Rattle.decision_journal.specs.Journal.{Found, Holds, StandsFor, first_gate, found_in, front, nothing_found, with_record}
+use Rattle.ots_outside.specs.Disk.{DiskState, IsImage, Moment}
+use Rattle.decision_journal.specs.Journal.{Found, Holds, StandsFor, first_gate, found_in, front}
 use Rattle.decision_journal.specs.Laws.{CanAppend, IsSettled}
 use Rattle.decision_journal.specs.Layout.{record_octets}
 use Rattle.decision_journal.specs.Limits.{area_limit}
-use Rattle.decision_journal.specs.Loading.{IsHeld, LoadsAreSafe, loaded, next_life}
-use Rattle.decision_journal.specs.State.{decisions, need, used}
+use Rattle.decision_journal.specs.Loading.{LoadsAreSafe, loaded, next_life}
+use Rattle.decision_journal.specs.State.{need, used}
 use Rattle.decision_journal.specs.declared.journal.Standing.{Standing}
 use Rattle.decision_journal.specs.declared.record.JournalRecord.{JournalRecord}
-use Rattle.decision_journal.specs.declared.record.JournalRecord.TheVariants.{Life}
 use Rattle.nodes_world.specs.AgreementInside.{IsNamedBy, placed}
 use Rattle.decision_journal.specs.Growing.{JournalsGrow}
 use Rattle.nodes_world.specs.Step.{lacks_life}
-use Rattle.nodes_world.proofs.KnownWorlds.{Follows, is_life}
+use Rattle.nodes_world.proofs.KnownWorlds.{Follows, is_mark}
 
 -- a settled disk leaves only what it reads
 only_reads : (disk : DiskState) → IsSettled disk → (image : List ℕ) → IsImage disk.present image → image ≡ disk.reads
@@ -49,15 +48,14 @@ module _ (grow : JournalsGrow) where
       let found = grow.added service rs (next_life rs) in
       record {
         life = let is = ap (λ (f : Found). f.life) found in omega (arith, is);
-        standing = ap (λ (f : Found). f.standing) found;
         places = λ o any.
             let at = lives_placed first_gate rs (next_life rs) in
             subst (Any (IsNamedBy o)) (sym at.1) (any_more (IsNamedBy o) (placed first_gate rs) at.0 any);
         others = λ r other c. elim (Contains-push_cases rs (next_life rs) r c) [
           | inl was ↦ was
-          | inr new ↦ absurd (no (ap is_life new ∙ other))
+          | inr new ↦ absurd (no (ap is_mark new ∙ other))
         ];
-        some = λ is_so never.
+        some = λ is_so never other.
             list_any-append is_so rs (next_life rs ∷ []) ∙ ap (λ b. list_any is_so rs || (b || false)) (never ((found_in rs).life + 1)) ∙ none (list_any is_so rs);
       }
     where

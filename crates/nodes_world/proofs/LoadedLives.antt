@@ -1,8 +1,8 @@
 -- A disk that holds records has room for the number of the next life.
-use Rattle.std.proofs.Common.{◌≡◌, ◌⊎◌, inl, inr, ℕ, ◌+◌, ◌^◌, ◌<◌, ◌≤◌, ◌==◌, zero, suc, Bool, true, false, IsTrue, List, [], ◌∷◌, ◌++◌, length, slice_get, Some, None, refl, sym, ap, subst, ◌∙◌, arith, length-append}
+use Rattle.std.proofs.Common.{◌≡◌, inl, inr, ℕ, ◌+◌, ◌^◌, ◌<◌, ◌≤◌, ◌==◌, true, false, IsTrue, List, [], ◌∷◌, length, slice_get, Some, None, sym, subst, arith, length-append}
 use Rattle.std.specs.List.{flat_map}
 use Rattle.std.proofs.lemmas.Bool.Decides.{nat_tests}
-use Rattle.decision_journal.specs.Journal.{AreInTurn, Found, Holds, StandsFor, can_follow, first_gate, found_in, front, header, nothing_found, with_record, with_records}
+use Rattle.decision_journal.specs.Journal.{AreInTurn, Found, Holds, can_follow, first_gate, found_in, header, nothing_found, with_record, with_records}
 use Rattle.decision_journal.specs.Layout.{record_octets}
 use Rattle.decision_journal.specs.Loading.{LoadsAreSafe}
 use Rattle.decision_journal.specs.declared.record.JournalRecord.{JournalRecord}
@@ -14,9 +14,9 @@ use Rattle.nodes_world.specs.Objects.{service_at}
 use Rattle.nodes_world.specs.World.{World, Seat, OfNode}
 use Rattle.nodes_world.specs.Lives.{loads}
 use Rattle.nodes_world.specs.Step.{lacks_life}
-use Rattle.nodes_world.specs.AgreementInside.{Known}
 use Rattle.nodes_world.specs.AgreementSteps.{StaysKnown}
 use Rattle.nodes_world.proofs.KnownLoad.{held_as, known_load}
+use Rattle.family_laws.specs.SoundNode.{NodesStaySound}
 
 one_further : (found : Found) (place : ℕ) (r : JournalRecord) → IsTrue (can_follow found r) → (with_record found place r).life ≤ found.life + 1
 one_further found place (Life life) is = let same = next life found.life is in omega (arith, same)
@@ -53,9 +53,9 @@ life_fits service octets rs (inl stands) =
     omega (arith, rises, some, both, within)
 life_fits service octets rs (inr (fresh, none)) = subst (λ (ps : List JournalRecord). (found_in ps).life + 1 < 2 ^ 32) (sym none) (omega arith)
 
-pub known_loading : JournalsGrow → LoadsAreSafe → RecordsAreRead → (w : World) (place : ℕ) (s : Seat) (rs : List JournalRecord)
+pub known_loading : JournalsGrow → LoadsAreSafe → RecordsAreRead → NodesStaySound → (w : World) (place : ℕ) (s : Seat) (rs : List JournalRecord)
     → slice_get w.seats place ≡ Some s → s.server ≡ OfNode None → records_on (service_at place) s.disk ≡ Some rs
     → lacks_life (service_at place) rs ≡ false → StaysKnown w (loads place s (Some rs) w)
-known_loading grow safe read w place s rs there down held lacks told k =
+known_loading grow safe read sound w place s rs there down held lacks told k =
     let fits = life_fits (service_at place) s.disk.reads rs (held_as w place s rs told there down held k) in
-    known_load grow safe read w place s rs told there down held lacks fits k
+    known_load grow safe read sound w place s rs told there down held lacks fits k

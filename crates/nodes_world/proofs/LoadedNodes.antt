@@ -1,7 +1,6 @@
 -- What a load finds in the records of a disk, and holds of them.
-use Rattle.std.proofs.Common.{◌≡◌, ◌⊎◌, inl, inr, ℕ, ◌+◌, ◌<◌, ◌≤◌, ◌==◌, ◌&&◌, ◌||◌, zero, suc, Bool, true, false, is_some, IsTrue, List, [], ◌∷◌, ◌++◌, length, map, filter_map, replicate, slice_get, Any, Contains, Option, Some, None, refl, sym, ap, ap₂, subst, ◌∙◌, arith}
-use Rattle.std.specs.List.{AllByRecursion, cons_option, list_any, remove}
-use Rattle.std.specs.Option.{option_and_then}
+use Rattle.std.proofs.Common.{◌≡◌, ◌⊎◌, inl, inr, ℕ, ◌+◌, ◌==◌, ◌||◌, zero, suc, Bool, true, false, IsTrue, List, [], ◌∷◌, ◌++◌, length, map, filter_map, replicate, Any, Contains, Option, Some, None, refl, sym, ap, subst, ◌∙◌, arith}
+use Rattle.std.specs.List.{AllByRecursion, cons_option, remove}
 use Rattle.std.proofs.lemmas.Bool.Decides.{nat_tests}
 use Rattle.std.proofs.lemmas.List.{length-replicate}
 use Rattle.std.proofs.lemmas.List.Elements.{Contains-append_cases, Contains-append_right, Contains-push_cases}
@@ -13,7 +12,7 @@ use Rattle.decision_journal.specs.declared.journal.Standing.{Standing}
 use Rattle.decision_journal.specs.declared.record.JournalRecord.{JournalRecord}
 use Rattle.decision_journal.specs.declared.record.JournalRecord.TheVariants.{Life, Decision, Done, Prepared, CellsPrepared, CellsOutcome, CellsOnePhase}
 use Rattle.decision_journal.specs.declared.record.Registration.{Registration}
-use Rattle.recovery_coord.specs.Held.{held_of, is_decided, is_held, is_nothing, loaded, party_of}
+use Rattle.recovery_coord.specs.Held.{held_of, is_decided, is_nothing, loaded, party_of}
 use Rattle.recovery_coord.specs.Laws.{registrations_of}
 use Rattle.recovery_coord.specs.declared.held.Due.{Due}
 use Rattle.recovery_coord.specs.declared.held.Due.TheVariants as due
@@ -21,14 +20,14 @@ use Rattle.recovery_coord.specs.declared.held.Held.{Held}
 use Rattle.recovery_coord.specs.declared.held.Party.{Party}
 use Rattle.coordinator.specs.Family.{Family}
 use Rattle.coordinator.specs.Limits.{slot_limit}
-use Rattle.coordinator.specs.Node.{Node, family_in, family_of, load, in_next_life, only_of}
+use Rattle.coordinator.specs.Node.{family_in, load, in_next_life}
 use Rattle.coordinator.specs.NodeParts.{IsWhole}
-use Rattle.nodes_world.specs.Agreement.{HoldsDecisions, IsHeldWhole}
-use Rattle.nodes_world.specs.AgreementInside.{is_prepared}
+use Rattle.nodes_world.specs.Agreement.{HoldsDecisions}
+use Rattle.nodes_world.specs.AgreementInside.{is_prepared, placed}
 
 -- ---- what stands is a record
 
-one_of : {A : Type 0} (x y : A) → Contains (x ∷ []) y → x ≡ y
+pub one_of : {A : Type 0} (x y : A) → Contains (x ∷ []) y → x ≡ y
 one_of x y c = elim (Contains-push_cases [] x y c) [
   | inl none ↦ absurd (no none)
   | inr is ↦ is
@@ -51,14 +50,11 @@ taken_back None xs s c = c
 taken_back (Some i) xs s c = remove_back xs i s c
 
 pushed_back : (xs : List Standing) (place : ℕ) (r : JournalRecord) (s : Standing) → Contains (xs ++ record { place = place; item = r } ∷ []) s
-    → Contains xs s ⊎ (r ≡ s.item)
-pushed_back xs place r s c = elim (Contains-push_cases xs (record { place = place; item = r }) s c) [
-  | inl old ↦ inl old
-  | inr new ↦ inr (ap (λ (x : Standing). x.item) new)
-]
+    → Contains xs s ⊎ (record { place = place; item = r } ≡ s)
+pushed_back xs place r s c = Contains-push_cases xs (record { place = place; item = r }) s c
 
 record_back : (found : Found) (place : ℕ) (r : JournalRecord) (s : Standing) → Contains (with_record found place r).standing s
-    → Contains found.standing s ⊎ (r ≡ s.item)
+    → Contains found.standing s ⊎ (record { place = place; item = r } ≡ s)
 record_back found place (Life life) s c = inl c
 record_back found place (Decision life slot generation by asked regs) s c = pushed_back found.standing place (Decision life slot generation by asked regs) s c
 record_back found place (Done named) s c = inl (taken_back _ found.standing s c)
@@ -68,24 +64,35 @@ record_back found place (CellsOutcome named how) s c = pushed_back found.standin
 record_back found place (CellsOnePhase life number ps) s c = pushed_back found.standing place (CellsOnePhase life number ps) s c
 
 records_back : (found : Found) (place : ℕ) (rs : List JournalRecord) (s : Standing) → Contains (with_records found place rs).standing s
-    → Contains found.standing s ⊎ Contains rs s.item
+    → Contains found.standing s ⊎ Contains (placed place rs) s
 records_back found place [] s c = inl c
 records_back found place (r ∷ rs) s c = elim (records_back (with_record found place r) (place + length (record_octets r)) rs s c) [
   | inl old ↦ elim (record_back found place r s old) [
     | inl older ↦ inl older
     | inr is ↦ inr (0, omega arith, is)
   ]
-  | inr later ↦ inr (Contains-append_right (r ∷ []) rs s.item later)
+  | inr later ↦ inr (Contains-append_right (record { place = place; item = r } ∷ []) (placed (place + length (record_octets r)) rs) s later)
 ]
 
-pub standing_record : (rs : List JournalRecord) (s : Standing) → Contains (found_in rs).standing s → Contains rs s.item
-standing_record rs s c = elim (records_back nothing_found first_gate rs s c) [
+-- what stands is a record, at its place
+pub standing_placed : (rs : List JournalRecord) (s : Standing) → Contains (found_in rs).standing s → Contains (placed first_gate rs) s
+standing_placed rs s c = elim (records_back nothing_found first_gate rs s c) [
   | inl none ↦ absurd (no none)
   | inr is ↦ is
 ]
   where
     no : Contains [] s → ⊥
     no (i, less, at) = omega (arith, less)
+
+pub placed_record : (place : ℕ) (rs : List JournalRecord) (s : Standing) → Contains (placed place rs) s → Contains rs s.item
+placed_record place [] s (i, less, at) = absurd (omega (arith, less))
+placed_record place (r ∷ rs) s c = elim (Contains-append_cases (record { place = place; item = r } ∷ []) (placed (place + length (record_octets r)) rs) s c) [
+  | inl first ↦ (0, omega arith, ap (λ (x : Standing). x.item) (one_of (record { place = place; item = r }) s first))
+  | inr later ↦ Contains-append_right (r ∷ []) rs s.item (placed_record (place + length (record_octets r)) rs s later)
+]
+
+pub standing_record : (rs : List JournalRecord) (s : Standing) → Contains (found_in rs).standing s → Contains rs s.item
+standing_record rs s c = placed_record first_gate rs s (standing_placed rs s c)
 
 -- ---- what is held is of what stands
 
@@ -120,19 +127,37 @@ parties_to : (first : Due) (regs : List Registration)
 parties_to first [] = refl
 parties_to first (r ∷ regs) = ap (λ tos. r.reference ∷ tos) (parties_to first regs)
 
+parties_numbers : (first : Due) (regs : List Registration)
+    → map (λ (p : Party). p.index) (map (party_of first [] []) regs) ≡ map (λ (r : Registration). r.index) regs
+parties_numbers first [] = refl
+parties_numbers first (r ∷ regs) = ap (λ numbers. r.index ∷ numbers) (parties_numbers first regs)
+
 abbrev HeldSo : ℕ → JournalRecord → Held → Type 0
 HeldSo place item h = (place ≡ h.place) × (map (λ (p : Party). p.to) h.parties ≡ map (λ (r : Registration). r.reference) (registrations_of item))
+    × (map (λ (p : Party). p.index) h.parties ≡ map (λ (r : Registration). r.index) (registrations_of item))
 
-held_so : (place : ℕ) (item : JournalRecord) (h : Held) → held_of place item [] [] ≡ Some h → HeldSo place item h
+pub held_so : (place : ℕ) (item : JournalRecord) (h : Held) → held_of place item [] [] ≡ Some h → HeldSo place item h
 held_so place (Life life) h is = absurd cc
 held_so place (Decision life slot generation by asked regs) h is =
-    subst (HeldSo place (Decision life slot generation by asked regs)) (inner_held _ h is) (refl, parties_to due.Commit regs)
+    subst (HeldSo place (Decision life slot generation by asked regs)) (inner_held _ h is) (refl, parties_to due.Commit regs, parties_numbers due.Commit regs)
 held_so place (Done named) h is = absurd cc
 held_so place (Prepared life slot generation recovery regs) h is =
-    subst (HeldSo place (Prepared life slot generation recovery regs)) (inner_held _ h is) (refl, parties_to due.Nothing regs)
+    subst (HeldSo place (Prepared life slot generation recovery regs)) (inner_held _ h is) (refl, parties_to due.Nothing regs, parties_numbers due.Nothing regs)
 held_so place (CellsPrepared life number recovery ps) h is = absurd cc
 held_so place (CellsOutcome named how) h is = absurd cc
 held_so place (CellsOnePhase life number ps) h is = absurd cc
+
+-- a decision is held as one, of its family
+pub decision_held_as : (place life slot generation : ℕ) (retry : Option RetryKey) (asked : Bool) (regs : List Registration) (h : Held)
+    → held_of place (Decision life slot generation retry asked regs) [] [] ≡ Some h
+    → (is_decided h.kind ≡ true) × (h.life ≡ life) × (h.slot ≡ slot) × (h.generation ≡ generation)
+decision_held_as place life slot generation retry asked regs h is =
+    let same = inner_held _ h is in (
+      ap (λ (x : Held). is_decided x.kind) (sym same),
+      ap (λ (x : Held). x.life) (sym same),
+      ap (λ (x : Held). x.slot) (sym same),
+      ap (λ (x : Held). x.generation) (sym same),
+    )
 
 -- a decision that is held has told nobody yet
 commit_due : (regs : List Registration) (p : Party) → Contains (map (party_of due.Commit [] []) regs) p → p.due ≡ due.Commit

@@ -1,7 +1,9 @@
 -- Of the empty world all is known.
-use Rattle.std.proofs.Common.{◌≡◌, ℕ, ◌<◌, arith, List, [], ◌∷◌, ◌++◌, Option, Some, None, refl}
-use Rattle.nodes_world.specs.World.{World, empty, end_at, node_at, referred, resource_at, thing_in}
+use Rattle.std.proofs.Common.{◌≡◌, ℕ, ◌<◌, arith, List, [], ◌∷◌, ◌++◌}
+use Rattle.nodes_world.specs.World.{empty, end_at, node_at, referred, resource_at, thing_in}
 use Rattle.nodes_world.specs.AgreementInside.{Known}
+use Rattle.nodes_world.specs.Agreement as agreed
+use Rattle.nodes_world.specs.Agreement.{IsRolledBack}
 
 pub nothing_known : Known empty []
 unfolding end_at node_at referred resource_at thing_in
@@ -19,12 +21,15 @@ nothing_known = record {
     registered = λ name t is. absurd is.1;
     one_transaction = λ name t other is also. absurd is.1;
     no_import = λ name above node stands. stands;
+    objects = λ name key is. absurd cc;
+    shown = λ name s stands. absurd stands;
   };
   seats = record {
     named = λ place s there. absurd cc;
     there = λ name place is. absurd cc;
     up = λ name life stands. absurd stands;
     senders = λ place o sent. absurd cc;
+    few = omega arith;
     calls = λ nth m to act there. absurd cc;
   };
   disks = record {
@@ -46,6 +51,8 @@ nothing_known = record {
     told = λ nth place o phase r is that there. absurd cc;
     sent = λ number phase name stands. absurd stands;
     replied = λ reply request m answer there says. absurd cc;
+    asked = λ reply request m answer there says. absurd cc;
+    voters = λ reply nth place m vote o there. absurd cc;
     lives = λ place o rs sent held. absurd cc;
     given = λ place s n o there is sent same. absurd cc;
     told_again = λ place o rs sent same held. absurd cc;
@@ -67,17 +74,24 @@ nothing_known = record {
   rollbacks = λ place o r sent. absurd cc;
   rolled_back = λ name key f is. absurd cc;
   told_back = λ name key f is. absurd cc;
-  over = record {
-    answered = λ nth from reply o object m r answer is. absurd cc;
-    heard = λ key f is. absurd cc;
-    told_again = λ place s n h p object r there. absurd cc;
+  transactions = record {
+    seated = λ name key is. absurd cc;
+    lives = λ name key rs is. absurd cc;
+    decided = λ name outcome stands. absurd stands;
+    rolled_back = λ name back. absurd (none_back name back);
   };
-  dones = λ place rs key to name r held. absurd cc;
+  nodes = λ place n is. absurd cc;
+  counted = record { numbers = λ place e is. absurd cc; messages = λ place e is. absurd cc };
   allowed = tt;
 }
   where
     none_there : {k : ℕ} → k < 0 → ⊥
     none_there {k} less = omega (arith, less)
+
+    none_back : (name : List ℕ) → IsRolledBack [] name → ⊥
+    none_back name (agreed.IsRolledBack.by_known reason s) = s
+    none_back name (agreed.IsRolledBack.by_other reason c) = none_there c.1
+    none_back name (agreed.IsRolledBack.by_synchronization reason synchronization c) = none_there c.1
 
     no_front : {A : Type 0} (before behind : List A) (line : A) → [] ≡ before ++ (line ∷ behind) → ⊥
     no_front [] behind line is = cc

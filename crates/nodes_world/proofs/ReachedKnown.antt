@@ -1,15 +1,13 @@
 -- What is known together, part by part.
-use Rattle.std.proofs.Common.{◌≡◌, ◌⊎◌, inl, inr, ℕ, List, reverse, Some, refl}
-use Rattle.ior_refs.specs.declared.key.ObjectKey.{ObjectKey}
-use Rattle.ots_model.specs.Safe.{Stands, IsSent, IsToldCommit}
+use Rattle.std.proofs.Common.{inl, inr, ℕ, List}
+use Rattle.ots_model.specs.Safe.{IsSent, IsToldCommit}
 use Rattle.ots_model.specs.declared.completion.Word.{Word}
 use Rattle.ots_model.specs.declared.completion.Word.TheVariants as phases
-use Rattle.ots_model.specs.declared.line.Line.{Line}
 use Rattle.resource_end.specs.declared.state.State.{State}
 use Rattle.resource_end.specs.declared.state.State.TheVariants as states
 use Rattle.nodes_world.specs.Told.{Told, known}
 use Rattle.nodes_world.specs.World.{World}
-use Rattle.nodes_world.specs.Agreement.{IsKnown, StatesFollow, VotesAreBound}
+use Rattle.nodes_world.specs.Agreement.{IsKnown, StatesFollow, VotesAreBound, DonesAreComplete}
 use Rattle.nodes_world.specs.AgreementInside.{Known}
 use Rattle.nodes_world.proofs.KnownLines.{among_back, among_turned, lines_of}
 
@@ -34,8 +32,8 @@ follows_in_order told states.ChoseCommit name is = is
 follows_in_order told states.ChoseRollback name is = is
 follows_in_order told states.Forgotten name is = is
 
-pub known_together : (w : World) (told : List Told) → Known w told → VotesAreBound w → IsKnown w told
-known_together w told k bound = record {
+pub known_together : (w : World) (told : List Told) → Known w told → VotesAreBound w → DonesAreComplete w → IsKnown w told
+known_together w told k bound dones = record {
   keys = k.names.keys;
   lives = k.disks.rise;
   disks = k.disks.follows;
@@ -51,7 +49,7 @@ known_together w told k bound = record {
   rollbacks = k.rollbacks;
   votes = bound;
   given = k.votes;
-  dones = k.dones;
+  dones = dones;
   states = λ name key r named at. follows_in_order told r.state name (k.resources name key r named at).follows;
   shown = λ name key r named at.
       let is = k.resources name key r named at in

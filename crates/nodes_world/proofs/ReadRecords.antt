@@ -1,15 +1,15 @@
 -- The records that octets stand for are those that are read in them.
-use Rattle.std.proofs.Common.{◌≡◌, ◌≢◌, ℕ, zero, suc, ◌+◌, ◌-◌, ◌<◌, ◌≤◌, ◌^◌, ◌==◌, ◌&&◌, ◌||◌, not, Bool, true, false, cond, nat_eq, nat_lt, bytes_eq, IsTrue, List, [], ◌∷◌, ◌++◌, length, take, drop, slice_index, Option, Some, None, refl, sym, ap, subst, ◌∙◌, arith, append_assoc, length-append}
+use Rattle.std.proofs.Common.{◌≡◌, ◌≢◌, ℕ, zero, suc, ◌+◌, ◌<◌, ◌≤◌, ◌^◌, ◌==◌, ◌&&◌, ◌||◌, Bool, true, false, cond, nat_eq, nat_lt, bytes_eq, IsTrue, List, [], ◌∷◌, ◌++◌, length, take, drop, Some, None, refl, ap, ◌∙◌, arith, append_assoc, length-append}
 use Rattle.std.specs.List.{AllByRecursion, flat_map}
 use Rattle.std.specs.Option.{option_map}
 use Rattle.std.proofs.lemmas.Bool.Decides.{nat_tests}
 use Rattle.decision_journal.specs.declared.record.JournalRecord.{JournalRecord}
 use Rattle.decision_journal.specs.Layout.{Fits, payload, record_octets, four}
-use Rattle.decision_journal.specs.Journal.{Found, StandsFor, AreInTurn, nothing_found, can_follow, with_record, front, header, first_gate, is_fresh}
+use Rattle.decision_journal.specs.Journal.{Found, AreInTurn, nothing_found, can_follow, with_record, front, header, first_gate, is_fresh}
 use Rattle.decision_journal.specs.Growing.{BodiesAreRead}
-use Rattle.decision_journal.specs.Reading.{Reading, body_at}
+use Rattle.decision_journal.specs.Reading.{body_at}
 use Rattle.nodes_world.specs.Limits.{area_limit}
-use Rattle.nodes_world.specs.Journals.{may_stand, records_with, records_behind, records_from, records_in}
+use Rattle.nodes_world.specs.Journals.{records_with, records_behind, records_from, records_in}
 use Rattle.nodes_world.specs.Laws.{RecordsAreRead}
 
 -- a record has octets, and its payload is shorter

@@ -1,8 +1,7 @@
 -- The branches of a family as a step leaves it that makes no subtransaction: they are those of before, under the same parents.
-use Rattle.std.proofs.Common.{◌≡◌, ◌↔◌, ◌==◌, ◌&&◌, ℕ, zero, suc, ◌<◌, IsTrue, List, [], ◌∷◌, length, slice_set, Contains, Option, Some, refl, sym, ap, subst, ◌∙◌}
+use Rattle.std.proofs.Common.{◌≡◌, ◌↔◌, ◌==◌, ◌&&◌, ℕ, zero, suc, ◌<◌, List, [], ◌∷◌, length, slice_set, Contains, Some, refl, sym, ap, subst, ◌∙◌}
 use Rattle.ior_refs.specs.declared.key.ObjectKey.{ObjectKey}
 use Rattle.ots_model.specs.Safe.{Stands, IsRegistered}
-use Rattle.ots_model.specs.declared.line.Line.{Line}
 use Rattle.ots_model.specs.declared.line.Line.TheVariants as lines
 use Rattle.resource_votes.specs.declared.registration.Registration.{Registration}
 use Rattle.txn_tree.specs.Calls.{ended, marked}
@@ -11,13 +10,12 @@ use Rattle.txn_tree.specs.declared.row.Row.{Row}
 use Rattle.coordinator.specs.declared.effect.Effect.{Effect}
 use Rattle.coordinator.specs.declared.effect.Effect.TheVariants as effects
 use Rattle.coordinator.specs.Family.{Family}
-use Rattle.coordinator.specs.Node.{is_of}
 use Rattle.family_laws.specs.LawsOfTelling.{rows_told}
 use Rattle.nodes_world.specs.declared.thing.Thing.{Thing}
 use Rattle.nodes_world.specs.Agreement.{IsTransaction}
 use Rattle.nodes_world.specs.AgreementInside.{Known, FamilyIsKnown, IsBranch}
 use Rattle.nodes_world.specs.Told.{Told}
-use Rattle.nodes_world.specs.World.{World, NamedKey, family_at, referred, thing, thing_in}
+use Rattle.nodes_world.specs.World.{World, NamedKey, family_at, referred, thing_in}
 use Rattle.nodes_world.proofs.KnownLines.{among_back, among_turned, lines_of}
 use Rattle.nodes_world.proofs.EffectsTold.{TellsEffects}
 use Rattle.nodes_world.proofs.EndsOpen.{parent_set}
@@ -57,7 +55,7 @@ branch_by w v f g names same t b (key, named, of, is) = (
 
 module _ (w v : World) (told more : List Told) (k : Known w told) (names : v.names ≡ w.names) (tells : TellsEffects told more)
     (key : ObjectKey) (f g : Family) (there : family_at w key ≡ Some f) (same : g.key ≡ f.key) (some : List Effect) (rows : g.rows ≡ rows_told some f.rows) where
-  pub old : FamilyIsKnown w (lines_of told) f
+  abbrev pub old : FamilyIsKnown w (lines_of told) f
   old = k.families key f there
 
   pub branch_on : (t : List ℕ) (b : ℕ) → IsBranch w f t b → IsBranch v g t b

@@ -1,9 +1,7 @@
 -- What a stop inside an append leaves: the records of before, or these and the new one.
-use Rattle.std.proofs.Common.{◌≡◌, ℕ, zero, suc, ◌+◌, ◌-◌, ◌<◌, ◌≤◌, Bool, true, false, cond, nat_le, List, [], ◌∷◌, ◌++◌, length, take, drop, Option, Some, None, refl, sym, ap, subst, ◌∙◌, arith, length-append, length-take}
+use Rattle.std.proofs.Common.{◌≡◌, ℕ, ◌+◌, ◌-◌, ◌<◌, ◌≤◌, Bool, true, false, cond, nat_le, List, [], ◌∷◌, ◌++◌, length, take, drop, Option, Some, None, refl, sym, ap, subst, ◌∙◌, arith, length-append, length-take}
 use Rattle.std.proofs.lemmas.List.{append_cancel_right}
-use Rattle.std.proofs.lemmas.Bool.{cases_lt}
-use Rattle.std.proofs.lemmas.Bool.Decides.{nat_tests}
-use Rattle.ots_outside.specs.Disk.{DiskState, Moment, IsImage, LeavesOnly, EachLeavesOnly, LeavesOnlySince, moments, written, synced}
+use Rattle.ots_outside.specs.Disk.{DiskState, Moment, IsImage, EachLeavesOnly, LeavesOnlySince, moments, written}
 use Rattle.ots_outside.specs.Laws.{WritesReadImages}
 use Rattle.decision_journal.specs.declared.record.JournalRecord.{JournalRecord}
 use Rattle.decision_journal.specs.Journal.{StandsFor, StandsForEither, front}

@@ -1,5 +1,5 @@
 -- A word comes to a resource of an end: what is known stays known.
-use Rattle.std.proofs.Common.{◌≡◌, ◌≢◌, ◌⊎◌, inl, inr, ℕ, ◌+◌, ◌==◌, is_some, IsTrue, List, [], ◌∷◌, ◌++◌, find, if◌then◌else◌, Option, Some, None, refl, sym, ap, ap₂, subst, ◌∙◌, arith}
+use Rattle.std.proofs.Common.{◌≡◌, ◌≢◌, ◌⊎◌, inl, inr, ℕ, ◌+◌, ◌==◌, is_some, IsTrue, List, [], ◌∷◌, ◌++◌, find, if◌then◌else◌, Option, Some, None, refl, sym, ap, ap₂, subst, ◌∙◌, arith, Bool, true, false, cond, length-append}
 use Rattle.std.specs.Option.{option_and_then}
 use Rattle.ior_refs.specs.declared.key.ObjectKey.{ObjectKey}
 use Rattle.ots_model.specs.SafeByLine.{AllowedIsSafe, CanChange}
@@ -22,19 +22,20 @@ use Rattle.coordinator.specs.declared.said.Said.{Said}
 use Rattle.coordinator.specs.declared.said.Said.TheVariants as said
 use Rattle.nodes_world.specs.Agreement.{IsOver, IsWord}
 use Rattle.nodes_world.specs.AgreementInside.{Known, HasAnswered, HasNotVoted, HasVotedCommit, ResourceIsKnown, phase_of}
-use Rattle.nodes_world.specs.Ends.{answer_of_row, answers, moves, obeys, obeys_as, obeys_row, obeys_word, shown_state, state_lines, told_word, with_resource_at}
+use Rattle.nodes_world.specs.Ends.{answer_of_row, answers, moves, obeys, obeys_as, obeys_row, obeys_word, shown_state, state_lines, told_word, with_resource_at, with_resource}
 use Rattle.nodes_world.specs.Happenings.{Done, nothing, replies, ◌▹◌}
 use Rattle.nodes_world.specs.Objects.{place_of}
 use Rattle.nodes_world.specs.Told as tell
 use Rattle.nodes_world.specs.Told.{Told}
-use Rattle.nodes_world.specs.World.{World, FlatEnd, FlatResource, NamedKey, end_at, next_message, node_at, referred, resource_at, with_sent}
+use Rattle.nodes_world.specs.World.{World, FlatEnd, FlatResource, NamedKey, end_at, next_message, node_at, referred, resource_at, with_sent, OfEnd}
 use Rattle.nodes_world.proofs.Going.{EndIsUp, end_is_up}
 use Rattle.nodes_world.proofs.KnownLines.{lines_of}
 use Rattle.nodes_world.proofs.KnownWords.{resource_of, sent_of, told_commit, voter_stands}
 use Rattle.nodes_world.proofs.CanChange.{can_apply, can_undo, told_phase}
 use Rattle.nodes_world.proofs.RowsMove.{WasTold, applied_stays, commit_ends, commit_now, follows_moves, forgotten_stays, moved, only_prepare_votes, over_moves, read_only_now, rollback_now, row_answers, shown_applied, shown_undone, undone_stays, unvoted_moves, voted_moves}
-use Rattle.nodes_world.proofs.KnownTouch.{end_of, family_same, nodes_same, records_same, refers_same, replaced, replaced_is, seats_are, seats_were, turned_one, turned_still}
+use Rattle.nodes_world.proofs.KnownTouch.{end_of, family_same, nodes_same, records_same, refers_same, replaced, replaced_is, seats_are, seats_were, turned_one, turned_still, counted_same}
 use Rattle.nodes_world.proofs.KnownObeys.{Obeys, Replies, obeyed_known, obeyed_lines, reply_of, shown_told}
+use Rattle.nodes_world.proofs.KnownSeats.{as_long}
 
 -- ---- the two worlds
 
@@ -61,6 +62,14 @@ stays_replies w x r request answer was = record {
   seats_on = λ place s at. (s, at, refl);
   turned = λ key q at. by key q at (same_or_not (place_of key) (place_of x.key)) (same_or_not key.generation x.key.generation);
   turned_on = λ key q at. (q, at, refl);
+  counted = λ all. record {
+    numbers = all.numbers;
+    messages = λ p e is.
+        let low = all.messages p e is in
+        let many = length-append w.messages (reply_of request answer ∷ []) in
+        omega (arith, low, many);
+  };
+  many = refl;
 }
   where
     inner : {a b : FlatResource} → Some a ≡ Some b → a ≡ b
@@ -92,6 +101,9 @@ becomes_replies w x r next request answer e at was same =
       seats_on = seats_are w (place_of x.key) at.seat e next ms at.there at.up;
       turned = turned_one w (place_of x.key) at.seat e next ms at.there at.up x.key r refl was same;
       turned_on = turned_still w (place_of x.key) at.seat e next ms at.there at.up x.key r refl was same;
+      counted = counted_same w (place_of x.key) at.seat e next ms at.there at.up
+          (let many = length-append w.messages (reply_of request answer ∷ []) in omega (arith, many));
+      many = as_long w.seats (place_of x.key) (record at.seat { server = OfEnd (Some (with_resource next e)) });
     }
 
 -- ---- states
@@ -191,6 +203,7 @@ module _ (w : World) (told : List Told) (k : Known w told) (is_safe : AllowedIsS
           let sent = sent_of w told k place o phases.Commit x (nth, asked) (ap phase_of is) refers in
           subst (λ (z : EndWord). IsOver (moved (row z r.state).next r.state)) (sym own)
           (commit_ends r.state x.name (lines_of told) (voter_stands w told k x.name r old (told_commit w told k x.name sent).2));
+      voter = λ vote voted. is_prepare (only_prepare_votes word r.state vote (says ∙ ap (λ (z : Said). Some z) voted));
       applied_on = stays_at word r.state states.Applied (applied_stays word);
       applied_shown = moved_applied (row word r.state).next r.state;
       applied_now = applied_by (row word r.state).next r.state;
@@ -241,8 +254,9 @@ module _ (w : World) (told : List Told) (k : Known w told) (is_safe : AllowedIsS
 
   -- ---- any other word
 
-  obeys_plainly : told_word o.word ≡ None → (answer : Said) → Obeys (lines_of told) x.name r.state r.state o.word answer None
-  obeys_plainly other answer = record {
+  obeys_plainly : told_word o.word ≡ None → (answer : Said) → ((vote : Vote) → answer ≡ said.Voted vote → ⊥)
+      → Obeys (lines_of told) x.name r.state r.state o.word answer None
+  obeys_plainly other answer no_vote = record {
     commit = λ voted. voted;
     commit_now = λ is voted. absurd (none_of words.Prepare tolds.Prepare is refl);
     read_only = λ is. is;
@@ -253,6 +267,7 @@ module _ (w : World) (told : List Told) (k : Known w told) (is_safe : AllowedIsS
     follows = old.follows;
     over = λ over. over;
     ends = λ is. absurd (none_of words.Commit tolds.Commit is refl);
+    voter = λ vote is. absurd (no_vote vote is);
     applied_on = λ is. is;
     applied_shown = λ is. absurd (no_state is);
     applied_now = λ is. inl is;
@@ -270,11 +285,11 @@ module _ (w : World) (told : List Told) (k : Known w told) (is_safe : AllowedIsS
       no_state : {t : ResourceState} → None ≡ Some t → ⊥
       no_state e = absurd cc
 
-  plainly_known : told_word o.word ≡ None → (answer : Said) → Known (replies (nth + 1) answer w).world (told ++ (replies (nth + 1) answer w).lines)
+  plainly_known : told_word o.word ≡ None → (answer : Said) → ((vote : Vote) → answer ≡ said.Voted vote → ⊥) → Known (replies (nth + 1) answer w).world (told ++ (replies (nth + 1) answer w).lines)
   unfolding replies
-  plainly_known other answer =
+  plainly_known other answer no_vote =
       obeyed_known w (with_sent (reply_of (nth + 1) answer) w) told k nth place o asked x refers r r was answer None (next_message w)
-      (stays_replies w x r (nth + 1) answer was) (obeys_plainly other answer)
+      (stays_replies w x r (nth + 1) answer was) (obeys_plainly other answer no_vote)
 
   answered_row : (word : EndWord) → told_word o.word ≡ Some word → (a : Option Said) → answer_of_row (row word r.state).said ≡ a → IsTrue (is_some a)
       → Known (obeys_row (nth + 1) x r (row word r.state) w).world (told ++ (obeys_row (nth + 1) x r (row word r.state) w).lines)
@@ -283,7 +298,11 @@ module _ (w : World) (told : List Told) (k : Known w told) (is_safe : AllowedIsS
 
   by_word : (z : Option EndWord) → told_word o.word ≡ z → Known (obeys_word z (nth + 1) x r w).world (told ++ (obeys_word z (nth + 1) x r w).lines)
   by_word (Some word) means = answered_row word means (answer_of_row (row word r.state).said) refl (row_answers word r.state)
-  by_word None other = plainly_known other (if is_forgotten r.state then said.ObjectNotExist else said.Plain)
+  by_word None other = plainly_known other (if is_forgotten r.state then said.ObjectNotExist else said.Plain) (no_vote (is_forgotten r.state))
+    where
+      no_vote : (b : Bool) (vote : Vote) → cond b said.ObjectNotExist said.Plain ≡ said.Voted vote → ⊥
+      no_vote true vote is = absurd cc
+      no_vote false vote is = absurd cc
 
 -- a word comes to whom it goes
 pub word_known : (w : World) (told : List Told) → Known w told → AllowedIsSafe → (nth place : ℕ) (o : Outward) → IsWord w nth place o

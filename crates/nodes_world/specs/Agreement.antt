@@ -1,7 +1,7 @@
 -- Agreement: the lines of every world that a script can reach are safe, through crashes too (Transaction Service, the two phases of
 -- interfaces Terminator, Coordinator and Resource). What is known of a family is said by lines, and by the records that its node's
 -- disk holds: a family in memory is gone after a crash. The statements of this file are not proved yet.
-use Rattle.std.specs.Prelude.{◌≡◌, ℕ, ◌+◌, ◌<◌, ◌⊎◌, ◌==◌, ◌&&◌, ◌||◌, ◌↔◌, Bool, false, not, List, [], ◌∷◌, ◌++◌, map, bytes_eq, slice_get, Contains, Option, Some, None, is_some, IsTrue}
+use Rattle.std.specs.Prelude.{◌≡◌, ℕ, ◌+◌, ◌<◌, ◌⊎◌, ◌==◌, ◌&&◌, ◌||◌, ◌↔◌, Bool, false, not, List, [], ◌∷◌, ◌++◌, map, bytes_eq, slice_get, Contains, Option, Some, None, is_some, IsTrue, ◌≤◌, length}
 use Rattle.std.specs.List.{list_any}
 use Rattle.std.specs.Option.{option_and_then, option_map_or}
 use Rattle.ior_refs.specs.declared.key.ObjectKey.{ObjectKey}
@@ -47,15 +47,20 @@ use Rattle.nodes_world.specs.World.{World, Seat, OfNode, FlatResource, NamedKey,
 use Rattle.nodes_world.specs.Resolve.{resolve}
 use Rattle.nodes_world.specs.Run.{run}
 use Rattle.nodes_world.specs.Step.{carried_out, limit_before}
+use Rattle.nodes_world.specs.Limits.{message_limit}
 
 -- ---- the theorem
+
+-- a script goes on only while there are no more messages than there may be
+abbrev pub GoesOnFrom : World → Type 0
+GoesOnFrom w = length w.messages ≤ message_limit
 
 -- a script can reach the world, and these are the lines that it has told. A line that sends too many messages counts too: of its
 -- lines some from the front are told.
 pub data Reaches : World → List Told → Type 0 where
   nothing : Reaches empty []
-  further : (w : World) (told : List Told) (event : ScriptEvent) (deed : Deed) → Reaches w told → resolve event w ≡ Some deed
-      → limit_before deed w ≡ None → Reaches (carried_out deed w).world (told ++ (carried_out deed w).lines)
+  further : (w : World) (told : List Told) (event : ScriptEvent) (deed : Deed) → Reaches w told → GoesOnFrom w
+      → resolve event w ≡ Some deed → limit_before deed w ≡ None → Reaches (carried_out deed w).world (told ++ (carried_out deed w).lines)
 
 -- whatever a script does, the lines that are told are safe
 abbrev pub Agreement : Type 0
@@ -192,7 +197,7 @@ abbrev pub is_registration_of : List ℕ → Registration → Bool
 is_registration_of to r = bytes_eq r.reference to
 
 -- The decision of a family rests on votes: the family has a name, each of its participants has consented, and the registrations are
--- exactly those that have voted commit.
+-- exactly those that have voted commit, each under a number of its own.
 pub record RestsOnVotes (w : World) (told : List Told) (family : ObjectKey) (regs : List Registration) : Type 0 where
   pub name : List ℕ
   pub of_name : IsTransaction w name family
@@ -200,6 +205,8 @@ pub record RestsOnVotes (w : World) (told : List Told) (family : ObjectKey) (reg
   pub named : (to : List ℕ) → IsTrue (list_any (is_registration_of to) regs) → IsTrue (is_some (referred w to))
   pub voters : (to : List ℕ) (r : NamedKey) → referred w to ≡ Some r → IsTrue (list_any (is_registration_of to) regs)
       ↔ (TakesPart r.name name (known told) × Stands (lines.Voted r.name VoteCommit) (known told))
+  -- a number is that of one of them
+  pub once : (r s : Registration) → Contains regs r → Contains regs s → r.index ≡ s.index → r.reference ≡ s.reference
 
 -- so does each decision on a disk, from the moment at which a crash may leave it there
 abbrev pub RecordsRestOnVotes : World → List Told → Type 0
@@ -378,5 +385,5 @@ pub record OutcomesLast (w later : World) (told all : List Told) : Type 0 where
 
 -- so it is, whatever a script does
 abbrev pub ReachedOutcomesLast : Type 0
-ReachedOutcomesLast = (w : World) (told : List Told) (event : ScriptEvent) (deed : Deed) → Reaches w told → resolve event w ≡ Some deed
-    → limit_before deed w ≡ None → OutcomesLast w (carried_out deed w).world told (told ++ (carried_out deed w).lines)
+ReachedOutcomesLast = (w : World) (told : List Told) (event : ScriptEvent) (deed : Deed) → Reaches w told → GoesOnFrom w
+    → resolve event w ≡ Some deed → limit_before deed w ≡ None → OutcomesLast w (carried_out deed w).world told (told ++ (carried_out deed w).lines)

@@ -1,11 +1,12 @@
 -- What is known of every world that a script can reach, so that one more step keeps it: the parts of agreement, each of what one kind
 -- of line, message or record says. The lines so far come newest first.
-use Rattle.std.specs.Prelude.{◌≡◌, ◌↔◌, ℕ, ◌<◌, ◌≤◌, ◌⊎◌, ◌+◌, Bool, true, false, List, length, reverse, slice_get, Contains, Option, Some, None, IsTrue, is_some, ◌∷◌, []}
-use Rattle.std.specs.List.{Any}
+use Rattle.std.specs.Prelude.{◌≡◌, ◌↔◌, ℕ, ◌<◌, ◌≤◌, ◌⊎◌, ◌+◌, Bool, true, false, List, length, map, reverse, slice_get, Contains, Option, Some, None, IsTrue, is_some, ◌∷◌, []}
+use Rattle.std.specs.List.{Any, AllByRecursion}
 use Rattle.ior_refs.specs.declared.key.ObjectKey.{ObjectKey}
 use Rattle.ots_model.specs.Safe.{Stands, IsRegistered, IsSent, IsToldCommit, IsToldRollback, IsTop}
 use Rattle.ots_model.specs.SafeByLine.{AreAllowed}
 use Rattle.ots_model.specs.declared.completion.Ground.TheVariants.{Record}
+use Rattle.ots_model.specs.declared.completion.Outcome.{Outcome as ToldOutcome}
 use Rattle.ots_model.specs.declared.completion.Outcome.TheVariants as told_outcomes
 use Rattle.ots_model.specs.declared.completion.Vote.{Vote}
 use Rattle.ots_model.specs.declared.completion.Vote.TheVariants.{VoteCommit, VoteReadOnly, VoteRollback}
@@ -13,7 +14,9 @@ use Rattle.ots_model.specs.declared.completion.Word.{Word as Phase}
 use Rattle.ots_model.specs.declared.completion.Word.TheVariants as phases
 use Rattle.ots_model.specs.declared.line.Line.{Line}
 use Rattle.ots_model.specs.declared.line.Line.TheVariants as lines
+use Rattle.ots_model.specs.declared.line.ResourceState.{ResourceState}
 use Rattle.ots_model.specs.declared.line.ResourceState.TheVariants as shown
+use Rattle.ots_model.specs.declared.service.RetryKey.{RetryKey}
 use Rattle.ots_model.specs.declared.tree.Outcome.{Outcome}
 use Rattle.ots_model.specs.declared.tree.Outcome.TheVariants as outcomes
 use Rattle.ots_model.specs.declared.tree.Outward.{Outward}
@@ -33,7 +36,7 @@ use Rattle.decision_journal.specs.Layout.{record_octets}
 use Rattle.decision_journal.specs.declared.journal.Standing.{Standing}
 use Rattle.decision_journal.specs.declared.record.Registration.{Registration as Named}
 use Rattle.decision_journal.specs.declared.record.JournalRecord.{JournalRecord}
-use Rattle.decision_journal.specs.declared.record.JournalRecord.TheVariants.{Prepared}
+use Rattle.decision_journal.specs.declared.record.JournalRecord.TheVariants.{Decision, Prepared}
 use Rattle.recovery_coord.specs.Held.{is_nothing}
 use Rattle.recovery_coord.specs.Laws.{registrations_of}
 use Rattle.recovery_coord.specs.Limits.{retold_slot}
@@ -41,24 +44,31 @@ use Rattle.recovery_coord.specs.declared.held.Held.{Held}
 use Rattle.recovery_coord.specs.declared.held.Party.{Party as HeldParty}
 use Rattle.resource_end.specs.declared.state.State.{State}
 use Rattle.resource_end.specs.declared.state.State.TheVariants as states
-use Rattle.coordinator.specs.Family.{Family}
+use Rattle.coordinator.specs.Family.{Family, Call, Duty, call_at}
+use Rattle.coordinator.specs.declared.call.Leg.{Leg}
+use Rattle.coordinator.specs.declared.call.Leg.TheVariants.{Below, Own, Before, Deciding, After}
 use Rattle.coordinator.specs.Names.{coordinator_kind}
 use Rattle.family_laws.specs.Sound.{IsSoundFamily, IsAsking}
 use Rattle.family_laws.specs.LawsOfTelling.{IsVoted}
+use Rattle.family_laws.specs.SoundNode.{IsSoundNode}
 use Rattle.coordinator.specs.Node.{Node, is_of, life}
 use Rattle.coordinator.specs.declared.event.Act.{Act}
 use Rattle.coordinator.specs.NodeParts.{IsWhole}
 use Rattle.coordinator.specs.declared.event.Act.{Act}
+use Rattle.coordinator.specs.declared.said.Entry.{Entry}
 use Rattle.coordinator.specs.declared.said.Said.{Said}
 use Rattle.coordinator.specs.declared.said.Said.TheVariants as said
 use Rattle.nodes_world.specs.declared.message.Content.TheVariants as contents
 use Rattle.nodes_world.specs.declared.message.Message.{Message}
 use Rattle.nodes_world.specs.declared.thing.Thing.{Thing}
 use Rattle.nodes_world.specs.declared.thing.Thing.TheVariants as things
-use Rattle.nodes_world.specs.Agreement.{DecisionsAreHeld, DecisionsAreRecorded, DonesAreComplete, HasSent, IsTransaction, IsWord, KeysAreOnce, LivesRise, NodesFollowDisks, NoneIsBoth, NumbersAreOnce, OnePhaseIsAlone, RecordsRestOnVotes, RollbacksAreClosed, CommitsAreRecorded, SubtransactionsEndOnce, VotesWereGiven, WordsAreNamed, has_record, is_decision_of, records_at, IsOver, IsRolledBack, StatesFollow}
-use Rattle.nodes_world.specs.Objects.{place_of, service_at}
-use Rattle.nodes_world.specs.Told.{Told, known, operation_of}
-use Rattle.nodes_world.specs.World.{World, Seat, OfNode, FlatResource, NamedKey, family_at, referred, resource_at, thing}
+use Rattle.nodes_world.specs.Agreement.{DecisionsAreHeld, DecisionsAreRecorded, HasSent, IsTransaction, IsWord, KeysAreOnce, LivesRise, NodesFollowDisks, NoneIsBoth, NumbersAreOnce, OnePhaseIsAlone, RecordsRestOnVotes, RollbacksAreClosed, CommitsAreRecorded, SubtransactionsEndOnce, VotesWereGiven, WordsAreNamed, has_record, is_decision_of, recorded_key, records_at, IsOver, IsRolledBack, StatesFollow}
+use Rattle.nodes_world.specs.Laws.{IsInOrder}
+use Rattle.nodes_world.specs.Limits.{seat_limit}
+use Rattle.nodes_world.specs.Objects.{place_of, service_at, resource_key}
+use Rattle.nodes_world.specs.Told.{Told, known}
+use Rattle.nodes_world.specs.World.{World, Seat, OfNode, FlatEnd, FlatResource, NamedKey, end_at, family_at, node_at, referred, resource_at, thing}
+use Rattle.nodes_world.specs.declared.deed.Manner.{Manner}
 
 -- ---- names
 
@@ -86,6 +96,11 @@ pub record NamesAreTold (w : World) (h : List Line) : Type 0 where
       → (key : ObjectKey) × (of : ObjectKey) × (thing w name ≡ Some (things.Resource key)) × IsTransaction w t of
   pub one_transaction : (name t other : List ℕ) → IsRegistered name t h → IsRegistered name other h → t ≡ other
   pub no_import : (name above node : List ℕ) → Stands (lines.Imp name above node) h → ⊥
+  -- each resource is an object of an end
+  pub objects : (name : List ℕ) (key : ObjectKey) → thing w name ≡ Some (things.Resource key)
+      → (manner : Manner) × (place number : ℕ) × (key ≡ resource_key manner place number)
+  -- only a resource is told to come into a state
+  pub shown : (name : List ℕ) (s : ResourceState) → Stands (lines.State name s) h → (key : ObjectKey) × (thing w name ≡ Some (things.Resource key))
 
 -- ---- seats
 
@@ -98,9 +113,10 @@ pub record SeatsAreNamed (w : World) (h : List Line) : Type 0 where
   pub up : (name : List ℕ) (life : ℕ) → Stands (lines.Up name life) h → (place : ℕ) × (thing w name ≡ Some (things.Seat place))
   -- nor has any other one sent a word
   pub senders : (place : ℕ) (o : Outward) → HasSent w place o → IsTrue (is_some (slice_get w.seats place))
-  -- what clients have called is what a client may call
+  pub few : length w.seats ≤ seat_limit
+  -- a client's call was delivered when it was made
   pub calls : (nth : ℕ) (m : Message) (to : ObjectKey) (act : Act) → slice_get w.messages nth ≡ Some m → m.content ≡ contents.Call to act
-      → IsTrue (is_some (operation_of act))
+      → m.delivered ≡ true
 
 -- ---- disks
 
@@ -154,6 +170,12 @@ pub record WordsAreTold (w : World) (h : List Line) : Type 0 where
   -- a reply comes behind the message that it answers
   pub replied : (reply request : ℕ) (m : Message) (answer : Said) → slice_get w.messages reply ≡ Some m
       → m.content ≡ contents.Reply request answer → request ≤ reply
+  -- and that is a word
+  pub asked : (reply request : ℕ) (m : Message) (answer : Said) → slice_get w.messages reply ≡ Some m
+      → m.content ≡ contents.Reply request answer → (nth from : ℕ) × (o : Outward) × IsWord w nth from o × (request ≡ nth + 1)
+  -- a vote answers prepare
+  pub voters : (reply nth place : ℕ) (m : Message) (vote : Vote) (o : Outward) → slice_get w.messages reply ≡ Some m
+      → m.content ≡ contents.Reply (nth + 1) (said.Voted vote) → IsWord w nth place o → o.word ≡ words.Prepare
   -- no number is of a later life; those of this life were given
   pub lives : (place : ℕ) (o : Outward) (rs : List JournalRecord) → HasSent w place o → records_at w place ≡ Some rs
       → o.number.life ≤ (found_in rs).life
@@ -224,6 +246,18 @@ abbrev pub OutcomeIsTold : Option Outcome → List ℕ → List Line → Type 0
 OutcomeIsTold (Some (outcomes.Commit basis)) name h = Stands (lines.Decide name (told_outcomes.Commit basis)) h
 OutcomeIsTold _ name h = Stands (lines.Decide name (told_outcomes.Commit Record)) h → ⊥
 
+-- a message has this number
+abbrev pub HasMessage : World → ℕ → Type 0
+HasMessage w number = (nth : ℕ) × (m : Message) × (slice_get w.messages nth ≡ Some m) × (number ≡ nth + 1)
+
+-- it calls no synchronization before a commit
+abbrev pub IsNotBefore : Leg → Type 0
+IsNotBefore Below = Unit {0}
+IsNotBefore Own = Unit {0}
+IsNotBefore (Before so_many) = ⊥
+IsNotBefore Deciding = Unit {0}
+IsNotBefore (After so_many) = Unit {0}
+
 pub record FamilyIsKnown (w : World) (h : List Line) (f : Family) : Type 0 where
   pub sound : IsSoundFamily f
   pub name : List ℕ
@@ -238,8 +272,24 @@ pub record FamilyIsKnown (w : World) (h : List Line) (f : Family) : Type 0 where
   -- what is registered of it, by a line, is so with the branch that it has here
   pub own : (r : Registration) (object : NamedKey) (t : List ℕ) → Contains f.ballots.registrations r → referred w r.to ≡ Some object
       → IsRegistered object.name t h → IsBranch w f t r.branch
+  -- registrations are numbered from 1, and no synchronization is registered
+  pub numbered : (i : ℕ) (r : Registration) → slice_get f.ballots.registrations i ≡ Some r → r.index ≡ i + 1
+  pub unsynchronized : f.ballots.synchronizations ≡ []
+  -- each is of an object that has a name, and of another one than the others
+  pub named : (r : Registration) → Contains f.ballots.registrations r → IsTrue (is_some (referred w r.to))
+  pub apart : (r s : Registration) → Contains f.ballots.registrations r → Contains f.ballots.registrations s → r.to ≡ s.to → r ≡ s
+  -- registered with a branch that there is
+  pub within : (r : Registration) → Contains f.ballots.registrations r → r.branch < length f.rows
+  -- its history is of calls whose messages were sent
+  pub came : (e : Entry) (r : RetryKey) → Contains f.entries e → e.event.key ≡ Some r → HasMessage w r.number
+  -- what a call is still to tell goes to one of those
+  pub dues : (b : ℕ) (c : Call) → call_at f b ≡ Some c → AllByRecursion (λ (d : Duty). Contains f.ballots.registrations d.resource) c.left
+  -- no call is at a synchronization
+  pub legs : (b : ℕ) (c : Call) → call_at f b ≡ Some c → IsNotBefore c.leg
   pub votes : (g : ℕ) (vote : Vote) (r : Registration) (object : NamedKey) → Contains f.ballots.registrations r → r.index ≡ g
       → referred w r.to ≡ Some object → IsVoted f.completion g vote ↔ Stands (lines.Voted object.name vote) h
+  -- between its steps it wants no decision of the journal
+  pub settled : stages.wants_decision f.completion ≡ false
   pub outcome : OutcomeIsTold (stages.outcome f.completion) name h
   pub recorded : IsTrue (has_record w (place_of f.key) (is_decision_of f.key))
       ↔ (stages.outcome f.completion ≡ Some (outcomes.Commit Record))
@@ -270,7 +320,8 @@ abbrev pub RollbacksAreTold : World → List Told → Type 0
 RollbacksAreTold w told = (name : List ℕ) (key : ObjectKey) (f : Family) → family_at w key ≡ Some f → IsTransaction w name f.key
     → IsBack (stages.outcome f.completion) → IsRolledBack told name
 
--- it is over for each resource that has answered commit, and so for each that its family, or its record, has heard
+-- It is over for each resource that has answered commit, and so for each that its family, or its record, has heard. Agreement
+-- doesn't rest on this.
 abbrev pub HasHeardAll : World → Completion → Type 0
 HasHeardAll w (Waiting room) = Unit {0}
 HasHeardAll w (UnderWay c) = (p : Party) (object : NamedKey) (r : FlatResource) → Contains c.parties p → IsTrue (is_some p.told)
@@ -285,6 +336,50 @@ pub record CompletionsAreOver (w : World) : Type 0 where
   pub told_again : (place : ℕ) (s : Seat) (n : Node) (h : Held) (p : HeldParty) (object : NamedKey) (r : FlatResource)
       → slice_get w.seats place ≡ Some s → s.server ≡ OfNode (Some n) → Contains n.recovered h → Contains h.parties p
       → IsTrue (is_nothing p.due) → referred w p.to ≡ Some object → resource_at w object.key ≡ Some r → IsOver r.state
+
+-- ---- transactions that were made, nodes that are up, and what ends have made
+
+-- it is the name of a transaction
+abbrev pub IsNamed : World → List ℕ → Type 0
+IsNamed w name = (key : ObjectKey) × IsTransaction w name key
+
+pub record TransactionsAreKnown (w : World) (told : List Told) : Type 0 where
+  -- the node of a transaction was made, and is in its life or a later one
+  pub seated : (name : List ℕ) (key : ObjectKey) → IsTransaction w name key → IsTrue (is_some (slice_get w.seats (place_of key)))
+  pub lives : (name : List ℕ) (key : ObjectKey) (rs : List JournalRecord) → IsTransaction w name key → records_at w (place_of key) ≡ Some rs
+      → key.life ≤ (found_in rs).life
+  -- nothing else is told to have an outcome
+  pub decided : (name : List ℕ) (outcome : ToldOutcome (List ℕ)) → Stands (lines.Decide name outcome) (known told) → IsNamed w name
+  pub rolled_back : (name : List ℕ) → IsRolledBack told name → IsNamed w name
+
+-- A record that a node tells again is one of its disk, to all whom that names, under their numbers; and its decision is told.
+pub record IsHeldAs (w : World) (told : List Told) (place : ℕ) (rs : List JournalRecord) (held : Held) : Type 0 where
+  pub stood : Standing
+  pub there : Contains (placed first_gate rs) stood
+  pub same_place : stood.place ≡ held.place
+  pub numbers : map (λ (p : HeldParty). p.index) held.parties ≡ map (λ (r : Named). r.index) (registrations_of stood.item)
+  pub references : map (λ (p : HeldParty). p.to) held.parties ≡ map (λ (r : Named). r.reference) (registrations_of stood.item)
+  pub line : (life slot generation : ℕ) (by : Option RetryKey) (asked : Bool) (regs : List Named)
+      → stood.item ≡ Decision life slot generation by asked regs
+      → (name : List ℕ) × IsTransaction w name (recorded_key place life slot generation)
+      × Stands (lines.Decide name (told_outcomes.Commit Record)) (known told)
+
+pub record NodeIsKnown (w : World) (told : List Told) (place : ℕ) (n : Node) : Type 0 where
+  pub sound : IsSoundNode n
+  -- the transactions of this life were given numbers
+  pub given : (name : List ℕ) (key : ObjectKey) → IsTransaction w name key → place_of key ≡ place → key.life ≡ life n → key.generation ≤ n.generation
+  -- its disk is in order
+  pub order : (s : Seat) (rs : List JournalRecord) → slice_get w.seats place ≡ Some s → records_at w place ≡ Some rs
+      → IsInOrder (service_at place) s.disk rs
+  pub held : (rs : List JournalRecord) (held : Held) → records_at w place ≡ Some rs → Contains n.recovered held → IsHeldAs w told place rs held
+
+abbrev pub NodesAreKnown : World → List Told → Type 0
+NodesAreKnown w told = (place : ℕ) (n : Node) → node_at w place ≡ Some n → NodeIsKnown w told place n
+
+-- an end has counted its objects, for each of which a message was sent
+pub record EndsHaveCounted (w : World) : Type 0 where
+  pub numbers : (place : ℕ) (e : FlatEnd) → end_at w place ≡ Some e → AllByRecursion (λ (r : FlatResource). r.key.generation ≤ e.drawn) e.resources
+  pub messages : (place : ℕ) (e : FlatEnd) → end_at w place ≡ Some e → e.drawn ≤ length w.messages
 
 -- ---- what is known together
 
@@ -306,6 +401,7 @@ pub record Known (w : World) (told : List Told) : Type 0 where
   pub rollbacks : RollbacksAreClosed w told
   pub rolled_back : RollbacksAreOutcomes w told
   pub told_back : RollbacksAreTold w told
-  pub over : CompletionsAreOver w
-  pub dones : DonesAreComplete w
+  pub transactions : TransactionsAreKnown w told
+  pub nodes : NodesAreKnown w told
+  pub counted : EndsHaveCounted w
   pub allowed : AreAllowed (reverse (known told))

@@ -1,14 +1,23 @@
 -- The steps of which all that a script does is made, each with the lines that it tells. What is known of a world is kept by each of
 -- them; so it is known of every world that a script reaches (our profile).
-use Rattle.std.specs.Prelude.{◌≡◌, ℕ, ◌+◌, ◌-◌, Bool, true, false, List, [], ◌∷◌, ◌++◌, map, slice_get, Option, Some, None, is_some, IsTrue}
+use Rattle.std.specs.Prelude.{◌≡◌, ◌⊎◌, ◌<◌, ℕ, ◌+◌, ◌-◌, ◌==◌, ◌&&◌, Bool, true, false, List, [], ◌∷◌, ◌++◌, map, slice_get, Option, Some, None, is_some}
 use Rattle.std.specs.List.{AllByRecursion}
 use Rattle.ior_refs.specs.declared.key.ObjectKey.{ObjectKey}
 use Rattle.ots_model.specs.declared.line.Line.TheVariants as lines
 use Rattle.ots_model.specs.declared.tree.Outward.{Outward}
 use Rattle.ots_world.specs.declared.script.ScriptEvent.{ScriptEvent}
 use Rattle.decision_journal.specs.declared.record.JournalRecord.{JournalRecord}
-use Rattle.coordinator.specs.Node.{Node}
+use Rattle.two_phase.specs.Stages.{Standing, Waiting, Going as UnderWay}
+use Rattle.two_phase.specs.declared.party.Errand.{Errand}
+use Rattle.two_phase.specs.declared.party.Stage.{Stage as Round}
+use Rattle.two_phase.specs.declared.party.Stage.TheVariants as rounds
+use Rattle.recovery_coord.specs.Limits.{retold_slot}
+use Rattle.coordinator.specs.Step.{WritesDone, wanted}
+use Rattle.coordinator.specs.Family.{Family, waiting_for}
+use Rattle.coordinator.specs.History.{has_room}
+use Rattle.coordinator.specs.Node.{Node, family_of}
 use Rattle.coordinator.specs.declared.event.Act.{Act}
+use Rattle.coordinator.specs.declared.event.Act.TheVariants as acts
 use Rattle.coordinator.specs.declared.said.Said.{Said}
 use Rattle.nodes_world.specs.declared.deed.Deed.{Deed}
 use Rattle.nodes_world.specs.declared.deed.Manner.{Manner}
@@ -17,18 +26,18 @@ use Rattle.nodes_world.specs.declared.message.Content.TheVariants as contents
 use Rattle.nodes_world.specs.declared.message.Message.{Message}
 use Rattle.nodes_world.specs.declared.thing.Thing.TheVariants as things
 use Rattle.nodes_world.specs.Journals.{records_on}
-use Rattle.nodes_world.specs.Objects.{place_of, service_at}
+use Rattle.nodes_world.specs.Objects.{family_key, place_of, service_at}
 use Rattle.nodes_world.specs.Told.{Told, Known as Line, RolledBack, RolledBackBy, operation_of}
 use Rattle.nodes_world.specs.World.{World, Seat, OfNode, OfEnd, FlatEnd, FlatResource, next_message, resource_at, thing, transaction_name, with_sent}
 use Rattle.nodes_world.specs.Happenings.{Done, after, changes, client_message, nothing, tells}
-use Rattle.nodes_world.specs.Nodes.{crashes_seat, steps, ticks_node}
+use Rattle.nodes_world.specs.Nodes.{crashes_seat, steps, steps_node, ticks_node}
 use Rattle.nodes_world.specs.Ends.{closed_by, obeys, put_into, refusing, with_resource_at}
 use Rattle.nodes_world.specs.Clients.{begins_at, call_event, called_line, creates_sub, registers_at}
-use Rattle.nodes_world.specs.Deliveries.{hears_answer, is_waited_for}
+use Rattle.nodes_world.specs.Deliveries.{answer_event, hears_answer, is_waited_for}
 use Rattle.nodes_world.specs.Lives.{loads, makes_end, with_named_seat}
 use Rattle.nodes_world.specs.Resolve.{may_register, resolve}
 use Rattle.nodes_world.specs.Step.{carried_out, is_full, lacks_life, limit_before}
-use Rattle.nodes_world.specs.Agreement.{IsWord}
+use Rattle.nodes_world.specs.Agreement.{IsWord, GoesOnFrom}
 use Rattle.nodes_world.specs.AgreementInside.{Known}
 
 -- ---- worlds of which the same is known
@@ -37,14 +46,21 @@ use Rattle.nodes_world.specs.AgreementInside.{Known}
 abbrev pub kept_seat : Seat → Seat
 kept_seat s = record s { clock = 0; stop = None }
 
-abbrev pub content_of : Message → Content
-content_of m = m.content
+-- a client's call
+abbrev pub is_call : Content → Bool
+is_call (contents.Call to act) = true
+is_call (contents.Request from o) = false
+is_call (contents.Reply request answer) = false
+
+-- a message without what became of it; of a client's call it is kept whether that was delivered
+abbrev pub kept_message : Message → Message
+kept_message m = record m { delivered = is_call m.content && m.delivered; lost = false; answered = false }
 
 -- a world differs from another in clocks, in stops to come and in what became of messages alone
 pub record IsAlike (w v : World) : Type 0 where
   pub names : v.names ≡ w.names
   pub seats : map kept_seat v.seats ≡ map kept_seat w.seats
-  pub messages : map content_of v.messages ≡ map content_of w.messages
+  pub messages : map kept_message v.messages ≡ map kept_message w.messages
 
 -- a line that agreement doesn't speak of
 abbrev pub IsQuiet : Told → Type 0
@@ -54,6 +70,14 @@ IsQuiet (RolledBackBy transaction reason synchronization) = ⊥
 IsQuiet _ = Unit {0}
 
 -- ---- one step
+
+-- what a client calls by itself: nothing is made, and nothing registered
+abbrev pub is_asked : Act → Bool
+is_asked acts.CreateSubtransaction = false
+is_asked (acts.RegisterResource resource aware) = false
+is_asked (acts.RegisterSynchronization synchronization) = false
+is_asked (acts.RegisterSubtranAware resource) = false
+is_asked act = is_some (operation_of act)
 
 -- a script puts something for a resource, or has it refuse
 pub data IsTouched (r : FlatResource) : FlatResource → Type 0 where
@@ -75,18 +99,20 @@ pub data Goes (w : World) : Done → Type 0 where
   -- a top-level transaction is made
   by_begin : (place : ℕ) (name : List ℕ) (seconds : ℕ) (s : Seat) (n : Node) → slice_get w.seats place ≡ Some s
       → s.server ≡ OfNode (Some n) → thing w name ≡ None → Goes w (begins_at place name seconds s (Some n) w)
-  -- a client's call goes out; it comes to its node
-  by_calling : (to : ObjectKey) (act : Act) → IsTrue (is_some (operation_of act))
+  -- a client's call goes out; it comes to its node; and as that is at once, none is delivered later
+  by_calling : (to : ObjectKey) (act : Act) → is_asked act ≡ true
       → Goes w (record {
         world = with_sent (client_message (contents.Call to act)) w;
         lines = called_line (next_message w) (operation_of act) (transaction_name w to);
       })
   by_call : (nth now : ℕ) (to : ObjectKey) (act : Act) (m : Message) → slice_get w.messages nth ≡ Some m → m.content ≡ contents.Call to act
-      → Goes w (steps (place_of to) to (call_event (nth + 1) to act now) w).done
+      → is_asked act ≡ true → Goes w (steps (place_of to) to (call_event (nth + 1) to act now) w).done
+  by_no_call : (nth : ℕ) (to : ObjectKey) (act : Act) (m : Message) (done : Done) → slice_get w.messages nth ≡ Some m
+      → m.content ≡ contents.Call to act → m.delivered ≡ false → Goes w done
   -- one that makes a subtransaction, or registers a resource, with the name that is given then
   by_sub : (parent : ObjectKey) (name : List ℕ) → thing w name ≡ None → Goes w (creates_sub parent name w)
   by_register : (manner : Manner) (transaction : ObjectKey) (place : ℕ) (name : List ℕ) (s : Seat) (e : FlatEnd) → slice_get w.seats place ≡ Some s
-      → s.server ≡ OfEnd (Some e) → thing w name ≡ None → may_register manner w transaction ≡ true
+      → s.server ≡ OfEnd (Some e) → thing w name ≡ None → may_register manner w transaction ≡ true → GoesOnFrom w
       → Goes w (registers_at manner transaction place s (Some e) name w)
   -- a resource is touched by a script, or told a word
   by_touch : (name : List ℕ) (key : ObjectKey) (r later : FlatResource) → thing w name ≡ Some (things.Resource key)
@@ -106,7 +132,7 @@ pub data GoesOn (w : World) : Done → Type 0 where
 
 -- whatever a line does that passes no limit is made of these steps
 abbrev pub DeedsGo : Type 0
-DeedsGo = (event : ScriptEvent) (deed : Deed) (w : World) → resolve event w ≡ Some deed → limit_before deed w ≡ None
+DeedsGo = (event : ScriptEvent) (deed : Deed) (w : World) → GoesOnFrom w → resolve event w ≡ Some deed → limit_before deed w ≡ None
     → GoesOn w (carried_out deed w)
 
 -- ---- what is known is kept
@@ -128,16 +154,19 @@ pub record StepsStayKnown : Type 0 where
       → StaysKnown w (crashes_seat place s.disk.reads s w)
   pub begin : (w : World) (place : ℕ) (name : List ℕ) (seconds : ℕ) (s : Seat) (n : Node) → slice_get w.seats place ≡ Some s
       → s.server ≡ OfNode (Some n) → thing w name ≡ None → StaysKnown w (begins_at place name seconds s (Some n) w)
-  pub calling : (w : World) (to : ObjectKey) (act : Act) → IsTrue (is_some (operation_of act))
+  pub calling : (w : World) (to : ObjectKey) (act : Act) → is_asked act ≡ true
       → StaysKnown w (record {
         world = with_sent (client_message (contents.Call to act)) w;
         lines = called_line (next_message w) (operation_of act) (transaction_name w to);
       })
   pub call : (w : World) (nth now : ℕ) (to : ObjectKey) (act : Act) (m : Message) → slice_get w.messages nth ≡ Some m
-      → m.content ≡ contents.Call to act → StaysKnown w (steps (place_of to) to (call_event (nth + 1) to act now) w).done
+      → m.content ≡ contents.Call to act → is_asked act ≡ true
+      → StaysKnown w (steps (place_of to) to (call_event (nth + 1) to act now) w).done
+  pub no_call : (w : World) (nth : ℕ) (to : ObjectKey) (act : Act) (m : Message) (done : Done) → slice_get w.messages nth ≡ Some m
+      → m.content ≡ contents.Call to act → m.delivered ≡ false → StaysKnown w done
   pub sub : (w : World) (parent : ObjectKey) (name : List ℕ) → thing w name ≡ None → StaysKnown w (creates_sub parent name w)
   pub register : (w : World) (manner : Manner) (transaction : ObjectKey) (place : ℕ) (name : List ℕ) (s : Seat) (e : FlatEnd)
-      → slice_get w.seats place ≡ Some s → s.server ≡ OfEnd (Some e) → thing w name ≡ None → may_register manner w transaction ≡ true
+      → slice_get w.seats place ≡ Some s → s.server ≡ OfEnd (Some e) → thing w name ≡ None → may_register manner w transaction ≡ true → GoesOnFrom w
       → StaysKnown w (registers_at manner transaction place s (Some e) name w)
   pub touch : (w : World) (name : List ℕ) (key : ObjectKey) (r later : FlatResource) → thing w name ≡ Some (things.Resource key)
       → resource_at w key ≡ Some r → IsTouched r later → StaysKnown w (changes (with_resource_at key later w))
@@ -149,19 +178,33 @@ pub record StepsStayKnown : Type 0 where
   pub tick : (w : World) (place : ℕ) (s : Seat) (n : Node) → slice_get w.seats place ≡ Some s → s.server ≡ OfNode (Some n)
       → StaysKnown w (ticks_node place s.clock n w)
 
--- those in which a call or a tick comes to a node
+-- the word that is out asks a participant, to prepare or to commit alone
+abbrev pub is_asking_round : Round → Bool
+is_asking_round rounds.Asking = true
+is_asking_round rounds.Telling = false
+is_asking_round rounds.Forgetting = false
+
+abbrev pub is_asking_errand : Option Errand → Bool
+is_asking_errand (Some e) = is_asking_round e.stage
+is_asking_errand None = false
+
+abbrev pub is_asking : Standing → Bool
+is_asking (Waiting room) = false
+is_asking (UnderWay c) = is_asking_errand c.out
+
+-- those of which it is still to be shown: two kinds of answers for which a call of a family waits
 pub record NodeStepsStayKnown : Type 0 where
-  pub begin : (w : World) (place : ℕ) (name : List ℕ) (seconds : ℕ) (s : Seat) (n : Node) → slice_get w.seats place ≡ Some s
-      → s.server ≡ OfNode (Some n) → thing w name ≡ None → StaysKnown w (begins_at place name seconds s (Some n) w)
-  pub call : (w : World) (nth now : ℕ) (to : ObjectKey) (act : Act) (m : Message) → slice_get w.messages nth ≡ Some m
-      → m.content ≡ contents.Call to act → StaysKnown w (steps (place_of to) to (call_event (nth + 1) to act now) w).done
-  pub sub : (w : World) (parent : ObjectKey) (name : List ℕ) → thing w name ≡ None → StaysKnown w (creates_sub parent name w)
-  pub register : (w : World) (manner : Manner) (transaction : ObjectKey) (place : ℕ) (name : List ℕ) (s : Seat) (e : FlatEnd)
-      → slice_get w.seats place ≡ Some s → s.server ≡ OfEnd (Some e) → thing w name ≡ None → may_register manner w transaction ≡ true
-      → StaysKnown w (registers_at manner transaction place s (Some e) name w)
-  pub hearing : (w : World) (request from reply : ℕ) (o : Outward) (m back : Message) (answer : Said) (s : Seat)
-      → slice_get w.messages (request - 1) ≡ Some m → m.content ≡ contents.Request from o → slice_get w.messages reply ≡ Some back
-      → back.content ≡ contents.Reply request answer → slice_get w.seats from ≡ Some s → is_waited_for w m from o ≡ true
-      → StaysKnown w (hears_answer (request - 1) m from o answer s w)
-  pub tick : (w : World) (place : ℕ) (s : Seat) (n : Node) → slice_get w.seats place ≡ Some s → s.server ≡ OfNode (Some n)
-      → StaysKnown w (ticks_node place s.clock n w)
+  -- one to the word by which the completion asks a participant
+  pub asked : (w : World) (nth place reply now : ℕ) (o : Outward) (back : Message) (answer : Said) (s : Seat) (n : Node) (f : Family)
+      → IsWord w nth place o → slice_get w.messages reply ≡ Some back → back.content ≡ contents.Reply (nth + 1) answer
+      → slice_get w.seats place ≡ Some s → s.server ≡ OfNode (Some n) → o.number.slot == retold_slot ≡ false
+      → family_of (family_key place o.number) n ≡ Some f → has_room f.entries (answer_event o answer now) ≡ true
+      → waiting_for f o.number ≡ Some 0 → is_asking f.completion ≡ true
+      → StaysKnown w (steps_node (Some n) s place (family_key place o.number) (answer_event o answer now) w).done
+  -- one by which a family asks the journal for its own Done
+  pub closes : (w : World) (nth place reply now : ℕ) (o : Outward) (back : Message) (answer : Said) (s : Seat) (n : Node) (f : Family) (b done : ℕ)
+      → IsWord w nth place o → slice_get w.messages reply ≡ Some back → back.content ≡ contents.Reply (nth + 1) answer
+      → slice_get w.seats place ≡ Some s → s.server ≡ OfNode (Some n) → o.number.slot == retold_slot ≡ false
+      → family_of (family_key place o.number) n ≡ Some f → has_room f.entries (answer_event o answer now) ≡ true
+      → waiting_for f o.number ≡ Some b → (is_asking f.completion ≡ false) ⊎ (0 < b) → wanted f (answer_event o answer now) ≡ Some (WritesDone done)
+      → StaysKnown w (steps_node (Some n) s place (family_key place o.number) (answer_event o answer now) w).done

@@ -16,7 +16,7 @@ use Rattle.coordinator.specs.NodeCalls.{journaled}
 use Rattle.coordinator.specs.Step.{Wanted, Appends, WritesDone, Rereads}
 use Rattle.nodes_world.specs.Limits.{area_limit}
 use Rattle.nodes_world.specs.Disks.{Stop, Struck, Whole, Broken, left_by, strikes}
-use Rattle.nodes_world.specs.Journals.{Asked, Answers, Stops, append_strokes, asks, records_in}
+use Rattle.nodes_world.specs.Journals.{Answers, Stops, append_strokes, asks, records_in}
 
 -- a stop inside a write
 abbrev pub stop_at : ℕ → Image → Option Stop

@@ -5,9 +5,16 @@ ghost use Rattle.nodes_world.specs.Changes.{DeedsAreChanges};
 ghost use Rattle.nodes_world.specs.Laws.{AppendsGoThrough, AppendsStrike, AskedJournalsKeep, AskedJournalsStop, RecordsAreRead, StoppedAppendsAreSafe, WhatIsLeftIsAnImage};
 ghost use Rattle.nodes_world.specs.Plays.{WorldsPlay};
 
+use coordinator::{family_outcomes_stay, histories_grow_by_entries};
 use decision_journal::{appends_are_safe, bodies_are_read, journals_grow, loads_are_safe};
+use family_laws::{
+    families_end_in_turn, families_number_words, families_stay_sound, families_tell_outcomes,
+    families_tell_votes, families_words_rest, held_records_stood, nodes_stay_sound,
+};
+use ior_refs::same_octets_same_key;
 use ots_model::allowed_lines_are_safe;
 use ots_outside::writes_read_images;
+use recovery_coord::completes_once;
 
 /// The strokes of an append leave the disk that a journal's append leaves. A crash inside each of its writes leaves what stood before
 /// that write, or that write too, by the image that is asked for; one inside a later write comes two writes nearer.
@@ -65,8 +72,8 @@ pub fn deeds_are_steps()
     ensures { DeedsGo }
 {}
 
-/// The lines of every script are safe, if what is known of a world stays known where a transaction is made, where a call or an answer
-/// comes to a node, and where its time passes. Of all other steps that is shown.
+/// The lines of every script are safe, if what is known of a world stays known where an answer is heard to a word that asks a
+/// participant, or by which a family asks the journal for its own Done. Of all other steps that is shown.
 pub fn agreement_rests_on_node_steps()
     ensures agreement { NodeStepsStayKnown → Agreement }
     ensures runs { NodeStepsStayKnown → RunsAreSafe }
@@ -75,4 +82,17 @@ pub fn agreement_rests_on_node_steps()
     journals_grow();
     loads_are_safe();
     records_are_read();
+    asked_journals_stay_in_order();
+    completes_once();
+    nodes_stay_sound();
+    held_records_stood();
+    families_stay_sound();
+    families_end_in_turn();
+    families_words_rest();
+    families_number_words();
+    families_tell_outcomes();
+    families_tell_votes();
+    family_outcomes_stay();
+    histories_grow_by_entries();
+    same_octets_same_key();
 }

@@ -1,0 +1,391 @@
+-- What is known of a world is known once an answer was heard for which nobody waits, or that is for a record.
+use Rattle.std.proofs.Common.{◌≡◌, ◌⊎◌, inl, inr, ℕ, zero, suc, ◌+◌, ◌-◌, ◌<◌, ◌==◌, Bool, true, false, is_none, is_some, if◌then◌else◌, List, [], ◌∷◌, ◌++◌, map, append-nil, slice_get, slice_set, Contains, Option, Some, None, refl, sym, ap, subst, ◌∙◌, arith}
+use Rattle.std.specs.Prelude.{Ok}
+use Rattle.std.specs.Option.{option_and_then, option_map}
+use Rattle.ior_refs.specs.declared.key.ObjectKey.{ObjectKey}
+use Rattle.ots_model.specs.declared.completion.Stood.{Stood}
+use Rattle.ots_model.specs.declared.service.RetryKey.{RetryKey}
+use Rattle.ots_model.specs.declared.tree.Outward.{Outward}
+use Rattle.recovery_coord.specs.Held.{is_held}
+use Rattle.recovery_coord.specs.Hearing.{completed, records_after}
+use Rattle.recovery_coord.specs.Limits.{retold_slot}
+use Rattle.recovery_coord.specs.declared.held.Held.{Held}
+use Rattle.ots_model.specs.declared.completion.CallNumber.{CallNumber}
+use Rattle.ots_model.specs.declared.completion.Vote.{Vote}
+use Rattle.ots_model.specs.declared.tree.Heard.{Heard}
+use Rattle.family_laws.specs.Sound.{IsOfSub, IsSoundFamily}
+use Rattle.coordinator.specs.declared.event.Act.TheVariants as acts
+use Rattle.coordinator.specs.declared.call.Leg.{Leg}
+use Rattle.coordinator.specs.declared.call.Leg.TheVariants.{Below, Own, Before, Deciding, After}
+use Rattle.coordinator.specs.declared.effect.Effect.{Effect}
+use Rattle.coordinator.specs.declared.effect.Effect.TheVariants as effects
+use Rattle.coordinator.specs.declared.event.Event.{Event}
+use Rattle.coordinator.specs.declared.node.NodeFault.TheVariants as faults
+use Rattle.coordinator.specs.declared.said.Said.{Said}
+use Rattle.coordinator.specs.declared.said.Said.TheVariants as said
+use Rattle.coordinator.specs.Family.{Family, Call, call_at, waiting_for}
+use Rattle.coordinator.specs.History.{has_room}
+use Rattle.coordinator.specs.Node.{Node, family_of, life}
+use Rattle.coordinator.specs.NodeCalls.{Applied, RetoldAnswer, alone, answers_recovered, applied_by, applies, by_records, call_wants, done_told, done_wanted, family_for, hears_record, journaled, records_hear, records_want, records_with, refuses, replies, retold_answer, steps_to, wanted_by}
+use Rattle.coordinator.specs.NodeRecords.{record_of, record_says}
+use Rattle.coordinator.specs.Step.{Stepped, Wanted, Appends, WritesDone, acted, entered, family_step, hears, wanted, wanted_by as wanted_after}
+use Rattle.family_laws.specs.HeldRecords.{HeldRecordsStood, WasHeld}
+use Rattle.family_laws.specs.SoundNode.{IsSoundNode, NodesStaySound}
+use Rattle.nodes_world.specs.declared.message.Content.TheVariants as contents
+use Rattle.nodes_world.specs.declared.message.Message.{Message}
+use Rattle.nodes_world.specs.Agreement.{IsWord}
+use Rattle.nodes_world.specs.AgreementInside.{Known, HasMessage, IsNotBefore, FamilyIsKnown}
+use Rattle.nodes_world.specs.AgreementSteps.{NodeStepsStayKnown, StaysKnown, is_asking, kept_message}
+use Rattle.nodes_world.specs.Deliveries.{answer_event, heard_in, hears_answer, is_waited_for}
+use Rattle.nodes_world.specs.Happenings.{changes}
+use Rattle.nodes_world.specs.Journals.{Asked, asks}
+use Rattle.nodes_world.specs.Nodes.{Stepping, cast_by, effects_told, no_step, steps, steps_by, steps_node}
+use Rattle.nodes_world.specs.Objects.{family_key, place_of}
+use Rattle.nodes_world.specs.Told.{Told}
+use Rattle.nodes_world.specs.World.{World, Seat, OfNode, node_in, with_message, with_seat, family_at}
+use Rattle.nodes_world.proofs.Going.{get_set, node_up}
+use Rattle.nodes_world.proofs.KnownAlike.{known_alike}
+use Rattle.nodes_world.proofs.KnownRecoveries.{recoveries_known}
+use Rattle.nodes_world.proofs.KnownSeats.{set_at}
+use Rattle.two_phase.specs.Stages as stages
+use Rattle.decision_journal.specs.declared.record.JournalRecord.{JournalRecord}
+use Rattle.coordinator.specs.Hearing.{decision_record, record_place, wants_done}
+use Rattle.nodes_world.proofs.AnswersKeep.{HearsNoVote, NoVoteAt, answer_keeps, hears_keeps, no_voter}
+use Rattle.nodes_world.proofs.KnownFamilies.{family_found}
+use Rattle.nodes_world.proofs.KnownLines.{lines_of}
+use Rattle.nodes_world.proofs.CallKnown as call
+use Rattle.nodes_world.proofs.CompletesKnown as complete
+use Rattle.nodes_world.proofs.CompletesKnown.{JournalLaws}
+use Rattle.nodes_world.proofs.CallKnown.{for_key, nothing_asked, tidy_of}
+use Rattle.nodes_world.proofs.StepIs.{FamilyLaws, keeps_is}
+use Rattle.nodes_world.proofs.StepsKeep.{StepKeeps, quiet_keeps}
+use Rattle.nodes_world.proofs.SubKnown.{stays_then}
+
+-- ---- a stale answer
+
+-- nobody waits for it: the family stays as it is
+abbrev as_it_was : Family → Stepped
+as_it_was f = record { family = f; said = said.Plain; words = []; finished = []; effects = [] }
+
+stale_step : (f : Family) (o : Outward) (answer : Said) (now : ℕ) → waiting_for f o.number ≡ None → family_step f (answer_event o answer now) None ≡ as_it_was f
+unfolding family_step
+stale_step f o answer now none =
+    ap (λ (x : Option ℕ). if is_none x then as_it_was f else entered f (answer_event o answer now) None (acted (answer_event o answer now) None f)) none
+
+stale_wants : (f : Family) (o : Outward) (answer : Said) (now : ℕ) → waiting_for f o.number ≡ None → wanted f (answer_event o answer now) ≡ None
+unfolding wanted
+stale_wants f o answer now none =
+    ap (λ (x : Option ℕ). if is_some x then wanted_after (hears o.number (heard_in answer) f).family else None) none
+
+-- ---- an answer that comes to a node
+
+module _ (laws : FamilyLaws) (journals : JournalLaws) (nodes : NodesStaySound) (stood : HeldRecordsStood) (others : NodeStepsStayKnown) (w : World) (nth place reply now : ℕ) (o : Outward) (back : Message)
+    (answer : Said) (s : Seat) (n : Node) (word : IsWord w nth place o) (replied : slice_get w.messages reply ≡ Some back)
+    (says : back.content ≡ contents.Reply (nth + 1) answer) (there : slice_get w.seats place ≡ Some s) (up : s.server ≡ OfNode (Some n)) where
+  abbrev key : ObjectKey
+  key = family_key place o.number
+
+  abbrev e : Event
+  e = answer_event o answer now
+
+  abbrev Ends : Applied → Type 0
+  Ends a = call.Stays w place s n there up key e a
+
+  -- where the journal is asked for nothing
+  by_nothing : call_wants key e n ≡ None → Ends (applies key e None n) → StaysKnown w (steps_node (Some n) s place key e w).done
+  by_nothing none ends =
+      subst (λ (a : Asked). StaysKnown w (steps_by a place key e n w).done)
+      (sym (ap (λ (x : Option Wanted). asks x n.service n.found s.disk s.stop) none ∙ nothing_asked n.service n.found s.disk s.stop)) ends
+
+  -- ---- to a family
+
+  module _ (family : o.number.slot == retold_slot ≡ false) where
+    retold : retold_answer e.act ≡ None
+    retold = ap (λ (b : Bool). if b then Some (record { number = o.number; heard = heard_in answer }) else None) family
+
+    for_family : family_for key e n ≡ family_of key n
+    for_family = for_key key e n retold
+
+    applied_is : (x : Option Family) → family_of key n ≡ x → applies key e None n ≡ applied_by x key e None n
+    unfolding applies
+    applied_is x is = ap (λ (y : Option Family). applied_by y key e None n) (for_family ∙ is)
+
+    wants_is : (x : Option Family) → family_of key n ≡ x → call_wants key e n ≡ wanted_by x e n
+    unfolding call_wants
+    wants_is x is = ap (λ (y : Option Family). wanted_by y e n) (for_family ∙ is)
+
+    no_retry : (r : RetryKey) → None ≡ Some r → HasMessage w r.number
+    no_retry r is = absurd cc
+
+    own_place : place_of key ≡ place
+    own_place = omega arith
+
+    -- it has no room for an answer
+    full : (f : Family) → family_of key n ≡ Some f → has_room f.entries e ≡ false → StaysKnown w (steps_node (Some n) s place key e w).done
+    full f is room =
+        by_nothing (wants_is (Some f) is ∙ ap (λ (b : Bool). if b then wanted f e else None) room)
+        (subst Ends
+        (sym (applied_is (Some f) is ∙ ap (λ (b : Bool). if b then steps_to n f e None (family_step f e None) else refuses faults.NoResources n) room))
+        (call.refused_stays w place s n there up key e faults.NoResources))
+
+    -- nobody waits for the answer
+    stale : (f : Family) → family_of key n ≡ Some f → has_room f.entries e ≡ true → waiting_for f o.number ≡ None
+        → StaysKnown w (steps_node (Some n) s place key e w).done
+    stale f is room waits =
+        let none = stale_wants f o answer now waits in
+        let same : applies key e None n ≡ steps_to n f e None (family_step f e None) =
+        applied_is (Some f) is ∙ ap (λ (b : Bool). if b then steps_to n f e None (family_step f e None) else refuses faults.NoResources n) room in
+        by_nothing (wants_is (Some f) is ∙ ap (λ (b : Bool). if b then wanted f e else None) room ∙ none)
+        (subst Ends (sym same) (λ told k.
+        let found = call.found w place s n there up laws nodes key own_place e retold no_retry f none is told k in
+        let step = stale_step f o answer now waits in
+        call.step_stays w place s n there up laws nodes key own_place e retold no_retry f none is told k
+        (keeps_is laws f e None (λ number vote among. nothing_in (subst (λ (x : Stepped). Contains x.effects (effects.Voted number vote)) step among))
+        (k.families key f found).sound (subst (StepKeeps f) (sym step) (quiet_keeps said.Plain f (tidy_of w told k key f found)))) same))
+      where
+        nothing_in : {x : Effect} → Contains [] x → ⊥
+        nothing_in among = let l = among.1 in omega (arith, l)
+
+    -- a call waits for it, and nobody votes by it
+    module _ (f : Family) (is : family_of key n ≡ Some f) (room : has_room f.entries e ≡ true) (b : ℕ) (waits : waiting_for f o.number ≡ Some b) where
+      abbrev NobodyVotes : Type 0
+      NobodyVotes = (is_asking f.completion ≡ false) ⊎ (0 < b)
+
+      same_answer : (number : CallNumber) (h : Heard) → e.act ≡ acts.Answer number h → o.number ≡ number
+      same_answer number h same = cc
+
+      inner : {x y : ℕ} → Some x ≡ Some y → x ≡ y
+      inner same = cc
+
+      no_votes : NobodyVotes → IsSoundFamily f → (number : ℕ) (vote : Vote) → Contains (family_step f e None).effects (effects.Voted number vote) → ⊥
+      no_votes (inl not_asked) sound number vote among =
+          let heard = laws.votes.told f e None number vote sound among in
+          no (sym (no_voter f.completion not_asked) ∙ heard.asked)
+        where
+          no : None ≡ Some number → ⊥
+          no same = cc
+      no_votes (inr less) sound number vote among =
+          let heard = laws.votes.told f e None number vote sound among in
+          let first = inner (sym waits ∙ ap (waiting_for f) (same_answer heard.number _ heard.answer) ∙ heard.waited) in
+          omega (arith, less, first)
+
+      found_here : family_at w key ≡ Some f
+      found_here =
+          let slot = call.key_slot key n f is in
+          family_found w key f (record { seat = s; node = n; there = ap (slice_get w.seats) own_place ∙ there; up = up; slotted = slot.0; own = slot.1 })
+
+      -- the call that waits is at no synchronization; that of a subtransaction tells its own resources, or those below
+      no_vote_at : NobodyVotes → (told : List Told) → Known w told → (x : Option Call) → call_at f b ≡ x → NoVoteAt f x
+      no_vote_at nobody told k None at = tt
+      no_vote_at nobody told k (Some c) at = by_leg c.leg (known.legs b c at) (λ less. ((known.sound.under_way b c at).sub less).of_sub) nobody
+        where
+          known : FamilyIsKnown w (lines_of told) f
+          known = k.families key f found_here
+
+          by_leg : (leg : Leg) → IsNotBefore leg → (0 < b → IsOfSub leg) → NobodyVotes → HearsNoVote leg f
+          by_leg Below never of nobody = tt
+          by_leg Own never of nobody = tt
+          by_leg (Before so_many) never of nobody = absurd never
+          by_leg Deciding never of (inl not_asked) = not_asked
+          by_leg Deciding never of (inr less) = absurd (of less)
+          by_leg (After so_many) never of nobody = tt
+
+      hears_on : NobodyVotes → wanted f e ≡ None → StaysKnown w (steps_node (Some n) s place key e w).done
+      hears_on nobody none =
+          let same : applies key e None n ≡ steps_to n f e None (family_step f e None) =
+          applied_is (Some f) is ∙ ap (λ (t : Bool). if t then steps_to n f e None (family_step f e None) else refuses faults.NoResources n) room in
+          by_nothing (wants_is (Some f) is ∙ ap (λ (t : Bool). if t then wanted f e else None) room ∙ none)
+          (subst Ends (sym same) (λ told k.
+          let sound = (k.families key f found_here).sound in
+          call.step_stays w place s n there up laws nodes key own_place e retold no_retry f none is told k
+          (keeps_is laws f e None (no_votes nobody sound) sound
+          (answer_keeps f o answer now b waits (no_vote_at nobody told k (call_at f b) refl) (tidy_of w told k key f found_here))) same))
+
+      abbrev heard_family : Family
+      heard_family = (hears o.number (heard_in answer) f).family
+
+      wanted_is : wanted f e ≡ wanted_after heard_family
+      unfolding wanted
+      wanted_is = ap (λ (x : Option ℕ). if is_some x then wanted_after heard_family else None) waits
+
+      -- no decision is wanted, so it is the family's own Done
+      own_done : (t u : Bool) (x : Option ℕ) (r : JournalRecord) (item : Wanted) → t ≡ false
+          → (if t then Some (Appends r) else if u then option_map WritesDone x else None) ≡ Some item → (done : ℕ) × (item ≡ WritesDone done)
+      own_done true u x r item none asks_for = absurd cc
+      own_done false true (Some done) r item none asks_for = (done, cc)
+      own_done false true None r item none asks_for = absurd cc
+      own_done false false x r item none asks_for = absurd cc
+
+      by_wanted : NobodyVotes → (x : Option Wanted) → wanted f e ≡ x → StaysKnown w (steps_node (Some n) s place key e w).done
+      by_wanted nobody None none = hears_on nobody none
+      by_wanted nobody (Some item) asks_for = λ told k.
+          let rule = hears_keeps o.number (heard_in answer) b f waits (no_vote_at nobody told k (call_at f b) refl) (tidy_of w told k key f found_here) in
+          let done = own_done (stages.wants_decision heard_family.completion) (wants_done heard_family) (record_place heard_family.completion) (decision_record heard_family) item
+          (rule.kept.wants (k.families key f found_here).settled) (sym wanted_is ∙ asks_for) in
+          others.closes w nth place reply now o back answer s n f b done.0 word replied says there up family is room waits nobody (asks_for ∙ ap (λ (x : Wanted). Some x) done.1) told k
+
+      -- whoever waits for it
+      waited : StaysKnown w (steps_node (Some n) s place key e w).done
+      waited = by_asking (is_asking f.completion) refl b refl
+        where
+          by_asking : (t : Bool) → is_asking f.completion ≡ t → (i : ℕ) → b ≡ i → StaysKnown w (steps_node (Some n) s place key e w).done
+          by_asking false not_asked i equal = by_wanted (inl not_asked) (wanted f e) refl
+          by_asking true asking zero equal =
+              others.asked w nth place reply now o back answer s n f word replied says there up family is room (waits ∙ ap (λ (i : ℕ). Some i) equal) asking
+          by_asking true asking (suc i) equal = by_wanted (inr (omega (arith, equal))) (wanted f e) refl
+
+    -- no family is there
+    gone : family_of key n ≡ None → StaysKnown w (steps_node (Some n) s place key e w).done
+    unfolding answers_recovered
+    gone is =
+        by_nothing (wants_is None is ∙ ap (λ (x : Option RetoldAnswer). records_want x n) retold)
+        (subst Ends (sym (applied_is None is ∙ ap (λ (x : Option RetoldAnswer). by_records x key e None n) retold)) (by_record_of (record_of key n)))
+      where
+        by_record_of : (x : Option Held) → Ends (replies (option_and_then (record_says key e.key e.act) x) n)
+        by_record_of (Some r) = call.refused_stays w place s n there up key e faults.ObjectNotExist
+        by_record_of None = call.refused_stays w place s n there up key e faults.ObjectNotExist
+
+    to_family : (x : Option Family) → family_of key n ≡ x → StaysKnown w (steps_node (Some n) s place key e w).done
+    to_family None is = gone is
+    to_family (Some f) is = by_room (has_room f.entries e) refl
+      where
+        by_waiting : has_room f.entries e ≡ true → (x : Option ℕ) → waiting_for f o.number ≡ x → StaysKnown w (steps_node (Some n) s place key e w).done
+        by_waiting room None waits = stale f is room waits
+        by_waiting room (Some b) waits = waited f is room b waits
+
+        by_room : (b : Bool) → has_room f.entries e ≡ b → StaysKnown w (steps_node (Some n) s place key e w).done
+        by_room true room = by_waiting room (waiting_for f o.number) refl
+        by_room false room = full f is room
+
+  -- ---- to a record that is told again
+
+  module _ (again : o.number.slot == retold_slot ≡ true) where
+    abbrev heard : RetoldAnswer
+    heard = record { number = o.number; heard = heard_in answer }
+
+    applied_again : applies key e None n ≡ hears_record o.number (heard_in answer) None n
+    applied_again = complete.applied_again place now o answer n again None
+
+    wants_again : call_wants key e n ≡ done_wanted o.number (heard_in answer) n
+    wants_again = complete.wants_again place now o answer n again
+
+    -- what it holds then
+    abbrev m : Node
+    m = record n { recovered = records_after (life n) o.number (heard_in answer) n.recovered }
+
+    abbrev quiet_answer : Applied
+    quiet_answer = record { node = m; answer = Ok (alone said.Plain []); words = [] }
+
+    hears_quietly : completed (life n) o.number (heard_in answer) n.recovered ≡ None → records_hear o.number (heard_in answer) None n ≡ quiet_answer
+    hears_quietly none = ap (λ (c : Option ℕ). record {
+      node = record n {
+        found = journaled (option_map WritesDone c) None n.found;
+        recovered = records_with c None (records_after (life n) o.number (heard_in answer) n.recovered);
+      };
+      answer = Ok (alone said.Plain (done_told c None));
+      words = [];
+    }) none
+
+    sound_then : (told : List Told) (k : Known w told) → applies key e None n ≡ quiet_answer → IsSoundNode m
+    sound_then told k same =
+        subst IsSoundNode (ap (λ (a : Applied). a.node) same)
+        (nodes.called key e None n (λ item at asked stood. absurd (no stood)) (call.node_sound w place s n there up told k))
+      where
+        no : {x : Stood} → None ≡ Some x → ⊥
+        no is = cc
+
+    held_before : applies key e None n ≡ quiet_answer → (h : Held) → Contains m.recovered h → WasHeld n.recovered h
+    held_before same h among = stood.called key e None n h (subst (λ (a : Applied). Contains a.node.recovered h) (sym same) among)
+
+    quiet_stays : applies key e None n ≡ quiet_answer → Ends quiet_answer
+    quiet_stays same told k =
+        subst (λ (x : World). Known x (told ++ (([] ++ (effects_told w (cast_by (family_for key e m) e n) [] ++ [])) ++ [])))
+        (sym (call.seated w place s n there up m))
+        (subst (λ (ls : List Told). Known (with_seat place (record s { server = OfNode (Some m) }) w) (told ++ (([] ++ (ls ++ [])) ++ [])))
+        (sym (call.nothing_told w place s n there up (cast_by (family_for key e m) e n)))
+        (subst (Known (with_seat place (record s { server = OfNode (Some m) }) w)) (sym (append-nil told))
+        (recoveries_known w place s n m told there up k refl refl refl refl (sound_then told k same) (λ h among. inl (held_before same h among)))))
+
+    by_held : (b : Bool) → is_held o.number.generation n.recovered ≡ b → completed (life n) o.number (heard_in answer) n.recovered ≡ None → Ends (applies key e None n)
+    unfolding hears_record
+    by_held true held none =
+        let same : applies key e None n ≡ quiet_answer =
+        applied_again ∙ ap (λ (b : Bool). if b then records_hear o.number (heard_in answer) None n else refuses faults.ObjectNotExist n) held ∙ hears_quietly none in
+        subst Ends (sym same) (quiet_stays same)
+    by_held false held none =
+        subst Ends (sym (applied_again ∙ ap (λ (b : Bool). if b then records_hear o.number (heard_in answer) None n else refuses faults.ObjectNotExist n) held))
+        (call.refused_stays w place s n there up key e faults.ObjectNotExist)
+
+    to_record : (c : Option ℕ) → completed (life n) o.number (heard_in answer) n.recovered ≡ c → StaysKnown w (steps_node (Some n) s place key e w).done
+    to_record None none = by_nothing (wants_again ∙ ap (λ (c : Option ℕ). option_map WritesDone c) none) (by_held (is_held o.number.generation n.recovered) refl none)
+    to_record (Some done) is = complete.known_completes journals nodes stood w place now o answer s n done there up again is
+
+  -- to either
+  heard_known : StaysKnown w (steps_node (Some n) s place key e w).done
+  heard_known = by (o.number.slot == retold_slot) refl
+    where
+      by : (b : Bool) → o.number.slot == retold_slot ≡ b → StaysKnown w (steps_node (Some n) s place key e w).done
+      by true again = to_record again (completed (life n) o.number (heard_in answer) n.recovered) refl
+      by false family = to_family family (family_of key n) refl
+
+-- ---- the sender hears an answer
+
+map_set : {A B : Type 0} (g : A → B) (xs : List A) (i : ℕ) (x y : A) → slice_get xs i ≡ Some x → g y ≡ g x → map g (slice_set xs i y) ≡ map g xs
+map_set g [] i x y there same = refl
+map_set g (z ∷ xs) zero x y there same = ap (λ u. u ∷ map g xs) (same ∙ sym (ap g (inner there)))
+  where
+    inner : {A : Type 0} {a b : A} → Some a ≡ Some b → a ≡ b
+    inner e = cc
+map_set g (z ∷ xs) (suc i) x y there same = ap (λ us. g z ∷ us) (map_set g xs i x y there same)
+
+pub known_hearing : (laws : FamilyLaws) (journals : JournalLaws) (nodes : NodesStaySound) (stood : HeldRecordsStood) (others : NodeStepsStayKnown) (w : World) (request from reply : ℕ) (o : Outward)
+    (m back : Message) (answer : Said) (s : Seat) → slice_get w.messages (request - 1) ≡ Some m → m.content ≡ contents.Request from o
+    → slice_get w.messages reply ≡ Some back → back.content ≡ contents.Reply request answer → slice_get w.seats from ≡ Some s → is_waited_for w m from o ≡ true
+    → StaysKnown w (hears_answer (request - 1) m from o answer s w)
+unfolding steps
+known_hearing laws journals nodes stood others w request from reply o m back answer s at is replied says there waits told k =
+    stays_then w (changes u) (λ (x : World). (steps from (family_key from o.number) (answer_event o answer s.clock) x).done) alike came told k
+  where
+    taken : Message
+    taken = record m { answered = true }
+
+    u : World
+    u = with_message (request - 1) (record m { answered = true }) w
+
+    alike : StaysKnown w (changes u)
+    alike = known_alike w u [] (record { names = refl; seats = refl; messages = map_set kept_message w.messages (request - 1) m (record m { answered = true }) at refl }) tt
+
+    asked : (nth : ℕ) × (p : ℕ) × (q : Outward) × IsWord w nth p q × (request ≡ nth + 1)
+    asked = k.words.asked reply request back answer replied says
+
+    number : request ≡ (request - 1) + 1
+    number = let e = asked.4 in omega (arith, e)
+
+    word : IsWord u (request - 1) from o
+    word = (record m { answered = true }, get_set w.messages (request - 1) m (record m { answered = true }) at, is)
+
+    replied_then : (x : Message) × (slice_get u.messages reply ≡ Some x) × (x.content ≡ contents.Reply ((request - 1) + 1) answer)
+    replied_then = elim (set_at w.messages (request - 1) m (record m { answered = true }) reply at) [
+      | inl here ↦ absurd (no (sym is ∙ ap (λ (x : Message). x.content) (inner (sym at ∙ sym (ap (slice_get w.messages) here.0) ∙ replied)) ∙ says))
+      | inr other ↦ (back, other ∙ replied, says ∙ ap (λ (x : ℕ). contents.Reply x answer) number)
+    ]
+      where
+        no : contents.Request from o ≡ contents.Reply request answer → ⊥
+        no e = cc
+
+        inner : {a b : Message} → Some a ≡ Some b → a ≡ b
+        inner e = cc
+
+    nothing_came : StaysKnown u (no_step u).done
+    nothing_came told_then known = subst (Known u) (sym (append-nil told_then)) known
+
+    at_node : (x : Option Node) → node_in s.server ≡ x → StaysKnown u (steps_node x s from (family_key from o.number) (answer_event o answer s.clock) u).done
+    at_node (Some n) up =
+        heard_known laws journals nodes stood others u (request - 1) from reply s.clock o replied_then.0 answer s n word replied_then.1 replied_then.2 there (node_up s.server n up)
+    at_node None up = nothing_came
+
+    came : StaysKnown u (steps from (family_key from o.number) (answer_event o answer s.clock) u).done
+    came = subst (λ (x : Option Seat). StaysKnown u (elim x as (λ _. Stepping) [
+      | Some y ↦ steps_node (node_in y.server) y from (family_key from o.number) (answer_event o answer s.clock) u
+      | None ↦ no_step u
+    ]).done) (sym there) (at_node (node_in s.server) refl)
