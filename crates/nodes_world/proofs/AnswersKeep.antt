@@ -56,7 +56,7 @@ same_gathered gather with_one steps (x ∷ ps) zero p q there same =
 same_gathered gather with_one steps (x ∷ ps) (suc i) p q there same =
     steps x (slice_set ps i q) ∙ ap (with_one x) (same_gathered gather with_one steps ps i p q there same) ∙ sym (steps x ps)
 
-any_set : (P : Party → Type 0) (ps : List Party) (i : ℕ) (p q : Party) → slice_get ps i ≡ Some p → (P p → P q) → Any P ps → Any P (slice_set ps i q)
+pub any_set : (P : Party → Type 0) (ps : List Party) (i : ℕ) (p q : Party) → slice_get ps i ≡ Some p → (P p → P q) → Any P ps → Any P (slice_set ps i q)
 any_set P ps i p q there turn any = go ps i there any.0 any.1 any.2 any.3 any.4
   where
     inner : {a b : Party} → Some a ≡ Some b → a ≡ b
@@ -69,7 +69,7 @@ any_set P ps i p q there turn any = go ps i there any.0 any.1 any.2 any.3 any.4
     go (y ∷ ps) (suc i) there zero x less is so = (0, x, omega arith, is, so)
     go (y ∷ ps) (suc i) there (suc j) x less is so = let at = go ps i there j x (omega (arith, less)) is so in let l = at.2 in (suc at.0, at.1, omega (arith, l), at.3, at.4)
 
-any_back : (P : Party → Type 0) (ps : List Party) (i : ℕ) (p q : Party) → slice_get ps i ≡ Some p → (P q → P p) → Any P (slice_set ps i q) → Any P ps
+pub any_back : (P : Party → Type 0) (ps : List Party) (i : ℕ) (p q : Party) → slice_get ps i ≡ Some p → (P q → P p) → Any P (slice_set ps i q) → Any P ps
 any_back P ps i p q there turn any = go ps i there any.0 any.1 any.2 any.3 any.4
   where
     inner : {a b : Party} → Some a ≡ Some b → a ≡ b
@@ -180,12 +180,12 @@ other_answer h rounds.Asking p not_asked = absurd cc
 other_answer h rounds.Telling p not_asked = (refl, refl, refl)
 other_answer h rounds.Forgetting p not_asked = (refl, refl, refl)
 
--- what is kept of a completion, and of its participants
+-- what is kept of a completion, and of its participants; and its outcome is as it was
 abbrev Goes : Standing → Standing → Type 0
-Goes s t = IsKept s t × ((rs : List Registration) → ArePartiesOf rs s → ArePartiesOf rs t)
+Goes s t = IsKept s t × ((rs : List Registration) → ArePartiesOf rs s → ArePartiesOf rs t) × (stages.outcome t ≡ stages.outcome s)
 
 goes_nowhere : (s : Standing) → Goes s s
-goes_nowhere s = (kept_itself s, λ rs of. of)
+goes_nowhere s = (kept_itself s, λ rs of. of, refl)
 
 -- the outcome by what is heard alone
 abbrev rest_of : List Party → Option Stood → Option (Option ℕ) → Option Outcome
@@ -220,6 +220,7 @@ same_place k number = (
     decides = λ asks is. (asks, is);
   },
   λ rs of. of,
+  out_same k number,
 )
 
 abbrev with_parties : Course → List Party → Standing
@@ -234,6 +235,7 @@ answered_goes k e h not_asked = by (slice_get k.parties e.place) refl
         let same = other_answer h e.stage p not_asked in (
           kept_other k e.place p (course.heard_at e.stage h p) is same.0 same.1 same.2 (course.following k.number),
           parties_other k e.place p (course.heard_at e.stage h p) is same.0 same.1 same.2 (course.following k.number),
+          outcome_same k e.place p (course.heard_at e.stage h p) is same.0 same.1 same.2 (course.following k.number),
         )
     by None is = same_place k (course.following k.number)
 
@@ -249,6 +251,9 @@ errand_goes k h its_own None not_asked = goes_nowhere (UnderWay k)
 answer_goes : (n : CallNumber) (h : ParticipantHeard) (s : Standing) → is_asking s ≡ false → Goes s (stages.after_answer n h s)
 answer_goes n h (Waiting room) not_asked = goes_nowhere (Waiting room)
 answer_goes n h (UnderWay k) not_asked = errand_goes k h _ k.out not_asked
+
+pub outcome_stays : (n : CallNumber) (h : ParticipantHeard) (s : Standing) → is_asking s ≡ false → stages.outcome (stages.after_answer n h s) ≡ stages.outcome s
+outcome_stays n h s not_asked = (answer_goes n h s not_asked).2
 
 -- ---- nobody votes
 
@@ -270,7 +275,7 @@ pub no_voter : (s : Standing) → is_asking s ≡ false → stages.voter s ≡ N
 no_voter (Waiting room) not_asked = refl
 no_voter (UnderWay k) not_asked = errand_votes k k.out not_asked
 
-no_effects : (h : ParticipantHeard) → vote_effects h None ≡ []
+pub no_effects : (h : ParticipantHeard) → vote_effects h None ≡ []
 no_effects participants.Done = refl
 no_effects (participants.Voted vote) = refl
 no_effects (participants.Heuristic d) = refl
@@ -314,7 +319,7 @@ told_keeps (Before so_many) n b c h f so = absurd so
 told_keeps Deciding n b c h f so = participant_keeps n h f so
 told_keeps (After so_many) n b c h f so = only_keeps f
 
-in_call : (leg : Leg) (b : ℕ) (c : Call) (f : Family) → HearsNoVote leg f → HearsNoVote leg (with_call b c f)
+pub in_call : (leg : Leg) (b : ℕ) (c : Call) (f : Family) → HearsNoVote leg f → HearsNoVote leg (with_call b c f)
 in_call Below b c f so = tt
 in_call Own b c f so = tt
 in_call (Before so_many) b c f so = so

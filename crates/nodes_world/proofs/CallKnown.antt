@@ -187,7 +187,7 @@ module _ (w : World) (place : ℕ) (s : Seat) (n : Node) (there : slice_get w.se
   -- ---- a family goes on
 
   module _ (laws : FamilyLaws) (nodes : NodesStaySound) (key : ObjectKey) (own_place : place_of key ≡ place) (e : Event) (retold : retold_answer e.act ≡ None)
-      (came : (r : RetryKey) → e.key ≡ Some r → HasMessage w r.number) (f : Family) (none : wanted f e ≡ None) (of : family_of key n ≡ Some f) (told : List Told)
+      (came : (r : RetryKey) → e.key ≡ Some r → HasMessage w r) (f : Family) (none : wanted f e ≡ None) (of : family_of key n ≡ Some f) (told : List Told)
       (k : Known w told) where
     slot : (family_in n.families key.slot ≡ Some f) × IsTrue (is_of key f)
     slot = key_slot key n f of
@@ -227,7 +227,7 @@ module _ (w : World) (place : ℕ) (s : Seat) (n : Node) (there : slice_get w.se
         no : {x : Stood} → None ≡ Some x → ⊥
         no e = cc
 
-    pub entries_came : (x : Entry) (r : RetryKey) → Contains g.entries x → x.event.key ≡ Some r → HasMessage w r.number
+    pub entries_came : (x : Entry) (r : RetryKey) → Contains g.entries x → x.event.key ≡ Some r → HasMessage w r
     entries_came x r among by = elim (entry_cases laws f e None x among) [
       | inl was ↦ (k.families key f found).came x r was by
       | inr new ↦ came r (ap (λ (y : Event). y.key) (sym new) ∙ by)
@@ -269,7 +269,7 @@ module _ (w : World) (place : ℕ) (s : Seat) (n : Node) (there : slice_get w.se
   if_room key e f false goes = refused_stays key e faults.NoResources
 
   stays_by : (laws : FamilyLaws) (nodes : NodesStaySound) (key : ObjectKey) (own_place : place_of key ≡ place) (e : Event) (steady : is_steady e.act ≡ true)
-      (came : (r : RetryKey) → e.key ≡ Some r → HasMessage w r.number) (f : Family) (of : family_of key n ≡ Some f) (told : List Told) (k : Known w told)
+      (came : (r : RetryKey) → e.key ≡ Some r → HasMessage w r) (f : Family) (of : family_of key n ≡ Some f) (told : List Told) (k : Known w told)
       → applies key e None n ≡ steps_to n f e None (family_step f e None)
       → Known (applied_at place key e n s.disk s.stop (steps_to n f e None (family_step f e None)) w).done.world (told ++ (applied_at place key e n s.disk s.stop (steps_to n f e None (family_step f e None)) w).done.lines)
   stays_by laws nodes key own_place e steady came f of told k same =
@@ -279,7 +279,7 @@ module _ (w : World) (place : ℕ) (s : Seat) (n : Node) (there : slice_get w.se
       step_stays laws nodes key own_place e retold came f none of told k
       (steady_is laws f e None steady (k.families key f there_f).sound (tidy_of w told k key f there_f)) same
 
-  called_by : (laws : FamilyLaws) (nodes : NodesStaySound) (key : ObjectKey) → place_of key ≡ place → (e : Event) → is_steady e.act ≡ true → ((r : RetryKey) → e.key ≡ Some r → HasMessage w r.number) → (o : Option Family)
+  called_by : (laws : FamilyLaws) (nodes : NodesStaySound) (key : ObjectKey) → place_of key ≡ place → (e : Event) → is_steady e.act ≡ true → ((r : RetryKey) → e.key ≡ Some r → HasMessage w r) → (o : Option Family)
       → family_for key e n ≡ o → Stays key e (applied_by o key e None n)
   unfolding applies answers_recovered
   called_by laws nodes key own_place e steady came (Some f) is = if_room key e f (has_room f.entries e)
@@ -291,12 +291,12 @@ module _ (w : World) (place : ℕ) (s : Seat) (n : Node) (there : slice_get w.se
       (replied_stays key e (option_and_then (record_says key e.key e.act) (record_of key n)))
 
   call_stays : (laws : FamilyLaws) (nodes : NodesStaySound) (key : ObjectKey) → place_of key ≡ place → (e : Event) → is_steady e.act ≡ true
-      → ((r : RetryKey) → e.key ≡ Some r → HasMessage w r.number) → Stays key e (applies key e None n)
+      → ((r : RetryKey) → e.key ≡ Some r → HasMessage w r) → Stays key e (applies key e None n)
   unfolding applies
   call_stays laws nodes key own_place e steady came = called_by laws nodes key own_place e steady came (family_for key e n) refl
 
   node_called : (laws : FamilyLaws) (nodes : NodesStaySound) (key : ObjectKey) → place_of key ≡ place → (e : Event) → is_steady e.act ≡ true
-      → ((r : RetryKey) → e.key ≡ Some r → HasMessage w r.number) → StaysKnown w (steps_node (Some n) s place key e w).done
+      → ((r : RetryKey) → e.key ≡ Some r → HasMessage w r) → StaysKnown w (steps_node (Some n) s place key e w).done
   node_called laws nodes key own_place e steady came =
       subst (λ (a : Asked). StaysKnown w (steps_by a place key e n w).done)
       (sym (answers_nothing key e n s.disk s.stop (steady_retold e.act steady) (λ f. steady_wants f e steady)))
@@ -304,7 +304,7 @@ module _ (w : World) (place : ℕ) (s : Seat) (n : Node) (there : slice_get w.se
 
 -- what is known is known once such an event has come to a node
 pub steady_known : (laws : FamilyLaws) (nodes : NodesStaySound) (w : World) (place : ℕ) (key : ObjectKey) → place_of key ≡ place → (e : Event)
-    → is_steady e.act ≡ true → ((r : RetryKey) → e.key ≡ Some r → HasMessage w r.number) → StaysKnown w (steps place key e w).done
+    → is_steady e.act ≡ true → ((r : RetryKey) → e.key ≡ Some r → HasMessage w r) → StaysKnown w (steps place key e w).done
 unfolding steps
 steady_known laws nodes w place key own_place e steady came = by (slice_get w.seats place) refl
   where
@@ -332,8 +332,8 @@ asked_steady _ is = refl
 -- a client's call that makes nothing keeps what is known
 pub known_call : (laws : FamilyLaws) (nodes : NodesStaySound) (w : World) (nth now : ℕ) (to : ObjectKey) (act : Act) (m : Message) → slice_get w.messages nth ≡ Some m
     → m.content ≡ contents.Call to act → is_asked act ≡ true → StaysKnown w (steps (place_of to) to (call_event (nth + 1) to act now) w).done
-known_call laws nodes w nth now to act m at says asked = steady_known laws nodes w (place_of to) to refl (call_event (nth + 1) to act now) (asked_steady act asked)
-    (λ r by. (nth, m, at, sym (ap (λ (x : RetryKey). x.number) (inner by))))
+known_call laws nodes w nth now to act m at says asked told k = steady_known laws nodes w (place_of to) to refl (call_event (nth + 1) to act now) (asked_steady act asked)
+    (λ r by. (nth, m, at, sym (ap (λ (x : RetryKey). x.number) (inner by)), (k.seats.calls nth m to act at says).1, sym (ap (λ (x : RetryKey). x.client) (inner by)))) told k
   where
     inner : {x y : RetryKey} → Some x ≡ Some y → x ≡ y
     inner e = cc

@@ -142,7 +142,7 @@ not_left place (x ∷ xs) y c = go (not (x.place == place)) refl c (not_left pla
 
 -- ---- what was asked for, and its line
 
-wanted_more : (done : ℕ) (more : List JournalRecord) → AreWanted (Some (WritesDone done)) more → (x : Option ℕ) × (more ≡ added x)
+pub wanted_more : (done : ℕ) (more : List JournalRecord) → AreWanted (Some (WritesDone done)) more → (x : Option ℕ) × (more ≡ added x)
 wanted_more done [] is = (None, refl)
 wanted_more done (r ∷ []) is = (Some done, ap (λ (y : JournalRecord). y ∷ []) is)
 wanted_more done (r ∷ s ∷ others) is = absurd is

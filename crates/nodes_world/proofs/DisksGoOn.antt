@@ -203,15 +203,15 @@ module _ (grow : JournalsGrow) (safe : LoadsAreSafe) (read : RecordsAreRead) (he
   disks_go w told d k (by_alike v quiet alike all) = same_goes w v (alike_same w v alike)
   disks_go w told d k (by_receipt number) = same_goes w w (same_self w)
   disks_go w told d k (by_node name free room) = same_goes w _ (seated_same name (OfNode None) w)
-  disks_go w told d k (by_end name free room) = same_goes w _ (made_end_same name w)
+  disks_go w told d k (by_end name free room short) = same_goes w _ (made_end_same name w)
   disks_go w told d k (by_load place s rs there down held lacks) = load_goes grow safe read w told place s rs k there down held lacks
   disks_go w told d k (by_crash place s n there up) = same_goes w _ (crash_same w place s there)
   disks_go w told d k (by_begin place name seconds s n there up free) = same_goes w _ (begin_same w place name seconds s n)
-  disks_go w told d k (by_calling to act asked) = same_goes w _ (sent_same _ w)
+  disks_go w told d k (by_calling to act asked few) = same_goes w _ (sent_same _ w)
   disks_go w told d k (by_call nth now to act m there is asked) =
       same_goes w _ (steps_same (place_of to) to (call_event (nth + 1) to act now) w (quiet_call (nth + 1) to act now asked))
-  disks_go w told d k (by_no_call nth to act m done there is new) = absurd (true≢false (sym (k.seats.calls nth m to act there is) ∙ new))
-  disks_go w told d k (by_sub parent name free) = same_goes w _ (sub_same w parent name)
+  disks_go w told d k (by_no_call nth to act m done there is new) = absurd (true≢false (sym (k.seats.calls nth m to act there is).0 ∙ new))
+  disks_go w told d k (by_sub parent name free few) = same_goes w _ (sub_same w parent name)
   disks_go w told d k (by_register manner transaction place name s e there up free may few) =
       same_goes w _ (register_same w manner transaction place name s e)
   disks_go w told d k (by_touch name key r later named there touched) = same_goes w _ (resource_same key later w)

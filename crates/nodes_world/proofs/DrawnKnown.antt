@@ -97,6 +97,10 @@ module _ (w : World) (place : ℕ) (s : Seat) (e : FlatEnd) (told : List Told) (
       | inl here ↦ subst (λ (y : FlatEnd). y.drawn ≤ length w.messages) (end_same p x here is) room
       | inr other ↦ k.counted.messages p x (sym (end_other p other) ∙ is)
     ];
+    short = λ p x name is named. elim (same_or_not p place) [
+      | inl here ↦ k.counted.short p e name (ap (end_at w) here ∙ end_up) (sym (seat_names_kept w place s left there refl p) ∙ named)
+      | inr other ↦ k.counted.short p x name (sym (end_other p other) ∙ is) (sym (seat_names_kept w place s left there refl p) ∙ named)
+    ];
   }
 
   drawn_frame : Frame w v told told

@@ -1,5 +1,5 @@
 -- Each deed is made of steps.
-use Rattle.std.proofs.Common.{◌≡◌, ℕ, zero, suc, ◌+◌, ◌-◌, ◌&&◌, Bool, true, false, min, List, [], ◌∷◌, length, map, slice_get, slice_set, codes, Option, Some, None, Result, refl, sym, ap, subst, ◌∙◌, append_assoc, append-nil, not, ◌||◌}
+use Rattle.std.proofs.Common.{◌≡◌, ℕ, zero, suc, ◌+◌, ◌-◌, ◌&&◌, Bool, true, false, min, List, [], ◌∷◌, length, map, slice_get, slice_set, codes, Option, Some, None, Result, refl, sym, ap, subst, ◌∙◌, append_assoc, append-nil, not, ◌||◌, ◌≤◌, IsTrue, nat_le, arith}
 use Rattle.std.specs.List.{AllByRecursion}
 use Rattle.std.proofs.lemmas.Option.{same_Some, get_or_from_slice_get}
 use Rattle.std.proofs.lemmas.Bool.{and_parts}
@@ -48,7 +48,9 @@ use Rattle.nodes_world.specs.AgreementSteps.{DeedsGo, Goes, by_alike, by_receipt
 use Rattle.nodes_world.proofs.Going.{get_last, get_set, node_up, on_seat_there, end_up}
 use Rattle.nodes_world.proofs.Deeds.{MayBeDone, down, mapped_of, may_be_done, node_is_up, only_of, some_of}
 use Rattle.std.proofs.lemmas.List.Quantifiers.{position-Some}
-use Rattle.nodes_world.specs.Agreement.{GoesOnFrom}
+use Rattle.std.proofs.lemmas.Bool.Decides.{nat_tests}
+use Rattle.ots_model.specs.Limits.{name_limit}
+use Rattle.nodes_world.specs.Agreement.{GoesOnFrom, names_fit}
 
 -- ---- one step after another
 
@@ -116,13 +118,13 @@ acts_on nth to act m w there is asked = by (slice_get w.seats (place_of to))
         (one w step.done (by_call nth s.clock to act m there is asked)) (answered_on (nth + 1) step.answer step.done.world)
     by None = still
 
-calls_on : (to : ObjectKey) (act : Act) (w : World) → is_asked act ≡ true → GoesOn w (calls to act answer_only w)
+calls_on : (to : ObjectKey) (act : Act) (w : World) → is_asked act ≡ true → GoesOnFrom w → GoesOn w (calls to act answer_only w)
 unfolding calls
-calls_on to act w asked =
+calls_on to act w asked few =
     let m = client_message (contents.Call to act) in
     let sent = with_sent m w in
     let first : Done = record { world = sent; lines = called_line (next_message w) (operation_of act) (transaction_name w to) } in
-    on_then w first (acts_at (next_message w) to act answer_only sent) (one w first (by_calling to act asked))
+    on_then w first (acts_at (next_message w) to act answer_only sent) (one w first (by_calling to act asked few))
     (acts_on (length w.messages) to act m sent (get_last w.messages m) refl asked)
 
 registers_on : (manner : Manner) (transaction : ObjectKey) (place : ℕ) (name : List ℕ) (w : World) → thing w name ≡ None
@@ -391,6 +393,7 @@ stops_on place stop w = by (slice_get w.seats place) refl
 
 -- besides what any deed needs
 abbrev MayGo : World → Deed → Type 0
+MayGo w (deeds.MakeEnd name) = length name ≤ name_limit
 MayGo w (deeds.Call to act) = is_asked act ≡ true
 MayGo w (deeds.Register manner transaction place name) = may_register manner w transaction ≡ true
 MayGo w (deeds.Put key cell value) = (name : List ℕ) × (thing w name ≡ Some (things.Resource key))
@@ -400,10 +403,10 @@ MayGo w _ = Unit {0}
 deed_on : (deed : Deed) (w : World) → GoesOnFrom w → MayBeDone w deed → MayGo w deed → limit_before deed w ≡ None → GoesOn w (carried_out deed w)
 unfolding carried_out
 deed_on (deeds.MakeNode name) w few may go limit = makes_node_on name w may (not_passed _ _ limit)
-deed_on (deeds.MakeEnd name) w few may go limit = one w _ (by_end name may (not_passed _ _ limit))
+deed_on (deeds.MakeEnd name) w few may go limit = one w _ (by_end name may (not_passed _ _ limit) go)
 deed_on (deeds.Begin place name seconds) w few may go limit = begins_on place name seconds w may
-deed_on (deeds.Call to act) w few may go limit = calls_on to act w go
-deed_on (deeds.Create parent name) w few may go limit = one w _ (by_sub parent name may)
+deed_on (deeds.Call to act) w few may go limit = calls_on to act w go few
+deed_on (deeds.Create parent name) w few may go limit = one w _ (by_sub parent name may few)
 deed_on (deeds.Register manner transaction place name) w few may go limit = registers_on manner transaction place name w may go few
 deed_on (deeds.Put resource cell value) w few may go limit = puts_on go.0 resource cell value w go.1
 deed_on (deeds.Refuse resource) w few may go limit = refuses_on go.0 resource w go.1
@@ -466,40 +469,43 @@ touched_go w may name make deed is then =
     = named.1 ∙ ap (λ (t : Thing). Some t) (resource_is named.0 up.0 named.2) ∙ ap (λ (key : ObjectKey). Some (things.Resource key)) (sym (so.1 ∙ also.1)) in
     subst (MayGo w) (sym made.2) (then made.0 is_thing)
 
-may_go : (event : ScriptEvent) (deed : Deed) (w : World) → resolve event w ≡ Some deed → MayGo w deed
+fits_at : (many limit : ℕ) → nat_le many limit ≡ true → many ≤ limit
+fits_at many limit is = grind (arith, nat_tests, is)
+
+may_go : (event : ScriptEvent) (deed : Deed) (w : World) → IsTrue (names_fit event) → resolve event w ≡ Some deed → MayGo w deed
 unfolding resolve begins_named creates_named puts_named refuses_named commits_named relates_named
-may_go (events.Node name) deed w is = free_go w name (deeds.MakeNode name) deed is tt
-may_go (events.End name) deed w is = free_go w name (deeds.MakeEnd name) deed is tt
-may_go (events.Begin node name seconds) deed w is =
+may_go (events.Node name) deed w fit is = free_go w name (deeds.MakeNode name) deed is tt
+may_go (events.End name) deed w fit is = free_go w name (deeds.MakeEnd name) deed is (fits_at (length name) name_limit fit)
+may_go (events.Begin node name seconds) deed w fit is =
     let at = some_of (λ (place : ℕ). if_free w name (deeds.Begin place name seconds)) (node_named w node) deed is in
     free_go w name (deeds.Begin at.0 name seconds) deed at.2 tt
-may_go (events.Sub parent name) deed w is =
+may_go (events.Sub parent name) deed w fit is =
     let at = some_of (λ (key : ObjectKey). if_free w name (deeds.Create key name)) (transaction_named w parent) deed is in
     free_go w name (deeds.Create at.0 name) deed at.2 tt
-may_go (events.Register transaction end resource) deed w is = registers_go w manners.Resource transaction end resource deed is
-may_go (events.Aware transaction end resource) deed w is = registers_go w manners.Aware transaction end resource deed is
-may_go (events.Double transaction end resource) deed w is = registers_go w manners.Double transaction end resource deed is
-may_go (events.Put resource cell value) deed w is =
+may_go (events.Register transaction end resource) deed w fit is = registers_go w manners.Resource transaction end resource deed is
+may_go (events.Aware transaction end resource) deed w fit is = registers_go w manners.Aware transaction end resource deed is
+may_go (events.Double transaction end resource) deed w fit is = registers_go w manners.Double transaction end resource deed is
+may_go (events.Put resource cell value) deed w fit is =
     touched_go w (may_put w cell) resource (λ (key : ObjectKey). deeds.Put key cell value) deed is (λ key named. (resource, named))
-may_go (events.Refuse resource) deed w is = touched_go w (may_refuse w) resource deeds.Refuse deed is (λ key named. (resource, named))
-may_go (events.Commit transaction reports) deed w is =
+may_go (events.Refuse resource) deed w fit is = touched_go w (may_refuse w) resource deeds.Refuse deed is (λ key named. (resource, named))
+may_go (events.Commit transaction reports) deed w fit is =
     let at = some_of (commits_as w reports) (transaction_named w transaction) deed is in
     let so = only_of (may_commit w at.0 reports) (ends_by (acts.Commit reports) at.0) deed at.2 in
     subst (MayGo w) (sym so.1) refl
-may_go (events.Rollback transaction) deed w is = call_go w transaction (ends_by acts.Rollback) deed is (λ key. refl)
-may_go (events.Mark transaction) deed w is = call_go w transaction (asks_for acts.RollbackOnly) deed is (λ key. refl)
-may_go (events.Status transaction whose) deed w is = call_go w transaction (asks_for (status_act whose)) deed is (λ key. status_called whose)
-may_go (events.Relate relation transaction other) deed w is =
+may_go (events.Rollback transaction) deed w fit is = call_go w transaction (ends_by acts.Rollback) deed is (λ key. refl)
+may_go (events.Mark transaction) deed w fit is = call_go w transaction (asks_for acts.RollbackOnly) deed is (λ key. refl)
+may_go (events.Status transaction whose) deed w fit is = call_go w transaction (asks_for (status_act whose)) deed is (λ key. status_called whose)
+may_go (events.Relate relation transaction other) deed w fit is =
     let at = some_of (λ (key : ObjectKey). calls_named w transaction (asks_for (relation_act relation key))) (transaction_named w other) deed is in
     call_go w transaction (asks_for (relation_act relation at.0)) deed at.2 (λ key. relation_called relation at.0)
-may_go (events.NameOf transaction) deed w is = call_go w transaction (asks_for acts.GetTransactionName) deed is (λ key. refl)
-may_go (events.Hash transaction) deed w is = call_go w transaction (asks_for acts.HashTransaction) deed is (λ key. refl)
-may_go (events.Flow count) deed w is = subst (MayGo w) (same_Some (deeds.Flow count) deed is) tt
-may_go (events.Tick server seconds) deed w is = mapped_go (λ (place : ℕ). deeds.Tick place seconds) _ w deed is (λ place. tt)
-may_go (events.Crash server) deed w is = mapped_go deeds.Crash _ w deed is (λ place. tt)
-may_go (events.Restart server) deed w is = mapped_go deeds.Restart _ w deed is (λ place. tt)
-may_go (events.Stop server write image) deed w is = mapped_go (λ (place : ℕ). deeds.Stop place write image) _ w deed is (λ place. tt)
-may_go _ deed w is = absurd cc
+may_go (events.NameOf transaction) deed w fit is = call_go w transaction (asks_for acts.GetTransactionName) deed is (λ key. refl)
+may_go (events.Hash transaction) deed w fit is = call_go w transaction (asks_for acts.HashTransaction) deed is (λ key. refl)
+may_go (events.Flow count) deed w fit is = subst (MayGo w) (same_Some (deeds.Flow count) deed is) tt
+may_go (events.Tick server seconds) deed w fit is = mapped_go (λ (place : ℕ). deeds.Tick place seconds) _ w deed is (λ place. tt)
+may_go (events.Crash server) deed w fit is = mapped_go deeds.Crash _ w deed is (λ place. tt)
+may_go (events.Restart server) deed w fit is = mapped_go deeds.Restart _ w deed is (λ place. tt)
+may_go (events.Stop server write image) deed w fit is = mapped_go (λ (place : ℕ). deeds.Stop place write image) _ w deed is (λ place. tt)
+may_go _ deed w fit is = absurd cc
 
 pub deeds_go : DeedsGo
-deeds_go event deed w few is limit = deed_on deed w few (may_be_done event deed w is) (may_go event deed w is) limit
+deeds_go event deed w few fit is limit = deed_on deed w few (may_be_done event deed w is) (may_go event deed w fit is) limit

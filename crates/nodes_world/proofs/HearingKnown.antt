@@ -1,5 +1,5 @@
 -- What is known of a world is known once an answer was heard for which nobody waits, or that is for a record.
-use Rattle.std.proofs.Common.{◌≡◌, ◌⊎◌, inl, inr, ℕ, zero, suc, ◌+◌, ◌-◌, ◌<◌, ◌==◌, Bool, true, false, is_none, is_some, if◌then◌else◌, List, [], ◌∷◌, ◌++◌, map, append-nil, slice_get, slice_set, Contains, Option, Some, None, refl, sym, ap, subst, ◌∙◌, arith}
+use Rattle.std.proofs.Common.{◌≡◌, ◌≢◌, ◌⊎◌, inl, inr, ℕ, zero, suc, ◌+◌, ◌-◌, ◌<◌, ◌==◌, Bool, true, false, is_none, is_some, if◌then◌else◌, List, [], ◌∷◌, ◌++◌, map, append-nil, slice_get, slice_set, Contains, Option, Some, None, refl, sym, ap, subst, ◌∙◌, arith}
 use Rattle.std.specs.Prelude.{Ok}
 use Rattle.std.specs.Option.{option_and_then, option_map}
 use Rattle.ior_refs.specs.declared.key.ObjectKey.{ObjectKey}
@@ -38,6 +38,7 @@ use Rattle.nodes_world.specs.AgreementInside.{Known, HasMessage, IsNotBefore, Fa
 use Rattle.nodes_world.specs.AgreementSteps.{NodeStepsStayKnown, StaysKnown, is_asking, kept_message}
 use Rattle.nodes_world.specs.Deliveries.{answer_event, heard_in, hears_answer, is_waited_for}
 use Rattle.nodes_world.specs.Happenings.{changes}
+use Rattle.nodes_world.specs.Laws.{CanAsk}
 use Rattle.nodes_world.specs.Journals.{Asked, asks}
 use Rattle.nodes_world.specs.Nodes.{Stepping, cast_by, effects_told, no_step, steps, steps_by, steps_node}
 use Rattle.nodes_world.specs.Objects.{family_key, place_of}
@@ -54,9 +55,13 @@ use Rattle.nodes_world.proofs.AnswersKeep.{HearsNoVote, NoVoteAt, answer_keeps, 
 use Rattle.nodes_world.proofs.KnownFamilies.{family_found}
 use Rattle.nodes_world.proofs.KnownLines.{lines_of}
 use Rattle.nodes_world.proofs.CallKnown as call
+use Rattle.nodes_world.proofs.ClosesKeep.{closing_keeps, hears_alone}
+use Rattle.nodes_world.proofs.ClosesKnown.{closed_known}
 use Rattle.nodes_world.proofs.CompletesKnown as complete
 use Rattle.nodes_world.proofs.CompletesKnown.{JournalLaws}
 use Rattle.nodes_world.proofs.CallKnown.{for_key, nothing_asked, tidy_of}
+use Rattle.nodes_world.proofs.AskedCalls.{call_cases, deaf_no_vote, deaf_tells_no_vote, deaf_wants, nothing_fixed}
+use Rattle.nodes_world.proofs.RulesKeep.{IsTidy}
 use Rattle.nodes_world.proofs.StepIs.{FamilyLaws, keeps_is}
 use Rattle.nodes_world.proofs.StepsKeep.{StepKeeps, quiet_keeps}
 use Rattle.nodes_world.proofs.SubKnown.{stays_then}
@@ -114,7 +119,7 @@ module _ (laws : FamilyLaws) (journals : JournalLaws) (nodes : NodesStaySound) (
     unfolding call_wants
     wants_is x is = ap (λ (y : Option Family). wanted_by y e n) (for_family ∙ is)
 
-    no_retry : (r : RetryKey) → None ≡ Some r → HasMessage w r.number
+    no_retry : (r : RetryKey) → None ≡ Some r → HasMessage w r
     no_retry r is = absurd cc
 
     own_place : place_of key ≡ place
@@ -157,15 +162,15 @@ module _ (laws : FamilyLaws) (journals : JournalLaws) (nodes : NodesStaySound) (
       inner : {x y : ℕ} → Some x ≡ Some y → x ≡ y
       inner same = cc
 
-      no_votes : NobodyVotes → IsSoundFamily f → (number : ℕ) (vote : Vote) → Contains (family_step f e None).effects (effects.Voted number vote) → ⊥
-      no_votes (inl not_asked) sound number vote among =
-          let heard = laws.votes.told f e None number vote sound among in
+      no_votes : NobodyVotes → IsSoundFamily f → (stood : Option Stood) (number : ℕ) (vote : Vote) → Contains (family_step f e stood).effects (effects.Voted number vote) → ⊥
+      no_votes (inl not_asked) sound stood number vote among =
+          let heard = laws.votes.told f e stood number vote sound among in
           no (sym (no_voter f.completion not_asked) ∙ heard.asked)
         where
           no : None ≡ Some number → ⊥
           no same = cc
-      no_votes (inr less) sound number vote among =
-          let heard = laws.votes.told f e None number vote sound among in
+      no_votes (inr less) sound stood number vote among =
+          let heard = laws.votes.told f e stood number vote sound among in
           let first = inner (sym waits ∙ ap (waiting_for f) (same_answer heard.number _ heard.answer) ∙ heard.waited) in
           omega (arith, less, first)
 
@@ -190,16 +195,21 @@ module _ (laws : FamilyLaws) (journals : JournalLaws) (nodes : NodesStaySound) (
           by_leg Deciding never of (inr less) = absurd (of less)
           by_leg (After so_many) never of nobody = tt
 
-      hears_on : NobodyVotes → wanted f e ≡ None → StaysKnown w (steps_node (Some n) s place key e w).done
-      hears_on nobody none =
+      -- nothing is asked of the journal, and nobody votes
+      hears_by : wanted f e ≡ None → (IsSoundFamily f → (number : ℕ) (vote : Vote) → Contains (family_step f e None).effects (effects.Voted number vote) → ⊥)
+          → (IsTidy f → (told : List Told) → Known w told → StepKeeps f (family_step f e None)) → StaysKnown w (steps_node (Some n) s place key e w).done
+      hears_by none votes_none keeps =
           let same : applies key e None n ≡ steps_to n f e None (family_step f e None) =
           applied_is (Some f) is ∙ ap (λ (t : Bool). if t then steps_to n f e None (family_step f e None) else refuses faults.NoResources n) room in
           by_nothing (wants_is (Some f) is ∙ ap (λ (t : Bool). if t then wanted f e else None) room ∙ none)
           (subst Ends (sym same) (λ told k.
           let sound = (k.families key f found_here).sound in
           call.step_stays w place s n there up laws nodes key own_place e retold no_retry f none is told k
-          (keeps_is laws f e None (no_votes nobody sound) sound
-          (answer_keeps f o answer now b waits (no_vote_at nobody told k (call_at f b) refl) (tidy_of w told k key f found_here))) same))
+          (keeps_is laws f e None (votes_none sound) sound (keeps (tidy_of w told k key f found_here) told k)) same))
+
+      hears_on : NobodyVotes → wanted f e ≡ None → StaysKnown w (steps_node (Some n) s place key e w).done
+      hears_on nobody none =
+          hears_by none (λ whole. no_votes nobody whole None) (λ tidy told k. answer_keeps f o answer now b waits (no_vote_at nobody told k (call_at f b) refl) tidy)
 
       abbrev heard_family : Family
       heard_family = (hears o.number (heard_in answer) f).family
@@ -207,6 +217,17 @@ module _ (laws : FamilyLaws) (journals : JournalLaws) (nodes : NodesStaySound) (
       wanted_is : wanted f e ≡ wanted_after heard_family
       unfolding wanted
       wanted_is = ap (λ (x : Option ℕ). if is_some x then wanted_after heard_family else None) waits
+
+      -- the family's own Done is wanted, where the decision stands that it names and isn't told again
+      closes_open : NobodyVotes → (done : ℕ) → wanted f e ≡ Some (WritesDone done) → (told : List Told) (k : Known w told) → CanAsk (Some (WritesDone done)) n.found
+          → ((h : Held) → Contains n.recovered h → h.place ≢ done)
+          → Known (steps_node (Some n) s place key e w).done.world (told ++ (steps_node (Some n) s place key e w).done.lines)
+      closes_open nobody done wants told k can apart =
+          let known = k.families key f found_here in
+          let so = no_vote_at nobody told k (call_at f b) refl in
+          closed_known laws journals nodes w place now o answer s n f done there up family is room wants told k can apart
+          (λ stood. closing_keeps f o answer now stood b waits so known.settled (tidy_of w told k key f found_here))
+          (no_votes nobody known.sound) (hears_alone o.number (heard_in answer) b f waits so)
 
       -- no decision is wanted, so it is the family's own Done
       own_done : (t u : Bool) (x : Option ℕ) (r : JournalRecord) (item : Wanted) → t ≡ false
@@ -224,6 +245,18 @@ module _ (laws : FamilyLaws) (journals : JournalLaws) (nodes : NodesStaySound) (
           (rule.kept.wants (k.families key f found_here).settled) (sym wanted_is ∙ asks_for) in
           others.closes w nth place reply now o back answer s n f b done.0 word replied says there up family is room waits nobody (asks_for ∙ ap (λ (x : Wanted). Some x) done.1) told k
 
+      -- a participant is asked: the call is at the decision, or hears nothing of the answer
+      while_asked : waiting_for f o.number ≡ Some 0 → is_asking f.completion ≡ true → StaysKnown w (steps_node (Some n) s place key e w).done
+      while_asked first asking told k = elim (call_cases f known.sound (λ c at. known.legs 0 c at)) [
+        | inl deaf ↦ hears_by (wanted_is ∙ deaf_wants f o answer now first deaf known.settled (nothing_fixed f.completion known.sound.completion.there asking))
+            (deaf_tells_no_vote f o answer now first deaf laws)
+            (λ tidy others_told others_known. answer_keeps f o answer now 0 first (deaf_no_vote f (call_at f 0) deaf) tidy) told k
+        | inr at ↦ others.asked w nth place reply now o back answer s n f at.0 word replied says there up family is room first at.1 at.2 asking told k
+      ]
+        where
+          known : FamilyIsKnown w (lines_of told) f
+          known = k.families key f found_here
+
       -- whoever waits for it
       waited : StaysKnown w (steps_node (Some n) s place key e w).done
       waited = by_asking (is_asking f.completion) refl b refl
@@ -231,7 +264,7 @@ module _ (laws : FamilyLaws) (journals : JournalLaws) (nodes : NodesStaySound) (
           by_asking : (t : Bool) → is_asking f.completion ≡ t → (i : ℕ) → b ≡ i → StaysKnown w (steps_node (Some n) s place key e w).done
           by_asking false not_asked i equal = by_wanted (inl not_asked) (wanted f e) refl
           by_asking true asking zero equal =
-              others.asked w nth place reply now o back answer s n f word replied says there up family is room (waits ∙ ap (λ (i : ℕ). Some i) equal) asking
+              while_asked (waits ∙ ap (λ (i : ℕ). Some i) equal) asking
           by_asking true asking (suc i) equal = by_wanted (inr (omega (arith, equal))) (wanted f e) refl
 
     -- no family is there

@@ -195,6 +195,7 @@ module _ (w v : World) (told some : List Told) (alike : IsAlike w v) (plain : Al
       numbers = λ place e is. was.numbers place e (sym (ends_same w v alike.seats place) ∙ is);
       messages = λ place e is.
           subst (λ (many : ℕ). e.drawn ≤ many) (as_many kept_message w.messages v.messages (sym alike.messages)) (was.messages place e (sym (ends_same w v alike.seats place) ∙ is));
+      short = λ place e name is named. was.short place e name (sym (ends_same w v alike.seats place) ∙ is) (sym (named_same w v alike.seats place) ∙ named);
     };
   }
 
@@ -236,8 +237,11 @@ module _ (w v : World) (told some : List Told) (alike : IsAlike w v) (plain : Al
       calls = λ nth m to act there says.
           let was = map_get kept_message v.messages w.messages nth m alike.messages there in
           let so = ap (λ (x : Message). x.content) was.2 ∙ says in
-          sym (delivered_so m.delivered (ap is_call says)) ∙ sym (ap (λ (x : Message). x.delivered) was.2)
-          ∙ delivered_so was.0.delivered (ap is_call so) ∙ k.seats.calls nth was.0 to act was.1 so;
+          let old = k.seats.calls nth was.0 to act was.1 so in (
+            sym (delivered_so m.delivered (ap is_call says)) ∙ sym (ap (λ (x : Message). x.delivered) was.2)
+                ∙ delivered_so was.0.delivered (ap is_call so) ∙ old.0,
+            old.1,
+          );
     }
 
     disks_alike : ((before behind : List Line) (server : List ℕ) (life earlier : ℕ) → known (told ++ some) ≡ before ++ (lines.Up server life ∷ behind)

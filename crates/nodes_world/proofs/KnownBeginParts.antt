@@ -658,4 +658,5 @@ module _ (w : World) (place : ℕ) (name : List ℕ) (deadline : Option ℕ) (sl
   counted_begun = record {
     numbers = λ p e is. k.counted.numbers p e (sym (ends_kept w place s left there refl (sym (ap end_in up)) p) ∙ is);
     messages = λ p e is. k.counted.messages p e (sym (ends_kept w place s left there refl (sym (ap end_in up)) p) ∙ is);
+    short = λ p e n is named. k.counted.short p e n (sym (ends_kept w place s left there refl (sym (ap end_in up)) p) ∙ is) (sym (seat_names_kept w place s left there refl p) ∙ named);
   }

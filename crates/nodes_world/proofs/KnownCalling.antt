@@ -1,5 +1,5 @@
 -- What is known of a world is known once a client's call has gone out.
-use Rattle.std.proofs.Common.{◌≡◌, inl, inr, ℕ, Bool, true, false, List, [], ◌∷◌, ◌++◌, slice_get, Option, Some, None, refl, sym, ap, ◌∙◌, true≢false, arith, length-append}
+use Rattle.std.proofs.Common.{◌≡◌, inl, inr, ℕ, Bool, true, false, List, [], ◌∷◌, ◌++◌, slice_get, Option, Some, None, refl, sym, ap, subst, ◌∙◌, ◌≤◌, true≢false, arith, length-append}
 use Rattle.std.specs.List.{AllByRecursion}
 use Rattle.ior_refs.specs.declared.key.ObjectKey.{ObjectKey}
 use Rattle.ots_model.specs.declared.line.Line.{Line}
@@ -10,6 +10,8 @@ use Rattle.nodes_world.specs.Told.{Told, operation_of}
 use Rattle.nodes_world.specs.World.{World, end_at, next_message, node_at, referred, resource_at, transaction_name, with_sent}
 use Rattle.nodes_world.specs.Happenings.{client_message}
 use Rattle.nodes_world.specs.Clients.{called_line}
+use Rattle.nodes_world.specs.Agreement.{GoesOnFrom}
+use Rattle.nodes_world.specs.Limits.{message_limit}
 use Rattle.nodes_world.specs.AgreementInside.{Known, DisksAreKnown, SeatsAreNamed}
 use Rattle.nodes_world.specs.AgreementSteps.{StaysKnown, is_asked, is_call}
 use Rattle.nodes_world.proofs.KnownLines.{among_back, among_turned, lines_of}
@@ -23,7 +25,7 @@ called_one flag message (Some operation) (Some name) = (tt, tt)
 called_one flag message (Some operation) None = tt
 called_one flag message None name = tt
 
-module _ (w : World) (told more : List Told) (to : ObjectKey) (act : Act) (k : Known w told)
+module _ (w : World) (told more : List Told) (to : ObjectKey) (act : Act) (few : GoesOnFrom w) (k : Known w told)
     (one : (flag : Line → Bool) → AllByRecursion (IsOne flag) more) where
   abbrev call : Message
   call = client_message (contents.Call to act)
@@ -71,6 +73,7 @@ module _ (w : World) (told more : List Told) (to : ObjectKey) (act : Act) (k : K
     counted = λ was. record {
       numbers = was.numbers;
       messages = λ p e is. let low = was.messages p e is in let many = length-append w.messages (call ∷ []) in omega (arith, low, many);
+      short = was.short;
     };
   }
 
@@ -83,7 +86,7 @@ module _ (w : World) (told more : List Told) (to : ObjectKey) (act : Act) (k : K
     few = k.seats.few;
     calls = λ nth m key other at says. elim (push_cases w.messages nth call m at) [
       | inl was ↦ k.seats.calls nth m key other was says
-      | inr new ↦ ap (λ (x : Message). x.delivered) new.1
+      | inr new ↦ (ap (λ (x : Message). x.delivered) new.1, subst (λ (i : ℕ). i ≤ message_limit) (sym new.0) few)
     ];
   }
 
@@ -107,11 +110,11 @@ module _ (w : World) (told more : List Told) (to : ObjectKey) (act : Act) (k : K
       framed_known w v told later called_frame k k.names.keys k.names.once seats_called disks_called
       (λ p s n q there is sent same. k.words.given p s n q there is (sent_back w v told later called_frame k p q sent) same)
 
-pub known_calling : (w : World) (to : ObjectKey) (act : Act) → is_asked act ≡ true
+pub known_calling : (w : World) (to : ObjectKey) (act : Act) → is_asked act ≡ true → GoesOnFrom w
     → StaysKnown w (record {
       world = with_sent (client_message (contents.Call to act)) w;
       lines = called_line (next_message w) (operation_of act) (transaction_name w to);
     })
-known_calling w to act named told k =
-    called_known w told (called_line (next_message w) (operation_of act) (transaction_name w to)) to act k
+known_calling w to act named few told k =
+    called_known w told (called_line (next_message w) (operation_of act) (transaction_name w to)) to act few k
     (λ flag. called_one flag (next_message w) (operation_of act) (transaction_name w to))

@@ -359,6 +359,7 @@ module _ (grow : JournalsGrow) (safe : LoadsAreSafe) (read : RecordsAreRead) (so
     counted = λ was. record {
       numbers = λ p e is. was.numbers p e (sym (ends_kept w place s up_seat there refl (sym (ap end_in down)) p) ∙ is);
       messages = λ p e is. was.messages p e (sym (ends_kept w place s up_seat there refl (sym (ap end_in down)) p) ∙ is);
+      short = λ p e name is named. was.short p e name (sym (ends_kept w place s up_seat there refl (sym (ap end_in down)) p) ∙ is) (sym (seat_names_kept w place s up_seat there refl p) ∙ named);
     };
   }
 

@@ -18,10 +18,11 @@ use Rattle.nodes_world.specs.declared.thing.Thing.{Thing}
 use Rattle.nodes_world.specs.declared.thing.Thing.TheVariants as things
 use Rattle.nodes_world.specs.Journals.{records_in, records_on}
 use Rattle.nodes_world.specs.Limits.{only_life, seat_limit}
+use Rattle.ots_model.specs.Limits.{name_limit}
 use Rattle.nodes_world.specs.Objects.{place_of, reference, service_at}
 use Rattle.nodes_world.specs.Told as tell
 use Rattle.nodes_world.specs.Told.{Told, known}
-use Rattle.nodes_world.specs.World.{World, Seat, Server, OfNode, OfEnd, FlatEnd, FlatResource, NamedKey, end_at, end_in, has_number, is_referred_to, node_at, node_in, referred, resource_at, resource_in, resources, thing, thing_in}
+use Rattle.nodes_world.specs.World.{World, Seat, Server, OfNode, OfEnd, FlatEnd, FlatResource, NamedKey, end_at, end_in, has_number, is_referred_to, node_at, node_in, referred, resource_at, resource_in, resources, seat_name, thing, thing_in}
 use Rattle.nodes_world.specs.Happenings.{changes}
 use Rattle.nodes_world.specs.Lives.{makes_end, new_end, new_seat, with_named_seat}
 use Rattle.nodes_world.specs.Step.{is_full}
@@ -122,7 +123,7 @@ finds key e = find (has_number key) e.resources
 -- a seat of this name is made, at which no node is up and which has no resource
 module _ (w : World) (name : List ℕ) (server : Server) (told more : List Told) (free : thing w name ≡ None) (k : Known w told)
     (nodeless : node_in server ≡ None) (barren : (key : ObjectKey) → option_and_then (finds key) (end_in server) ≡ None)
-    (room : is_full w ≡ false) (empty : (e : FlatEnd) → end_in server ≡ Some e → (e.resources ≡ []) × (e.drawn ≡ 0))
+    (room : is_full w ≡ false) (empty : (e : FlatEnd) → end_in server ≡ Some e → (e.resources ≡ []) × (e.drawn ≡ 0) × (length name ≤ name_limit))
     (plain : AllByRecursion (IsOne is_plain) more) where
   abbrev seat : Seat
   seat = new_seat name server
@@ -236,6 +237,19 @@ module _ (w : World) (name : List ℕ) (server : Server) (told more : List Told)
     | inr same ↦ inl (sym (ap (λ (o : Option Seat). option_and_then (λ (s : Seat). end_in s.server) o) same) ∙ is)
   ]
 
+  short_then : EndsHaveCounted w → (p : ℕ) (e : FlatEnd) (n : List ℕ) → end_at v p ≡ Some e → seat_name v p ≡ Some n → length n ≤ name_limit
+  unfolding end_at
+  short_then was p e n is named = elim (push_at w.seats seat p) [
+    | inl here ↦
+        subst (λ (x : List ℕ). length x ≤ name_limit) (same_name (sym (ap (option_map (λ (s : Seat). s.name)) here.2) ∙ named))
+        (empty e (sym (ap (λ (o : Option Seat). option_and_then (λ (s : Seat). end_in s.server) o) here.2) ∙ is)).2
+    | inr same ↦ was.short p e n (sym (ap (λ (o : Option Seat). option_and_then (λ (s : Seat). end_in s.server) o) same) ∙ is)
+        (sym (ap (option_map (λ (s : Seat). s.name)) same) ∙ named)
+  ]
+    where
+      same_name : {x : List ℕ} → Some name ≡ Some x → name ≡ x
+      same_name e = cc
+
   counted_then : EndsHaveCounted w → EndsHaveCounted v
   counted_then was = record {
     numbers = λ p e is. elim (ends_then p e is) [
@@ -246,6 +260,7 @@ module _ (w : World) (name : List ℕ) (server : Server) (told more : List Told)
       | inl old ↦ was.messages p e old
       | inr new ↦ let none = (empty e new).1 in omega (arith, none)
     ];
+    short = short_then was;
   }
 
   plain_tells : TellsOn is_plain told later
@@ -464,11 +479,11 @@ split_cases (x ∷ xs) (b ∷ before) behind line last e =
 abbrev pub end_line : List ℕ → Line
 end_line name = lines.Up name only_life
 
-pub known_end : (w : World) (name : List ℕ) → thing w name ≡ None → is_full w ≡ false → StaysKnown w (makes_end name w)
+pub known_end : (w : World) (name : List ℕ) → thing w name ≡ None → is_full w ≡ false → length name ≤ name_limit → StaysKnown w (makes_end name w)
 unfolding makes_end
-known_end w name free room told k =
+known_end w name free room short told k =
     made_known w name (OfEnd (Some new_end)) told (tell.Known (end_line name) ∷ []) free k refl (λ key. refl) room
-    (λ e is. (ap (λ (x : FlatEnd). x.resources) (sym (own_end e is)), ap (λ (x : FlatEnd). x.drawn) (sym (own_end e is)))) (refl, tt) ups rise
+    (λ e is. (ap (λ (x : FlatEnd). x.resources) (sym (own_end e is)), ap (λ (x : FlatEnd). x.drawn) (sym (own_end e is)), short)) (refl, tt) ups rise
     (λ up life is stands. absurd (no_node up is))
   where
     own_end : (e : FlatEnd) → Some new_end ≡ Some e → new_end ≡ e

@@ -136,6 +136,7 @@ module _ (w : World) (place : ℕ) (s : Seat) (n m : Node) (told : List Told) (t
     counted = λ was. record {
       numbers = λ p e is. was.numbers p e (sym (ends_kept w place s left there refl (sym (ap end_in up)) p) ∙ is);
       messages = λ p e is. was.messages p e (sym (ends_kept w place s left there refl (sym (ap end_in up)) p) ∙ is);
+      short = λ p e name is named. was.short p e name (sym (ends_kept w place s left there refl (sym (ap end_in up)) p) ∙ is) (sym (seat_names_kept w place s left there refl p) ∙ named);
     };
   }
 

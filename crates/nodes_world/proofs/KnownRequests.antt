@@ -494,7 +494,7 @@ module _ (w : World) (told : List Told) (k : Known w told) (place : ℕ) (o : Ou
     named = old.named;
     apart = old.apart;
     within = old.within;
-    came = λ e r among is. let at = old.came e r among is in (at.0, at.1, push_kept w.messages at.0 (new_message (contents.Request place o)) at.1 at.2, at.3);
+    came = λ e r among is. let at = old.came e r among is in (at.0, at.1, push_kept w.messages at.0 (new_message (contents.Request place o)) at.1 at.2, at.3, at.4, at.5);
     dues = old.dues;
     legs = old.legs;
     settled = old.settled;
@@ -690,6 +690,7 @@ module _ (w : World) (told : List Told) (k : Known w told) (place : ℕ) (o : Ou
         let low = k.counted.messages p e is in
         let many = length-append w.messages (new_message (contents.Request place o) ∷ []) in
         omega (arith, low, many);
+    short = k.counted.short;
   }
 
   -- what is known once the word is sent

@@ -192,6 +192,7 @@ module _ (w : World) (place : ℕ) (s : Seat) (n : Node) (told : List Told) (the
     counted = λ was. record {
       numbers = λ p e is. was.numbers p e (sym (ends_left p) ∙ is);
       messages = λ p e is. was.messages p e (sym (ends_left p) ∙ is);
+      short = λ p e name is named. was.short p e name (sym (ends_left p) ∙ is) (sym (seat_names_kept w place s left there refl p) ∙ named);
     };
   }
 

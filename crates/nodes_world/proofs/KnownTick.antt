@@ -77,7 +77,7 @@ module _ (laws : FamilyLaws) (nodes : NodesStaySound) (place now : ℕ) (u : Wor
       no : {x : Stood} → None ≡ Some x → ⊥
       no e = cc
 
-  entries_came : (x : Entry) (r : RetryKey) → Contains st.family.entries x → x.event.key ≡ Some r → HasMessage u r.number
+  entries_came : (x : Entry) (r : RetryKey) → Contains st.family.entries x → x.event.key ≡ Some r → HasMessage u r
   entries_came x r among by = elim (entry_cases laws f e None x among) [
     | inl was ↦ (k.families f.key f found).came x r was by
     | inr new ↦ absurd (no (ap (λ (y : Event). y.key) (sym new) ∙ by))

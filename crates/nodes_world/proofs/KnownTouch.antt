@@ -17,6 +17,7 @@ use Rattle.nodes_world.specs.Journals.{records_on}
 use Rattle.nodes_world.specs.Objects.{place_of, reference, service_at}
 use Rattle.nodes_world.specs.Told.{Told}
 use Rattle.nodes_world.specs.World.{World, Seat, OfNode, OfEnd, FlatEnd, FlatResource, end_at, end_in, family_at, has_number, is_referred_to, node_at, node_in, referred, resource_at, resources, seat_name, thing, with_server}
+use Rattle.ots_model.specs.Limits.{name_limit}
 use Rattle.nodes_world.proofs.Going.{EndIsUp, end_is_up, get_set, on_seat_there}
 use Rattle.nodes_world.proofs.KnownLines.{lines_of}
 use Rattle.nodes_world.proofs.KnownTelling.{TellsOn, tells_on}
@@ -280,11 +281,20 @@ module _ (w : World) (place : ℕ) (s : Seat) (e : FlatEnd) (next : FlatResource
       one_end : {a b : FlatEnd} → Some a ≡ Some b → a ≡ b
       one_end e = cc
 
+  short_same : EndsHaveCounted w → (p : ℕ) (d : FlatEnd) (name : List ℕ) → end_at (replaced w place s e next ms) p ≡ Some d
+      → seat_name (replaced w place s e next ms) p ≡ Some name → length name ≤ name_limit
+  short_same all p d name is named =
+      elim (same_or_not p place) [
+        | inl here ↦ all.short p e name (end_was p here) (sym (name_same p) ∙ named)
+        | inr other ↦ all.short p d name (sym (end_other p other) ∙ is) (sym (name_same p) ∙ named)
+      ]
+
   -- where no message is lost
   pub counted_same : length w.messages ≤ length ms → EndsHaveCounted w → EndsHaveCounted (replaced w place s e next ms)
   counted_same more all = record {
     numbers = λ p d is. numbers_same all p d is;
     messages = λ p d is. messages_same more all p d is;
+    short = λ p d name is named. short_same all p d name is named;
   }
 
   module _ (key : ObjectKey) (r : FlatResource) (at : place_of key ≡ place) (was : resource_at w key ≡ Some r) (same : next.key ≡ r.key) where

@@ -358,7 +358,7 @@ module _ (w v : World) (told later : List Told) (k : Known w told) (x : NamedKey
     within = old.within;
     came = λ e r among is.
         let at = old.came e r among is in
-        (at.0, at.1, t.messages at.0 at.1 at.2, at.3);
+        (at.0, at.1, t.messages at.0 at.1 at.2, at.3, at.4, at.5);
     dues = old.dues;
     legs = old.legs;
     settled = old.settled;

@@ -349,7 +349,7 @@ module _ (w v : World) (told later : List Told) (f : Frame w v told later) (k : 
     came = λ e r among is.
         let at = old.came e r among is in
         let there = f.messages_on at.0 at.1 at.2 in
-        (at.0, there.0, there.1, at.3);
+        (at.0, there.0, there.1, at.3, at.4, at.5);
     dues = old.dues;
     legs = old.legs;
     settled = old.settled;

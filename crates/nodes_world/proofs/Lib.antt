@@ -3,7 +3,10 @@ mod Played
 mod Going
 mod Deeds
 mod GoingOn
+mod NamesFit
 mod NothingKnown
+mod ReferenceShort
+mod RetryFits
 mod Reaching
 mod LeftImages
 mod ReadRecords
@@ -82,6 +85,8 @@ mod SubKnown
 mod HearingKnown
 mod CompletesKnown
 mod AnswersKeep
+mod AskedCalls
+mod AskedVotes
 mod DoneKnown
 mod ResourceNamed
 mod ResourceNamedKnown
@@ -95,3 +100,5 @@ mod DisksSame
 mod DisksGoOn
 mod OutcomesLast
 mod HearingsAsk
+mod ClosesKeep
+mod ClosesKnown

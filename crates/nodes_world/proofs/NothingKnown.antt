@@ -81,7 +81,7 @@ nothing_known = record {
     rolled_back = λ name back. absurd (none_back name back);
   };
   nodes = λ place n is. absurd cc;
-  counted = record { numbers = λ place e is. absurd cc; messages = λ place e is. absurd cc };
+  counted = record { numbers = λ place e is. absurd cc; messages = λ place e is. absurd cc; short = λ place e name is. absurd cc };
   allowed = tt;
 }
   where

@@ -208,5 +208,5 @@ module _ (grow : JournalsGrow) (safe : LoadsAreSafe) (read : RecordsAreRead) (he
       (lasts_once between.world last step (told ++ between.lines) first.is_known))
 
   pub reached_outcomes_last : ReachedOutcomesLast
-  reached_outcomes_last w told event deed reached few is limit =
-      (lasts_on w (carried_out deed w) (deeds_go event deed w few is limit) told (known_reached keeps w told reached)).outcomes
+  reached_outcomes_last w told event deed reached few fit is limit =
+      (lasts_on w (carried_out deed w) (deeds_go event deed w few fit is limit) told (known_reached keeps w told reached)).outcomes

@@ -1,7 +1,7 @@
 -- What each step keeps is known of every world that a script reaches; from it agreement follows, and that all runs are safe.
-use Rattle.std.proofs.Common.{◌≡◌, ℕ, ◌+◌, List, [], ◌∷◌, ◌++◌, reverse, Option, Some, None, refl, sym, ap, subst, ◌∙◌, append_assoc, append-nil, ◌≤◌, length, nat_lt, Bool, true, false, arith}
+use Rattle.std.proofs.Common.{◌≡◌, ℕ, ◌+◌, List, [], ◌∷◌, ◌++◌, reverse, Option, Some, None, refl, sym, ap, subst, ◌∙◌, append_assoc, append-nil, ◌≤◌, length, nat_lt, Bool, true, false, IsTrue, arith}
 use Rattle.std.proofs.lemmas.List.{reverse-reverse}
-use Rattle.std.specs.List.{cons_option}
+use Rattle.std.specs.List.{AllByRecursion, cons_option}
 use Rattle.ots_model.specs.declared.line.Line.{Line}
 use Rattle.ots_model.specs.Safe.{AreSafe}
 use Rattle.ots_model.specs.SafeByLine.{AllowedIsSafe}
@@ -17,7 +17,7 @@ use Rattle.nodes_world.specs.Lives.{journal_line, journal_lines_from, journal_li
 use Rattle.nodes_world.specs.Resolve.{resolve}
 use Rattle.nodes_world.specs.Step.{carried_out, carries_named, carries_unless, limit_before, limit_behind, moves_unless, step, limit_where}
 use Rattle.nodes_world.specs.Run.{Run, ahead_of, run_from, runs_by}
-use Rattle.nodes_world.specs.Agreement.{Agreement, Reaches, nothing, further, RunsAreSafe, GoesOnFrom}
+use Rattle.nodes_world.specs.Agreement.{Agreement, Reaches, nothing, further, RunsAreSafe, GoesOnFrom, names_fit}
 use Rattle.nodes_world.specs.AgreementInside.{Known}
 use Rattle.nodes_world.specs.AgreementSteps.{Goes, by_alike, by_receipt, by_node, by_end, by_load, by_crash, by_begin, by_calling, by_call, by_sub, by_register, by_touch, by_word, by_hearing, by_tick, GoesOn, still, further as and_further, StaysKnown, StepsStayKnown, by_no_call}
 use Rattle.nodes_world.proofs.GoingOn.{deeds_go}
@@ -32,14 +32,14 @@ module _ (keeps : StepsStayKnown) where
   goes_known w d (by_alike v quiet alike all) = keeps.alike w v quiet alike all
   goes_known w d (by_receipt number) = keeps.receipt w number
   goes_known w d (by_node name free room) = keeps.node w name free room
-  goes_known w d (by_end name free room) = keeps.end w name free room
+  goes_known w d (by_end name free room short) = keeps.end w name free room short
   goes_known w d (by_load place s rs there down held room) = keeps.load w place s rs there down held room
   goes_known w d (by_crash place s n there up) = keeps.crash w place s n there up
   goes_known w d (by_begin place name seconds s n there up free) = keeps.begin w place name seconds s n there up free
-  goes_known w d (by_calling to act named) = keeps.calling w to act named
+  goes_known w d (by_calling to act named few) = keeps.calling w to act named few
   goes_known w d (by_call nth now to act m there is asked) = keeps.call w nth now to act m there is asked
   goes_known w _ (by_no_call nth to act m done there is new) = keeps.no_call w nth to act m done there is new
-  goes_known w d (by_sub parent name free) = keeps.sub w parent name free
+  goes_known w d (by_sub parent name free few) = keeps.sub w parent name free few
   goes_known w d (by_register manner transaction place name s e there up free may few) =
       keeps.register w manner transaction place name s e there up free may few
   goes_known w d (by_touch name key r later named there touched) = keeps.touch w name key r later named there touched
@@ -56,8 +56,8 @@ module _ (keeps : StepsStayKnown) where
 
   pub known_reached : (w : World) (told : List Told) → Reaches w told → Known w told
   known_reached w told nothing = nothing_known
-  known_reached w told (further before earlier event deed reached few is limit) =
-      goes_on_known before (carried_out deed before) (deeds_go event deed before few is limit) earlier (known_reached before earlier reached)
+  known_reached w told (further before earlier event deed reached few fit is limit) =
+      goes_on_known before (carried_out deed before) (deeds_go event deed before few fit is limit) earlier (known_reached before earlier reached)
 
   pub agreement : AllowedIsSafe → Agreement
   agreement safe w told reached =
@@ -118,10 +118,10 @@ few_behind many limit told is = by (nat_lt limit many) refl is
     by false less is = grind (arith, nat_tests, less)
 
 module _ (agree : Agreement) where
-  from_safe : (events : List ScriptEvent) (before : ℕ) (w : World) (told : List Told) → Reaches w told → GoesOnFrom w → AreSafeBehind told (run_from before events w)
+  from_safe : (events : List ScriptEvent) → AllByRecursion (λ (e : ScriptEvent). IsTrue (names_fit e)) events → (before : ℕ) (w : World) (told : List Told) → Reaches w told → GoesOnFrom w → AreSafeBehind told (run_from before events w)
   unfolding run_from step
-  from_safe [] before w told reached few = last_safe w told (agree w told reached)
-  from_safe (e ∷ others) before w told reached few = by (resolve e w) refl (from_safe others (before + 1))
+  from_safe [] fit before w told reached few = last_safe w told (agree w told reached)
+  from_safe (e ∷ others) (own, fit) before w told reached few = by (resolve e w) refl (from_safe others fit (before + 1))
     where
       Later : Type 0
       Later = (v : World) (told : List Told) → Reaches v told → GoesOnFrom v → AreSafeBehind told (run_from (before + 1) others v)
@@ -141,11 +141,11 @@ module _ (agree : Agreement) where
       at : (deed : Deed) (limit : Option ℕ) → resolve e w ≡ Some deed → limit_before deed w ≡ limit → Later
           → AreSafeBehind told (runs_by next (before + 1) (carries_unless limit (carried_out deed w)))
       at deed (Some limit) is passed safe = none_safe told (agree w told reached)
-      at deed None is passed safe = behind deed (limit_behind (carried_out deed w)) refl (further w told e deed reached few is passed) safe
+      at deed None is passed safe = behind deed (limit_behind (carried_out deed w)) refl (further w told e deed reached few own is passed) safe
 
       by : (found : Option Deed) → resolve e w ≡ found → Later → AreSafeBehind told (runs_by next (before + 1) (carries_named found w))
       by (Some deed) is safe = at deed (limit_before deed w) is refl safe
       by None is safe = none_safe told (agree w told reached)
 
   pub runs_are_safe : RunsAreSafe
-  runs_are_safe events = from_safe events 0 empty [] nothing (omega arith)
+  runs_are_safe events fit = from_safe events fit 0 empty [] nothing (omega arith)

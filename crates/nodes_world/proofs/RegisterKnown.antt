@@ -169,7 +169,7 @@ module _ (laws : FamilyLaws) (nodes : NodesStaySound) (law : SameOctetsSameKey) 
   later = told ++ lines_then
 
   k_sent : Known u later
-  k_sent = called_known w told lines_then transaction act k (λ flag. called_one flag message (operation_of act) (transaction_name w transaction))
+  k_sent = called_known w told lines_then transaction act few k (λ flag. called_one flag message (operation_of act) (transaction_name w transaction))
 
   end_up : end_at w place ≡ Some e
   unfolding end_at
@@ -228,15 +228,15 @@ module _ (laws : FamilyLaws) (nodes : NodesStaySound) (law : SameOctetsSameKey) 
   retry = record { client = script_client; number = message }
 
   -- the call is no repeat
-  new_call : (f : Family) → ((x : Entry) (r : RetryKey) → Contains f.entries x → x.event.key ≡ Some r → HasMessage w r.number) → kept_for f.entries (Some retry) ≡ None
+  new_call : (f : Family) → ((x : Entry) (r : RetryKey) → Contains f.entries x → x.event.key ≡ Some r → HasMessage w r) → kept_for f.entries (Some retry) ≡ None
   new_call f came = not_kept f.entries retry (λ x r among is same.
       let at = came x r among is in
       let less = place_within w.messages at.0 at.1 at.2 in
       let number = at.3 in
       omega (arith, less, number, same))
 
-  has_come : (r : RetryKey) → Some retry ≡ Some r → HasMessage u r.number
-  has_come r is = (length w.messages, sent, push_last w.messages sent, sym (ap (λ (x : RetryKey). x.number) (inner is)))
+  has_come : (r : RetryKey) → Some retry ≡ Some r → HasMessage u r
+  has_come r is = (length w.messages, sent, push_last w.messages sent, sym (ap (λ (x : RetryKey). x.number) (inner is)), few, sym (ap (λ (x : RetryKey). x.client) (inner is)))
 
   abbrev behind : Said → World → Done
   behind = registered manner key s.name transaction name
@@ -328,7 +328,7 @@ module _ (laws : FamilyLaws) (nodes : NodesStaySound) (law : SameOctetsSameKey) 
         sound_node = subst (λ (t : Stepped). IsSoundNode (with_family t.family n)) is
             (call.sound_now v home seat n there_v up_n laws nodes transaction refl ev (none_retold manner to) has_come f unwanted of later k_named same)
 
-        entries_came : (x : Entry) (r : RetryKey) → Contains g.entries x → x.event.key ≡ Some r → HasMessage v r.number
+        entries_came : (x : Entry) (r : RetryKey) → Contains g.entries x → x.event.key ≡ Some r → HasMessage v r
         entries_came x r among by =
             call.entries_came v home seat n there_v up_n laws nodes transaction refl ev (none_retold manner to) has_come f unwanted of later k_named x r
             (subst (λ (t : Stepped). Contains t.family.entries x) (sym is) among) by
@@ -462,7 +462,7 @@ module _ (laws : FamilyLaws) (nodes : NodesStaySound) (law : SameOctetsSameKey) 
         (ap (λ (o : Option Family). applied_by o transaction ev None n) is
         ∙ ap (λ (b : Bool). if b then steps_to n f ev None (family_step f ev None) else refuses faults.NoResources n) room))
       where
-        k_drawn_came : (f : Family) → family_of transaction n ≡ Some f → (x : Entry) (r : RetryKey) → Contains f.entries x → x.event.key ≡ Some r → HasMessage w r.number
+        k_drawn_came : (f : Family) → family_of transaction n ≡ Some f → (x : Entry) (r : RetryKey) → Contains f.entries x → x.event.key ≡ Some r → HasMessage w r
         k_drawn_came f of = (k.families transaction f (call.found w home seat n there_w up_n laws nodes transaction refl (record ev { key = None }) (none_retold manner to)
             (λ r no. absurd cc) f (registering_wants manner to f None transaction.index now) of told k)).came
     by_family_for None is =

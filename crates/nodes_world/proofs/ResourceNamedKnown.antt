@@ -474,6 +474,10 @@ module _ (law : SameOctetsSameKey) (w : World) (place : ℕ) (name : List ℕ) (
       | inl here ↦ subst (λ (y : FlatEnd). y.drawn ≤ length w.messages) (end_same p x here is) room
       | inr other ↦ k.counted.messages p x (sym (made.end_other law w place name manner s e told there up free k room few p other) ∙ is)
     ];
+    short = λ p x server is named. elim (same_or_not p place) [
+      | inl here ↦ k.counted.short p e server (ap (end_at w) here ∙ made.end_up law w place name manner s e told there up free k room few) (sym (seat_name_same p) ∙ named)
+      | inr other ↦ k.counted.short p x server (sym (made.end_other law w place name manner s e told there up free k room few p other) ∙ is) (sym (seat_name_same p) ∙ named)
+    ];
   }
     where
       end_same : (p : ℕ) (x : FlatEnd) → p ≡ place → end_at v p ≡ Some x → made.made law w place name manner s e told there up free k room few ≡ x

@@ -140,7 +140,7 @@ module _ (w : World) (place : ℕ) (s : Seat) (n : Node) (f g : Family) (there :
     (completion : g.completion ≡ f.completion) (serial : g.serial ≡ f.serial) (sound : IsSoundFamily g)
     (dues : (b : ℕ) (c : Call) → call_at g b ≡ Some c → AllByRecursion (λ (d : Duty). Contains g.ballots.registrations d.resource) c.left)
     (legs : (b : ℕ) (c : Call) → call_at g b ≡ Some c → IsNotBefore c.leg)
-    (came : (e : Entry) (r : RetryKey) → Contains g.entries e → e.event.key ≡ Some r → HasMessage w r.number) (sound_now : IsSoundNode (with_family g n)) where
+    (came : (e : Entry) (r : RetryKey) → Contains g.entries e → e.event.key ≡ Some r → HasMessage w r) (sound_now : IsSoundNode (with_family g n)) where
   abbrev new_one : Registration
   new_one = record { index = length f.ballots.registrations + 1; branch = b0; to = to; aware = aware }
 
@@ -901,6 +901,7 @@ module _ (w : World) (place : ℕ) (s : Seat) (n : Node) (f g : Family) (there :
   counted_now = record {
     numbers = λ q x is. k.counted.numbers q x (sym (seats.ends_now w place s n f g there up same slotted at_place q) ∙ is);
     messages = λ q x is. k.counted.messages q x (sym (seats.ends_now w place s n f g there up same slotted at_place q) ∙ is);
+    short = λ q x server is named. k.counted.short q x server (sym (seats.ends_now w place s n f g there up same slotted at_place q) ∙ is) (sym (seat_names_kept w place s left there refl q) ∙ named);
   }
 
   pub registered_known : Known v later

@@ -18,7 +18,7 @@ use Rattle.nodes_world.specs.Told.{Told, known}
 use Rattle.nodes_world.specs.Laws.{IsInOrder}
 use Rattle.nodes_world.specs.World.{World, Seat, OfNode, node_at, node_in}
 use Rattle.nodes_world.proofs.KnownFamilies.{some_of}
-use Rattle.nodes_world.proofs.KnownSeats.{set_cases}
+use Rattle.nodes_world.proofs.KnownSeats.{seat_names_kept, set_cases}
 use Rattle.nodes_world.proofs.EffectsTold.{TellsEffects}
 use Rattle.nodes_world.proofs.StepSeats as seats
 
@@ -136,4 +136,5 @@ module _ (w : World) (place : ℕ) (s : Seat) (n : Node) (f g : Family) (there :
   counted_now = record {
     numbers = λ p e is. k.counted.numbers p e (sym (seats.ends_now w place s n f g there up same slotted own p) ∙ is);
     messages = λ p e is. k.counted.messages p e (sym (seats.ends_now w place s n f g there up same slotted own p) ∙ is);
+    short = λ p e name is named. k.counted.short p e name (sym (seats.ends_now w place s n f g there up same slotted own p) ∙ is) (sym (seat_names_kept w place s left there refl p) ∙ named);
   }

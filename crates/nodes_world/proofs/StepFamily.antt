@@ -166,7 +166,7 @@ module _ (w v : World) (told : List Told) (k : Known w told) (key : ObjectKey) (
 
   -- ---- the family
 
-  pub family_now : ((e : Entry) (r : RetryKey) → Contains g.entries e → e.event.key ≡ Some r → HasMessage v r.number) → FamilyIsKnown v (lines_of more) g
+  pub family_now : ((e : Entry) (r : RetryKey) → Contains g.entries e → e.event.key ≡ Some r → HasMessage v r) → FamilyIsKnown v (lines_of more) g
   family_now came = record {
     sound = is.sound;
     name = old.name;

@@ -290,7 +290,7 @@ module _ (w : World) (place : ℕ) (s : Seat) (n : Node) (f g : Family) (there :
           (λ has. theirs.recorded.0 (sym same ∙ has), λ e. same ∙ theirs.recorded.1 e);
     }
 
-  pub families_now : ((e : Entry) (r : RetryKey) → Contains g.entries e → e.event.key ≡ Some r → HasMessage w r.number) → FamiliesAreKnown v (lines_of more)
+  pub families_now : ((e : Entry) (r : RetryKey) → Contains g.entries e → e.event.key ≡ Some r → HasMessage w r) → FamiliesAreKnown v (lines_of more)
   families_now came of h at = elim (seats.families_now w place s n f g there up is.key slotted at_place of h at) [
     | inl this ↦
         subst (FamilyIsKnown v (lines_of more)) (sym this.0)

@@ -32,7 +32,7 @@ module _ (w : World) (place : ℕ) (s : Seat) (n : Node) (f g : Family) (there :
     (slotted : family_in n.families f.key.slot ≡ Some f) (at_place : place_of f.key ≡ place) (told : List Told) (k : Known w told) (key : ObjectKey)
     (found : family_at w key ≡ Some f) (c : Cast) (own : c.key ≡ f.key) (some : List Effect) (words : List Outward) (is : StepIs f g some words)
     (entries : List Entry) (done : List Finished) (sound : IsSoundNode (with_family g n))
-    (came : (e : Entry) (r : RetryKey) → Contains g.entries e → e.event.key ≡ Some r → HasMessage w r.number) where
+    (came : (e : Entry) (r : RetryKey) → Contains g.entries e → e.event.key ≡ Some r → HasMessage w r) where
   abbrev v : World
   v = seats.v w place s n f g there up is.key slotted at_place
 

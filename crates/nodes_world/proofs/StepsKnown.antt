@@ -45,7 +45,7 @@ known_touch w name key r _ named was (by_refusal may) told k =
 -- no call is still to be delivered
 known_no_call : (w : World) (nth : ℕ) (to : ObjectKey) (act : Act) (m : Message) (done : Done) → slice_get w.messages nth ≡ Some m
     → m.content ≡ contents.Call to act → m.delivered ≡ false → StaysKnown w done
-known_no_call w nth to act m done there is new told k = absurd (true≢false (sym (k.seats.calls nth m to act there is) ∙ new))
+known_no_call w nth to act m done there is new told k = absurd (true≢false (sym (k.seats.calls nth m to act there is).0 ∙ new))
 
 pub steps_stay_known : AllowedIsSafe → JournalLaws → LoadsAreSafe → NodesStaySound → HeldRecordsStood → SameOctetsSameKey → FamilyLaws → NodeStepsStayKnown → StepsStayKnown
 steps_stay_known allowed journals safe sound stood keys families nodes = record {

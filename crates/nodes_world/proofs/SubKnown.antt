@@ -28,6 +28,7 @@ use Rattle.family_laws.specs.SoundNode.{IsSoundNode, NodesStaySound}
 use Rattle.nodes_world.specs.declared.message.Content.TheVariants as contents
 use Rattle.nodes_world.specs.declared.message.Message.{Message}
 use Rattle.nodes_world.specs.declared.thing.Thing.TheVariants as things
+use Rattle.nodes_world.specs.Agreement.{GoesOnFrom}
 use Rattle.nodes_world.specs.AgreementInside.{Known, HasMessage, IsBranch}
 use Rattle.nodes_world.specs.AgreementSteps.{IsQuiet, StaysKnown}
 use Rattle.nodes_world.specs.Clients.{acts_at, answered_with, call_event, called_line, calls, created, creates_sub, said_in, said_lines, then_answers}
@@ -130,7 +131,8 @@ same_five : (a b c d e p q r s t x y z u : ℕ) → a ≡ x → b ≡ y → c �
     → (a == p && b == q && c == r && d == s && e == t) ≡ true
 same_five a b c d e p q r s t x y z u one two three four five six seven eight nine = grind (arith, nat_tests)
 
-module _ (laws : FamilyLaws) (nodes : NodesStaySound) (w : World) (parent : ObjectKey) (name : List ℕ) (free : thing w name ≡ None) (told : List Told) (k : Known w told) where
+module _ (laws : FamilyLaws) (nodes : NodesStaySound) (w : World) (parent : ObjectKey) (name : List ℕ) (free : thing w name ≡ None) (few : GoesOnFrom w) (told : List Told)
+    (k : Known w told) where
   abbrev sent : Message
   sent = client_message (contents.Call parent acts.CreateSubtransaction)
 
@@ -147,7 +149,7 @@ module _ (laws : FamilyLaws) (nodes : NodesStaySound) (w : World) (parent : Obje
   later = told ++ lines_then
 
   k_sent : Known u later
-  k_sent = called_known w told lines_then parent acts.CreateSubtransaction k (λ flag. called_one flag message (operation_of acts.CreateSubtransaction) (transaction_name w parent))
+  k_sent = called_known w told lines_then parent acts.CreateSubtransaction few k (λ flag. called_one flag message (operation_of acts.CreateSubtransaction) (transaction_name w parent))
 
   abbrev retry : RetryKey
   retry = record { client = script_client; number = message }
@@ -164,8 +166,8 @@ module _ (laws : FamilyLaws) (nodes : NodesStaySound) (w : World) (parent : Obje
       let number = at.3 in
       omega (arith, less, number, same))
 
-  has_come : (r : RetryKey) → Some retry ≡ Some r → HasMessage u r.number
-  has_come r is = (length w.messages, sent, push_last w.messages sent, sym (ap (λ (x : RetryKey). x.number) (inner is)))
+  has_come : (r : RetryKey) → Some retry ≡ Some r → HasMessage u r
+  has_come r is = (length w.messages, sent, push_last w.messages sent, sym (ap (λ (x : RetryKey). x.number) (inner is)), few, sym (ap (λ (x : RetryKey). x.client) (inner is)))
     where
       inner : {x y : RetryKey} → Some x ≡ Some y → x ≡ y
       inner e = cc
@@ -247,7 +249,7 @@ module _ (laws : FamilyLaws) (nodes : NodesStaySound) (w : World) (parent : Obje
         sound_node = subst (λ (t : Stepped). IsSoundNode (with_family t.family n)) is
             (call.sound_now u place s n there up laws nodes parent refl e refl has_come f unwanted of later k_sent same)
 
-        entries_came : (x : Entry) (r : RetryKey) → Contains g.entries x → x.event.key ≡ Some r → HasMessage u r.number
+        entries_came : (x : Entry) (r : RetryKey) → Contains g.entries x → x.event.key ≡ Some r → HasMessage u r
         entries_came x r among by =
             call.entries_came u place s n there up laws nodes parent refl e refl has_come f unwanted of later k_sent x r
             (subst (λ (t : Stepped). Contains t.family.entries x) (sym is) among) by
@@ -391,9 +393,9 @@ module _ (laws : FamilyLaws) (nodes : NodesStaySound) (w : World) (parent : Obje
       by None there = nothing_came
 
 -- a client has a subtransaction made
-pub known_sub : FamilyLaws → NodesStaySound → (w : World) (parent : ObjectKey) (name : List ℕ) → thing w name ≡ None → StaysKnown w (creates_sub parent name w)
+pub known_sub : FamilyLaws → NodesStaySound → (w : World) (parent : ObjectKey) (name : List ℕ) → thing w name ≡ None → GoesOnFrom w → StaysKnown w (creates_sub parent name w)
 unfolding creates_sub calls
-known_sub laws nodes w parent name free told k =
+known_sub laws nodes w parent name free few told k =
     let lines_then = called_line (next_message w) (operation_of acts.CreateSubtransaction) (transaction_name w parent) in
     let acted = acts_at (next_message w) parent acts.CreateSubtransaction (created parent name) (with_sent (client_message (contents.Call parent acts.CreateSubtransaction)) w) in
-    subst (Known acted.world) (append_assoc told lines_then acted.lines) (came_to laws nodes w parent name free told k)
+    subst (Known acted.world) (append_assoc told lines_then acted.lines) (came_to laws nodes w parent name free few told k)

@@ -48,7 +48,7 @@ module _ (w : World) (place : ℕ) (s : Seat) (n : Node) (f g : Family) (there :
     (own_key : ObjectKey) (kind : own_key.kind ≡ coordinator_kind) (of : IsTrue (is_of own_key f)) (last : own_key.index ≡ length f.rows) (inside : p < length f.rows)
     (serial : g.serial ≡ f.serial) (more : g.rows ≡ created f.rows p) (ballots : g.ballots ≡ f.ballots) (completion : g.completion ≡ f.completion)
     (sound : IsSoundFamily g) (dues : (b : ℕ) (c : Call) → call_at g b ≡ Some c → AllByRecursion (λ (d : Duty). Contains f.ballots.registrations d.resource) c.left × IsNotBefore c.leg)
-    (came : (e : Entry) (r : RetryKey) → Contains g.entries e → e.event.key ≡ Some r → HasMessage w r.number)
+    (came : (e : Entry) (r : RetryKey) → Contains g.entries e → e.event.key ≡ Some r → HasMessage w r)
     (sound_now : IsSoundNode (with_family g n)) where
   abbrev v : World
   v = made.v w place s n f g there up same slotted at_place told k key found name free above p branch own_key kind of last inside serial
@@ -379,6 +379,7 @@ module _ (w : World) (place : ℕ) (s : Seat) (n : Node) (f g : Family) (there :
   counted_now = record {
     numbers = λ q e is. k.counted.numbers q e (sym (ends_same q) ∙ is);
     messages = λ q e is. k.counted.messages q e (sym (ends_same q) ∙ is);
+    short = λ q e server is named. k.counted.short q e server (sym (ends_same q) ∙ is) (sym (seat_names_kept w place s left there refl q) ∙ named);
   }
 
   pub sub_known : Known v later

@@ -68,6 +68,7 @@ stays_replies w x r request answer was = record {
         let low = all.messages p e is in
         let many = length-append w.messages (reply_of request answer ∷ []) in
         omega (arith, low, many);
+    short = all.short;
   };
   many = refl;
 }

@@ -3,6 +3,7 @@
 use Rattle.std.specs.Prelude.{◌≡◌, ◌↔◌, ℕ, ◌<◌, ◌≤◌, ◌⊎◌, ◌+◌, Bool, true, false, List, length, map, reverse, slice_get, Contains, Option, Some, None, IsTrue, is_some, ◌∷◌, []}
 use Rattle.std.specs.List.{Any, AllByRecursion}
 use Rattle.ior_refs.specs.declared.key.ObjectKey.{ObjectKey}
+use Rattle.ots_model.specs.Limits.{name_limit}
 use Rattle.ots_model.specs.Safe.{Stands, IsRegistered, IsSent, IsToldCommit, IsToldRollback, IsTop}
 use Rattle.ots_model.specs.SafeByLine.{AreAllowed}
 use Rattle.ots_model.specs.declared.completion.Ground.TheVariants.{Record}
@@ -64,10 +65,10 @@ use Rattle.nodes_world.specs.declared.thing.Thing.{Thing}
 use Rattle.nodes_world.specs.declared.thing.Thing.TheVariants as things
 use Rattle.nodes_world.specs.Agreement.{DecisionsAreHeld, DecisionsAreRecorded, HasSent, IsTransaction, IsWord, KeysAreOnce, LivesRise, NodesFollowDisks, NoneIsBoth, NumbersAreOnce, OnePhaseIsAlone, RecordsRestOnVotes, RollbacksAreClosed, CommitsAreRecorded, SubtransactionsEndOnce, VotesWereGiven, WordsAreNamed, has_record, is_decision_of, recorded_key, records_at, IsOver, IsRolledBack, StatesFollow}
 use Rattle.nodes_world.specs.Laws.{IsInOrder}
-use Rattle.nodes_world.specs.Limits.{seat_limit}
+use Rattle.nodes_world.specs.Limits.{message_limit, script_client, seat_limit}
 use Rattle.nodes_world.specs.Objects.{place_of, service_at, resource_key}
 use Rattle.nodes_world.specs.Told.{Told, known}
-use Rattle.nodes_world.specs.World.{World, Seat, OfNode, FlatEnd, FlatResource, NamedKey, end_at, family_at, node_at, referred, resource_at, thing}
+use Rattle.nodes_world.specs.World.{World, Seat, OfNode, FlatEnd, FlatResource, NamedKey, end_at, family_at, node_at, referred, resource_at, seat_name, thing}
 use Rattle.nodes_world.specs.declared.deed.Manner.{Manner}
 
 -- ---- names
@@ -114,9 +115,9 @@ pub record SeatsAreNamed (w : World) (h : List Line) : Type 0 where
   -- nor has any other one sent a word
   pub senders : (place : ℕ) (o : Outward) → HasSent w place o → IsTrue (is_some (slice_get w.seats place))
   pub few : length w.seats ≤ seat_limit
-  -- a client's call was delivered when it was made
+  -- a client's call was delivered when it was made, which is while a script goes on
   pub calls : (nth : ℕ) (m : Message) (to : ObjectKey) (act : Act) → slice_get w.messages nth ≡ Some m → m.content ≡ contents.Call to act
-      → m.delivered ≡ true
+      → (m.delivered ≡ true) × (nth ≤ message_limit)
 
 -- ---- disks
 
@@ -246,9 +247,10 @@ abbrev pub OutcomeIsTold : Option Outcome → List ℕ → List Line → Type 0
 OutcomeIsTold (Some (outcomes.Commit basis)) name h = Stands (lines.Decide name (told_outcomes.Commit basis)) h
 OutcomeIsTold _ name h = Stands (lines.Decide name (told_outcomes.Commit Record)) h → ⊥
 
--- a message has this number
-abbrev pub HasMessage : World → ℕ → Type 0
-HasMessage w number = (nth : ℕ) × (m : Message) × (slice_get w.messages nth ≡ Some m) × (number ≡ nth + 1)
+-- a message has the number of this key; it was sent while a script went on
+abbrev pub HasMessage : World → RetryKey → Type 0
+HasMessage w key = (nth : ℕ) × (m : Message) × (slice_get w.messages nth ≡ Some m) × (key.number ≡ nth + 1) × (nth ≤ message_limit)
+    × (key.client ≡ script_client)
 
 -- it calls no synchronization before a commit
 abbrev pub IsNotBefore : Leg → Type 0
@@ -281,7 +283,7 @@ pub record FamilyIsKnown (w : World) (h : List Line) (f : Family) : Type 0 where
   -- registered with a branch that there is
   pub within : (r : Registration) → Contains f.ballots.registrations r → r.branch < length f.rows
   -- its history is of calls whose messages were sent
-  pub came : (e : Entry) (r : RetryKey) → Contains f.entries e → e.event.key ≡ Some r → HasMessage w r.number
+  pub came : (e : Entry) (r : RetryKey) → Contains f.entries e → e.event.key ≡ Some r → HasMessage w r
   -- what a call is still to tell goes to one of those
   pub dues : (b : ℕ) (c : Call) → call_at f b ≡ Some c → AllByRecursion (λ (d : Duty). Contains f.ballots.registrations d.resource) c.left
   -- no call is at a synchronization
@@ -376,10 +378,11 @@ pub record NodeIsKnown (w : World) (told : List Told) (place : ℕ) (n : Node) :
 abbrev pub NodesAreKnown : World → List Told → Type 0
 NodesAreKnown w told = (place : ℕ) (n : Node) → node_at w place ≡ Some n → NodeIsKnown w told place n
 
--- an end has counted its objects, for each of which a message was sent
+-- an end has counted its objects, for each of which a message was sent; and it has no long name
 pub record EndsHaveCounted (w : World) : Type 0 where
   pub numbers : (place : ℕ) (e : FlatEnd) → end_at w place ≡ Some e → AllByRecursion (λ (r : FlatResource). r.key.generation ≤ e.drawn) e.resources
   pub messages : (place : ℕ) (e : FlatEnd) → end_at w place ≡ Some e → e.drawn ≤ length w.messages
+  pub short : (place : ℕ) (e : FlatEnd) (name : List ℕ) → end_at w place ≡ Some e → seat_name w place ≡ Some name → length name ≤ name_limit
 
 -- ---- what is known together
 

@@ -1,8 +1,9 @@
 -- The steps of which all that a script does is made, each with the lines that it tells. What is known of a world is kept by each of
 -- them; so it is known of every world that a script reaches (our profile).
-use Rattle.std.specs.Prelude.{◌≡◌, ◌⊎◌, ◌<◌, ℕ, ◌+◌, ◌-◌, ◌==◌, ◌&&◌, Bool, true, false, List, [], ◌∷◌, ◌++◌, map, slice_get, Option, Some, None, is_some}
+use Rattle.std.specs.Prelude.{◌≡◌, ◌⊎◌, ◌<◌, ℕ, ◌+◌, ◌-◌, ◌==◌, ◌&&◌, ◌≤◌, Bool, true, false, List, [], ◌∷◌, ◌++◌, map, slice_get, length, IsTrue, Option, Some, None, is_some}
 use Rattle.std.specs.List.{AllByRecursion}
 use Rattle.ior_refs.specs.declared.key.ObjectKey.{ObjectKey}
+use Rattle.ots_model.specs.Limits.{name_limit}
 use Rattle.ots_model.specs.declared.line.Line.TheVariants as lines
 use Rattle.ots_model.specs.declared.tree.Outward.{Outward}
 use Rattle.ots_world.specs.declared.script.ScriptEvent.{ScriptEvent}
@@ -13,9 +14,10 @@ use Rattle.two_phase.specs.declared.party.Stage.{Stage as Round}
 use Rattle.two_phase.specs.declared.party.Stage.TheVariants as rounds
 use Rattle.recovery_coord.specs.Limits.{retold_slot}
 use Rattle.coordinator.specs.Step.{WritesDone, wanted}
-use Rattle.coordinator.specs.Family.{Family, waiting_for}
+use Rattle.coordinator.specs.Family.{Family, Call, call_at, waiting_for}
 use Rattle.coordinator.specs.History.{has_room}
 use Rattle.coordinator.specs.Node.{Node, family_of}
+use Rattle.coordinator.specs.declared.call.Leg.TheVariants.{Deciding}
 use Rattle.coordinator.specs.declared.event.Act.{Act}
 use Rattle.coordinator.specs.declared.event.Act.TheVariants as acts
 use Rattle.coordinator.specs.declared.said.Said.{Said}
@@ -37,7 +39,7 @@ use Rattle.nodes_world.specs.Deliveries.{answer_event, hears_answer, is_waited_f
 use Rattle.nodes_world.specs.Lives.{loads, makes_end, with_named_seat}
 use Rattle.nodes_world.specs.Resolve.{may_register, resolve}
 use Rattle.nodes_world.specs.Step.{carried_out, is_full, lacks_life, limit_before}
-use Rattle.nodes_world.specs.Agreement.{IsWord, GoesOnFrom}
+use Rattle.nodes_world.specs.Agreement.{IsWord, GoesOnFrom, names_fit}
 use Rattle.nodes_world.specs.AgreementInside.{Known}
 
 -- ---- worlds of which the same is known
@@ -91,7 +93,7 @@ pub data Goes (w : World) : Done → Type 0 where
   by_receipt : (number : ℕ) → Goes w (tells (Line (lines.Recv number) ∷ []) w)
   -- a node that is still to be loaded is made, or an end; a node is loaded, or goes down
   by_node : (name : List ℕ) → thing w name ≡ None → is_full w ≡ false → Goes w (changes (with_named_seat name (OfNode None) w))
-  by_end : (name : List ℕ) → thing w name ≡ None → is_full w ≡ false → Goes w (makes_end name w)
+  by_end : (name : List ℕ) → thing w name ≡ None → is_full w ≡ false → length name ≤ name_limit → Goes w (makes_end name w)
   by_load : (place : ℕ) (s : Seat) (rs : List JournalRecord) → slice_get w.seats place ≡ Some s → s.server ≡ OfNode None
       → records_on (service_at place) s.disk ≡ Some rs → lacks_life (service_at place) rs ≡ false → Goes w (loads place s (Some rs) w)
   by_crash : (place : ℕ) (s : Seat) (n : Node) → slice_get w.seats place ≡ Some s → s.server ≡ OfNode (Some n)
@@ -100,7 +102,7 @@ pub data Goes (w : World) : Done → Type 0 where
   by_begin : (place : ℕ) (name : List ℕ) (seconds : ℕ) (s : Seat) (n : Node) → slice_get w.seats place ≡ Some s
       → s.server ≡ OfNode (Some n) → thing w name ≡ None → Goes w (begins_at place name seconds s (Some n) w)
   -- a client's call goes out; it comes to its node; and as that is at once, none is delivered later
-  by_calling : (to : ObjectKey) (act : Act) → is_asked act ≡ true
+  by_calling : (to : ObjectKey) (act : Act) → is_asked act ≡ true → GoesOnFrom w
       → Goes w (record {
         world = with_sent (client_message (contents.Call to act)) w;
         lines = called_line (next_message w) (operation_of act) (transaction_name w to);
@@ -110,7 +112,7 @@ pub data Goes (w : World) : Done → Type 0 where
   by_no_call : (nth : ℕ) (to : ObjectKey) (act : Act) (m : Message) (done : Done) → slice_get w.messages nth ≡ Some m
       → m.content ≡ contents.Call to act → m.delivered ≡ false → Goes w done
   -- one that makes a subtransaction, or registers a resource, with the name that is given then
-  by_sub : (parent : ObjectKey) (name : List ℕ) → thing w name ≡ None → Goes w (creates_sub parent name w)
+  by_sub : (parent : ObjectKey) (name : List ℕ) → thing w name ≡ None → GoesOnFrom w → Goes w (creates_sub parent name w)
   by_register : (manner : Manner) (transaction : ObjectKey) (place : ℕ) (name : List ℕ) (s : Seat) (e : FlatEnd) → slice_get w.seats place ≡ Some s
       → s.server ≡ OfEnd (Some e) → thing w name ≡ None → may_register manner w transaction ≡ true → GoesOnFrom w
       → Goes w (registers_at manner transaction place s (Some e) name w)
@@ -132,7 +134,7 @@ pub data GoesOn (w : World) : Done → Type 0 where
 
 -- whatever a line does that passes no limit is made of these steps
 abbrev pub DeedsGo : Type 0
-DeedsGo = (event : ScriptEvent) (deed : Deed) (w : World) → GoesOnFrom w → resolve event w ≡ Some deed → limit_before deed w ≡ None
+DeedsGo = (event : ScriptEvent) (deed : Deed) (w : World) → GoesOnFrom w → IsTrue (names_fit event) → resolve event w ≡ Some deed → limit_before deed w ≡ None
     → GoesOn w (carried_out deed w)
 
 -- ---- what is known is kept
@@ -147,14 +149,15 @@ pub record StepsStayKnown : Type 0 where
   pub receipt : (w : World) (number : ℕ) → StaysKnown w (tells (Line (lines.Recv number) ∷ []) w)
   pub node : (w : World) (name : List ℕ) → thing w name ≡ None → is_full w ≡ false
       → StaysKnown w (changes (with_named_seat name (OfNode None) w))
-  pub end : (w : World) (name : List ℕ) → thing w name ≡ None → is_full w ≡ false → StaysKnown w (makes_end name w)
+  pub end : (w : World) (name : List ℕ) → thing w name ≡ None → is_full w ≡ false → length name ≤ name_limit
+      → StaysKnown w (makes_end name w)
   pub load : (w : World) (place : ℕ) (s : Seat) (rs : List JournalRecord) → slice_get w.seats place ≡ Some s → s.server ≡ OfNode None
       → records_on (service_at place) s.disk ≡ Some rs → lacks_life (service_at place) rs ≡ false → StaysKnown w (loads place s (Some rs) w)
   pub crash : (w : World) (place : ℕ) (s : Seat) (n : Node) → slice_get w.seats place ≡ Some s → s.server ≡ OfNode (Some n)
       → StaysKnown w (crashes_seat place s.disk.reads s w)
   pub begin : (w : World) (place : ℕ) (name : List ℕ) (seconds : ℕ) (s : Seat) (n : Node) → slice_get w.seats place ≡ Some s
       → s.server ≡ OfNode (Some n) → thing w name ≡ None → StaysKnown w (begins_at place name seconds s (Some n) w)
-  pub calling : (w : World) (to : ObjectKey) (act : Act) → is_asked act ≡ true
+  pub calling : (w : World) (to : ObjectKey) (act : Act) → is_asked act ≡ true → GoesOnFrom w
       → StaysKnown w (record {
         world = with_sent (client_message (contents.Call to act)) w;
         lines = called_line (next_message w) (operation_of act) (transaction_name w to);
@@ -164,7 +167,7 @@ pub record StepsStayKnown : Type 0 where
       → StaysKnown w (steps (place_of to) to (call_event (nth + 1) to act now) w).done
   pub no_call : (w : World) (nth : ℕ) (to : ObjectKey) (act : Act) (m : Message) (done : Done) → slice_get w.messages nth ≡ Some m
       → m.content ≡ contents.Call to act → m.delivered ≡ false → StaysKnown w done
-  pub sub : (w : World) (parent : ObjectKey) (name : List ℕ) → thing w name ≡ None → StaysKnown w (creates_sub parent name w)
+  pub sub : (w : World) (parent : ObjectKey) (name : List ℕ) → thing w name ≡ None → GoesOnFrom w → StaysKnown w (creates_sub parent name w)
   pub register : (w : World) (manner : Manner) (transaction : ObjectKey) (place : ℕ) (name : List ℕ) (s : Seat) (e : FlatEnd)
       → slice_get w.seats place ≡ Some s → s.server ≡ OfEnd (Some e) → thing w name ≡ None → may_register manner w transaction ≡ true → GoesOnFrom w
       → StaysKnown w (registers_at manner transaction place s (Some e) name w)
@@ -194,12 +197,12 @@ is_asking (UnderWay c) = is_asking_errand c.out
 
 -- those of which it is still to be shown: two kinds of answers for which a call of a family waits
 pub record NodeStepsStayKnown : Type 0 where
-  -- one to the word by which the completion asks a participant
-  pub asked : (w : World) (nth place reply now : ℕ) (o : Outward) (back : Message) (answer : Said) (s : Seat) (n : Node) (f : Family)
+  -- one to the word by which the completion asks a participant, where the call is at the decision
+  pub asked : (w : World) (nth place reply now : ℕ) (o : Outward) (back : Message) (answer : Said) (s : Seat) (n : Node) (f : Family) (c : Call)
       → IsWord w nth place o → slice_get w.messages reply ≡ Some back → back.content ≡ contents.Reply (nth + 1) answer
       → slice_get w.seats place ≡ Some s → s.server ≡ OfNode (Some n) → o.number.slot == retold_slot ≡ false
       → family_of (family_key place o.number) n ≡ Some f → has_room f.entries (answer_event o answer now) ≡ true
-      → waiting_for f o.number ≡ Some 0 → is_asking f.completion ≡ true
+      → waiting_for f o.number ≡ Some 0 → call_at f 0 ≡ Some c → c.leg ≡ Deciding → is_asking f.completion ≡ true
       → StaysKnown w (steps_node (Some n) s place (family_key place o.number) (answer_event o answer now) w).done
   -- one by which a family asks the journal for its own Done
   pub closes : (w : World) (nth place reply now : ℕ) (o : Outward) (back : Message) (answer : Said) (s : Seat) (n : Node) (f : Family) (b done : ℕ)

@@ -1,5 +1,5 @@
 // Laws of the definitions: these functions do nothing, and their contracts are the laws.
-ghost use Rattle.nodes_world.specs.Agreement.{Agreement, RunsAreSafe};
+ghost use Rattle.nodes_world.specs.Agreement.{Agreement, ReadNamesFit, RunsAreSafe};
 ghost use Rattle.nodes_world.specs.AgreementSteps.{DeedsGo, NodeStepsStayKnown};
 ghost use Rattle.nodes_world.specs.Changes.{DeedsAreChanges};
 ghost use Rattle.nodes_world.specs.Laws.{AppendsGoThrough, AppendsStrike, AskedJournalsKeep, AskedJournalsStop, RecordsAreRead, StoppedAppendsAreSafe, WhatIsLeftIsAnImage};
@@ -70,6 +70,11 @@ pub fn deeds_are_changes()
 /// node goes down or is loaded, a call or an answer comes to it, its time passes, a resource is touched or told a word.
 pub fn deeds_are_steps()
     ensures { DeedsGo }
+{}
+
+/// What the grammar of scripts reads has names that fit, so the clause on runs speaks of every script that is read.
+pub fn names_that_are_read_fit()
+    ensures { ReadNamesFit }
 {}
 
 /// The lines of every script are safe, if what is known of a world stays known where an answer is heard to a word that asks a
