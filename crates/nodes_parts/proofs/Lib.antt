@@ -1,0 +1,7 @@
+mod Lists
+mod Numbered
+mod Ending
+mod NameLemmas
+mod Found
+mod Referred
+mod Waiting

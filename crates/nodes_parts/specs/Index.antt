@@ -1,0 +1,24 @@
+-- Transactions by the numbers in their keys, and resources by their references, as the code finds them (our profile).
+use Rattle.std.specs.Prelude.{ℕ, ◌==◌, ◌&&◌, Bool, List, bytes_eq, Option, if◌then◌else◌}
+use Rattle.std.specs.Map.{lookup}
+use Rattle.std.specs.Option.{option_or}
+use Rattle.ior_refs.specs.declared.key.ObjectKey.{ObjectKey}
+use Rattle.nodes_parts.specs.declared.transactions.TransactionNumber.{TransactionNumber}
+
+abbrev pub same_number : TransactionNumber → TransactionNumber → Bool
+same_number a b =
+    a.service == b.service && (a.life == b.life && (a.slot == b.slot && (a.generation == b.generation && a.index == b.index)))
+
+-- the numbers in a key
+abbrev pub number_of : ObjectKey → TransactionNumber
+number_of key = record {
+  service = key.service;
+  life = key.life;
+  slot = key.slot;
+  generation = key.generation;
+  index = key.index;
+}
+
+-- the name of the transaction with a key
+abbrev pub name_in : List (TransactionNumber × List ℕ) → ObjectKey → Option (List ℕ)
+name_in entries key = lookup (same_number (number_of key)) entries
