@@ -1,4 +1,5 @@
 pub mod Limits
+pub mod Faults
 pub mod Layout
 pub mod Reading
 pub mod Journal

@@ -2,6 +2,7 @@ ghost use Rattle.std.specs.Prelude.{◌≡◌, ◌<◌, ◌≤◌, ◌+◌, ◌^
 ghost use Rattle.std.specs.Option.{ForSome};
 ghost use Rattle.ots_outside.specs.declared.disk.DiskRefusal.TheVariants.{Failed, Memory};
 ghost use Rattle.ots_outside.specs.Disk.{IsAfterRefusal, ReadsImage, Tells, synced, written};
+ghost use Rattle.ots_outside.specs.Faults.{LeavesFaults};
 ghost use Rattle.ots_outside.specs.Source.{HasRisen};
 ghost use Rattle.decision_journal.specs.Layout.{Fits, record_octets};
 ghost use Rattle.decision_journal.specs.Laws.{IsOnTheWay, appended, behind_gate, cleared, created, is_letter_due};
@@ -23,6 +24,7 @@ pub(crate) fn append_at<D: Disk>(disk: &mut D, gate: u64, behind: &[u8]) -> Resu
         (λ s t. IsOnTheWay s (appended gate behind.now s) t) }
     ensures want { IsErrOf result Memory → IsTrue D.wants_memory }
     ensures cause { IsErrOf result Failed → HasRisen (D.faults disk.old) (D.faults disk.new) }
+    ensures calm { LeavesFaults result (D.faults disk.old) (D.faults disk.new) }
     ensures later { D.faults disk.old ≤ D.faults disk.new }
 {
     ok!(write_and_sync(disk, gate + 1, behind));
@@ -49,6 +51,7 @@ pub(crate) fn append_record<D: Disk>(
         (λ s t. IsOnTheWay s (appended (length octets.old.items) (behind_gate item.now) s) t) }
     ensures want { IsErrOf result Memory → IsTrue D.wants_memory }
     ensures cause { IsErrOf result Failed → HasRisen (D.faults disk.old) (D.faults disk.new) }
+    ensures calm { LeavesFaults result (D.faults disk.old) (D.faults disk.new) }
     ensures later { D.faults disk.old ≤ D.faults disk.new }
 {
     let gate = octets.len();
@@ -71,6 +74,7 @@ fn write_and_sync<D: Disk>(disk: &mut D, place: u64, octets: &[u8]) -> Result<()
         (λ s t. IsOnTheWay s (synced (written place octets.now s)) t) }
     ensures want { IsErrOf result Memory → IsTrue D.wants_memory }
     ensures cause { IsErrOf result Failed → HasRisen (D.faults disk.old) (D.faults disk.new) }
+    ensures calm { LeavesFaults result (D.faults disk.old) (D.faults disk.new) }
     ensures later { D.faults disk.old ≤ D.faults disk.new }
 {
     ok!(disk.write_at(place, octets));
@@ -83,6 +87,7 @@ fn clear_letter<D: Disk>(disk: &mut D, due: bool) -> Result<(), DiskRefusal>
     ensures ok { OnOk result (Tells (D.told disk.old) (D.told disk.new) (λ s t. t ≡ cleared s)) }
     ensures way { Tells (D.told disk.old) (D.told disk.new) (λ s t. IsOnTheWay s (cleared s) t) }
     ensures cause { IsErrOf result Failed → HasRisen (D.faults disk.old) (D.faults disk.new) }
+    ensures calm { LeavesFaults result (D.faults disk.old) (D.faults disk.new) }
     ensures later { D.faults disk.old ≤ D.faults disk.new }
 {
     if !due {
@@ -99,6 +104,7 @@ pub(crate) fn create_at<D: Disk>(disk: &mut D, service: u64, due: bool) -> Resul
     ensures way { Tells (D.told disk.old) (D.told disk.new)
         (λ s t. IsOnTheWay s (created service (cleared s)) t) }
     ensures cause { IsErrOf result Failed → HasRisen (D.faults disk.old) (D.faults disk.new) }
+    ensures calm { LeavesFaults result (D.faults disk.old) (D.faults disk.new) }
     ensures later { D.faults disk.old ≤ D.faults disk.new }
 {
     ok!(clear_letter(disk, due));
@@ -117,6 +123,7 @@ pub(crate) fn read_whole<D: Disk>(alloc: Global, disk: &mut D) -> Result<Vec<u8>
     ensures settled { OnOk result (Tells (D.told disk.old) (D.told disk.new) (λ s t. t ≡ synced s)) }
     ensures image { ReadsImage (D.told disk.old) }
     ensures cause { IsErrOf result Failed → HasRisen (D.faults disk.old) (D.faults disk.new) }
+    ensures calm { LeavesFaults result (D.faults disk.old) (D.faults disk.new) }
     ensures later { D.faults disk.old ≤ D.faults disk.new }
 {
     ok!(disk.sync());
@@ -132,6 +139,7 @@ fn read_pieces<D: Disk>(disk: &mut D, octets: &mut [u8]) -> Result<(), DiskRefus
     ensures untouched { D.told disk.new ≡ D.told disk.old }
     ensures octets { OnOk result (IfSome (D.told disk.old) (λ s. octets.new ≡ s.reads)) }
     ensures cause { IsErrOf result Failed → HasRisen (D.faults disk.old) (D.faults disk.new) }
+    ensures calm { LeavesFaults result (D.faults disk.old) (D.faults disk.new) }
     ensures later { D.faults disk.old ≤ D.faults disk.new }
 {
     let mut place = 0;
@@ -159,6 +167,7 @@ pub(crate) fn read_along<D: Disk>(
     ensures image { ReadsImage (D.told disk.old) }
     ensures want { IsErrOf result Memory → IsTrue D.wants_memory }
     ensures cause { IsErrOf result Failed → HasRisen (D.faults disk.old) (D.faults disk.new) }
+    ensures calm { LeavesFaults result (D.faults disk.old) (D.faults disk.new) }
     ensures later { D.faults disk.old ≤ D.faults disk.new }
     ensures piece { length piece.new ≡ length piece.old }
 {
@@ -182,6 +191,7 @@ fn go_along<D: Disk>(
     ensures within { IfOk result (λ along. along.same ≤ length known.now) }
     ensures want { IsErrOf result Memory → IsTrue D.wants_memory }
     ensures cause { IsErrOf result Failed → HasRisen (D.faults disk.old) (D.faults disk.new) }
+    ensures calm { LeavesFaults result (D.faults disk.old) (D.faults disk.new) }
     ensures later { D.faults disk.old ≤ D.faults disk.new }
     ensures piece { length piece.new ≡ length piece.old }
 {

@@ -1,5 +1,7 @@
-ghost use Rattle.std.specs.Prelude.{◌≡◌};
+ghost use Rattle.std.specs.Prelude.{◌≡◌, ℕ};
+ghost use Rattle.ots_outside.specs.Faults.{IsNoFault as IsDiskNoFault};
 ghost use Rattle.decision_journal.specs.declared.journal.JournalFault.TheVariants.{DiskFault, Memory};
+ghost use Rattle.decision_journal.specs.Faults.{IsNoFault};
 ghost use Rattle.decision_journal.specs.Journal.{IsOfDisk};
 
 use crate::record::JournalRecord;
@@ -58,6 +60,7 @@ pub(crate) fn fault_of(refusal: DiskRefusal) -> JournalFault
     ensures failed { refusal ≡ DiskRefusal.Failed → result ≡ DiskFault }
     ensures memory { refusal ≡ DiskRefusal.Memory → result ≡ Memory }
     ensures kind { IsOfDisk result }
+    ensures calm { (n m : ℕ) → IsDiskNoFault refusal n m → IsNoFault result n m }
 {
     match refusal {
         DiskRefusal::Failed => JournalFault::DiskFault,

@@ -6,6 +6,7 @@ ghost use Rattle.decision_journal.specs.Layout.{Fits, record_octets};
 ghost use Rattle.decision_journal.specs.Laws.{IsOnTheWay, appended, behind_gate};
 ghost use Rattle.decision_journal.specs.Limits.{area_limit, standing_limit};
 ghost use Rattle.decision_journal.specs.Journal.{can_follow, is_decision, is_decision_at, with_record};
+ghost use Rattle.decision_journal.specs.Faults.{IsNoFault, LeavesFaults};
 ghost use Rattle.decision_journal.specs.Index.{AreInOrder};
 
 use crate::disk_calls::{append_record, read_along};
@@ -135,6 +136,7 @@ impl<D: Disk> Journal<D> {
             (Tells (D.told self.old.disk) (D.told self.new.disk) IsUnwritten) }
         ensures fault { IfErr result (IsReadFault D.wants_memory (D.told self.new.disk)
             (D.faults self.old.disk) (D.faults self.new.disk)) }
+        ensures calm { LeavesFaults result (D.faults self.old.disk) (D.faults self.new.disk) }
         ensures later { D.faults self.old.disk ≤ D.faults self.new.disk }
         ensures safe { Tells (D.told self.old.disk) (D.told self.new.disk) (ReadIsSafe self.old.service) }
         ensures room { self.old.room ≤ self.new.room }
@@ -183,6 +185,7 @@ impl<D: Disk> Journal<D> {
         ensures was { OnErr result (self.old.failed ≡ true) }
         ensures fault { IfErr result (IsReadFault D.wants_memory (D.told self.new.disk)
             (D.faults self.old.disk) (D.faults self.new.disk)) }
+        ensures calm { LeavesFaults result (D.faults self.old.disk) (D.faults self.new.disk) }
         ensures later { D.faults self.old.disk ≤ D.faults self.new.disk }
         ensures safe { Tells (D.told self.old.disk) (D.told self.new.disk) (ReadIsSafe self.old.service) }
         ensures room { self.old.room ≤ self.new.room }
@@ -238,6 +241,7 @@ impl<D: Disk> Journal<D> {
             (λ s t. IsOnTheWay s (appended (length self.old.octets) (behind_gate item) s) t)) }
         ensures fault { IfErr result
             (IsDiskFault D.wants_memory (D.faults self.old.disk) (D.faults self.new.disk)) }
+        ensures calm { LeavesFaults result (D.faults self.old.disk) (D.faults self.new.disk) }
         ensures later { D.faults self.old.disk ≤ D.faults self.new.disk }
         ensures safe { Tells (D.told self.old.disk) (D.told self.new.disk) (AppendIsSafe self.old.service item) }
         ensures room { self.old.room ≡ self.new.room + cells_in item }
@@ -267,6 +271,7 @@ impl<D: Disk> Journal<D> {
         ensures refused { IfErr result (IsRefusedAppend D.told self.old item self.new) }
         ensures fault { IfErr result (IsAppendFault D.wants_memory (D.told self.new.disk)
             (D.faults self.old.disk) (D.faults self.new.disk)) }
+        ensures calm { LeavesFaults result (D.faults self.old.disk) (D.faults self.new.disk) }
         ensures later { D.faults self.old.disk ≤ D.faults self.new.disk }
         ensures safe { Tells (D.told self.old.disk) (D.told self.new.disk) (AppendIsSafe self.old.service item) }
         ensures room { self.old.room ≤ self.new.room + cells_in item }
@@ -288,6 +293,7 @@ impl<D: Disk> Journal<D> {
             (IsRefusedAppend D.told self.old (JournalRecord.Done place) self.new) }
         ensures fault { IfErr result (IsReadFault D.wants_memory (D.told self.new.disk)
             (D.faults self.old.disk) (D.faults self.new.disk)) }
+        ensures calm { LeavesFaults result (D.faults self.old.disk) (D.faults self.new.disk) }
         ensures later { D.faults self.old.disk ≤ D.faults self.new.disk }
         ensures safe { Tells (D.told self.old.disk) (D.told self.new.disk)
             (AppendIsSafe self.old.service (JournalRecord.Done place)) }
@@ -314,6 +320,7 @@ impl<D: Disk> Journal<D> {
         ensures same { OnErr result (into.new.items ≡ into.old.items) }
         ensures fault { IfErr result (IsReadFault true (D.told self.new.disk)
             (D.faults self.old.disk) (D.faults self.new.disk)) }
+        ensures calm { LeavesFaults result (D.faults self.old.disk) (D.faults self.new.disk) }
         ensures later { D.faults self.old.disk ≤ D.faults self.new.disk }
         ensures safe { Tells (D.told self.old.disk) (D.told self.new.disk) (ReadIsSafe self.old.service) }
         ensures room { self.old.room ≤ self.new.room }
@@ -364,6 +371,8 @@ impl<D: Disk> Journal<D> {
             (IsRefusedLoad service back.fault)) }
         ensures fault { IfErr result (λ back. IsLoadFault area service (D.told disk) (D.faults disk)
             (D.faults back.value) back.fault) }
+        ensures calm_ok { IfOk result (λ journal. D.faults journal.disk ≡ D.faults disk) }
+        ensures calm_err { IfErr result (λ back. IsNoFault back.fault (D.faults disk) (D.faults back.value)) }
         ensures later_ok { IfOk result (λ journal. D.faults disk ≤ D.faults journal.disk) }
         ensures later_err { IfErr result (λ back. D.faults disk ≤ D.faults back.value) }
     {

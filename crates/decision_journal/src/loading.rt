@@ -1,6 +1,7 @@
 ghost use Rattle.std.specs.Prelude.{◌≡◌, ◌≤◌, ◌<◌, ◌+◌, ◌^◌, true, false, None, length, vec_capacity, IfOk, IfErr, OnOk};
 ghost use Rattle.std.specs.Option.{ForSome};
 ghost use Rattle.ots_outside.specs.Disk.{Tells, synced};
+ghost use Rattle.decision_journal.specs.Faults.{IsNoFault, LeavesFaults};
 ghost use Rattle.decision_journal.specs.Limits.{area_limit, standing_limit};
 ghost use Rattle.decision_journal.specs.Laws.{IsOnTheWay, IsSettled, cleared, created};
 ghost use Rattle.decision_journal.specs.Journal.{IsFilled, IsFresh};
@@ -48,6 +49,7 @@ fn create<D: Disk>(
     ensures way { Tells (D.told disk.old) (D.told disk.new)
         (λ s t. IsOnTheWay s (created service (cleared s)) t) }
     ensures fault { IfErr result (IsDiskFault true (D.faults disk.old) (D.faults disk.new)) }
+    ensures calm { LeavesFaults result (D.faults disk.old) (D.faults disk.new) }
     ensures later { D.faults disk.old ≤ D.faults disk.new }
 {
     if let Err(refusal) = create_at(disk, service, is_due(octets)) {
@@ -72,6 +74,7 @@ fn read_or_create<D: Disk>(alloc: Global, disk: &mut D, service: u64) -> Result<
         (IsRefusedLoad service fault)) }
     ensures fault { IfErr result
         (IsStartFault service (D.told disk.old) (D.faults disk.old) (D.faults disk.new)) }
+    ensures calm { LeavesFaults result (D.faults disk.old) (D.faults disk.new) }
     ensures later { D.faults disk.old ≤ D.faults disk.new }
 {
     let mut octets = match read_whole(alloc, disk) {
@@ -127,6 +130,7 @@ pub(crate) fn start_within<D: Disk>(
         (IsRefusedLoad service fault)) }
     ensures fault { IfErr result
         (IsLoadFault area service (D.told disk.old) (D.faults disk.old) (D.faults disk.new)) }
+    ensures calm { LeavesFaults result (D.faults disk.old) (D.faults disk.new) }
     ensures later { D.faults disk.old ≤ D.faults disk.new }
 {
     let mut start = ok!(read_or_create(alloc, disk, service));
@@ -158,6 +162,7 @@ pub(crate) fn misread<D: Disk>(
     requires within { place ≤ length known.now }
     ensures none { D.told disk.new ≡ None }
     ensures fault { IsReadFault false None (D.faults disk.old) (D.faults disk.new) result }
+    ensures calm { IsNoFault result (D.faults disk.old) (D.faults disk.new) }
     ensures later { D.faults disk.old ≤ D.faults disk.new }
 {
     let read = match read_whole(alloc, disk) {

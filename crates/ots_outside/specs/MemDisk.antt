@@ -6,6 +6,7 @@ use Rattle.ots_outside.specs.declared.mem_disk.DiskEvent.{DiskEvent}
 use Rattle.ots_outside.specs.declared.mem_disk.DiskEvent.TheVariants.{Wrote, Synced}
 use Rattle.ots_outside.specs.Source.{raised}
 use Rattle.ots_outside.specs.Disk.{DiskState, IsImage, written, synced}
+use Rattle.ots_outside.specs.Faults.{LeavesFaults}
 
 -- a disk after one thing that it was told to do
 abbrev pub after_event : DiskState → DiskEvent → DiskState
@@ -35,4 +36,4 @@ pub record CountsCall {T : Type 0} (result : Result T DiskRefusal) (before after
   pub calls : after.calls ≡ raised before.calls
   pub listed : IsErrOf result Failed ↔ Contains before.failing before.calls
   pub faults : IsErrOf result Failed → after.faults ≡ raised before.faults
-  pub no_fault : (IsErrOf result Failed → ⊥) → after.faults ≡ before.faults
+  pub no_fault : LeavesFaults result before.faults after.faults

@@ -1,5 +1,6 @@
 -- What contracts see of the adapters over std::io and std::fs (our profile).
-use Rattle.std.specs.Prelude.{ℕ, Bool, IsErr, IsTrue, Result}
+use Rattle.std.specs.Prelude.{ℕ, Bool, IsErr, IsTrue, Option, Result}
+use Rattle.std.specs.declared.fs.File.{File}
 use Rattle.ots_outside.specs.declared.streams.StdSource.{StdSource}
 use Rattle.ots_outside.specs.declared.streams.StdSink.{StdSink}
 use Rattle.ots_outside.specs.declared.file_disk.FileDisk.{FileDisk}
@@ -19,6 +20,14 @@ sink_writer sink = sink.writer
 -- how many writes have failed
 abbrev pub sink_faults : {W : Type 0} → StdSink W → ℕ
 sink_faults sink = sink.faults
+
+-- the file
+abbrev pub file_disk_file : FileDisk → File
+file_disk_file disk = disk.file
+
+-- the folder that is to be synced too, if one is
+abbrev pub file_disk_folder : FileDisk → Option File
+file_disk_folder disk = disk.folder
 
 -- how many calls have failed
 abbrev pub file_disk_faults : FileDisk → ℕ

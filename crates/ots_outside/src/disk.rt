@@ -3,6 +3,7 @@ ghost use Rattle.std.specs.Option.{ForSome};
 ghost use Rattle.ots_outside.specs.Source.{HasRisen};
 ghost use Rattle.ots_outside.specs.declared.disk.DiskRefusal.TheVariants.{Failed, Memory};
 ghost use Rattle.ots_outside.specs.Disk.{DiskState, IsAfterRefusal, ReadsImage, Tells, synced, written};
+ghost use Rattle.ots_outside.specs.Faults.{LeavesFaults};
 
 use std::alloc::{AllocError, AllocFailed};
 
@@ -53,6 +54,7 @@ pub trait Disk {
         ensures image { ReadsImage (told self.old) }
         ensures want { IsErrOf result Memory → IsTrue wants_memory }
         ensures cause { IsErrOf result Failed → HasRisen (faults self.old) (faults self.new) }
+        ensures calm { LeavesFaults result (faults self.old) (faults self.new) }
         ensures later { faults self.old ≤ faults self.new };
 
     /// Reads the octets from a place on, all of the piece.
@@ -64,6 +66,7 @@ pub trait Disk {
         ensures image { ReadsImage (told self.old) }
         ensures want { IsErrOf result Memory → IsTrue wants_memory }
         ensures cause { IsErrOf result Failed → HasRisen (faults self.old) (faults self.new) }
+        ensures calm { LeavesFaults result (faults self.old) (faults self.new) }
         ensures later { faults self.old ≤ faults self.new };
 
     /// Writes the octets from a place on, over what is there and past the end. A crash may leave them torn until a sync.
@@ -76,6 +79,7 @@ pub trait Disk {
         ensures image { ReadsImage (told self.old) × ReadsImage (told self.new) }
         ensures want { IsErrOf result Memory → IsTrue wants_memory }
         ensures cause { IsErrOf result Failed → HasRisen (faults self.old) (faults self.new) }
+        ensures calm { LeavesFaults result (faults self.old) (faults self.new) }
         ensures later { faults self.old ≤ faults self.new };
 
     /// Makes what is read outlast a crash.
@@ -87,5 +91,6 @@ pub trait Disk {
         ensures image { ReadsImage (told self.old) × ReadsImage (told self.new) }
         ensures want { IsErrOf result Memory → IsTrue wants_memory }
         ensures cause { IsErrOf result Failed → HasRisen (faults self.old) (faults self.new) }
+        ensures calm { LeavesFaults result (faults self.old) (faults self.new) }
         ensures later { faults self.old ≤ faults self.new };
 }

@@ -1,5 +1,6 @@
 ghost use Rattle.std.specs.Prelude.{◌≡◌, ◌≤◌, false, IfErr, IsErrOf, IsTrue, OnErr, OnOk};
 ghost use Rattle.ots_outside.specs.declared.disk.DiskRefusal.TheVariants.{Failed as DiskFailed};
+ghost use Rattle.ots_outside.specs.Faults.{LeavesFaults};
 ghost use Rattle.ots_outside.specs.Source.{CountsFault, HasRisen};
 
 use crate::disk::{Disk, DiskRefusal};
@@ -19,11 +20,13 @@ pub struct FileDisk {
 }
 
 impl FileDisk {
-    ghost use Rattle.ots_outside.specs.Streams.{StaysLost, file_disk_faults, file_disk_lost};
+    ghost use Rattle.ots_outside.specs.Streams.{StaysLost, file_disk_faults, file_disk_file, file_disk_folder, file_disk_lost};
 
     /// A disk over this file, which is open for reading and writing, without faults. Where the file was just made, `folder`
     /// is what it was made in: the first sync that succeeds syncs it too.
     pub fn new(file: File, folder: Option<File>) -> FileDisk
+        ensures file { file_disk_file result ≡ file }
+        ensures folder { file_disk_folder result ≡ folder }
         ensures faults { file_disk_faults result ≡ 0 }
         ensures lost { file_disk_lost result ≡ false }
     {
@@ -46,6 +49,7 @@ impl FileDisk {
     fn counted<T: Drop>(&mut self, answer: io::Result<T>) -> Result<T, DiskRefusal>
         ensures failed { IfErr result (λ refusal. refusal ≡ DiskFailed) }
         ensures cause { OnErr result (HasRisen (file_disk_faults self.old) (file_disk_faults self.new)) }
+        ensures calm { LeavesFaults result (file_disk_faults self.old) (file_disk_faults self.new) }
         ensures later { file_disk_faults self.old ≤ file_disk_faults self.new }
         ensures faults { CountsFault result (file_disk_faults self.old) (file_disk_faults self.new) }
         ensures lost { StaysLost result (file_disk_lost self.old) (file_disk_lost self.new) }
@@ -78,6 +82,7 @@ impl Disk for FileDisk {
     fn len(&mut self) -> Result<u64, DiskRefusal>
         // What each disk promises.
         ensures cause { IsErrOf result DiskFailed → HasRisen (file_disk_faults self.old) (file_disk_faults self.new) }
+        ensures calm { LeavesFaults result (file_disk_faults self.old) (file_disk_faults self.new) }
         ensures later { file_disk_faults self.old ≤ file_disk_faults self.new }
 
         // It wants no memory. A refusal counts as one fault, and an Ok as none.
@@ -94,6 +99,7 @@ impl Disk for FileDisk {
     fn read_at(&mut self, place: u64, into: &mut [u8]) -> Result<(), DiskRefusal>
         // What each disk promises.
         ensures cause { IsErrOf result DiskFailed → HasRisen (file_disk_faults self.old) (file_disk_faults self.new) }
+        ensures calm { LeavesFaults result (file_disk_faults self.old) (file_disk_faults self.new) }
         ensures later { file_disk_faults self.old ≤ file_disk_faults self.new }
 
         // It wants no memory. A refusal counts as one fault, and an Ok as none.
@@ -110,6 +116,7 @@ impl Disk for FileDisk {
     fn write_at(&mut self, place: u64, bytes: &[u8]) -> Result<(), DiskRefusal>
         // What each disk promises.
         ensures cause { IsErrOf result DiskFailed → HasRisen (file_disk_faults self.old) (file_disk_faults self.new) }
+        ensures calm { LeavesFaults result (file_disk_faults self.old) (file_disk_faults self.new) }
         ensures later { file_disk_faults self.old ≤ file_disk_faults self.new }
 
         // It wants no memory. A refusal counts as one fault, and an Ok as none.
@@ -126,6 +133,7 @@ impl Disk for FileDisk {
     fn sync(&mut self) -> Result<(), DiskRefusal>
         // What each disk promises.
         ensures cause { IsErrOf result DiskFailed → HasRisen (file_disk_faults self.old) (file_disk_faults self.new) }
+        ensures calm { LeavesFaults result (file_disk_faults self.old) (file_disk_faults self.new) }
         ensures later { file_disk_faults self.old ≤ file_disk_faults self.new }
 
         // It wants no memory. A refusal counts as one fault, and an Ok as none.

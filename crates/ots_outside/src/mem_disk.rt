@@ -3,6 +3,7 @@ ghost use Rattle.std.specs.List.Sorted.{IsNonDecreasing, IsPermutation};
 ghost use Rattle.ots_outside.specs.declared.disk.DiskRefusal.TheVariants.{Failed, Memory};
 ghost use Rattle.ots_outside.specs.Source.{HasRisen, raised};
 ghost use Rattle.ots_outside.specs.Disk.{IsAfterRefusal, IsImage, at_first, overwritten, synced, written};
+ghost use Rattle.ots_outside.specs.Faults.{LeavesFaults};
 ghost use Rattle.ots_outside.specs.MemDisk.{CountsCall};
 
 use crate::disk::{Disk, DiskRefusal};
@@ -293,6 +294,7 @@ impl Disk for MemDisk {
         ensures untouched { self.new.disk ≡ self.old.disk }
         ensures image { IsImage self.old.disk.present self.old.disk.reads }
         ensures cause { IsErrOf result Failed → HasRisen self.old.faults self.new.faults }
+        ensures calm { LeavesFaults result self.old.faults self.new.faults }
         ensures later { self.old.faults ≤ self.new.faults }
 
         // Exactly the listed calls fail.
@@ -314,6 +316,7 @@ impl Disk for MemDisk {
         ensures untouched { self.new.disk ≡ self.old.disk }
         ensures image { IsImage self.old.disk.present self.old.disk.reads }
         ensures cause { IsErrOf result Failed → HasRisen self.old.faults self.new.faults }
+        ensures calm { LeavesFaults result self.old.faults self.new.faults }
         ensures later { self.old.faults ≤ self.new.faults }
 
         // Exactly the listed calls fail.
@@ -339,6 +342,7 @@ impl Disk for MemDisk {
         ensures image { IsImage self.old.disk.present self.old.disk.reads
             × IsImage self.new.disk.present self.new.disk.reads }
         ensures cause { IsErrOf result Failed → HasRisen self.old.faults self.new.faults }
+        ensures calm { LeavesFaults result self.old.faults self.new.faults }
         ensures later { self.old.faults ≤ self.new.faults }
 
         // Exactly the listed calls answer Failed. A refused one does nothing.
@@ -358,6 +362,7 @@ impl Disk for MemDisk {
         ensures image { IsImage self.old.disk.present self.old.disk.reads
             × IsImage self.new.disk.present self.new.disk.reads }
         ensures cause { IsErrOf result Failed → HasRisen self.old.faults self.new.faults }
+        ensures calm { LeavesFaults result self.old.faults self.new.faults }
         ensures later { self.old.faults ≤ self.new.faults }
 
         // Exactly the listed calls answer Failed. A refused one does nothing.

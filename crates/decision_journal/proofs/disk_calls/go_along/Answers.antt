@@ -15,5 +15,5 @@ loop-place-preserved g c =
       along = some_step (g.D.Disk.told c.args.disk.now) (g.D.Disk.told c.loop-place.disk) _ _ _ _ c.loop-place.invariant.untouched c.loop-place.invariant.along c.requires.whole c.in-Ok.ensures.octets
           (λ s a size read. along_piece c.args.known.now s.reads _ c.loop-place.place part c.loop-place.found.same c.with_piece-found.result.same c.loop-place.found.closed c.with_piece-found.result.closed (omega (arith, size, c.loop-place-test.true))
           (piece_front c.read_at.new.into (drop part c.loop-place.piece) s.reads c.loop-place.place part (length (take part c.loop-place.piece)) (omega (arith, length-take part c.loop-place.piece)) (omega (arith, size, c.loop-place-test.true)) read) c.with_piece-found.ensures.along a);
-      later = omega (arith, c.read_at.ensures.later, c.loop-place.invariant.later);
+      calm = c.in-Ok.ensures.calm ∙ c.loop-place.invariant.calm;
     }

@@ -11,7 +11,7 @@ invariant-loop-place g l = record {
   pieces : length l.piece ≡ length l.fn.piece;
   untouched : g.D.Disk.told l.disk ≡ g.D.Disk.told l.fn.disk;
   along : IfSome (g.D.Disk.told l.fn.disk) (λ s. IsAlong l.known (take l.place s.reads) l.found.same l.found.closed);
-  later : g.D.Disk.faults l.fn.disk ≤ g.D.Disk.faults l.disk;
+  calm : g.D.Disk.faults l.disk ≡ g.D.Disk.faults l.fn.disk;
 }
 
 abbrev pub decreases-loop-place : goal.decreases-loop-place

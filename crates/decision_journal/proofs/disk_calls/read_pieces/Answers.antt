@@ -10,5 +10,5 @@ loop-place-preserved g c = record {
   untouched = c.read_at.ensures.untouched ∙ c.loop-place.invariant.untouched;
   front = some_step (g.D.Disk.told c.args.disk.now) (g.D.Disk.told c.loop-place.disk) _ _ _ _ c.loop-place.invariant.untouched c.loop-place.invariant.front c.requires c.in-Ok.ensures.octets
       (λ s front long read. piece_read c.loop-place.octets s.reads c.read_at.new.into c.loop-place.place c.min-end.result _ (omega arith) (omega arith) (omega (arith, long)) front refl read);
-  later = omega (arith, c.read_at.ensures.later, c.loop-place.invariant.later);
+  calm = c.in-Ok.ensures.calm ∙ c.loop-place.invariant.calm;
 }

@@ -7,7 +7,7 @@ invariant-loop-place g l = record {
   within : l.place ≤ length l.octets;
   untouched : g.D.Disk.told l.disk ≡ g.D.Disk.told l.fn.disk;
   front : IfSome (g.D.Disk.told l.fn.disk) (λ s. take l.place l.octets ≡ take l.place s.reads);
-  later : g.D.Disk.faults l.fn.disk ≤ g.D.Disk.faults l.disk;
+  calm : g.D.Disk.faults l.disk ≡ g.D.Disk.faults l.fn.disk;
 }
 
 abbrev pub decreases-loop-place : goal.decreases-loop-place
