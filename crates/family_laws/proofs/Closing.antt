@@ -216,12 +216,12 @@ settled_all c a h = go (course.outcome c) refl (both_left (reports.all_completed
 
 -- ---- the Done is wanted
 
-record IsDoneWanted (f : Family) (place : ℕ) : Type 0 where
-  undecided : stages.wants_decision f.completion ≡ false
-  wanted_now : wants_done f ≡ true
-  at : stages.record_place f.completion ≡ Some place
+pub record IsDoneWanted (f : Family) (place : ℕ) : Type 0 where
+  pub undecided : stages.wants_decision f.completion ≡ false
+  pub wanted_now : wants_done f ≡ true
+  pub at : stages.record_place f.completion ≡ Some place
 
-done_by : (f : Family) (place : ℕ) → wanted_by f ≡ Some (WritesDone place) → IsDoneWanted f place
+pub done_by : (f : Family) (place : ℕ) → wanted_by f ≡ Some (WritesDone place) → IsDoneWanted f place
 done_by f place h = go (stages.wants_decision f.completion) refl h
   where
     at : (o : Option ℕ) → option_map WritesDone o ≡ Some (WritesDone place) → o ≡ Some place

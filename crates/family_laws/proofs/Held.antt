@@ -125,7 +125,7 @@ taken_from (Some r) xs h c = go (is_held r.place xs) c
     go true d = inl d
     go false d = sort (Contains-append_cases (before r.place xs) (r ∷ behind r.place xs) h d)
 
-found_there : (test : Standing → Bool) (ss : List Standing) (s : Standing) → find test ss ≡ Some s → Contains ss s
+pub found_there : (test : Standing → Bool) (ss : List Standing) (s : Standing) → find test ss ≡ Some s → Contains ss s
 found_there test [] s e = absurd (cc e)
 found_there test (x ∷ ss) s e = go (test x) e (found_there test ss s)
   where
@@ -133,7 +133,7 @@ found_there test (x ∷ ss) s e = go (test x) e (found_there test ss s)
     go true i rest = (zero, omega arith, (let j : x ≡ s = cc i in j))
     go false i rest = let c = rest i in (suc c.0, (let l = c.1 in omega (arith, l)), c.2)
 
-over_from : (found : Found) (o : Option Family) (xs : List Held) (h : Held) → Contains (takes_over found o xs) h → Contains xs h ⊎ IsOfStanding found.standing h
+pub over_from : (found : Found) (o : Option Family) (xs : List Held) (h : Held) → Contains (takes_over found o xs) h → Contains xs h ⊎ IsOfStanding found.standing h
 over_from found None xs h c = inl c
 over_from found (Some f) xs h c = go (taken_from (option_and_then (held_for f) (left_record found f)) xs h c)
   where
@@ -212,7 +212,7 @@ alike_stands standing h g s a = record {
   references = a.references ∙ s.references;
 }
 
-heard_from : (lives : ℕ) (n : CallNumber) (heard : Heard) (records : List Held) (h : Held) → Contains (records_after lives n heard records) h → WasHeld records h
+pub heard_from : (lives : ℕ) (n : CallNumber) (heard : Heard) (records : List Held) (h : Held) → Contains (records_after lives n heard records) h → WasHeld records h
 heard_from lives n heard records h c = go (is_retold lives n) c
   where
     go : (t : Bool) → Contains (if t then map (record_after n heard) records else records) h → WasHeld records h

@@ -44,7 +44,7 @@ pub record Agrees (c : Course) : Type 0 where
   pub consent : course.all_consent c ≡ true
   pub several : course.some_commit c ≡ true
 
-agrees : (c : Course) → course.wants_decision c ≡ true → Agrees c
+pub agrees : (c : Course) → course.wants_decision c ≡ true → Agrees c
 agrees c h = record {
   together = one (course.decides_alone c) (is_none c.overtaken) (is_none c.stood) (course.all_consent c) (course.some_commit c) h;
   overtaken = none c.overtaken (two (not (course.decides_alone c)) (is_none c.overtaken) (is_none c.stood) (course.all_consent c) (course.some_commit c) h);
@@ -154,7 +154,7 @@ pub record IsWantedBy (f : Family) (e : Event) (w : Wanted) : Type 0 where
   pub by : wanted_by (hears number heard f).family ≡ Some w
 
 -- all but a reread is wanted by an answer
-abbrev IsOfAnswer : Wanted → Type 0
+abbrev pub IsOfAnswer : Wanted → Type 0
 IsOfAnswer (Appends item) = Unit {0}
 IsOfAnswer (WritesDone place) = Unit {0}
 IsOfAnswer Rereads = ⊥

@@ -1,9 +1,8 @@
 -- Nodes stay sound, and forget no decision.
-use Rattle.std.proofs.Common.{◌≡◌, ◌≢◌, ◌⊎◌, ◌==◌, ◌&&◌, inl, inr, ℕ, ◌+◌, ◌<◌, ◌≤◌, zero, suc, List, [], ◌∷◌, length, map, replicate, take, drop, Bool, true, false, if◌then◌else◌, Option, Some, None, Ok, min, ◌-◌, Contains, position, is_some, refl, ap, sym, subst, ◌∙◌, arith}
+use Rattle.std.proofs.Common.{◌≡◌, ◌≢◌, ◌⊎◌, ◌==◌, ◌&&◌, inl, inr, ℕ, ◌+◌, ◌<◌, zero, suc, List, [], ◌∷◌, length, map, replicate, take, drop, Bool, true, false, if◌then◌else◌, Option, Some, None, Ok, min, ◌-◌, Contains, position, is_some, refl, ap, sym, subst, ◌∙◌, arith}
 use Rattle.std.specs.Prelude.{nat_lt, get_or, slice_set}
 use Rattle.std.specs.List.{find}
 use Rattle.std.specs.Option.{option_and_then, option_map, option_or}
-use Rattle.std.proofs.lemmas.Grind.{common_steps}
 use Rattle.std.proofs.lemmas.Bool.Decides.{nat_tests}
 use Rattle.std.proofs.lemmas.List.{length-replicate, get_or-take, get_or-drop, length-take, length-drop}
 use Rattle.std.proofs.lemmas.List.Quantifiers.{position-Some}
@@ -16,7 +15,6 @@ use Rattle.ots_model.specs.declared.tree.Heard.{Heard}
 use Rattle.decision_journal.specs.Journal.{Found, found_in, is_decision, is_decision_at}
 use Rattle.decision_journal.specs.declared.journal.Standing.{Standing}
 use Rattle.decision_journal.specs.declared.record.JournalRecord.{JournalRecord}
-use Rattle.decision_journal.specs.declared.record.JournalRecord.TheVariants.{Life, Decision, Done, Prepared, CellsPrepared, CellsOutcome, CellsOnePhase}
 use Rattle.recovery_coord.specs.Held.{is_held, taken}
 use Rattle.recovery_coord.specs.Hearing.{records_after, completed}
 use Rattle.recovery_coord.specs.declared.held.Held.{Held}
@@ -28,7 +26,7 @@ use Rattle.coordinator.specs.declared.node.NodeFault.TheVariants as faults
 use Rattle.coordinator.specs.declared.said.Said.{Said}
 use Rattle.coordinator.specs.declared.said.Said.TheVariants as said
 use Rattle.coordinator.specs.Family.{Family, new_family}
-use Rattle.coordinator.specs.Hearing.{decision_record, record_place}
+use Rattle.coordinator.specs.Hearing.{record_place}
 use Rattle.coordinator.specs.History.{has_room}
 use Rattle.coordinator.specs.Limits.{slot_limit, generation_limit}
 use Rattle.coordinator.specs.Node.{Node, life, load, in_next_life, family_in, with_family, is_of, only_of, family_of}
@@ -38,66 +36,19 @@ use Rattle.coordinator.specs.NodeParts.{IsInSlot}
 use Rattle.coordinator.specs.NodeRecords.{record_of, record_says}
 use Rattle.coordinator.specs.NodeSlots.{is_free, free_behind, free_up_to, free_slot, left_record, held_for, takes_over, next_key, with_new, makes_no_family, makes_in, makes, creates, deadline_after}
 use Rattle.coordinator.specs.NodeTick.{tick_at, tick_of, ticked, takes_all_over, passes_time, tells_again, ticks}
-use Rattle.coordinator.specs.Step.{quiet, family_step, Appends, WritesDone, wanted, is_finished, hears}
-use Rattle.family_laws.specs.LawsOfJournal.{AppendsOwn}
+use Rattle.coordinator.specs.Step.{quiet, family_step, Appends, WritesDone, wanted, is_finished}
 use Rattle.family_laws.specs.Sound.{IsSoundFamily}
 use Rattle.family_laws.specs.SoundNode.{IsDecisionOf, is_family_decision, HasFamilyOf, IsSoundNode, IsBehind, NodesStaySound}
-use Rattle.family_laws.proofs.Journal.{families_append_own}
+use Rattle.family_laws.proofs.Appended.{appended_own}
+use Rattle.family_laws.proofs.Slots.{family_other, family_same, family_put, family_within, set_length, in_slot_kept, own_kept, family_ticked, map_length}
 use Rattle.family_laws.proofs.Standing.{found_order, journaled_order, IsNew, journaled_new, done_gone, held_taken, held_without, held_retold, held_heard, held_decision, held_loaded, found_at, decision_passes}
 use Rattle.family_laws.proofs.Steps.{families_stay_sound, new_sound}
 use Rattle.family_laws.proofs.StepsTell.{families_number_words, step_place}
 use Rattle.family_laws.proofs.Trees.{same_or_not}
-use Rattle.family_laws.proofs.Votes.{hears_is}
-
--- ---- families by their slots
-
-family_other : (fs : List (Option Family)) (b d : ℕ) (o : Option Family) → d ≢ b → family_in (slice_set fs b o) d ≡ family_in fs d
-family_other [] b d o n = refl
-family_other (x ∷ fs) zero zero o n = absurd (n refl)
-family_other (x ∷ fs) zero (suc d) o n = refl
-family_other (x ∷ fs) (suc b) zero o n = refl
-family_other (x ∷ fs) (suc b) (suc d) o n = family_other fs b d o (λ e. n (ap (λ (k : ℕ). suc k) e))
-
-family_same : (fs : List (Option Family)) (b : ℕ) (o : Option Family) (f : Family) → family_in (slice_set fs b o) b ≡ Some f → o ≡ Some f
-family_same [] b o f e = absurd (cc e)
-family_same (x ∷ fs) zero o f e = e
-family_same (x ∷ fs) (suc b) o f e = family_same fs b o f e
-
-family_put : (fs : List (Option Family)) (b : ℕ) (f : Family) → b < length fs → family_in (slice_set fs b (Some f)) b ≡ Some f
-family_put [] b f l = absurd (omega (arith, l))
-family_put (x ∷ fs) zero f l = refl
-family_put (x ∷ fs) (suc b) f l = family_put fs b f (omega (arith, l))
-
-family_within : (fs : List (Option Family)) (b : ℕ) (f : Family) → family_in fs b ≡ Some f → b < length fs
-family_within [] b f e = absurd (cc e)
-family_within (x ∷ fs) zero f e = omega arith
-family_within (x ∷ fs) (suc b) f e = let l = family_within fs b f e in omega (arith, l)
-
-set_length : (fs : List (Option Family)) (b : ℕ) (o : Option Family) → length (slice_set fs b o) ≡ length fs
-set_length fs b o = grind (arith, common_steps)
-
--- another family with the same key
-in_slot_kept : (n later : Node) (slot : ℕ) (f g : Family) → later.service ≡ n.service → life later ≡ life n → n.generation ≤ later.generation → g.key ≡ f.key → IsInSlot n slot f → IsInSlot later slot g
-in_slot_kept n later slot f g service lives more key h = record {
-  of_service = ap (λ (k : ObjectKey). k.service) key ∙ h.of_service ∙ sym service;
-  of_life = ap (λ (k : ObjectKey). k.life) key ∙ h.of_life ∙ sym lives;
-  own_slot = ap (λ (k : ObjectKey). k.slot) key ∙ h.own_slot;
-  given = let x = h.given in let e = ap (λ (k : ObjectKey). k.generation) key in omega (arith, x, e, more);
-}
-
-own_kept : (f g : Family) → g.key ≡ f.key → (r : JournalRecord) → IsDecisionOf f r → IsDecisionOf g r
-own_kept f g e (Decision l s n by asked regs) h =
-    (ap (λ (k : ObjectKey). k.life) e ∙ h.0, ap (λ (k : ObjectKey). k.slot) e ∙ h.1, ap (λ (k : ObjectKey). k.generation) e ∙ h.2)
-own_kept f g e (Life l) h = h
-own_kept f g e (Done named) h = h
-own_kept f g e (Prepared l s n recovery regs) h = h
-own_kept f g e (CellsPrepared l number recovery ps) h = h
-own_kept f g e (CellsOutcome named end) h = h
-own_kept f g e (CellsOnePhase l number ps) h = h
 
 -- ---- a load
 
-none_in : (n slot : ℕ) (f : Family) → family_in (replicate n None) slot ≡ Some f → ⊥
+pub none_in : (n slot : ℕ) (f : Family) → family_in (replicate n None) slot ≡ Some f → ⊥
 none_in zero slot f e = absurd (cc e)
 none_in (suc n) zero f e = absurd (cc e)
 none_in (suc n) (suc slot) f e = none_in n slot f e
@@ -276,16 +227,6 @@ tick_later law now f = go (has_room f.entries (tick_at now))
     go true = step_later law f (tick_at now) None
     go false = record { key = refl; sound = λ h. h; place = λ p e. e }
 
-family_ticked : (now : ℕ) (fs : List (Option Family)) (slot : ℕ) → family_in (map (ticked now) fs) slot ≡ ticked now (family_in fs slot)
-family_ticked now [] slot = refl
-family_ticked now (None ∷ fs) zero = refl
-family_ticked now (Some f ∷ fs) zero = refl
-family_ticked now (x ∷ fs) (suc slot) = family_ticked now fs slot
-
-map_length : (now : ℕ) (fs : List (Option Family)) → length (map (ticked now) fs) ≡ length fs
-map_length now [] = refl
-map_length now (x ∷ fs) = ap (λ (k : ℕ). suc k) (map_length now fs)
-
 all_over : (found : Found) (fs : List (Option Family)) (place : ℕ) (xs : List Held) → is_held place xs ≡ true → is_held place (takes_all_over found fs xs) ≡ true
 all_over found [] place xs h = h
 all_over found (o ∷ fs) place xs h = all_over found fs place (takes_over found o xs) (held_over found o place xs h)
@@ -334,30 +275,13 @@ of_key k (Some g) f e = go (is_of k g) e
     go true x = x
     go false x = absurd (cc x)
 
-called_family : (k : ObjectKey) (e : Event) (n : Node) (f : Family) → family_for k e n ≡ Some f → family_in n.families k.slot ≡ Some f
+pub called_family : (k : ObjectKey) (e : Event) (n : Node) (f : Family) → family_for k e n ≡ Some f → family_in n.families k.slot ≡ Some f
 unfolding family_of
 called_family k e n f h = go (is_some (retold_answer e.act)) h
   where
     go : (t : Bool) → (if t then None else option_and_then (only_of k) (family_in n.families k.slot)) ≡ Some f → family_in n.families k.slot ≡ Some f
     go true x = absurd (cc x)
     go false x = of_key k (family_in n.families k.slot) f x
-
--- the decision that a family appends is its own
-record_own : (f g : Family) → f.key ≡ g.key → IsDecisionOf f (decision_record g)
-unfolding decision_record
-record_own f g e = (ap (λ (k : ObjectKey). k.life) e, ap (λ (k : ObjectKey). k.slot) e, ap (λ (k : ObjectKey). k.generation) e)
-
-appended_own : TreeWordsGoRightly → TreeOutcomeStays → (f : Family) (e : Event) (stood : Option Stood) (s : Standing) → IsSoundFamily f → IsNew (wanted f e) stood s
-    → IsDecisionOf (family_step f e stood).family s.item × (stages.record_place (family_step f e stood).family.completion ≡ Some s.place)
-appended_own law stays f e stood s sound x =
-    let a : AppendsOwn f e x.item = families_append_own stays f e x.item sound x.wanted in
-    let g : Family = (hears a.number a.heard f).family in
-    let later : Family = (family_step f e stood).family in
-    let key : later.key ≡ g.key = families_number_words.key f e stood ∙ sym (hears_is a.number a.heard f).told.key_stays in
-    let own : IsDecisionOf later x.item = subst (λ (r : JournalRecord). IsDecisionOf later r) (sym a.is_record) (record_own later g key) in
-    let at : stages.record_place later.completion ≡ Some x.place =
-    subst (λ (o : Option Stood). stages.record_place (family_step f e o).family.completion ≡ Some x.place) (sym x.stands) (a.stands x.place) in
-    (subst (λ (t : Standing). IsDecisionOf later t.item) (sym x.is) own, subst (λ (t : Standing). stages.record_place later.completion ≡ Some t.place) (sym x.is) at)
 
 -- where a family is called, the node's life stays
 stepped_sound : TreeWordsGoRightly → TreeOutcomeStays → (f : Family) (e : Event) (stood : Option Stood) (n : Node) (slot : ℕ) → family_in n.families slot ≡ Some f → IsBehind (wanted f e) stood n

@@ -29,7 +29,7 @@ use Rattle.family_laws.proofs.Lists.{all_joined, all_map}
 abbrev Behind : Standing → Standing → Type 0
 Behind s t = s.place < t.place
 
-before_more : (place more : ℕ) → place ≤ more → (xs : List Standing) → AreBefore place xs → AreBefore more xs
+pub before_more : (place more : ℕ) → place ≤ more → (xs : List Standing) → AreBefore place xs → AreBefore more xs
 before_more place more l xs h = all_map (λ (s : Standing). s.place < place) (λ (s : Standing). s.place < more) (λ s k. omega (arith, k, l)) xs h
 
 order_pushed : (xs : List Standing) (s : Standing) → AreInOrder xs → AreBefore s.place xs → AreInOrder (xs ++ s ∷ [])
@@ -178,7 +178,7 @@ journaled_new (Some (WritesDone named)) (Some (answers.Unsure why)) found s h = 
 
 -- ---- a decision that is named done stands no more
 
-at_index : (xs : List Standing) (k : ℕ) (s : Standing) (P : Standing → Type 0) → AllByRecursion P xs → k < length xs → get_or xs k s ≡ s → P s
+pub at_index : (xs : List Standing) (k : ℕ) (s : Standing) (P : Standing → Type 0) → AllByRecursion P xs → k < length xs → get_or xs k s ≡ s → P s
 at_index [] k s P h l e = absurd (omega (arith, l))
 at_index (x ∷ xs) zero s P h l e = subst P e h.0
 at_index (x ∷ xs) (suc k) s P h l e = at_index xs k s P h.1 (omega (arith, l)) e

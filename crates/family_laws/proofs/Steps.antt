@@ -77,7 +77,7 @@ zero_isnt : (b : ℕ) → (b == 0) ≡ false → b ≢ 0
 zero_isnt b e = grind arith
 
 -- a call takes it up where it is going on or marked
-abbrev IsUp : Column → Type 0
+abbrev pub IsUp : Column → Type 0
 IsUp columns.Active = Unit {0}
 IsUp columns.Marked = Unit {0}
 IsUp _ = ⊥
@@ -108,11 +108,11 @@ live_in false (Some Marked) h = refl
 live_in false (Some Committed) h = absurd h
 live_in false (Some RolledBack) h = absurd h
 
-top_going : (f : Family) → IsUp (column f 0) → f.stage ≡ Going
+pub top_going : (f : Family) → IsUp (column f 0) → f.stage ≡ Going
 unfolding column phase
 top_going f h = up_going f f.stage (stages.outcome f.completion) refl refl h
 
-sub_live : (f : Family) (b : ℕ) → b ≢ 0 → IsUp (column f b) → is_live_branch f.rows b ≡ true
+pub sub_live : (f : Family) (b : ℕ) → b ≢ 0 → IsUp (column f b) → is_live_branch f.rows b ≡ true
 unfolding column
 sub_live f b n h = live_in (is_ending f b) (rows.state f.rows b) (rw (zero_not b n) at h)
 

@@ -111,12 +111,12 @@ taken_done place (Decision l slot generation by asked regs) commits forgets h p 
     subst (λ (k : ℕ). list_any (λ j. j == k) commits ≡ false) (ap (λ (q : Party). q.index) f.is)
     (nobody due.Commit commits forgets f.x.index (ap (λ (q : Party). q.due) f.is ∙ n))
 
-record IsTaken (found : Found) (f : Family) (h : Held) : Type 0 where
-  stood : Standing
-  left : left_record found f ≡ Some stood
-  held : held_for f stood ≡ Some h
+pub record IsTaken (found : Found) (f : Family) (h : Held) : Type 0 where
+  pub stood : Standing
+  pub left : left_record found f ≡ Some stood
+  pub held : held_for f stood ≡ Some h
 
-one_taken : (found : Found) (f : Family) (xs : List Held) (h : Held) → Contains (takes_over found (Some f) xs) h → Contains xs h ⊎ IsTaken found f h
+pub one_taken : (found : Found) (f : Family) (xs : List Held) (h : Held) → Contains (takes_over found (Some f) xs) h → Contains xs h ⊎ IsTaken found f h
 one_taken found f xs h c = go (taken_from (option_and_then (held_for f) (left_record found f)) xs h c)
   where
     new : (o : Option Standing) → left_record found f ≡ o → option_and_then (held_for f) o ≡ Some h → IsTaken found f h
@@ -127,13 +127,13 @@ one_taken found f xs h c = go (taken_from (option_and_then (held_for f) (left_re
     go (inl d) = inl d
     go (inr e) = inr (new (left_record found f) refl e)
 
-record IsTakenFrom (found : Found) (fs : List (Option Family)) (h : Held) : Type 0 where
-  slot : ℕ
-  family : Family
-  there : family_in fs slot ≡ Some family
-  taken_over : IsTaken found family h
+pub record IsTakenFrom (found : Found) (fs : List (Option Family)) (h : Held) : Type 0 where
+  pub slot : ℕ
+  pub family : Family
+  pub there : family_in fs slot ≡ Some family
+  pub taken_over : IsTaken found family h
 
-some_taken : (found : Found) (fs : List (Option Family)) (xs : List Held) (h : Held) → Contains (takes_all_over found fs xs) h → Contains xs h ⊎ IsTakenFrom found fs h
+pub some_taken : (found : Found) (fs : List (Option Family)) (xs : List Held) (h : Held) → Contains (takes_all_over found fs xs) h → Contains xs h ⊎ IsTakenFrom found fs h
 some_taken found [] xs h c = inl c
 some_taken found (o ∷ fs) xs h c = go (some_taken found fs (takes_over found o xs) h c)
   where
@@ -149,7 +149,7 @@ some_taken found (o ∷ fs) xs h c = go (some_taken found fs (takes_over found o
     go (inl d) = by o d
     go (inr x) = inr (record { slot = suc x.slot; family = x.family; there = x.there; taken_over = x.taken_over })
 
-taken_finished : (found : Found) (f : Family) (s : Standing) → left_record found f ≡ Some s → is_finished f ≡ true
+pub taken_finished : (found : Found) (f : Family) (s : Standing) → left_record found f ≡ Some s → is_finished f ≡ true
 taken_finished found f s e = go (is_finished f) refl e
   where
     go : (t : Bool) → is_finished f ≡ t → (if t then option_and_then (λ place. find (is_decision_at place) found.standing) (record_place f.completion) else None) ≡ Some s → is_finished f ≡ true
@@ -171,7 +171,7 @@ first_so place (x ∷ ss) s e = go (is_decision_at place x) refl e (first_so pla
         same e = cc e
     go false i j others = others j
 
-left_at : (found : Found) (f : Family) (s : Standing) → left_record found f ≡ Some s → record_place f.completion ≡ Some s.place
+pub left_at : (found : Found) (f : Family) (s : Standing) → left_record found f ≡ Some s → record_place f.completion ≡ Some s.place
 left_at found f s e = go (is_finished f) e
   where
     by : (o : Option ℕ) → option_and_then (λ place. find (is_decision_at place) found.standing) o ≡ Some s → o ≡ Some s.place
@@ -182,7 +182,7 @@ left_at found f s e = go (is_finished f) e
     go true x = by (record_place f.completion) x
     go false x = absurd (cc x)
 
-held_at : (place : ℕ) (item : JournalRecord) (commits forgets : List ℕ) (h : Held) → held_of place item commits forgets ≡ Some h → h.place ≡ place
+pub held_at : (place : ℕ) (item : JournalRecord) (commits forgets : List ℕ) (h : Held) → held_of place item commits forgets ≡ Some h → h.place ≡ place
 held_at place (Life l) commits forgets h e = absurd (cc e)
 held_at place (Decision l slot generation by asked regs) commits forgets h e = cc e
 held_at place (Done named) commits forgets h e = absurd (cc e)

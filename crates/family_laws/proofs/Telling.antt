@@ -6,6 +6,7 @@ use Rattle.std.proofs.lemmas.List.Elements.{filter_map-append}
 use Rattle.std.specs.List.{AllByRecursion, filter_map, cons_option}
 use Rattle.ior_refs.specs.declared.key.ObjectKey.{ObjectKey}
 use Rattle.ots_model.specs.declared.completion.CallNumber.{CallNumber}
+use Rattle.ots_model.specs.declared.completion.Heard.{Heard}
 use Rattle.ots_model.specs.declared.completion.Receipt.{Receipt}
 use Rattle.ots_model.specs.declared.completion.Vote.{Vote}
 use Rattle.ots_model.specs.declared.tree.Outcome.{Outcome}
@@ -40,7 +41,7 @@ use Rattle.coordinator.specs.Moves.{Moved, Notice, only, ◌▹◌, shows, sends
 use Rattle.coordinator.specs.Closing.{asked_of, asking, asked_ones, rolling_back, begun, begins, decides, decides_by, rests, afterwards, tells_next, next_told, finishes, next_synchronization, calls_next, gives_up, before, waits}
 use Rattle.coordinator.specs.Running.{duty_notice, tells_first, commits_up, own_ends, own_duties, tells_own, passes_top, passes, ends_below, duties_below, sweeps_next, sweeps, is_held, tells_after, by_leg, runs, runs_call, goes_on}
 use Rattle.coordinator.specs.Phases.{is_marked}
-use Rattle.family_laws.specs.LawsOfTelling.{rows_told, AreNumberedFrom, decided_in, HasVote, IsVoted}
+use Rattle.family_laws.specs.LawsOfTelling.{rows_told, AreNumberedFrom, decided_in, HasAnswered, HasVote, IsAnswered, IsVoted}
 use Rattle.family_laws.proofs.Lists.{all_joined}
 use Rattle.family_laws.proofs.Turns.{told_joined, fixed_rows}
 
@@ -128,9 +129,10 @@ pub record IsKept (s t : Standing) : Type 0 where
   pub votes : (g : ℕ) (vote : Vote) → IsVoted t g vote → IsVoted s g vote
   pub place : (p : ℕ) → stages.record_place s ≡ Some p → stages.record_place t ≡ Some p
   pub alone : stages.decides_alone t ≡ false → stages.decides_alone s ≡ false
+  pub answers : (g : ℕ) (heard : Heard) → IsAnswered t g heard → IsAnswered s g heard
 
 pub kept_itself : (s : Standing) → IsKept s s
-kept_itself s = record { voted = λ g v h. h; votes = λ g v h. h; place = λ p e. e; alone = λ e. e }
+kept_itself s = record { voted = λ g v h. h; votes = λ g v h. h; place = λ p e. e; alone = λ e. e; answers = λ g x h. h }
 
 pub kept_further : (s t u : Standing) → IsKept s t → IsKept t u → IsKept s u
 kept_further s t u h k = record {
@@ -138,6 +140,7 @@ kept_further s t u h k = record {
   votes = λ g v x. h.votes g v (k.votes g v x);
   place = λ p e. k.place p (h.place p e);
   alone = λ e. h.alone (k.alone e);
+  answers = λ g x i. h.answers g x (k.answers g x i);
 }
 
 -- a rule tells what it does, and has nothing of votes or of the Done
@@ -262,7 +265,7 @@ next_outcome k = either_course (λ d. course.outcome d ≡ course.outcome k) (is
 
 next_kept : (k : Course) → IsKept (UnderWay k) (UnderWay (course.after_next k))
 next_kept k = either_course (λ d. IsKept (UnderWay k) (UnderWay d)) (is_some k.out) k (record k { out = course.errand k }) (kept_itself (UnderWay k))
-    (record { voted = λ g v h. h; votes = λ g v h. h; place = λ p e. e; alone = λ e. e })
+    (record { voted = λ g v h. h; votes = λ g v h. h; place = λ p e. e; alone = λ e. e; answers = λ g x h. h })
 
 next_new : (k : Course) → TellsNew (UnderWay k) (UnderWay (course.after_next k)) []
 next_new k law there = (
@@ -296,6 +299,15 @@ none_voted rs g vote h = go rs h.0 h.2 h.3
     go (r ∷ rs) zero l e = absurd (cc (ap (λ (p : Party). p.ballot) e ∙ h.4.1))
     go (r ∷ rs) (suc k) l e = go rs k (omega (arith, l)) e
 
+-- nor answered
+none_answered : (rs : List Registration) (g : ℕ) (heard : Heard) → Any (HasAnswered g heard) (map party_of rs) → ⊥
+none_answered rs g heard h = go rs h.0 h.2 h.3
+  where
+    go : (rs : List Registration) (k : ℕ) → k < length (map party_of rs) → get_or (map party_of rs) k h.1 ≡ h.1 → ⊥
+    go [] k l e = absurd (omega (arith, l))
+    go (r ∷ rs) zero l e = absurd (cc (ap (λ (p : Party). p.told) e ∙ h.4.1))
+    go (r ∷ rs) (suc k) l e = go rs k (omega (arith, l)) e
+
 begun_asking : (s : Standing) (some : List Registration) (asked : Bool) (n : CallNumber) (one : Bool) → (TreeOutcomeStays → IsThere s → Stays s (begun s (stages.started some asked n one)))
 begun_asking (Waiting room) some asked n one law there = record { there = reached some asked n one; same = λ x e. absurd (cc e) }
 begun_asking (UnderWay k) some asked n one law there = record { there = there; same = λ x e. e }
@@ -306,11 +318,11 @@ begun_rolling (Waiting room) some asked n one reason law there = record { there 
 begun_rolling (UnderWay k) some asked n one reason law there = record { there = there; same = λ x e. e }
 
 kept_asking : (s : Standing) (some : List Registration) (asked : Bool) (n : CallNumber) (one : Bool) → IsKept s (begun s (stages.started some asked n one))
-kept_asking (Waiting room) some asked n one = record { voted = λ g v h. absurd h; votes = λ g v h. none_voted some g v h; place = λ p e. absurd (cc e); alone = λ e. refl }
+kept_asking (Waiting room) some asked n one = record { voted = λ g v h. absurd h; votes = λ g v h. none_voted some g v h; place = λ p e. absurd (cc e); alone = λ e. refl; answers = λ g x h. none_answered some g x h }
 kept_asking (UnderWay k) some asked n one = kept_itself (UnderWay k)
 
 kept_rolling : (s : Standing) (some : List Registration) (asked : Bool) (n : CallNumber) (one : Bool) (reason : Reason) → IsKept s (begun s (stages.started_rollback some asked n one reason))
-kept_rolling (Waiting room) some asked n one reason = record { voted = λ g v h. absurd h; votes = λ g v h. none_voted some g v h; place = λ p e. absurd (cc e); alone = λ e. refl }
+kept_rolling (Waiting room) some asked n one reason = record { voted = λ g v h. absurd h; votes = λ g v h. none_voted some g v h; place = λ p e. absurd (cc e); alone = λ e. refl; answers = λ g x h. none_answered some g x h }
 kept_rolling (UnderWay k) some asked n one reason = kept_itself (UnderWay k)
 
 asks_plain : (asked : Bool) (f : Family) → Plain f (begins (asking asked f) f)

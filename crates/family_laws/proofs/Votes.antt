@@ -58,12 +58,12 @@ marks_parent_plain : (o : Option ℕ) (f : Family) → Plain f (marks_parent o f
 marks_parent_plain (Some above) f = marks_plain above f
 marks_parent_plain None f = only_plain f
 
-told_end_plain : (aim : Aim) (b : ℕ) (heard : Heard) (f : Family) → Plain f (told_end aim b heard f)
+pub told_end_plain : (aim : Aim) (b : ℕ) (heard : Heard) (f : Family) → Plain f (told_end aim b heard f)
 unfolding told_commit
 told_end_plain (Commits asked) b heard f = either_plain f (is_plain heard || has_parent_ended f b) _ _ (only_plain f) (marks_parent_plain (parent f.rows b) f)
 told_end_plain (RollsBack says) b heard f = only_plain f
 
-told_before_plain : (b called : ℕ) (c : Call) (heard : Heard) (f : Family) → Plain f (told_before b called c heard f)
+pub told_before_plain : (b called : ℕ) (c : Call) (heard : Heard) (f : Family) → Plain f (told_before b called c heard f)
 unfolding told_before
 told_before_plain b called c heard f = either_plain f (is_plain heard) _ _ (only_plain f)
     (rolls_plain (asked_of c.aim) (reason_of called heard) (with_call b (record c { leg = Deciding }) f))
@@ -109,6 +109,7 @@ decided_kept (UnderWay c) stood = go (course.wants_decision c) refl
       votes = λ g v h. h;
       place = λ p h. absurd (no_place c.stood c.reread p (none_is c.stood (and_last (not (course.decides_alone c)) (is_none c.overtaken) (is_none c.stood) (course.all_consent c) (course.some_commit c) e)) h);
       alone = λ e. e;
+      answers = λ g x h. h;
     }
     go false e = kept_itself (UnderWay c)
 
@@ -135,7 +136,7 @@ reread_kept (Waiting room) found = kept_itself (Waiting room)
 reread_kept (UnderWay c) found = go (course.is_doubtful c) refl
   where
     go : (t : Bool) → course.is_doubtful c ≡ t → IsKept (UnderWay c) (UnderWay (if t then record c { reread = Some found } else c))
-    go true e = record { voted = λ g v h. h; votes = λ g v h. h; place = λ p h. absurd (doubtful_place c.stood c.reread p e h); alone = λ e. e }
+    go true e = record { voted = λ g v h. h; votes = λ g v h. h; place = λ p h. absurd (doubtful_place c.stood c.reread p e h); alone = λ e. e; answers = λ g x h. h }
     go false e = kept_itself (UnderWay c)
 
 pub reread_plain : (stood : Option Stood) (f : Family) → Plain f (completes_as (stages.after_reread (found_at stood) f.completion) f)
@@ -156,10 +157,10 @@ same_itself n = all (n.life == n.life) (n.slot == n.slot) (n.generation == n.gen
     all : (a b c d : Bool) → a ≡ true → b ≡ true → c ≡ true → d ≡ true → (a && b && c && d) ≡ true
     all a b c d e f g h = rw (e, f, g, h) refl
 
-after_out : (k : Course) (e : Errand) (heard : ParticipantHeard) → k.out ≡ Some e → course.after_answer k.number heard k ≡ course.answered heard k e
+pub after_out : (k : Course) (e : Errand) (heard : ParticipantHeard) → k.out ≡ Some e → course.after_answer k.number heard k ≡ course.answered heard k e
 after_out k e heard o = rw (o, same_itself k.number) refl
 
-after_none : (k : Course) (heard : ParticipantHeard) → k.out ≡ None → course.after_answer k.number heard k ≡ k
+pub after_none : (k : Course) (heard : ParticipantHeard) → k.out ≡ None → course.after_answer k.number heard k ≡ k
 after_none k heard o = rw o refl
 
 -- the word that is out asks for the vote of this registration
@@ -189,11 +190,11 @@ asked_by k g (Some x) e h = by_stage x.stage refl (course.decides_alone k) h
     by_stage asks.Telling s t h = absurd (cc h)
     by_stage asks.Forgetting s t h = absurd (cc h)
 
-placed : (k : Course) (e : Errand) (heard : ParticipantHeard) (o : Option Party) → slice_get k.parties e.place ≡ o
+pub placed : (k : Course) (e : Errand) (heard : ParticipantHeard) (o : Option Party) → slice_get k.parties e.place ≡ o
     → (course.answered heard k e).parties ≡ elim o as (λ x. List Party) [ Some p ↦ slice_set k.parties e.place (course.heard_at e.stage heard p) | None ↦ k.parties ]
 placed k e heard o i = ap (λ (y : Option Party). elim y as (λ x. List Party) [ Some p ↦ slice_set k.parties e.place (course.heard_at e.stage heard p) | None ↦ k.parties ]) i
 
-heard_there : (k : Course) (e : Errand) (p : Party) (heard : ParticipantHeard) → slice_get k.parties e.place ≡ Some p → (course.answered heard k e).parties ≡ slice_set k.parties e.place (course.heard_at e.stage heard p)
+pub heard_there : (k : Course) (e : Errand) (p : Party) (heard : ParticipantHeard) → slice_get k.parties e.place ≡ Some p → (course.answered heard k e).parties ≡ slice_set k.parties e.place (course.heard_at e.stage heard p)
 heard_there k e p heard i = placed k e heard (Some p) i
 
 -- its vote counts from then on
@@ -206,7 +207,7 @@ vote_counted k g vote h =
     (any-set (HasVote g vote) k.parties a.errand.place (record a.party { ballot = Some heard }) (slice_get_within k.parties a.errand.place a.party a.there) (a.number, refl)))
 
 -- a vote that counts then counted before, or was heard now
-any_set_cases : {A : Type 0} (P : A → Type 0) (xs : List A) (i : ℕ) (y : A) → Any P (slice_set xs i y) → Any P xs ⊎ P y
+pub any_set_cases : {A : Type 0} (P : A → Type 0) (xs : List A) (i : ℕ) (y : A) → Any P (slice_set xs i y) → Any P xs ⊎ P y
 any_set_cases {A = A} P xs i y h = go xs i h.0 h.1 h.2 h.3 h.4
   where
     here : (x : A) (ys : List A) → P x → Any P (x ∷ ys)

@@ -1,20 +1,27 @@
 -- What a step of a family tells of what it did, and how its words are numbered (our profile; the votes and outcomes of interface
 -- Resource of the Transaction Service).
 use Rattle.std.specs.Prelude.{◌≡◌, ◌+◌, ◌⊎◌, ℕ, false, List, [], ◌∷◌, length, Option, Some, None, Contains}
-use Rattle.std.specs.List.{Any, filter_map}
+use Rattle.std.specs.List.{Any, filter_map, slice_get}
+use Rattle.std.specs.Option.{option_and_then, option_map}
 use Rattle.ior_refs.specs.declared.key.ObjectKey.{ObjectKey}
+use Rattle.ots_model.specs.Heard.{of_participant}
 use Rattle.ots_model.specs.declared.completion.CallNumber.{CallNumber}
+use Rattle.ots_model.specs.declared.completion.Heard.{Heard}
 use Rattle.ots_model.specs.declared.completion.Heard.TheVariants as participants_heard
 use Rattle.ots_model.specs.declared.completion.Stood.{Stood}
 use Rattle.ots_model.specs.declared.completion.Vote.{Vote}
+use Rattle.ots_model.specs.declared.tree.Heard.{Heard as TreeHeard}
 use Rattle.ots_model.specs.declared.tree.Heard.TheVariants as hears_words
 use Rattle.ots_model.specs.declared.tree.Outcome.{Outcome}
 use Rattle.ots_model.specs.declared.tree.Outward.{Outward}
 use Rattle.txn_tree.specs.Calls.{created, ended, marked}
 use Rattle.txn_tree.specs.declared.row.Row.{Row}
+use Rattle.two_phase.specs.Course.{Course}
 use Rattle.two_phase.specs.Stages as stages
 use Rattle.two_phase.specs.Stages.{Standing, Waiting, Going as UnderWay}
+use Rattle.two_phase.specs.declared.party.Errand.{Errand}
 use Rattle.two_phase.specs.declared.party.Party.{Party}
+use Rattle.two_phase.specs.declared.party.Stage.TheVariants as rounds
 use Rattle.coordinator.specs.declared.effect.Effect.{Effect}
 use Rattle.coordinator.specs.declared.effect.Effect.TheVariants as effects
 use Rattle.coordinator.specs.declared.event.Act.{Act}
@@ -91,3 +98,38 @@ pub record FamiliesTellVotes : Type 0 where
       → stages.decides_alone (family_step f e stood).family.completion ≡ false
       → IsVoted (family_step f e stood).family.completion g vote
       → IsVoted f.completion g vote ⊎ Contains (family_step f e stood).effects (effects.Voted g vote)
+
+-- a participant of this number has answered so the word that told it the outcome
+abbrev pub HasAnswered : ℕ → Heard → Party → Type 0
+HasAnswered g heard p = (p.index ≡ g) × (p.told ≡ Some heard)
+
+abbrev pub IsAnswered : Standing → ℕ → Heard → Type 0
+IsAnswered (Waiting room) g heard = ⊥
+IsAnswered (UnderWay c) g heard = Any (HasAnswered g heard) c.parties
+
+-- the number of the participant to which the word that is out tells the outcome
+abbrev pub told_at : Course → Errand → Option ℕ
+told_at c e = elim e.stage [
+  | rounds.Asking ↦ None
+  | rounds.Telling ↦ option_map (λ (p : Party). p.index) (slice_get c.parties e.place)
+  | rounds.Forgetting ↦ None
+]
+
+abbrev pub told_now : Standing → Option ℕ
+told_now (Waiting room) = None
+told_now (UnderWay c) = option_and_then (told_at c) c.out
+
+-- that participant answers now, and the call at the decision waits for it
+pub record IsAnsweredNow (f : Family) (act : Act) (g : ℕ) (heard : Heard) : Type 0 where
+  pub number : CallNumber
+  pub answer : TreeHeard
+  pub is : act ≡ acts.Answer number answer
+  pub says : of_participant answer ≡ heard
+  pub waited : waiting_for f number ≡ Some 0
+  pub told : told_now f.completion ≡ Some g
+
+-- an answer to the word that told the outcome counts only if its participant has given it while that word was out
+abbrev pub FamiliesHearOutcomesAnswered : Type 0
+FamiliesHearOutcomesAnswered = (f : Family) (e : Event) (stood : Option Stood) (g : ℕ) (heard : Heard) → IsSoundFamily f
+    → IsAnswered (family_step f e stood).family.completion g heard
+    → IsAnswered f.completion g heard ⊎ IsAnsweredNow f e.act g heard

@@ -6,3 +6,4 @@ pub mod LawsOfJournal
 pub mod SoundNode
 pub mod HeldDues
 pub mod HeldRecords
+pub mod OwnDecisions

@@ -3,7 +3,8 @@ ghost use Rattle.family_laws.specs.HeldDues.{HeldDuesEndByAnswers, HeldDuesEndWi
 ghost use Rattle.family_laws.specs.HeldRecords.{HeldRecordsStood};
 ghost use Rattle.family_laws.specs.LawsOfJournal.{FamiliesAppendOwn, FamiliesCloseLast};
 ghost use Rattle.family_laws.specs.LawsOfSteps.{FamiliesEndInTurn, FamiliesStaySound, FamiliesWordsRest};
-ghost use Rattle.family_laws.specs.LawsOfTelling.{FamiliesNumberWords, FamiliesTellEnds, FamiliesTellOutcomes, FamiliesTellVotes};
+ghost use Rattle.family_laws.specs.LawsOfTelling.{FamiliesHearOutcomesAnswered, FamiliesNumberWords, FamiliesTellEnds, FamiliesTellOutcomes, FamiliesTellVotes};
+ghost use Rattle.family_laws.specs.OwnDecisions.{NodesKeepDecisions};
 ghost use Rattle.family_laws.specs.SoundNode.{NodesStaySound};
 
 use coordinator::nodes_keep_numbers;
@@ -57,6 +58,12 @@ pub fn families_tell_votes()
     ensures { FamiliesTellVotes }
 {}
 
+/// An answer to the word that tells the outcome counts for a participant only if that one gave it: the word was out to it, and the
+/// call at the decision waited for the answer.
+pub fn families_hear_outcomes_answered()
+    ensures { FamiliesHearOutcomesAnswered }
+{}
+
 /// A decision is appended of the sound family that has heard an answer, once its participants agree and before its outcome was
 /// fixed. Where the record stands, the family that the step leaves is decided by that place, and its outcome is commit by a record.
 pub fn families_append_own()
@@ -79,6 +86,18 @@ pub fn nodes_stay_sound()
     tree_words_go_rightly();
     a_tree_outcome_stays();
     nodes_keep_numbers();
+}
+
+/// In a node that was loaded, and in each one in which a family is made, a call comes, or time passes, a family that is decided is so by
+/// a record of its own. Until it asks for its Done, or is finished, this stands, and the node doesn't tell it again; and what the node
+/// tells again stands. All these records are before an edge, behind which others are appended. A family that asks for its Done asks for
+/// that of its own record.
+pub fn nodes_keep_decisions()
+    ensures { NodesKeepDecisions }
+{
+    tree_words_go_rightly();
+    a_tree_outcome_stays();
+    nodes_stay_sound();
 }
 
 /// In a call to a node what a registration of a held record waits for ends by its answer alone: a plain one, or OBJECT_NOT_EXIST,
