@@ -9,3 +9,4 @@ mod Parties
 mod Heard
 mod Recorded
 mod Naming
+mod Caused

@@ -1,11 +1,12 @@
 -- What a step of a family asks the journal, and what that answers (our profile).
-use Rattle.std.specs.Prelude.{◌≡◌, ◌≤◌, ◌⊎◌, ℕ, Bool, true, false, ◌&&◌, List, ◌++◌, map, filter, Option, Some, None, IfSome, IsSome, is_none, is_some, if◌then◌else◌}
+use Rattle.std.specs.Prelude.{◌≡◌, ◌≤◌, ◌⊎◌, ℕ, Bool, true, false, ◌&&◌, List, [], ◌∷◌, ◌++◌, map, filter, Option, Some, None, IfSome, IsSome, IsTrue, is_none, is_some, if◌then◌else◌}
 use Rattle.ots_model.specs.declared.completion.Doubted.{Doubted}
 use Rattle.ots_model.specs.declared.completion.Doubted.TheVariants.{Counted, Damaged, Starved}
 use Rattle.ots_model.specs.declared.completion.Stood.{Stood}
 use Rattle.ots_model.specs.declared.completion.Stood.TheVariants as answers
 use Rattle.ots_model.specs.declared.tree.Outward.{Outward}
 use Rattle.ots_outside.specs.Disk.{DiskState}
+use Rattle.ots_outside.specs.Source.{HasRisen}
 use Rattle.resource_votes.specs.Ballots.{participants}
 use Rattle.resource_votes.specs.History.{times}
 use Rattle.two_phase.specs.Stages as stages
@@ -20,6 +21,7 @@ use Rattle.decision_journal.specs.declared.record.Registration.{Registration}
 use Rattle.coordinator.specs.declared.event.Act.{Act}
 use Rattle.coordinator.specs.declared.event.Act.TheVariants as acts
 use Rattle.coordinator.specs.declared.event.Event.{Event}
+use Rattle.coordinator.specs.declared.said.Entry.{Entry}
 use Rattle.coordinator.specs.declared.said.StepAnswer.{StepAnswer}
 use Rattle.coordinator.specs.Family.{Family, call_at, waiting_for}
 use Rattle.coordinator.specs.Hearing.{named}
@@ -92,6 +94,22 @@ pub record IsRefused {D : Type 0} (told : D → Option DiskState) (faults : D �
   pub left : IsRefusedAppend told before r after fault
   pub stood_is : stood ≡ stood_by fault (faults before.disk) (faults after.disk)
 
+-- the cause of a doubt, where the disk tells this after it, and its count of faults was and is so: the disk failed, it no longer
+-- tells what it holds, or it may want memory
+abbrev pub HasCause : Bool → Option DiskState → ℕ → ℕ → Doubted → Type 0
+HasCause wants told before after (Counted was is) = HasRisen before after
+HasCause wants told before after (Damaged place) = told ≡ None
+HasCause wants told before after Starved = IsTrue wants
+
+abbrev pub IsCaused : Bool → Option DiskState → ℕ → ℕ → Stood → Type 0
+IsCaused wants told before after (answers.Unsure why) = HasCause wants told before after why
+IsCaused wants told before after _ = Unit {0}
+
+-- what the entry of a step says that the journal answered has its cause, where the step makes one
+abbrev pub EntryIsCaused : Bool → Option DiskState → ℕ → ℕ → List Entry → List Entry → Type 0
+EntryIsCaused wants told before after entries later =
+    (entry : Entry) → later ≡ entries ++ entry ∷ [] → IfSome entry.stood (IsCaused wants told before after)
+
 -- it was appended, and stands at this place
 pub record IsRecorded {D : Type 0} (told : D → Option DiskState) (r : JournalRecord) (before after : JournalState D) (stood : Stood) : Type 0 where
   pub place : ℕ
@@ -114,6 +132,12 @@ abbrev pub IsAsked : {D : Type 0} → (D → Option DiskState) → (D → ℕ) �
 IsAsked told faults None before after stood = (after ≡ before) × (stood ≡ None)
 IsAsked told faults (Some asked) before after None = ⊥
 IsAsked told faults (Some asked) before after (Some stood) = IsAnswered told faults asked before after stood
+
+-- a step was made with an answer of the journal that has its cause
+pub record HasCausedStep (wants : Bool) (told : Option DiskState) (before after : ℕ) (f : Family) (e : Event) (later : Family) : Type 0 where
+  pub stood : Option Stood
+  pub family_is : later ≡ (family_step f e stood).family
+  pub caused : IfSome stood (IsCaused wants told before after)
 
 -- a step was made, in which the journal was asked for what is wanted in it
 pub record HasStepped {D : Type 0} (told : D → Option DiskState) (faults : D → ℕ) (f : Family) (e : Event) (before after : JournalState D)

@@ -1,5 +1,5 @@
 -- What is made ready for the step of an event.
-use Rattle.std.specs.Prelude.{◌≡◌, ℕ, ◌+◌, ◌<◌, true, List, length, Option, Some, None}
+use Rattle.std.specs.Prelude.{◌≡◌, ℕ, ◌+◌, ◌<◌, true, List, length, Option, Some, None, is_some}
 use Rattle.std.specs.Option.{option_map}
 use Rattle.std.specs.Vec.{vec_items}
 use Rattle.coordinator.specs.Family.{Family}
@@ -24,6 +24,7 @@ name_said e f = name_by (kept_for f.entries e.key) e f
 -- all that the step of this event needs of a family was made ready
 pub record IsReadyFor (e : Event) (f : Family) (r : Ready) : Type 0 where
   pub event : r.event ≡ e
+  pub known : r.is_known ≡ is_some (kept_for f.entries e.key)
   pub to : r.to ≡ reference_in e.act
   pub name : r.name ≡ name_said e f
   pub name_again : r.name_again ≡ name_said e f

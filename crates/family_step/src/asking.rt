@@ -1,5 +1,5 @@
 // The step of an event that asks the journal for what is wanted in it.
-ghost use Rattle.std.specs.Prelude.{◌≡◌, ◌<◌, ◌≤◌, ◌+◌, ℕ, length, Some, true, false};
+ghost use Rattle.std.specs.Prelude.{◌≡◌, ◌<◌, ◌≤◌, ◌+◌, ℕ, length, Some, true, false, IfSome};
 ghost use Rattle.std.specs.Option.{option_map};
 ghost use Rattle.std.specs.Vec.{vec_items};
 ghost use Rattle.coordinator.specs.Hearing.{decision_record, settles};
@@ -9,13 +9,13 @@ ghost use Rattle.coordinator.specs.Step as steps;
 ghost use Rattle.family_laws.specs.Sound.{IsSoundFamily};
 ghost use Rattle.family_rules.specs.Going.{CanGo, Does};
 ghost use Rattle.family_step.specs.Asking as asking;
-ghost use Rattle.family_step.specs.Asking.{HasStepped, HasVoters, HaveVoters, IsAnswered, IsAsked};
-ghost use Rattle.family_step.specs.Reserving.{IsStocked};
+ghost use Rattle.family_step.specs.Asking.{HasCausedStep, HasStepped, HasVoters, HaveVoters, IsAnswered, IsAsked, IsCaused};
+ghost use Rattle.family_step.specs.Reserving.{IsReadyFor, IsStocked};
 ghost use Rattle.two_phase.specs.Stages as stages;
 
-use crate::ready::{Ready, known};
+use crate::ready::Ready;
 use crate::step::{conclude, step};
-use coordinator::{Act, Event, Said, StepAnswer};
+use coordinator::{Act, Said, StepAnswer};
 use decision_journal::{Journal, JournalFault, Registration};
 use family_laws::families_append_own;
 use family_rules::{Draft, State};
@@ -36,22 +36,26 @@ pub(crate) fn step_asking<D: Disk>(
     requires room { 0 < out.old.room }
     ensures stepped { HasStepped D.told D.faults state.old.family ready.event journal.old journal.new
         state.new.family result out.old.words out.new.words }
+    ensures caused { HasCausedStep D.wants_memory (D.told journal.new.disk)
+        (D.faults journal.old.disk) (D.faults journal.new.disk) state.old.family ready.event state.new.family }
+    ensures later { D.faults journal.old.disk ≤ D.faults journal.new.disk }
     ensures serial { (state.new.family).serial ≤ length (state.new.family).entries }
 {
-    match hearer(state, &ready.event) {
+    match hearer(state, &ready) {
         Some(branch) => carry_on(state, branch, ready, journal, out),
         None => step(state, ready, None, out),
     }
 }
 
 /// The transaction whose call waits for the answer that an event brings, where it is no call that comes again.
-fn hearer(state: &State, event: &Event) -> Option<u32>
-    ensures { result ≡ asking.hearer event.entry.now state.now.family }
+fn hearer(state: &State, ready: &Ready) -> Option<u32>
+    requires ready { IsReadyFor ready.now.event state.now.family ready.now }
+    ensures { result ≡ asking.hearer ready.now.event state.now.family }
 {
-    if known(state, event).is_some() {
+    if ready.is_known {
         return None;
     }
-    match &event.act {
+    match &ready.event.act {
         Act::Answer(number, _) => state.waiting_for(number),
         _ => None,
     }
@@ -71,6 +75,9 @@ fn carry_on<D: Disk>(
     requires room { 0 < out.old.room }
     ensures stepped { HasStepped D.told D.faults state.old.family ready.event journal.old journal.new
         state.new.family result out.old.words out.new.words }
+    ensures caused { HasCausedStep D.wants_memory (D.told journal.new.disk)
+        (D.faults journal.old.disk) (D.faults journal.new.disk) state.old.family ready.event state.new.family }
+    ensures later { D.faults journal.old.disk ≤ D.faults journal.new.disk }
     ensures serial { (state.new.family).serial ≤ length (state.new.family).entries }
 {
     families_append_own();
@@ -103,6 +110,9 @@ fn hear_and_go_on<D: Disk>(
     requires can { CanGo (length (state.old.family).rows + 8) state.old.family out.old }
     ensures asked { IsAsked D.told D.faults (steps.wanted_by (asking.hears_act act.now branch state.old.family).family)
         journal.old journal.new result }
+    ensures cause { IfSome result (IsCaused D.wants_memory (D.told journal.new.disk)
+        (D.faults journal.old.disk) (D.faults journal.new.disk)) }
+    ensures later { D.faults journal.old.disk ≤ D.faults journal.new.disk }
     ensures does { Does state.old.family out.old
         (λ f. asking.hears_act act.now branch f ▹ settles result ▹ goes_on branch) state.new.family out.new }
     ensures kept { state.old.history_room ≤ state.new.history_room }
@@ -136,7 +146,10 @@ fn ask<D: Disk>(
 ) -> Option<Stood>
     requires named { stages.wants_decision (state.now.family).completion ≡ true
         → HasVoters (option_map vec_items named) state.now.family }
-    ensures { IsAsked D.told D.faults (steps.wanted_by state.now.family) journal.old journal.new result }
+    ensures asked { IsAsked D.told D.faults (steps.wanted_by state.now.family) journal.old journal.new result }
+    ensures cause { IfSome result (IsCaused D.wants_memory (D.told journal.new.disk)
+        (D.faults journal.old.disk) (D.faults journal.new.disk)) }
+    ensures later { D.faults journal.old.disk ≤ D.faults journal.new.disk }
 {
     if state.wants_decision() {
         Some(ask_decision(state, named.unwrap(), journal))
@@ -150,8 +163,11 @@ fn ask<D: Disk>(
 /// The journal is asked for the decision.
 fn ask_decision<D: Disk>(state: &State, named: Vec<Registration>, journal: &mut Journal<D>) -> Stood
     requires voters { HaveVoters named.items state.now.family }
-    ensures { IsAnswered D.told D.faults (steps.Appends (decision_record state.now.family))
+    ensures answered { IsAnswered D.told D.faults (steps.Appends (decision_record state.now.family))
         journal.old journal.new result }
+    ensures cause { IsCaused D.wants_memory (D.told journal.new.disk)
+        (D.faults journal.old.disk) (D.faults journal.new.disk) result }
+    ensures later { D.faults journal.old.disk ≤ D.faults journal.new.disk }
 {
     let mut named = named;
     state.keep_named(&mut named);
@@ -165,7 +181,10 @@ fn ask_decision<D: Disk>(state: &State, named: Vec<Registration>, journal: &mut 
 
 /// The journal is asked for the Done of the record at this place, where there is one.
 fn ask_closing<D: Disk>(place: Option<u32>, journal: &mut Journal<D>) -> Option<Stood>
-    ensures { IsAsked D.told D.faults (option_map steps.WritesDone place) journal.old journal.new result }
+    ensures asked { IsAsked D.told D.faults (option_map steps.WritesDone place) journal.old journal.new result }
+    ensures cause { IfSome result (IsCaused D.wants_memory (D.told journal.new.disk)
+        (D.faults journal.old.disk) (D.faults journal.new.disk)) }
+    ensures later { D.faults journal.old.disk ≤ D.faults journal.new.disk }
 {
     match place {
         Some(place) => Some(ask_done(place, journal)),
@@ -175,7 +194,10 @@ fn ask_closing<D: Disk>(place: Option<u32>, journal: &mut Journal<D>) -> Option<
 
 /// The journal is asked for the Done of the record at this place.
 fn ask_done<D: Disk>(place: u32, journal: &mut Journal<D>) -> Stood
-    ensures { IsAnswered D.told D.faults (steps.WritesDone place) journal.old journal.new result }
+    ensures answered { IsAnswered D.told D.faults (steps.WritesDone place) journal.old journal.new result }
+    ensures cause { IsCaused D.wants_memory (D.told journal.new.disk)
+        (D.faults journal.old.disk) (D.faults journal.new.disk) result }
+    ensures later { D.faults journal.old.disk ≤ D.faults journal.new.disk }
 {
     let before = journal.disk().fault_count();
     match journal.done(place) {

@@ -9,12 +9,12 @@ ghost use Rattle.coordinator.specs.Step as steps;
 ghost use Rattle.resource_votes.specs.Ballots as ballots;
 ghost use Rattle.resource_votes.specs.Limits.{list_count};
 ghost use Rattle.two_phase.specs.Stages as stages;
-ghost use Rattle.family_step.specs.Asking.{HasStepped, is_reread};
+ghost use Rattle.family_step.specs.Asking.{EntryIsCaused, HasStepped, is_reread};
 
 use crate::asking::step_asking;
 use crate::ready::Ready;
 use crate::step::{is_silent, step};
-use coordinator::{Entry, Event, Phase, Said, StepAnswer};
+use coordinator::{Entry, Event, Phase, Said, StepAnswer, histories_grow_by_entries};
 use decision_journal::Journal;
 use family_laws::{families_number_words, families_stay_sound};
 use family_rules::State;
@@ -306,11 +306,15 @@ impl Family {
         requires room { 0 < out.old.room }
         ensures stepped { HasStepped D.told D.faults self.old.family event.entry.now journal.old journal.new
             (self.new).family result out.old.words out.new.words }
+        ensures cause { EntryIsCaused D.wants_memory (D.told journal.new.disk) (D.faults journal.old.disk)
+            (D.faults journal.new.disk) (self.old.family).entries ((self.new).family).entries }
+        ensures later { D.faults journal.old.disk ≤ D.faults journal.new.disk }
         ensures ready { (self.new).ready ≡ None }
         ensures key { ((self.new).family).key ≡ (self.old.family).key }
     {
         families_stay_sound();
         families_number_words();
+        histories_grow_by_entries();
         let _ = event;
         let ready = self.ready.take().unwrap();
         step_asking(&mut self.state, ready, journal, out)

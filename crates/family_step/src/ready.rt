@@ -7,7 +7,7 @@ ghost use Rattle.family_rules.specs.Changes.{nothing_yet};
 ghost use Rattle.family_rules.specs.Going.{CanGo};
 ghost use Rattle.family_step.specs.Acting.{name_in, name_of_said, reference_in};
 ghost use Rattle.family_step.specs.Asking.{AreReady, may_decide, may_name};
-ghost use Rattle.family_step.specs.Reserving.{name_said};
+ghost use Rattle.family_step.specs.Reserving.{name_by};
 
 use coordinator::{Act, Event, Said, copy_event};
 use decision_journal::Registration;
@@ -15,11 +15,13 @@ use family_rules::{Draft, State};
 use ots_model::{Octets, RefBytes};
 use std::alloc::{AllocError, Global};
 
-/// What was made ready for the step of an event: a copy of it, the reference that it registers, the name that is said, once
-/// for the caller and once for the history, whom a decision record of it may name, and the memory for all else.
+/// What was made ready for the step of an event: a copy of it, whether it is a call that comes again, the reference that it
+/// registers, the name that is said, once for the caller and once for the history, whom a decision record of it may name, and
+/// the memory for all else.
 #[derive(Drop)]
 pub(crate) struct Ready {
     pub event: Event,
+    pub is_known: bool,
     pub to: Option<RefBytes>,
     pub name: Option<Octets>,
     pub name_again: Option<Octets>,
@@ -35,11 +37,14 @@ impl Ready {
         requires serial { (state.now.family).serial ≤ length (state.now.family).entries }
         ensures { IfOk result (λ r. IsReadyFor event.entry.now state.now.family r) }
     {
+        let known = known(state, event);
+        let name = name_of(alloc, state, known, event)?;
         Ok(Ready {
             event: copy_event(alloc, event)?,
+            is_known: known.is_some(),
             to: reference_of(alloc, &event.act)?,
-            name: name_of(alloc, state, event)?,
-            name_again: name_of(alloc, state, event)?,
+            name_again: copy_name(alloc, &name)?,
+            name,
             named: named_by(alloc, state, event)?,
             draft: draft_of(alloc, state)?,
         })
@@ -72,11 +77,16 @@ fn reference_of(alloc: Global, act: &Act) -> Result<Option<RefBytes>, AllocError
     })
 }
 
-/// The name that is said in the step of an event, where one is.
-fn name_of(alloc: Global, state: &State, event: &Event) -> Result<Option<Octets>, AllocError>
-    ensures { IfOk result (λ name. name ≡ name_said event.entry.now state.now.family) }
+/// The name that is said in the step of an event, where one is and this is what the event was answered before.
+fn name_of(
+    alloc: Global,
+    state: &State,
+    known: Option<&Said>,
+    event: &Event,
+) -> Result<Option<Octets>, AllocError>
+    ensures { IfOk result (λ name. name ≡ name_by (option_copied known.entry) event.entry.now state.now.family) }
 {
-    match known(state, event) {
+    match known {
         Some(said) => name_in_answer(alloc, said),
         None => name_asked(alloc, state, event),
     }
@@ -89,6 +99,16 @@ fn name_in_answer(alloc: Global, said: &Said) -> Result<Option<Octets>, AllocErr
     match said {
         Said::Name(octets) => Ok(Some(Octets::new(alloc, octets.bytes())?)),
         _ => Ok(None),
+    }
+}
+
+/// A copy of a name, where there is one.
+fn copy_name(alloc: Global, name: &Option<Octets>) -> Result<Option<Octets>, AllocError>
+    ensures { IfOk result (λ copy. copy ≡ name.now) }
+{
+    match name {
+        Some(octets) => Ok(Some(Octets::new(alloc, octets.bytes())?)),
+        None => Ok(None),
     }
 }
 

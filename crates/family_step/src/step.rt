@@ -37,20 +37,13 @@ pub(crate) fn step(
     ensures serial { (state.new.family).serial ≤ length (state.new.family).entries }
 {
     let position = state.entry_count();
-    if is_known(state, &ready.event) {
+    if ready.is_known {
         return repeat(state, position, ready);
     }
     if is_silent(state, &ready.event) {
         return quiet(position, Said::Plain, ready.draft);
     }
     carry_out(state, position, ready, stood, out)
-}
-
-/// Whether a call comes again under its key.
-fn is_known(state: &State, event: &Event) -> bool
-    ensures { result ≡ is_some (history.kept_for (state.now.family).entries (event.entry.now).key) }
-{
-    known(state, event).is_some()
 }
 
 /// Whether an event makes no entry.

@@ -68,3 +68,22 @@ returns-clause-stepped g c =
           ∙ ap (λ (s : Stepped). answer_of f s) (sym (heard_steps e f b is stood));
       words_are = c.conclude.ensures.words ∙ ap (λ (s : Stepped). c.args.out.now.words ++ s.words) steps;
     }
+
+pub returns-clause-caused : goal.returns-clause-caused
+returns-clause-caused g c =
+    let e = c.args.ready.event in
+    let f = c.args.state.now.family in
+    let b = c.args.branch in
+    let is = c.requires.hearer in
+    let stood = c.hear_and_go_on-stood.result in
+    let m = hears_act e.act b f ▹ settles stood ▹ goes_on b in
+    let later = c.hear_and_go_on-stood.new.state.family in
+    let kept = ap (λ (x : Acted). x.moved.family.entries) (sym (heard_acts e f b is stood)) ∙ acts_keep e stood f in
+    let same = ap (λ (x : Moved). x.family.entries) c.hear_and_go_on-stood.ensures.does ∙ kept in
+    let all = all_of f later c.args.ready.draft c.hear_and_go_on-stood.new.out m c.requires.ready.ready.nothing c.hear_and_go_on-stood.ensures.does in
+    let steps = entered_same f later e stood c.hear_and_go_on-stood.new.out said.Plain (does said.Plain m) all refl same ∙ sym (heard_steps e f b is stood) in
+    record {
+      stood = stood;
+      family_is = c.conclude.ensures.family ∙ ap (λ (s : Stepped). s.family) steps;
+      caused = c.hear_and_go_on-stood.ensures.cause;
+    }

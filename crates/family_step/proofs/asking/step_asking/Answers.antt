@@ -14,3 +14,6 @@ returns-in-None-clause-stepped g c =
       answer_is = c.step.ensures.answer;
       words_are = c.step.ensures.words;
     }
+
+pub returns-in-None-clause-caused : goal.returns-in-None-clause-caused
+returns-in-None-clause-caused g c = record { stood = None; family_is = c.step.ensures.family; caused = tt }
