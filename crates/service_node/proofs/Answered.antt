@@ -8,13 +8,12 @@ use Rattle.std.proofs.lemmas.Bool.Decides.{nat_tests}
 use Rattle.std.proofs.lemmas.List.Edits.{get_or-remove_above, get_or-remove_below, length-remove}
 use Rattle.std.proofs.lemmas.List.Quantifiers.{position-Some}
 use Rattle.ots_model.specs.declared.completion.CallNumber.{CallNumber}
-use Rattle.ots_model.specs.declared.completion.Stood.{Stood}
-use Rattle.ots_model.specs.declared.completion.Stood.TheVariants as answers
 use Rattle.ots_model.specs.declared.tree.Heard.{Heard}
 use Rattle.ots_outside.specs.Disk.{DiskState}
 use Rattle.decision_journal.specs.declared.journal.JournalFault.{JournalFault}
 use Rattle.decision_journal.specs.declared.journal.JournalFault.TheVariants.{DiskFault, Full, BadHeader, BadRecord, LivesSpent, Memory}
 use Rattle.decision_journal.specs.declared.journal.Standing.{Standing}
+use Rattle.decision_journal.specs.declared.record.JournalRecord.{JournalRecord}
 use Rattle.decision_journal.specs.declared.record.JournalRecord.TheVariants.{Done}
 use Rattle.decision_journal.specs.Calls.{IsAfterDone, IsReady, IsRefusedAppend}
 use Rattle.decision_journal.specs.Journal.{Found, is_decision, is_decision_at, taken_away, with_record}
@@ -22,9 +21,7 @@ use Rattle.decision_journal.specs.State.{JournalState}
 use Rattle.recovery_coord.specs.Held.{is_complete, is_held, without}
 use Rattle.recovery_coord.specs.Hearing.{completed, completes, held_after, is_retold, record_after, records_after}
 use Rattle.recovery_coord.specs.declared.held.Held.{Held}
-use Rattle.coordinator.specs.NodeCalls.{journaled, records_with}
-use Rattle.coordinator.specs.Step.{WritesDone}
-use Rattle.service_node.specs.Journaling.{IsDoneAsked, still_stands}
+use Rattle.service_node.specs.Journaling.{still_stands}
 use Rattle.service_node.proofs.Asked.{same_found}
 use Rattle.service_node.proofs.Stands.{AllStand, IsThere}
 
@@ -78,7 +75,7 @@ module _ (ss : List Standing) (place : ℕ) where
       by_found None is = there
       by_found (Some i) is = removed_there i q is differs there
 
-  away_stand : (rs : List Held) → AllStand ss rs → AllStand (taken_away (position (is_decision_at place) ss) ss) (without place rs)
+  pub away_stand : (rs : List Held) → AllStand ss rs → AllStand (taken_away (position (is_decision_at place) ss) ss) (without place rs)
   away_stand [] all = tt
   away_stand (r ∷ rs) all = by_test (away_stand rs all.1) (r.place == place) refl
     where
@@ -132,41 +129,26 @@ none_at ss p none = by_found (position p ss) refl
     by_found (Some i) is = absurd (at i ss refl is)
 
 module _ {D : Type 0} (told : D → Option DiskState) (before after : JournalState D) (sure : before.doubted ≡ None) where
-  ready_found : (ready : JournalState D) → IsReady told before ready → ready.found ≡ before.found
+  pub ready_found : (ready : JournalState D) → IsReady told before ready → ready.found ≡ before.found
   ready_found ready is = same_found before.octets ready.octets before.found ready.found before.doubted is.journal.known sure
 
   none_gone : (place at : ℕ) → IsTrue (not (list_any (is_decision_at place) before.found.standing)) → with_record before.found at (Done place) ≡ before.found
   none_gone place at none = ap (λ (o : Option ℕ). record before.found { standing = taken_away o before.found.standing }) (none_at before.found.standing (is_decision_at place) none)
 
-  refused_found : (place : ℕ) (fault : JournalFault) → IsRefusedAppend told before (Done place) after fault → after.found ≡ before.found
-  refused_found place DiskFault r = elim r [ inl un ↦ un.journal.found | inr d ↦ d.doubt.journal.found ∙ ready_found d.ready d.is_ready ]
-  refused_found place (Full u n) r = ready_found after r.0
-  refused_found place (BadHeader at) r = r.journal.found
-  refused_found place (BadRecord at) r = r.journal.found
-  refused_found place LivesSpent r = absurd r
-  refused_found place Memory r = elim r [ inl un ↦ un.journal.found | inr d ↦ d.doubt.journal.found ∙ ready_found d.ready d.is_ready ]
+  pub refused_found : (r : JournalRecord) (fault : JournalFault) → IsRefusedAppend told before r after fault → after.found ≡ before.found
+  refused_found r DiskFault left = elim left [ inl un ↦ un.journal.found | inr d ↦ d.doubt.journal.found ∙ ready_found d.ready d.is_ready ]
+  refused_found r (Full u n) left = ready_found after left.0
+  refused_found r (BadHeader at) left = left.journal.found
+  refused_found r (BadRecord at) left = left.journal.found
+  refused_found r LivesSpent left = absurd left
+  refused_found r Memory left = elim left [ inl un ↦ un.journal.found | inr d ↦ d.doubt.journal.found ∙ ready_found d.ready d.is_ready ]
 
-  after_found : (place at : ℕ) → IsAfterDone told before after place → after.found ≡ with_record before.found at (Done place)
+  pub after_found : (place at : ℕ) → IsAfterDone told before after place → after.found ≡ with_record before.found at (Done place)
   after_found place at d = elim d [
     | inl has ↦ has.appended.journal.found_is ∙ ap (λ (f : Found). with_record f at (Done place)) (ready_found has.ready has.is_ready)
     | inr none ↦ let same = ready_found after none.ready in
         same ∙ sym (none_gone place at (subst (λ (f : Found). IsTrue (not (list_any (is_decision_at place) f.standing))) same none.none))
   ]
-
-  pub found_asked : (place : ℕ) (stood : Option Stood) → IsDoneAsked told before after place stood → after.found ≡ journaled (Some (WritesDone place)) stood before.found
-  found_asked place None a = absurd a
-  found_asked place (Some (answers.Stands at)) a = after_found place at a.1
-  found_asked place (Some (answers.Full used need)) a = absurd a
-  found_asked place (Some (answers.Unsure why)) a = refused_found place a.0 a.1
-
-  -- and what is held stands
-  pub held_asked : (place : ℕ) (stood : Option Stood) (rs : List Held) → IsDoneAsked told before after place stood → AllStand before.found.standing rs
-      → AllStand after.found.standing (records_with (Some place) stood rs)
-  held_asked place None rs a all = absurd a
-  held_asked place (Some (answers.Stands at)) rs a all =
-      subst (λ (f : Found). AllStand f.standing (without place rs)) (sym (after_found place at a.1)) (away_stand before.found.standing place rs all)
-  held_asked place (Some (answers.Full used need)) rs a all = absurd a
-  held_asked place (Some (answers.Unsure why)) rs a all = subst (λ (f : Found). AllStand f.standing rs) (sym (refused_found place a.0 a.1)) all
 
 -- ---- an answer that no record waits for
 

@@ -1,5 +1,5 @@
 -- The slot that is given next.
-use Rattle.std.proofs.Common.{◌≡◌, ◌∙◌, ℕ, ◌+◌, ◌-◌, ◌<◌, ◌≤◌, Bool, cond, lt-ltb, le-ltb, List, length, drop, take, map, Option, Some, None, IfSome, IsNone, Ok, refl, sym, ap, arith}
+use Rattle.std.proofs.Common.{◌≡◌, ◌∙◌, ℕ, ◌+◌, ◌-◌, ◌<◌, ◌≤◌, Bool, cond, lt-ltb, le-ltb, List, length, drop, take, map, Option, Some, None, IfSome, IsNone, IsOk, Ok, is_ok, refl, sym, ap, arith}
 use Rattle.std.specs.Prelude.{position}
 use Rattle.std.specs.Option.{option_map}
 use Rattle.std.proofs.lemmas.List.{drop-map, length-drop, take-map, take_all}
@@ -7,7 +7,7 @@ use Rattle.ior_refs.specs.declared.key.ObjectKey.{ObjectKey}
 use Rattle.coordinator.specs.Family.{Family, FamilyParts}
 use Rattle.coordinator.specs.Limits.{generation_limit, slot_limit}
 use Rattle.coordinator.specs.Node.{Node}
-use Rattle.coordinator.specs.NodeSlots.{free_behind, free_slot, free_up_to, is_free, makes, makes_in, makes_no_family, next_key, with_new}
+use Rattle.coordinator.specs.NodeSlots.{Created, free_behind, free_slot, free_up_to, is_free, makes, makes_in, makes_no_family, next_key, with_new}
 use Rattle.service_node.specs.NodeState.{shown}
 use Rattle.service_node.proofs.Listed.{position_map}
 
@@ -51,3 +51,6 @@ module _ (n : Node) where
   made make slot e number =
       ap (λ (o : Option ℕ). makes_in o make n) e
       ∙ ap (λ (b : Bool). cond b (record { node = with_new make slot n; answer = Ok (next_key n slot) }) (makes_no_family n)) (lt-ltb n.generation generation_limit number)
+
+  pub grants : (make : ObjectKey → Family) (slot : ℕ) → free_slot n ≡ Some slot → n.generation < generation_limit → IsOk (makes make n).answer
+  grants make slot e number = ap (λ (x : Created). is_ok x.answer) (made make slot e number)

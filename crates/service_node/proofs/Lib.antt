@@ -7,6 +7,13 @@ mod Begun
 mod Keeping
 mod Asked
 mod Answered
+mod Applied
 mod Told
 mod Keyed
 mod Passed
+mod Reserved
+mod Placed
+mod Applies
+mod Replied
+mod Stepping
+mod Crashing

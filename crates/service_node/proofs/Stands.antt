@@ -26,7 +26,7 @@ IsThere standing place = Any (λ s. s.place ≡ place) standing
 abbrev pub AllStand : List Standing → List Held → Type 0
 AllStand standing records = AllByRecursion (λ r. Any (λ s. s.place ≡ r.place) standing) records
 
-shifted : (s : Standing) (ss : List Standing) (place : ℕ) → IsThere ss place → IsThere (s ∷ ss) place
+pub shifted : (s : Standing) (ss : List Standing) (place : ℕ) → IsThere ss place → IsThere (s ∷ ss) place
 shifted s ss place any = (suc any.0, any.1, omega (arith, any.2), any.3, any.4)
 
 pub found_there : (p : Standing → Bool) (ss : List Standing) (s : Standing) → find p ss ≡ Some s → IsThere ss s.place

@@ -1,4 +1,6 @@
 pub mod NodeState
 pub mod Faults
 pub mod Journaling
+pub mod Applying
+pub mod Crashes
 pub mod Ticking

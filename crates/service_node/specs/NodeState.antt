@@ -1,6 +1,7 @@
 -- A node as its callers see it: as it is defined, with its journal (our profile).
 use Rattle.std.specs.Prelude.{◌≡◌, ◌⊎◌, ℕ, List, take, Option, IfSome, Result, Err}
 use Rattle.std.specs.Option.{option_map}
+use Rattle.std.specs.Result.{IsOk}
 use Rattle.ior_refs.specs.declared.key.ObjectKey.{ObjectKey}
 use Rattle.ots_outside.specs.Disk.{DiskState}
 use Rattle.decision_journal.specs.Journal.{Found, Holds, with_record}
@@ -53,13 +54,14 @@ pub record IsMade {D : Type 0} (before after : NodeState D) (said : Result Objec
   pub answer : said ≡ created.answer
   pub journal : after.journal ≡ before.journal
 
--- or memory was wanted, and nothing happened
-pub record IsStarved {D : Type 0} (before after : NodeState D) (said : Result ObjectKey NodeFault) : Type 0 where
+-- or one would be made, but memory was wanted, and nothing happened
+pub record IsStarved {D : Type 0} (before after : NodeState D) (said : Result ObjectKey NodeFault) (created : Created) : Type 0 where
+  pub granted : IsOk created.answer
   pub same : after ≡ before
   pub answer : said ≡ Err faults.Memory
 
 abbrev pub IsMadeOrStarved : {D : Type 0} → NodeState D → NodeState D → Result ObjectKey NodeFault → Created → Type 0
-IsMadeOrStarved before after said created = IsMade before after said created ⊎ IsStarved before after said
+IsMadeOrStarved before after said created = IsMade before after said created ⊎ IsStarved before after said created
 
 -- the records of some of the first families were taken over
 abbrev pub AreTakenInPart : Found → List (Option Family) → List Held → List Held → Type 0

@@ -1,9 +1,11 @@
 // What a node answers by its records alone.
-ghost use Rattle.std.specs.Prelude.{◌≡◌, ◌==◌};
+ghost use Rattle.std.specs.Prelude.{◌≡◌, ◌==◌, ◌≤◌};
 ghost use Rattle.std.specs.List.{list_any};
 ghost use Rattle.std.specs.Option.{option_map};
 ghost use Rattle.coordinator.specs.NodeCalls as calls;
-ghost use Rattle.service_node.specs.Journaling.{IsAnsweredOrStarved, completed_by};
+ghost use Rattle.recovery_coord.specs.Held.{is_held};
+ghost use Rattle.service_node.specs.Crashes.{IsCrashSafe};
+ghost use Rattle.service_node.specs.Journaling.{IsAnsweredOrStarved, completed_by, records_take};
 
 use crate::hearing::conclude;
 use crate::node::Node;
@@ -20,17 +22,35 @@ use std::alloc::Global;
 const RETOLD_SLOT: u32 = u32::MAX;
 
 impl<D: Disk> Node<D> {
-    /// Answers a call by the records alone, as one whose family is gone. An answer to a word that was told again goes by its
-    /// number, whatever the key is; where it completes a record, its Done is asked of the journal. It is ObjectNotExist where no
-    /// record that is held has the key, or stands at the place in the number. Memory is taken before anything happens.
+    /// Answers a call by the records alone, as one whose family is gone. An answer to a word that was told again goes
+    /// by its number, whatever the key is; where it completes a record, its Done is asked of the journal. It is
+    /// ObjectNotExist where no record that is held has the key, or stands at the place in the number. Memory is taken
+    /// before anything happens.
     pub fn answer_recovered(
         &mut self,
         key: &ObjectKey,
         event: &Event,
     ) -> Result<StepAnswer, NodeFault>
-        ensures { IsAnsweredOrStarved D.told self.old self.new result
+        ensures answered { IsAnsweredOrStarved D.wants_memory D.told D.faults self.old self.new result
+            (records_take (calls.retold_answer (event.entry.now).act) self.old.node)
             (completed_by (calls.retold_answer (event.entry.now).act) self.old.node)
             (calls.answers_recovered key.now event.entry.now) }
+        ensures crash { IsCrashSafe D.told self.old self.new }
+        ensures later { D.faults self.old.journal.disk ≤ D.faults self.new.journal.disk }
+    {
+        self.kept();
+        let said = self.answer(key, event);
+        self.kept();
+        said
+    }
+
+    /// Answers a call by the records alone.
+    fn answer(&mut self, key: &ObjectKey, event: &Event) -> Result<StepAnswer, NodeFault>
+        ensures answered { IsAnsweredOrStarved D.wants_memory D.told D.faults self.old self.new result
+            (records_take (calls.retold_answer (event.entry.now).act) self.old.node)
+            (completed_by (calls.retold_answer (event.entry.now).act) self.old.node)
+            (calls.answers_recovered key.now event.entry.now) }
+        ensures later { D.faults self.old.journal.disk ≤ D.faults self.new.journal.disk }
     {
         match retold_answer(&event.act) {
             Some((number, heard)) => self.hear_record(number, heard),
@@ -54,9 +74,11 @@ impl<D: Disk> Node<D> {
 
     /// An answer to a word that was told again.
     fn hear_record(&mut self, number: &CallNumber, heard: &Heard) -> Result<StepAnswer, NodeFault>
-        ensures { IsAnsweredOrStarved D.told self.old self.new result
+        ensures answered { IsAnsweredOrStarved D.wants_memory D.told D.faults self.old self.new result
+            (is_held (number.now).generation (self.old.node).recovered)
             (completed_by (Some (record { number = number.now; heard = heard.now })) self.old.node)
             (calls.hears_record number.now heard.now) }
+        ensures later { D.faults self.old.journal.disk ≤ D.faults self.new.journal.disk }
     {
         if !holds(self.recovered.records(), number.generation) {
             return Err(NodeFault::ObjectNotExist);
@@ -74,7 +96,7 @@ impl<D: Disk> Node<D> {
 }
 
 /// The number of a word that was told again, and what was heard of it, where this is the answer to one.
-fn retold_answer(act: &Act) -> Option<(&CallNumber, &Heard)>
+pub(crate) fn retold_answer(act: &Act) -> Option<(&CallNumber, &Heard)>
     ensures { option_map (λ a. record { number = a.0.now; heard = a.1.now }) result ≡ calls.retold_answer act.now }
 {
     match act {

@@ -26,10 +26,10 @@ const GENERATION_LIMIT: u64 = 1 << 48;
 const COORDINATOR_KIND: u8 = b'K';
 
 impl<D: Disk> Node<D> {
-    /// Makes a family (`create` of TransactionFactory), in the next slot that has none or a finished one. Its time is over
-    /// after so many seconds, or never where none are given. The record of a finished family that was there is told again from
-    /// then on. The answer is the key of the coordinator of its top-level transaction. Where each slot has a family that isn't
-    /// finished, or no further number is left, it is NoResources.
+    /// Makes a family (`create` of TransactionFactory), in the next slot that has none or a finished one. Its time is
+    /// over after so many seconds, or never where none are given. The record of a finished family that was there is
+    /// told again from then on. The answer is the key of the coordinator of its top-level transaction. Where each slot
+    /// has a family that isn't finished, or no further number is left, it is NoResources.
     pub fn create(&mut self, now: u64, seconds: u32) -> Result<ObjectKey, NodeFault>
         ensures { IsMadeOrStarved self.old self.new result (slots.creates now seconds self.old.node) }
     {
@@ -92,8 +92,9 @@ impl<D: Disk> Node<D> {
         Ok(())
     }
 
-    /// The clock of the node goes on: time is over for some families, whose words go out by slot, and then the records are told
-    /// again whose families are gone, or finished. Want of memory leaves what was done, and the words that went out.
+    /// The clock of the node goes on: time is over for some families, whose words go out by slot, and then the records
+    /// are told again whose families are gone, or finished. Want of memory leaves what was done, and the words that
+    /// went out.
     #[tactic(auto, unfolding(coordinator::specs::NodeTick::ticks))]
     pub fn tick(&mut self, now: u64, out: &mut Outbox) -> Result<Happenings, NodeFault>
         ensures node { OnOk result (self.new.node ≡ (ticking.ticks now self.old.node).node) }
@@ -129,8 +130,8 @@ impl<D: Disk> Node<D> {
         self.slots.pass_time(self.alloc, now, out, happened)
     }
 
-    /// Tells the records again whose families are gone, or finished: puts each word that is still to be told behind the others,
-    /// in record order. Want of memory leaves the words as they were.
+    /// Tells the records again whose families are gone, or finished: puts each word that is still to be told behind the
+    /// others, in record order. Want of memory leaves the words as they were.
     pub fn tell_again(&mut self, out: &mut Outbox) -> Result<(), NodeFault>
         ensures node { OnOk result (self.new.node ≡ ticking.tells_again self.old.node) }
         ensures words { OnOk result (out.new.words

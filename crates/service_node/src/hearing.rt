@@ -1,10 +1,11 @@
 // The Done of a record that an answer to a word told again completes.
-ghost use Rattle.std.specs.Prelude.{◌≡◌, ◌++◌, ◌∷◌, [], ◌<◌, true, false, not, find, filter, vec_len, vec_capacity, None, IsSome, if◌then◌else◌};
+ghost use Rattle.std.specs.Prelude.{◌≡◌, ◌++◌, ◌∷◌, [], ◌<◌, ◌≤◌, true, false, not, find, filter, vec_len, vec_capacity, None, IsSome, if◌then◌else◌};
 ghost use Rattle.std.specs.List.{list_any};
 ghost use Rattle.std.specs.Option.{option_map};
 ghost use Rattle.decision_journal.specs.Calls.{IsAfterDone, IsRefusedAppend};
 ghost use Rattle.decision_journal.specs.Index.{AreInOrder};
 ghost use Rattle.decision_journal.specs.Journal.{is_decision_at};
+ghost use Rattle.decision_journal.specs.State.{IsReadFault};
 ghost use Rattle.recovery_coord.specs.Held.{without};
 ghost use Rattle.service_node.specs.Journaling as journaling;
 
@@ -52,7 +53,7 @@ fn keep_standing(standing: &[Standing], recovered: &mut Recovered)
 }
 
 /// The same where the journal was read again.
-fn keep_where(failed: bool, standing: &[Standing], recovered: &mut Recovered)
+pub(crate) fn keep_where(failed: bool, standing: &[Standing], recovered: &mut Recovered)
     requires order { AreInOrder standing.now }
     ensures { recovered.new ≡ record recovered.old {
       records = if failed then filter (λ r. list_any (is_decision_at r.place) standing.now) recovered.old.records
@@ -83,7 +84,10 @@ fn let_go(stands: bool, place: u32, recovered: &mut Recovered, happened: &mut Ve
 fn ask_done<D: Disk>(journal: &mut Journal<D>, place: u32) -> bool
     ensures stands { result ≡ true → IsAfterDone D.told journal.old journal.new place }
     ensures refused { result ≡ false
-        → (fault : JournalFault) × IsRefusedAppend D.told journal.old (JournalRecord.Done place) journal.new fault }
+        → (fault : JournalFault) × (IsRefusedAppend D.told journal.old (JournalRecord.Done place) journal.new fault
+        × IsReadFault D.wants_memory (D.told journal.new.disk) (D.faults journal.old.disk)
+        (D.faults journal.new.disk) fault) }
+    ensures later { D.faults journal.old.disk ≤ D.faults journal.new.disk }
     ensures sure { journal.old.failed ≡ false → journal.old.doubted ≡ None }
 {
     let _ = journal.disk();
@@ -93,8 +97,8 @@ fn ask_done<D: Disk>(journal: &mut Journal<D>, place: u32) -> bool
     }
 }
 
-/// Asks the journal for the Done of the record that is complete, where there is one. Where that stands, the record is held no
-/// more; and where the journal had to be read again, no record is that stands no more.
+/// Asks the journal for the Done of the record that is complete, where there is one. Where that stands, the record is
+/// held no more; and where the journal had to be read again, no record is that stands no more.
 pub(crate) fn conclude<D: Disk>(
     journal: &mut Journal<D>,
     recovered: &mut Recovered,
@@ -103,8 +107,9 @@ pub(crate) fn conclude<D: Disk>(
 )
     requires none { happened.old.items ≡ [] }
     requires room { 0 < vec_capacity happened.old }
-    ensures concluded { journaling.HasConcluded D.told complete journal.old journal.new recovered.old recovered.new
-        happened.new.items }
+    ensures concluded { journaling.HasConcluded D.wants_memory D.told D.faults complete journal.old journal.new
+        recovered.old recovered.new happened.new.items }
+    ensures later { D.faults journal.old.disk ≤ D.faults journal.new.disk }
     ensures sure { journal.old.failed ≡ false → IsSome complete → journal.old.doubted ≡ None }
 {
     if let Some(place) = complete {

@@ -6,11 +6,13 @@ pub use passing::{Happening, Happenings};
 pub use slots::Slots;
 
 mod answers;
+mod applying;
 mod creation;
 mod finding;
 mod handing;
 mod hearing;
 mod node;
 mod passing;
+mod reading;
 mod says;
 mod slots;

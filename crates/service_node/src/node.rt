@@ -1,15 +1,17 @@
 ghost use Rattle.std.specs.Prelude.{◌≡◌, ◌≤◌, false, None, IfOk, IfErr};
 ghost use Rattle.ots_outside.specs.Disk.{Tells};
 ghost use Rattle.decision_journal.specs.Calls.{IsCurrent};
+ghost use Rattle.decision_journal.specs.Laws.{AppendsAreSafe};
 ghost use Rattle.decision_journal.specs.Limits.{area_limit};
 ghost use Rattle.decision_journal.specs.Loading.{LoadIsDone, LoadIsSafe};
 ghost use Rattle.coordinator.specs.Node.{loaded_node};
+ghost use Rattle.service_node.specs.Crashes.{IsKnown};
 ghost use Rattle.service_node.specs.Faults as causes;
 ghost use Rattle.service_node.specs.NodeState.{BelongTogether, IsBegun, node_of};
 
 use crate::slots::Slots;
 use coordinator::NodeFault;
-use decision_journal::{Journal, JournalFault, octets_stand_for_one_list};
+use decision_journal::{Journal, JournalFault, appends_are_safe, octets_stand_for_one_list};
 use ots_outside::{Back, Disk};
 use recovery_coord::Recovered;
 use std::alloc::Global;
@@ -18,8 +20,8 @@ use std::marker::Model;
 /// How many families a node has at once: each has a slot of its own.
 pub(crate) const SLOT_LIMIT: u32 = 256;
 
-/// The transactions that a service coordinates in one life, over a journal on a disk, and the records of that journal that are
-/// told again. Contracts see the node as it is defined, and its journal.
+/// The transactions that a service coordinates in one life, over a journal on a disk, and the records of that journal
+/// that are told again. Contracts see the node as it is defined, and its journal.
 #[derive(Drop)]
 pub struct Node<D: Disk> {
     pub(crate) alloc: Global,
@@ -69,9 +71,9 @@ fn load_fault(fault: JournalFault) -> NodeFault
 }
 
 impl<D: Disk> Node<D> {
-    /// Loads the node of this service that a disk holds, or makes one where there is none, and begins its next life. No family
-    /// is there, and the decisions and prepared records that stand are to be told again. Where that is refused, the disk comes
-    /// back.
+    /// Loads the node of this service that a disk holds, or makes one where there is none, and begins its next life. No
+    /// family is there, and the decisions and prepared records that stand are to be told again. Where that is refused,
+    /// the disk comes back.
     pub fn load(
         alloc: Global,
         disk: D,
@@ -123,6 +125,15 @@ impl<D: Disk> Node<D> {
             }),
             Err(_) => Err(starved(journal)),
         }
+    }
+
+    /// What the disk holds of the journal is known, and what an append may leave of it.
+    pub(crate) fn kept(&self)
+        ensures known { IsKnown D.told self.now.journal }
+        ensures appends { AppendsAreSafe }
+    {
+        appends_are_safe();
+        let _disk = self.journal.disk();
     }
 
     /// The disk, as a crash leaves it.

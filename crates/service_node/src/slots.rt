@@ -1,17 +1,22 @@
-ghost use Rattle.std.specs.Prelude.{◌≡◌, ◌<◌, ◌≤◌, ◌++◌, length, map, filter_map, position, replicate, slice_set, take, None, Some, IfErr, IfOk, IfSome, OnErr, OnOk};
+ghost use Rattle.std.specs.Prelude.{◌≡◌, ◌<◌, ◌≤◌, ◌++◌, false, length, map, filter_map, position, replicate, slice_set, take, None, Some, IfErr, IfOk, IfSome, IsSome, OnErr, OnOk};
 ghost use Rattle.std.specs.Option.{option_copied, option_map, option_or};
 ghost use Rattle.coordinator.specs.Family.{FamilyParts as TheFamily};
 ghost use Rattle.coordinator.specs.Limits.{slot_limit};
 ghost use Rattle.coordinator.specs.Node as nodes;
 ghost use Rattle.coordinator.specs.NodeSlots as slots;
 ghost use Rattle.coordinator.specs.NodeTick.{happens_in};
+ghost use Rattle.family_step.specs.Asking.{is_reread};
+ghost use Rattle.service_node.specs.Applying.{HasSteppedAt, IsUnmovedAt};
 ghost use Rattle.service_node.specs.NodeState.{shown};
 ghost use Rattle.service_node.specs.Ticking.{HasPassed, HasPassedInPart, told};
 
+use crate::applying::step_place;
 use crate::passing::{Happening, pass_all};
-use coordinator::NodeFault;
+use coordinator::{Event, NodeFault, StepAnswer};
+use decision_journal::Journal;
 use family_step::Family;
-use recovery_coord::Outbox;
+use ots_outside::Disk;
+use recovery_coord::{Outbox, Recovered};
 use std::alloc::{AllocError, Global};
 use std::marker::Model;
 
@@ -96,6 +101,33 @@ impl Slots {
         ensures fault { IfErr result (λ fault. fault ≡ NodeFault.Memory) }
     {
         pass_all(alloc, now, self.items.as_mut_slice(), out, happened)
+    }
+
+    /// A step of the family in this slot.
+    pub(crate) fn step<D: Disk>(
+        &mut self,
+        slot: u32,
+        event: &Event,
+        journal: &mut Journal<D>,
+        recovered: &mut Recovered,
+        out: &mut Outbox,
+    ) -> Result<StepAnswer, NodeFault>
+        requires there { IsSome (nodes.family_in self.old slot) }
+        requires given { is_reread (event.now).act ≡ false }
+        ensures stepped { IfOk result (λ answer. HasSteppedAt D.wants_memory D.told D.faults slot event.entry.now self.old self.new
+            journal.old journal.new recovered.old recovered.new answer out.old.words out.new.words) }
+        ensures unmoved { IfErr result (λ fault. IsUnmovedAt slot event.entry.now self.old self.new
+            journal.old journal.new recovered.old recovered.new fault out.old.words out.new.words) }
+        ensures sure { journal.old.failed ≡ false → journal.old.doubted ≡ None }
+        ensures later { D.faults journal.old.disk ≤ D.faults journal.new.disk }
+    {
+        step_place(
+            &mut self.items[slot as usize],
+            event,
+            journal,
+            recovered,
+            out,
+        )
     }
 
     /// A family begins in this slot.

@@ -13,8 +13,8 @@ returns-in-Some-clause-concluded g c =
     let failed = c.failed-failed.result in
     let stands = c.ask_done-stands.result in
     let mid = c.let_go.new.recovered in
-    subst (λ (o : Option ℕ). HasConcluded g.D.Disk.told o c.args.journal.now c.ask_done-stands.new.journal c.args.recovered.now c.keep_where.new.recovered c.let_go.new.happened.items) (sym c.in-Some.is)
-    (concluded g.D.Disk.told c.args.journal.now c.ask_done-stands.new.journal c.args.recovered.now mid c.keep_where.new.recovered c.in-Some.place failed c.let_go.new.happened.items stands
+    subst (λ (o : Option ℕ). HasConcluded g.D.Disk.wants_memory g.D.Disk.told g.D.Disk.faults o c.args.journal.now c.ask_done-stands.new.journal c.args.recovered.now c.keep_where.new.recovered c.let_go.new.happened.items) (sym c.in-Some.is)
+    (concluded g.D.Disk.wants_memory g.D.Disk.told g.D.Disk.faults c.args.journal.now c.ask_done-stands.new.journal c.args.recovered.now mid c.keep_where.new.recovered c.in-Some.place failed c.let_go.new.happened.items stands
     c.failed-failed.ensures c.ask_done-stands.ensures.stands c.ask_done-stands.ensures.refused c.let_go.ensures.records
     (c.let_go.ensures.happened ∙ ap (λ (xs : List Effect). cond stands (xs ++ effects.Done ∷ []) xs) c.requires.none)
     (c.keep_where.ensures ∙ ap (λ (ss : List Standing). record mid { records = cond failed (filter (keeps ss) mid.records) mid.records }) c.standing.ensures.same))
