@@ -1,29 +1,52 @@
 #!/usr/bin/env bash
-# Has resources of an end over a real file put a cell, prepare and commit, one after the other; and appends the records of as
-# many to a journal, with no end. Prints how many prepares and commits there were in a second, and the ratio of the two times.
-# What a load takes, which comes first, is taken off. Run it anywhere; it builds the program first. How many resources there
-# are, and the folder of the files, may be given as arguments. Each time is the least of five.
+# Has resources of an end over a real file, in which 1,000, 100,000 and 1,000,000 cells are stored, put a cell, prepare and
+# commit, one after the other; and appends the records of as many to a journal in such a file, with no end. Prints how many
+# prepares and commits there were in a second, the ratio of the two times, and how the first grows with the cells. Loads aren't
+# counted. Run it anywhere; it builds the program first. How many resources there are, and the folder of the files, may be given
+# as arguments. Each time is the least of five.
 set -euo pipefail
 . "$(dirname "$0")/timing.sh"
 count=${1:-500}
 folder=${2:-$work}
 file=$folder/ends.bench
 trap 'rm -rf "$work" "$file"' EXIT
-program=$here/crates/journal_rows/out/journal_rows
-(cd "$here/crates/journal_rows" && rt run </dev/null >/dev/null 2>&1) || true
+program=$here/crates/journal_bench/out/journal_bench
+(cd "$here/crates/journal_bench" && rt run </dev/null >/dev/null 2>&1) || true
 
-# Each run begins with no file. The three are made in turn.
-for _ in 1 2 3 4 5; do
-  for kind in ends cells load; do
-    rm -f "$file"
-    "$program" "$kind" "$file" "$count" >>"$work/$kind"
+# stored CELLS: the journal of an end in which so many cells are stored, 1,000 by each resource.
+stored() {
+  python3 - "$1" <<'PY'
+import struct, sys
+cells = int(sys.argv[1])
+
+def record(payload):
+    return b"\1" + struct.pack(">I", len(payload)) + payload
+
+octets = bytearray(b"OTSJ" + struct.pack(">IQ", 1, 1) + record(b"\1" + struct.pack(">I", 1)))
+for number in range(cells // 1000):
+    puts = b"".join(struct.pack(">QQ", 1000 * number + cell, 1) for cell in range(1000))
+    octets += record(b"\7" + struct.pack(">IQH", 1, number + 1, 1000) + puts)
+sys.stdout.buffer.write(octets + b"\0")
+PY
+}
+
+# The two are made in turn, each on a copy of that file.
+for cells in 1000 100000 1000000; do
+  stored "$cells" >"$work/octets"
+  for _ in 1 2 3 4 5; do
+    for kind in ends cells; do
+      cp "$work/octets" "$file"
+      sync "$file"
+      "$program" "$kind" "$file" "$count" >>"$work/$kind.$cells"
+    done
   done
-done
-
-for kind in ends cells load; do sort -n "$work/$kind" | head -1; done | python3 -c '
+  echo "$cells $(sort -n "$work/ends.$cells" | head -1) $(sort -n "$work/cells.$cells" | head -1)"
+done | python3 -c '
 import sys
-ends, cells, load = (int(line) for line in sys.stdin)
-ends, cells = max(1, ends - load), max(1, cells - load)
-print(f"prepares and commits in a second: {2 * int(sys.argv[1]) * 10**9 // ends}")
-print(f"ratio of their time to that of the bare appends: {ends / cells:.2f}")
+count = int(sys.argv[1])
+rows = [tuple(map(int, line.split())) for line in sys.stdin]
+for cells, ends, appends in rows:
+    speed = 2 * count * 10**9 // ends
+    print(f"{cells:>9,} cells stored: {speed:,} prepares and commits in a second; ratio to the bare appends: {ends / appends:.2f}")
+print(f"ratio of the time per prepare and commit, 1,000,000 cells to 1,000: {rows[-1][1] / rows[0][1]:.2f}")
 ' "$count"

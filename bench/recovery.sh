@@ -1,12 +1,12 @@
 #!/usr/bin/env bash
 # Loads journals in a file in which 1,024 and 8,192 decisions stand, each with 4 and then with 64 registrations, tells each word
-# again and hears its answer, until all decisions are complete. What the load alone takes is taken off. Prints the ratio of the
-# times per word between the two sizes. Run it anywhere; it builds the program first. Each time is the least of five.
+# again and hears its answer, until all decisions are complete. The load isn't counted. Prints the ratio of the times per word
+# between the two sizes. Run it anywhere; it builds the program first. Each time is the least of five.
 set -euo pipefail
 . "$(dirname "$0")/timing.sh"
 file=$work/journal.bench
-program=$here/crates/journal_rows/out/journal_rows
-(cd "$here/crates/journal_rows" && rt run </dev/null >/dev/null 2>&1) || true
+program=$here/crates/journal_bench/out/journal_bench
+(cd "$here/crates/journal_bench" && rt run </dev/null >/dev/null 2>&1) || true
 
 # journal COUNT REGISTRATIONS: a journal of so many decisions, each with so many registrations of 40 octets.
 journal() {
@@ -26,11 +26,11 @@ sys.stdout.buffer.write(octets + b"\0")
 PY
 }
 
-# least KIND WORDS: the least time of five of that kind, from the same journal each time.
+# least WORDS: the least time of five, from the same journal each time.
 least() {
   for _ in 1 2 3 4 5; do
     cp "$work/octets" "$file"
-    "$program" "$1" "$file" "$2"
+    "$program" retells "$file" "$1"
   done | sort -n | head -1
 }
 
@@ -38,12 +38,12 @@ for registrations in 4 64; do
   for count in 1024 8192; do
     journal "$count" "$registrations" >"$work/octets"
     words=$((count * registrations))
-    echo "$words $(least load 0) $(least retells "$words")"
+    echo "$words $(least "$words")"
   done >"$work/times"
   python3 -c '
 import sys
-(few, load, told), (most, loads, tells) = (map(int, line.split()) for line in open(sys.argv[2]))
-one, many = max(1, told - load) / few, max(1, tells - loads) / most
+(few, told), (most, tells) = (map(int, line.split()) for line in open(sys.argv[2]))
+one, many = told / few, tells / most
 print(f"ratio of the time per word, {sys.argv[1]} registrations, 8,192 decisions to 1,024: {many / one:.2f}")
 ' "$registrations" "$work/times"
 done

@@ -19,15 +19,12 @@
 //!   does `fail N`, after which the call N of its disk fails.
 //! - `stops`: the same, once for each call of the disk, from which on each fails until the end is loaded again. Where it
 //!   comes to the same for several, that is told once.
-//!
-//! With words behind its name the program is a benchmark, as `bench` says.
 #![tactic(auto)]
 
 use case::Case;
+use std::io;
 use std::io::Write;
-use std::{env, io};
 
-mod bench;
 mod calls;
 mod case;
 mod crashes;
@@ -35,10 +32,6 @@ mod ends;
 mod records;
 
 fn main(rt: HostRuntime) -> io::Result<()> {
-    let words: Vec<String> = env::args(&rt)?.skip(1).collect(rt.alloc())?;
-    if let [kind, path, count] = words.as_slice() {
-        return bench::run(&rt, kind.as_str(), path.as_str(), count.as_str());
-    }
     let text = io::read_to_string(rt.alloc(), rt.stdin())?;
     let mut out = rt.stdout();
     for case in text.as_str().split("\n== ").skip(1) {

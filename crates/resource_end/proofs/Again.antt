@@ -12,11 +12,11 @@ use Rattle.decision_journal.specs.declared.record.JournalRecord.TheVariants.{Cel
 use Rattle.decision_journal.specs.declared.record.Put.{Put}
 use Rattle.resource_end.specs.declared.state.State.{State}
 use Rattle.resource_end.specs.declared.state.State.TheVariants as states
-use Rattle.resource_end.specs.States.{holds, state_of}
-use Rattle.resource_end.specs.Calls.{bound}
+use Rattle.resource_end.specs.States.{holds, is_unfinished, state_of}
+use Rattle.resource_end.specs.Calls.{bound, is_open}
 use Rattle.resource_end.specs.End.{End, Resource, changes, comes_before, is_numbered, moved, with_resource}
 use Rattle.resource_end.specs.Recall.{letter_of, put_by, recalls, tells}
-use Rattle.resource_end.specs.Inside.{AreRecorded, AreWritable, ContentsState, Id, IsRecorded, IsSomeSo, IsToldBy, IsUnrecordedWith, IsWritable, MayHold, changed, numbered, placed, prepared_at, prepared_id, with_contents, with_record_of}
+use Rattle.resource_end.specs.Inside.{AreRecorded, AreWritable, ContentsState, Id, IsRecorded, IsSomeSo, IsToldBy, IsUnrecordedWith, IsWritable, MayFollow, changed, numbered, placed, prepared_at, prepared_id, with_contents, with_record_of}
 use Rattle.resource_end.proofs.Claims.{at_known, its_number, itself}
 use Rattle.resource_end.proofs.Finding.{found_with}
 use Rattle.resource_end.proofs.Named.{one_number}
@@ -125,20 +125,45 @@ pub so_if : (o : Option Resource) (P Q : Resource → Type 0) → IsSomeSo o P �
 so_if None P Q h f = tt
 so_if (Some r) P Q h f = f r h
 
--- an outcome leaves nothing held
-pub never_holds : (how : CellsEnd) → holds (state_of how) ≡ false
-never_holds ends.Applied = refl
-never_holds ends.Undone = refl
-never_holds ends.ChoseCommit = refl
-never_holds ends.ChoseRollback = refl
-never_holds ends.Forgotten = refl
+-- it is over for one that has an outcome
+pub ends_over : (how : CellsEnd) → is_unfinished (state_of how) ≡ false
+ends_over ends.Applied = refl
+ends_over ends.Undone = refl
+ends_over ends.ChoseCommit = refl
+ends_over ends.ChoseRollback = refl
+ends_over ends.Forgotten = refl
 
 pub if_there : (o : Option Resource) (r : Resource) (P : Resource → Type 0) → o ≡ Some r → P r → IfSome o P
 if_there o r P is h = subst (λ x. IfSome x P) (sym is) h
 
-pub never_may : (next : State) (o : Option Resource) → holds next ≡ false → IfSome o (λ r. MayHold next r.state)
-never_may next None h = tt
-never_may next (Some r) h = λ t. absurd (both_ways _ h t)
+-- one that is over holds nothing
+over_holds_not : (s : State) → is_unfinished s ≡ false → holds s ≡ false
+over_holds_not states.Working h = absurd (both_ways _ h refl)
+over_holds_not states.Prepared h = absurd (both_ways _ h refl)
+over_holds_not _ h = refl
+
+pub over_may : (next before : State) → is_unfinished next ≡ false → MayFollow next before
+over_may next before over = record {
+  holding = λ h. absurd (both_ways _ (over_holds_not next over) h);
+  unfinished = λ h. absurd (both_ways _ over h);
+}
+
+pub all_may : (next : State) (o : Option Resource) → is_unfinished next ≡ false → IfSome o (λ r. MayFollow next r.state)
+all_may next None over = tt
+all_may next (Some r) over = over_may next r.state over
+
+-- one that can put may come to be refused
+pub open_unfinished : (s : State) → is_open s ≡ true → is_unfinished s ≡ true
+open_unfinished states.Fresh h = refl
+open_unfinished states.Working h = refl
+open_unfinished _ h = absurd (both_ways _ refl h)
+
+-- one that works may prepare
+pub working_may : (s : State) → s ≡ states.Working → MayFollow states.Prepared s
+working_may s is = record { holding = λ t. ap holds is; unfinished = λ t. ap is_unfinished is }
+
+pub open_may : (s : State) → is_open s ≡ true → MayFollow states.Refused s
+open_may s h = record { holding = λ t. absurd (both_ways _ refl t); unfinished = λ t. open_unfinished s h }
 
 -- ---- what holds of each resource
 

@@ -20,13 +20,14 @@ use Rattle.resource_end.specs.declared.state.State.{State}
 use Rattle.resource_end.specs.declared.state.State.TheVariants as states
 use Rattle.resource_end.specs.declared.state.Word.{Word}
 use Rattle.resource_end.specs.declared.state.Word.TheVariants as words
-use Rattle.resource_end.specs.States.{holds, learnt, made, outcome_heard, outcome_told}
+use Rattle.resource_end.specs.States.{is_unfinished, learnt, made, outcome_heard, outcome_told}
 use Rattle.resource_end.specs.Table.{row}
 use Rattle.resource_end.specs.Calls.{Called, Written, StandsAt, Unwritten, InDoubt, behind, changes_with, changing, choice, does, is_open, learn, learns_by, learns_in, learnt_of, obeys, on, shown_by, showing, told, wanted, wanted_by_answer, wanted_for, wanted_of}
 use Rattle.resource_end.specs.End.{End, Resource, named, record_for}
 use Rattle.resource_end.specs.Recall.{reread}
 use Rattle.resource_end.specs.Inside.{AnswersSo, CanMove, HasMoved, HasReadAgain}
-use Rattle.resource_end.specs.Journaling.{Comes, EndState, IsCalled, afresh, IsCause, IsRereadWhere, IsStarved, IsWrittenWhere, WritesBehind}
+use Rattle.resource_end.proofs.Again.{over_may}
+use Rattle.resource_end.specs.Journaling.{Comes, EndState, IsCalled, afresh, IsCause, IsStarved, IsWrittenWhere, WritesBehind}
 
 abbrev failing : EndFault → Result (Unit {0}) EndFault
 failing fault = Err fault
@@ -117,12 +118,12 @@ later_cause wants tells count a b c faults.Memory ab bc ready h = h
 
 -- ---- where a change may lead
 
-closes : (before after : State) → is_open after ≡ false → holds after ≡ false → CanMove before after
-closes before after closed loose = record { closed = closed; holds_not = λ h. absurd (both_ways _ loose h) }
+closes : (before after : State) → is_open after ≡ false → is_unfinished after ≡ false → CanMove before after
+closes before after closed over = record { closed = closed; follows = over_may after before over }
 
 pub row_can : (w : Word) (s : State) → IfSome (row w s).next (CanMove s)
 row_can words.Prepare states.Fresh = closes states.Fresh states.Forgotten refl refl
-row_can words.Prepare states.Working = record { closed = refl; holds_not = λ h. refl }
+row_can words.Prepare states.Working = record { closed = refl; follows = record { holding = λ h. refl; unfinished = λ h. refl } }
 row_can words.Prepare states.Refused = closes states.Refused states.Undone refl refl
 row_can words.Prepare states.Prepared = tt
 row_can words.Prepare states.Applied = tt

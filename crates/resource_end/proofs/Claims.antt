@@ -13,7 +13,7 @@ use Rattle.resource_end.specs.Cells.{value_at, with_put}
 use Rattle.resource_end.specs.States.{is_forgotten}
 use Rattle.resource_end.specs.Calls.{bound, with_cell}
 use Rattle.resource_end.specs.End.{Resource, is_numbered, kept, moved, with_resource}
-use Rattle.resource_end.specs.Inside.{AreHeld, HasOwnPuts, HoldersStay, HoldsAlone, HoldsItsCells, Id, IsHeldBy, MayHold, holder_in, holds_cell, is_other_holder, numbered, placed, puts_stored, without}
+use Rattle.resource_end.specs.Inside.{AreHeld, HasOwnPuts, HoldersStay, HoldsAlone, HoldsItsCells, Id, IsHeldBy, MayFollow, holder_in, holds_cell, is_other_holder, numbered, placed, puts_stored, without}
 use Rattle.resource_end.proofs.Finding.{found_with, found_without}
 use Rattle.resource_end.proofs.Holding.{its}
 use Rattle.resource_end.proofs.Named.{holds_other, of_found, one_number}
@@ -202,14 +202,14 @@ same_but_place Prepared (Some place) r = record { life = refl; number = refl; pu
 same_but_place next (Some place) r = record { life = refl; number = refl; puts = refl }
 
 pub held_moved : (contested : Bool) (cells : List (ℕ × Cell)) (rs : List Resource) (k : Id) (r : Resource) (next : State) (place : Option ℕ) → numbered k rs ≡ Some r
-    → MayHold next r.state → AreHeld contested cells rs → AreHeld contested cells (kept (moved next (placed next place r)) rs)
+    → MayFollow next r.state → AreHeld contested cells rs → AreHeld contested cells (kept (moved next (placed next place r)) rs)
 held_moved contested cells rs k r next place is may held = by (is_forgotten next)
   where
     same : SameButPlace (placed next place r) r
     same = same_but_place next place r
 
     holding : (cell : ℕ) → (b : Bool) → holds next ≡ b → (b && is_some (value_at cell (cond b (placed next place r).puts []))) ≡ true → holds_cell cell r ≡ true
-    holding cell true h t = and_from _ _ (may h) (ap (λ ps. is_some (value_at cell ps)) (sym same.puts) ∙ t)
+    holding cell true h t = and_from _ _ (may.holding h) (ap (λ ps. is_some (value_at cell ps)) (sym same.puts) ∙ t)
     holding cell false h t = absurd (both_ways _ refl t)
 
     by : (b : Bool) → AreHeld contested cells (cond b (without ((placed next place r).life, (placed next place r).number) rs) (with_resource (moved next (placed next place r)) rs))
@@ -223,6 +223,10 @@ held_moved contested cells rs k r next place is may held = by (is_forgotten next
 pub on_ok : {A E : Type 0} (result : Result A E) (P Q : Type 0) → OnOk result P → (P → Q) → OnOk result Q
 on_ok (Ok x) P Q h f = f h
 on_ok (Err e) P Q h f = tt
+
+pub on_err : {A E : Type 0} (result : Result A E) (P Q : Type 0) → OnErr result P → (P → Q) → OnErr result Q
+on_err (Ok x) P Q h f = tt
+on_err (Err e) P Q h f = f h
 
 pub either_way : {A E : Type 0} (result : Result A E) (P Q G : Type 0) → OnOk result P → OnErr result Q → (P → G) → (Q → G) → G
 either_way (Ok x) P Q G p q f g = f p

@@ -1,65 +1,54 @@
 -- Which resources count as unfinished, where one of a map changes; and what the map is then.
-use Rattle.std.proofs.Common.{◌≡◌, ◌∙◌, ℕ, ◌+◌, ◌-◌, ◌<◌, ◌≤◌, Bool, true, false, cond, List, [], ◌∷◌, length, Some, None, refl, sym, ap, subst, arith}
+use Rattle.std.proofs.Common.{◌≡◌, ◌∙◌, ◌+◌, Bool, true, false, cond, List, [], ◌∷◌, length, Some, None, refl, sym, ap, subst, arith}
 use Rattle.std.specs.Prelude.{IfSome}
 use Rattle.std.specs.BTreeMap.{insert_entry, is_at}
-use Rattle.std.specs.List.{count_by, sum_by}
+use Rattle.std.specs.BTreeSet.{insert_key}
+use Rattle.std.specs.List.{count_by}
 use Rattle.std.specs.List.Sorted.{IsStrictlySortedBy}
-use Rattle.std.specs.Map.{keys_of, lookup, remove_entry, set_value, values_of}
+use Rattle.std.specs.Map.{keys_of, lookup, remove_entry, set_value}
 use Rattle.std.specs.Option.{option_map, unwrap_or}
 use Rattle.std.specs.Ordering.{is_eq}
-use Rattle.std.proofs.lemmas.List.Folds.{fold-map}
+use Rattle.std.specs.Set.{remove_key}
 use Rattle.std.proofs.lemmas.List.Sums.{sum_by-cons}
-use Rattle.std.proofs.lemmas.Map.Entries.{sum_by-insert_entry, sum_by-remove_entry, sum_by-set_value}
 use Rattle.resource_end.specs.declared.kept.Kept.{Kept}
 use Rattle.resource_end.specs.States.{is_unfinished}
 use Rattle.resource_end.specs.End.{Resource, with_resource}
-use Rattle.resource_end.specs.Inside.{Id, id_cmp, numbered, resource_at, resources_of, weight}
-use Rattle.resource_end.proofs.Numbered.{found, id_total, set_there}
+use Rattle.resource_end.specs.Inside.{Id, id_cmp, numbered, resource_at, resources_of, unfinished_ids}
+use Rattle.resource_end.proofs.Numbered.{found, id_tied, id_total, set_there}
+use Rattle.resource_end.proofs.Passing.{put_failing, put_passing, removed_passing, set_failing, set_same, taken_back}
 
-abbrev sum_of : List (Id × Kept) → ℕ
-sum_of es = sum_by weight (values_of es)
-
-at_most_one : (v : Kept) → weight v ≤ 1
-at_most_one v = by (is_unfinished v.state)
+-- they are as many as there are numbers of them
+pub counted : (es : List (Id × Kept)) → length (unfinished_ids es) ≡ count_by (λ (r : Resource). is_unfinished r.state) (resources_of es)
+counted [] = refl
+counted (e ∷ es) = by (is_unfinished e.1.state) ∙ ap (λ n. cond (is_unfinished e.1.state) 1 0 + n) (counted es) ∙ sym (sum_by-cons (λ (r : Resource). cond (is_unfinished r.state) 1 0) (resource_at e.0 e.1) (resources_of es))
   where
-    by : (b : Bool) → cond b 1 0 ≤ 1
+    by : (b : Bool) → length (cond b (e.0 ∷ unfinished_ids es) (unfinished_ids es)) ≡ cond b 1 0 + length (unfinished_ids es)
     by true = omega arith
     by false = omega arith
 
-pub few : (es : List (Id × Kept)) → sum_of es ≤ length es
-few [] = omega arith
-few (e ∷ es) =
-    let rest : sum_of es ≤ length es = few es in
-    omega (arith, sum_by-cons weight e.1 (values_of es), at_most_one e.1, rest)
+-- ---- their numbers, where one is put, changes or is taken out
 
-pub counted : (es : List (Id × Kept)) → sum_of es ≡ count_by (λ (r : Resource). is_unfinished r.state) (resources_of es)
-counted es =
-    fold-map (λ (a : ℕ) (v : Kept). a + weight v) (λ (e : Id × Kept). e.1) 0 es
-    ∙ sym (fold-map (λ (a : ℕ) (r : Resource). a + cond (is_unfinished r.state) 1 0) (λ (e : Id × Kept). resource_at e.0 e.1) 0 es)
+module _ (k : Id) (v : Kept) (es : List (Id × Kept)) (sorted : IsStrictlySortedBy id_cmp (keys_of es)) where
+  pub ids_put : is_unfinished v.state ≡ true → unfinished_ids (insert_entry id_cmp es k v) ≡ insert_key id_cmp (unfinished_ids es) k
+  ids_put = put_passing id_cmp id_total id_tied (λ (kept : Kept). is_unfinished kept.state) k v es sorted
 
-module _ (k : Id) (es : List (Id × Kept)) (n : ℕ) (is : n ≡ sum_of es) where
-  pub count_insert : (v : Kept) → IsStrictlySortedBy id_cmp (keys_of es)
-      → (n + weight v) - unwrap_or (option_map weight (lookup (is_at (id_cmp k)) es)) 0 ≡ sum_of (insert_entry id_cmp es k v)
-  count_insert v sorted = omega (arith, is, sum_by-insert_entry weight id_total es k v sorted)
+  pub ids_put_over : is_unfinished v.state ≡ false → unfinished_ids (insert_entry id_cmp es k v) ≡ remove_key (is_at (id_cmp k)) (unfinished_ids es)
+  ids_put_over = put_failing id_cmp id_total id_tied (λ (kept : Kept). is_unfinished kept.state) k v es sorted
 
-  pub fits_insert : (v : Kept) → IsStrictlySortedBy id_cmp (keys_of es) → unwrap_or (option_map weight (lookup (is_at (id_cmp k)) es)) 0 ≤ n + weight v
-  fits_insert v sorted = omega (arith, is, sum_by-insert_entry weight id_total es k v sorted)
+  pub ids_set_over : is_unfinished v.state ≡ false → unfinished_ids (set_value (is_at (id_cmp k)) es v) ≡ remove_key (is_at (id_cmp k)) (unfinished_ids es)
+  ids_set_over = set_failing id_cmp id_total id_tied (λ (kept : Kept). is_unfinished kept.state) k v es sorted
 
-  pub count_remove : n - unwrap_or (option_map weight (lookup (is_at (id_cmp k)) es)) 0 ≡ sum_of (remove_entry (is_at (id_cmp k)) es)
-  count_remove = omega (arith, is, sum_by-remove_entry weight (is_at (id_cmp k)) es)
+pub ids_set_same : (k : Id) (v w : Kept) (es : List (Id × Kept)) → lookup (is_at (id_cmp k)) es ≡ Some w → is_unfinished v.state ≡ is_unfinished w.state
+    → unfinished_ids (set_value (is_at (id_cmp k)) es v) ≡ unfinished_ids es
+ids_set_same = set_same id_cmp id_total id_tied (λ (kept : Kept). is_unfinished kept.state)
 
-  pub fits_remove : unwrap_or (option_map weight (lookup (is_at (id_cmp k)) es)) 0 ≤ n
-  fits_remove = omega (arith, is, sum_by-remove_entry weight (is_at (id_cmp k)) es)
+pub ids_removed : (k : Id) (es : List (Id × Kept)) → IsStrictlySortedBy id_cmp (keys_of es)
+    → unfinished_ids (remove_entry (is_at (id_cmp k)) es) ≡ remove_key (is_at (id_cmp k)) (unfinished_ids es)
+ids_removed = removed_passing id_cmp id_total id_tied (λ (kept : Kept). is_unfinished kept.state)
 
-  pub count_set : (v w : Kept) → lookup (is_at (id_cmp k)) es ≡ Some w → (n + weight v) - weight w ≡ sum_of (set_value (is_at (id_cmp k)) es v)
-  count_set v w there = omega (arith, is, sum_by-set_value weight (is_at (id_cmp k)) es w v there)
-
-  pub fits_set : (v w : Kept) → lookup (is_at (id_cmp k)) es ≡ Some w → weight w ≤ n + weight v
-  fits_set v w there = omega (arith, is, sum_by-set_value weight (is_at (id_cmp k)) es w v there)
-
--- one that counts as before
-pub same_count : (k : Id) (es : List (Id × Kept)) (v w : Kept) → lookup (is_at (id_cmp k)) es ≡ Some w → weight v ≡ weight w → sum_of (set_value (is_at (id_cmp k)) es v) ≡ sum_of es
-same_count k es v w there same = omega (arith, same, sum_by-set_value weight (is_at (id_cmp k)) es w v there)
+pub ids_taken_back : (k : Id) (es : List (Id × Kept)) → lookup (is_at (id_cmp k)) es ≡ None
+    → remove_key (is_at (id_cmp k)) (insert_key id_cmp (unfinished_ids es) k) ≡ unfinished_ids es
+ids_taken_back = taken_back id_cmp id_total id_tied (λ (kept : Kept). is_unfinished kept.state)
 
 -- one that is there has changed
 module _ (k : Id) (es : List (Id × Kept)) (now : List Resource) (is : resources_of es ≡ now) (sorted : IsStrictlySortedBy id_cmp (keys_of es)) where
@@ -96,7 +85,3 @@ same_set k (e ∷ es) v w there same = by (same_set k es v w) (is_eq (id_cmp k e
         ap (λ r. r ∷ resources_of es) (same e.0 ∙ sym (ap (λ o. resource_at e.0 (unwrap_or o e.1)) it))
     by rest false h =
         ap (λ rs. resource_at e.0 e.1 ∷ rs) (rest (ap (λ b. cond b (Some e.1) (lookup (is_at (id_cmp k)) es)) (sym h) ∙ there) same)
-
--- a count of a map's resources fits, and one more does
-pub fits_more : (es : List (Id × Kept)) (n more : ℕ) (v : Kept) → n ≡ sum_by weight (values_of es) → length es < 9223372036854775808 → more ≡ weight v → n + more < 18446744073709551616
-fits_more es n more v is small one = omega (arith, is, few es, small, one, at_most_one v)

@@ -7,6 +7,7 @@ mod Numbered
 mod Known
 mod Gaps
 mod Finding
+mod Passing
 mod Counted
 mod Named
 mod Holding

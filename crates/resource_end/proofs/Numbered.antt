@@ -49,6 +49,10 @@ by_parts k e Greater q h i = (grind (arith, nat_tests, h), grind (arith, nat_tes
 compares : (k e : Id) → Compares k e (id_cmp k e)
 compares k e = by_parts k e (nat_cmp k.0 e.0) (nat_cmp k.1 e.1) (ranked k.0 e.0 _ refl) (ranked k.1 e.1 _ refl)
 
+-- two keys that compare as equal are one
+pub id_tied : (k e : Id) → id_cmp k e ≡ Equal → e ≡ k
+id_tied k e h = (subst (Compares k e) h (compares k e)).1
+
 same_as : (k e : Id) → same k e ≡ is_eq (id_cmp k e)
 same_as k e = by (id_cmp k e) (compares k e)
   where

@@ -1,6 +1,6 @@
 -- How an end keeps its resources and cells: both by their keys, so that one is found by halving. Of all this the contracts of an
 -- end speak not at all.
-use Rattle.std.specs.Prelude.{◌≡◌, ℕ, ◌-◌, ◌<◌, ◌≤◌, ◌⊎◌, ◌==◌, Bool, true, false, not, ◌&&◌, ◌||◌, if◌then◌else◌, List, [], map, filter, find, length, slice_index_or, Option, Some, None, IfSome, IsSome, is_some, Result, Ok, Err}
+use Rattle.std.specs.Prelude.{◌≡◌, ℕ, ◌-◌, ◌<◌, ◌≤◌, ◌⊎◌, ◌==◌, Bool, true, false, not, ◌&&◌, ◌||◌, if◌then◌else◌, List, [], ◌∷◌, map, filter, find, length, slice_index_or, Option, Some, None, IfSome, IsSome, is_some, Result, Ok, Err}
 use Rattle.std.specs.BTreeMap.{is_at}
 use Rattle.std.specs.List.{filter_map, slice_get}
 use Rattle.std.specs.Map.{lookup}
@@ -52,9 +52,14 @@ resource_at id kept = record {
 abbrev pub resources_of : List (Id × Kept) → List Resource
 resources_of entries = map (λ e. resource_at e.0 e.1) entries
 
--- an unfinished one counts
-abbrev pub weight : Kept → ℕ
-weight kept = if is_unfinished kept.state then 1 else 0
+-- the keys of the entries whose value passes a test
+abbrev pub keys_passing : {K X : Type 0} → (X → Bool) → List (K × X) → List K
+keys_passing test [] = []
+keys_passing test (e ∷ es) = if test e.1 then e.0 ∷ keys_passing test es else keys_passing test es
+
+-- the numbers of those that are unfinished
+abbrev pub unfinished_ids : List (Id × Kept) → List Id
+unfinished_ids entries = keys_passing (λ kept. is_unfinished kept.state) entries
 
 -- the resource of this life and number
 abbrev pub numbered : Id → List Resource → Option Resource
@@ -118,6 +123,11 @@ own cell r = if holds r.state then value_at cell r.puts else None
 abbrev pub asks_of : List Resource → List Outward
 asks_of resources = map ask_of (filter (λ r. is_prepared r.state) resources)
 
+-- that of one, where it is there and waits
+abbrev pub asks_by : Option Resource → List Outward
+asks_by (Some r) = asks_of (r ∷ [])
+asks_by None = []
+
 -- the puts that a change stores
 abbrev pub puts_stored : State → Resource → List Put
 puts_stored s r = if stores r.state s then r.puts else []
@@ -178,9 +188,10 @@ HoldsItsCells contested cells id r = (cell : ℕ) → holds_cell cell r ≡ true
 abbrev pub AreHeld : Bool → List (ℕ × Cell) → List Resource → Type 0
 AreHeld contested cells resources = (id : Id) → IfSome (numbered id resources) (HoldsItsCells contested cells id)
 
--- a change leaves no puts that weren't its own before
-abbrev pub MayHold : State → State → Type 0
-MayHold next before = holds next ≡ true → holds before ≡ true
+-- a change leaves no puts that weren't its own before, and makes none unfinished that was over
+pub record MayFollow (next before : State) : Type 0 where
+  pub holding : holds next ≡ true → holds before ≡ true
+  pub unfinished : is_unfinished next ≡ true → is_unfinished before ≡ true
 
 -- there is one, and this holds of it
 abbrev pub IsSomeSo : Option Resource → (Resource → Type 0) → Type 0
@@ -344,10 +355,10 @@ pub record IsKeptWhole {D : Type 0} (told : D → Option DiskState) (e : EndStat
   pub failed : e.journal.failed ≡ is_some e.journal.doubted
   pub doubted : e.end.doubted ≡ e.journal.doubted
 
--- a change may come out of a call on it: it makes nothing that can put, and no holder of what held nothing
+-- a change may come out of a call on it, and makes nothing that can put
 pub record CanMove (before after : State) : Type 0 where
   pub closed : is_open after ≡ false
-  pub holds_not : MayHold after before
+  pub follows : MayFollow after before
 
 -- the recovery coordinator that a record of cells names, where it names one
 abbrev pub named_by : JournalRecord → List ℕ

@@ -37,15 +37,28 @@ impl Kept {
 
 impl Resources {
     /// Puts the ask of each that waits for an outcome behind the other words. Where memory is wanting a front of them is there.
+    /// Those that are over aren't looked at.
     fn asks(&self, out: &mut Outbox) -> Result<(), AllocError>
         ensures ok { OnOk result (out.new.words ≡ out.old.words ++ inside.asks_of self.now) }
         ensures front { HasFrontOf out.old.words (inside.asks_of self.now) out.new.words }
         ensures room { out.new.room ≡ out.old.room }
     {
-        for (id, kept) in &self.map {
-            kept.ask(self.alloc, *id, out)?;
+        for id in &self.unfinished {
+            self.ask(*id, out)?;
         }
         Ok(())
+    }
+
+    /// Puts the ask of this one behind the other words, where it waits for an outcome.
+    fn ask(&self, id: Id, out: &mut Outbox) -> Result<(), AllocError>
+        ensures ok { OnOk result (out.new
+            ≡ record out.old { words = out.old.words ++ inside.asks_by (inside.numbered id self.now) }) }
+        ensures err { OnErr result (out.new ≡ out.old) }
+    {
+        match self.numbered(id) {
+            Some(kept) => kept.ask(self.alloc, id, out),
+            None => Ok(()),
+        }
     }
 }
 

@@ -1,5 +1,5 @@
 // The resources and cells of an end that is loaded.
-ghost use Rattle.std.specs.Prelude.{◌≡◌, ℕ, ◌<◌, ◌^◌, find, is_some, IfSome, IfOk, OnOk, OnErr, IsSome, Some, None};
+ghost use Rattle.std.specs.Prelude.{◌≡◌, ℕ, ◌<◌, ◌^◌, true, find, is_some, IfSome, IfOk, OnOk, OnErr, IsSome, Some, None};
 ghost use Rattle.std.specs.List.{Contains, count_by};
 ghost use Rattle.std.specs.Option.{option_copied, option_map};
 ghost use Rattle.decision_journal.specs.Index.{AreInOrder};
@@ -139,6 +139,7 @@ impl Contents {
         requires free { find (inside.is_other_holder id put.cell) self.old.resources ≡ None }
         requires known { IsSome (inside.numbered id self.old.resources) }
         requires clean { IfSome (inside.numbered id self.old.resources) inside.HasOwnPuts }
+        requires unfinished { IfSome (inside.numbered id self.old.resources) (λ r. is_unfinished r.state ≡ true) }
         ensures ok { OnOk result (IfSome (inside.numbered id self.old.resources) (λ r. self.new ≡ record self.old {
           resources = end.with_resource (calls.with_cell put.cell put.value r) self.old.resources;
         })) }
@@ -151,7 +152,7 @@ impl Contents {
     /// A resource changes its state, and what that stores is stored. It needs no memory.
     pub(crate) fn change(&mut self, id: Id, next: State, place: Option<u32>)
         requires known { IsSome (inside.numbered id self.old.resources) }
-        requires holds { IfSome (inside.numbered id self.old.resources) (λ r. inside.MayHold next r.state) }
+        requires follows { IfSome (inside.numbered id self.old.resources) (λ r. inside.MayFollow next r.state) }
         ensures { IfSome (inside.numbered id self.old.resources)
             (λ r. self.new ≡ inside.changed next (inside.placed next place r) self.old) }
     {

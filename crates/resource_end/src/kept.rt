@@ -1,6 +1,6 @@
-ghost use Rattle.std.specs.Prelude.{◌≡◌, ℕ, ◌<◌, ◌^◌, ◌∷◌, ◌++◌, ◌||◌, find, is_some, IfSome, IfOk, OnOk, OnErr, IsSome, Some, None, [], if◌then◌else◌};
+ghost use Rattle.std.specs.Prelude.{◌≡◌, ℕ, ◌<◌, ◌^◌, ◌||◌, true, find, is_some, IfSome, IfOk, OnOk, OnErr, IsSome, Some, None, []};
 ghost use Rattle.std.specs.List.{count_by};
-ghost use Rattle.std.specs.Option.{option_copied, option_map, unwrap_or};
+ghost use Rattle.std.specs.Option.{option_copied, option_map};
 ghost use Rattle.resource_end.specs.States.{holds, is_unfinished};
 ghost use Rattle.resource_end.specs.End as end;
 ghost use Rattle.resource_end.specs.Calls as calls;
@@ -14,7 +14,7 @@ use decision_journal::{JournalRecord, Put, Puts};
 use ior_refs::ObjectKey;
 use ots_model::RefBytes;
 use std::alloc::{AllocError, Global};
-use std::collections::BTreeMap;
+use std::collections::{BTreeMap, BTreeSet};
 use std::marker::Model;
 
 /// The letter of a resource's key.
@@ -208,21 +208,21 @@ impl Kept {
 pub(crate) struct Resources {
     pub(crate) alloc: Global,
     pub(crate) map: BTreeMap<Id, Kept>,
-    unfinished: usize,
+    /// The numbers of those that are unfinished. One has its place here from the start, so that no change needs memory.
+    pub(crate) unfinished: BTreeSet<Id>,
 }
 
 impl Model for Resources {
     ghost use Rattle.std.specs.Prelude.{◌≡◌, List};
-    ghost use Rattle.std.specs.BTreeMap.{IsOrdered, values};
-    ghost use Rattle.std.specs.List.{sum_by};
+    ghost use Rattle.std.specs.BTreeMap.{IsOrdered};
     ghost use Rattle.resource_end.specs.End.{Resource};
-    ghost use Rattle.resource_end.specs.Inside.{id_cmp, resources_of, weight};
+    ghost use Rattle.resource_end.specs.Inside.{id_cmp, resources_of, unfinished_ids};
 
     ghost Value = { List Resource };
 
     ghost view = { λ r. resources_of r.map.entries };
 
-    ghost invariant = { λ r. IsOrdered id_cmp r.map × (r.unfinished ≡ sum_by weight (values r.map)) };
+    ghost invariant = { λ r. IsOrdered id_cmp r.map × (r.unfinished.keys ≡ unfinished_ids r.map.entries) };
 }
 
 impl Resources {
@@ -233,7 +233,7 @@ impl Resources {
         Resources {
             alloc,
             map: BTreeMap::new(alloc),
-            unfinished: 0,
+            unfinished: BTreeSet::new(alloc),
         }
     }
 
@@ -241,7 +241,7 @@ impl Resources {
     pub(crate) fn unfinished(&self) -> usize
         ensures { result ≡ count_by (λ r. is_unfinished r.state) self.now }
     {
-        self.unfinished
+        self.unfinished.len()
     }
 
     /// The resource of this life and number.
@@ -322,16 +322,25 @@ impl Resources {
         ensures ok { OnOk result (self.new ≡ end.with_resource (inside.resource_at id kept) self.old) }
         ensures err { OnErr result (self.new ≡ self.old) }
     {
-        let after = weight(kept.state);
-        let _fits = self.map.len();
-        let before = weight_of(self.map.insert(id, kept)?);
-        self.unfinished = self.unfinished + after - before;
-        Ok(())
+        if !kept.state.is_unfinished() {
+            self.map.insert(id, kept)?;
+            self.unfinished.remove(&id);
+            return Ok(());
+        }
+        self.unfinished.insert(id)?;
+        match self.map.insert(id, kept) {
+            Ok(_) => Ok(()),
+            Err(_) => {
+                self.unfinished.remove(&id);
+                Err(AllocError)
+            }
+        }
     }
 
     /// A resource changes its state. The result is what that stores.
     pub(crate) fn change(&mut self, id: Id, next: State, place: Option<u32>) -> Vec<Put>
         requires known { IsSome (inside.numbered id self.old) }
+        requires follows { IfSome (inside.numbered id self.old) (λ r. inside.MayFollow next r.state) }
         ensures after { IfSome (inside.numbered id self.old)
             (λ r. self.new ≡ end.kept (end.moved next (inside.placed next place r)) self.old) }
         ensures puts { IfSome (inside.numbered id self.old) (λ r. result.items ≡ inside.puts_stored next r) }
@@ -346,46 +355,40 @@ impl Resources {
     /// A resource changes into another state in which it is known.
     fn alter(&mut self, id: Id, next: State, place: Option<u32>) -> Vec<Put>
         requires known { IsSome (inside.numbered id self.old) }
+        requires follows { IfSome (inside.numbered id self.old) (λ r. inside.MayFollow next r.state) }
         ensures after { IfSome (inside.numbered id self.old)
             (λ r. self.new ≡ end.with_resource (end.moved next (inside.placed next place r)) self.old) }
         ensures puts { IfSome (inside.numbered id self.old) (λ r. result.items ≡ inside.puts_stored next r) }
     {
-        let _fits = self.map.len();
-        match self.map.get_mut(&id) {
-            Some(kept) => {
-                let before = weight(kept.state);
-                let puts = kept.change(self.alloc, next, place);
-                self.unfinished = self.unfinished + weight(next) - before;
-                puts
-            }
-            None => Vec::new(self.alloc),
+        let Some(kept) = self.map.get_mut(&id) else {
+            return Vec::new(self.alloc);
+        };
+        let puts = kept.change(self.alloc, next, place);
+        if !next.is_unfinished() {
+            self.unfinished.remove(&id);
         }
+        puts
     }
 
     /// A resource is kept no more.
     fn remove(&mut self, id: Id)
         ensures { self.new ≡ inside.without id self.old }
     {
-        let before = weight_of(self.map.remove(&id));
-        self.unfinished -= before;
+        self.map.remove(&id);
+        self.unfinished.remove(&id);
     }
 
     /// A resource puts a cell. Want of memory leaves it as it was.
     pub(crate) fn put(&mut self, id: Id, put: Put) -> Result<(), AllocError>
+        requires unfinished { IfSome (inside.numbered id self.old) (λ r. is_unfinished r.state ≡ true) }
         ensures ok { OnOk result (IfSome (inside.numbered id self.old)
             (λ r. self.new ≡ end.with_resource (calls.with_cell put.cell put.value r) self.old)) }
         ensures err { OnErr result (self.new ≡ self.old) }
     {
-        let _fits = self.map.len();
-        match self.map.get_mut(&id) {
-            Some(kept) => {
-                let before = weight(kept.state);
-                kept.put(put)?;
-                self.unfinished = self.unfinished + 1 - before;
-                Ok(())
-            }
-            None => Ok(()),
-        }
+        let Some(kept) = self.map.get_mut(&id) else {
+            return Ok(());
+        };
+        kept.put(put)
     }
 
     /// A resource's recovery coordinator is this one, where it hasn't prepared. The result is the one before.
@@ -436,24 +439,4 @@ fn either(one: bool, other: bool) -> bool
     ensures { result ≡ (one || other) }
 {
     one || other
-}
-
-/// How much a resource in this state counts among those that are unfinished.
-fn weight(state: State) -> usize
-    ensures { result ≡ (if is_unfinished state then 1 else 0) }
-{
-    if state.is_unfinished() {
-        return 1;
-    }
-    0
-}
-
-/// How much that counts which was kept, where anything was.
-fn weight_of(old: Option<Kept>) -> usize
-    ensures { result ≡ unwrap_or (option_map inside.weight old) 0 }
-{
-    match old {
-        Some(old) => weight(old.state),
-        None => 0,
-    }
 }

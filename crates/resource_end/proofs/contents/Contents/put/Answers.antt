@@ -1,10 +1,14 @@
-use Rattle.std.proofs.Common.{◌≡◌, None, sym, subst}
+use Rattle.std.proofs.Common.{◌≡◌, true, None, sym, subst}
 use Rattle.std.specs.Prelude.{find, IfSome, IsSome}
+use Rattle.resource_end.specs.States.{is_unfinished}
 use Rattle.resource_end.specs.End.{with_resource}
 use Rattle.resource_end.specs.Calls.{with_cell}
 use Rattle.resource_end.specs.Inside.{AreHeld, HasOwnPuts, is_other_holder, numbered}
 use Rattle.resource_end.proofs.Claims.{at_known, either_way, held_cell, held_put, known}
 use Rattle.resource_end.proofs.contents.Contents.put.Goals as goal
+
+pub put-requires : goal.put-requires
+put-requires c = record { unfinished = subst (λ s. IfSome (numbered c.args.id s.resources) (λ r. is_unfinished r.state ≡ true)) (sym c.self.view_is) c.requires.unfinished }
 
 pub invariant_of-self-2 : goal.invariant_of-self-2
 invariant_of-self-2 c =

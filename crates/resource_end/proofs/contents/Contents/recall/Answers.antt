@@ -3,7 +3,7 @@ use Rattle.std.specs.Prelude.{find}
 use Rattle.resource_end.specs.declared.state.State.TheVariants as states
 use Rattle.resource_end.specs.Recall.{is_recorded_at}
 use Rattle.resource_end.specs.Inside.{AreRecorded, AreWritable, IsRecallable, IsUnrecorded, IsUnrecordedWith, changed, numbered, placed, with_record_of}
-use Rattle.resource_end.proofs.Again.{applied_told, changed_recorded, changed_writable, never_may, own_recorded, place_recorded, prepared_told, so_if, so_is_some, some_so}
+use Rattle.resource_end.proofs.Again.{applied_told, changed_recorded, changed_writable, all_may, own_recorded, place_recorded, prepared_told, so_if, so_is_some, some_so}
 use Rattle.resource_end.proofs.Claims.{at_known}
 use Rattle.resource_end.proofs.Told.{ended_writable, ends_told, others_told}
 use Rattle.resource_end.proofs.contents.Contents.recall.Goals as goal
@@ -49,7 +49,7 @@ change-requires c =
     let o = numbered (c.in-CellsOnePhase.life, c.in-CellsOnePhase.number) c.args.self.now.resources in
     record {
       known = so_is_some o (IsUnrecordedWith c.in-CellsOnePhase.field-2) can;
-      holds = never_may states.Applied o refl;
+      follows = all_may states.Applied o refl;
     }
 
 pub returns-in-CellsOnePhase : goal.returns-in-CellsOnePhase

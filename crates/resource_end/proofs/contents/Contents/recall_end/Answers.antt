@@ -1,9 +1,9 @@
 use Rattle.std.proofs.Common.{◌≡◌, ◌∙◌, None, ap, sym, subst}
 use Rattle.std.specs.Prelude.{find, IsSome}
-use Rattle.resource_end.specs.States.{holds, state_of}
+use Rattle.resource_end.specs.States.{is_unfinished, state_of}
 use Rattle.resource_end.specs.Recall.{is_recorded_at}
 use Rattle.resource_end.specs.Inside.{AreRecorded, RecordedAlone, changed, ended, numbered, placed}
-use Rattle.resource_end.proofs.Again.{changed_recorded, never_holds, never_may, own_recorded}
+use Rattle.resource_end.proofs.Again.{all_may, changed_recorded, ends_over, own_recorded}
 use Rattle.resource_end.proofs.Claims.{known}
 use Rattle.resource_end.proofs.Told.{recorded_alone}
 use Rattle.resource_end.proofs.contents.Contents.recall_end.Goals as goal
@@ -17,7 +17,7 @@ recorded-recorded-requires c =
 pub change-requires : goal.change-requires
 change-requires c = record {
   known = subst (λ s. IsSome (numbered c.in-Some.id s.resources)) c.self.view_is (subst IsSome c.in-Some.ensures.0 c.in-Some.ensures.1);
-  holds = never_may c.of_end.result (numbered c.in-Some.id c.args.self.now.resources) (ap holds c.of_end.ensures ∙ never_holds c.args.end);
+  follows = all_may c.of_end.result (numbered c.in-Some.id c.args.self.now.resources) (ap is_unfinished c.of_end.ensures ∙ ends_over c.args.end);
 }
 
 pub returns-in-Some : goal.returns-in-Some

@@ -1,11 +1,10 @@
 use Rattle.std.proofs.Common.{◌≡◌, ◌∙◌, Some, refl, ap, sym, subst}
 use Rattle.std.specs.Prelude.{IfSome, IsSome}
 use Rattle.resource_end.specs.declared.state.State.TheVariants as states
-use Rattle.resource_end.specs.States.{holds}
 use Rattle.resource_end.specs.Calls.{bound}
 use Rattle.resource_end.specs.End.{Resource, with_resource}
-use Rattle.resource_end.specs.Inside.{IsUnrecorded, MayHold, changed, numbered, placed, with_record_of}
-use Rattle.resource_end.proofs.Again.{bound_there, if_there, now_bound, prepared_again}
+use Rattle.resource_end.specs.Inside.{IsUnrecorded, MayFollow, changed, numbered, placed, with_record_of}
+use Rattle.resource_end.proofs.Again.{bound_there, if_there, now_bound, prepared_again, working_may}
 use Rattle.resource_end.proofs.Claims.{at_known, known}
 use Rattle.resource_end.proofs.contents.Contents.recall_prepared.Goals as goal
 
@@ -17,7 +16,8 @@ change-requires c =
     let there = ap (λ s. numbered c.args.id s.resources) after ∙ bound_there c.args.id c.args.self.now.resources it.0 c.args.recovery it.1.0 it.1.1.unrecorded in
     record {
       known = subst IsSome (sym there) refl;
-      holds = subst (λ o. IfSome o (λ r. MayHold states.Prepared r.state)) (sym there) (λ h. ap (λ (x : Resource). holds x.state) (now_bound c.args.recovery it.0 it.1.1.unrecorded) ∙ ap holds it.1.1.works);
+      follows = subst (λ o. IfSome o (λ r. MayFollow states.Prepared r.state)) (sym there)
+          (working_may (bound c.args.recovery it.0).state (ap (λ (x : Resource). x.state) (now_bound c.args.recovery it.0 it.1.1.unrecorded) ∙ it.1.1.works));
     }
 
 pub returns : goal.returns

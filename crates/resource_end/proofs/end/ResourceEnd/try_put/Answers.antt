@@ -1,12 +1,13 @@
-use Rattle.std.proofs.Common.{◌≡◌, ◌∙◌, inl, inr, false, None, Some, ap, sym, subst}
+use Rattle.std.proofs.Common.{◌≡◌, ◌∙◌, inl, inr, false, true, None, Some, ap, sym, subst}
 use Rattle.std.specs.Prelude.{find, Err}
 use Rattle.std.specs.Option.{option_map}
 use Rattle.resource_end.specs.declared.fault.EndFault.TheVariants as faults
+use Rattle.resource_end.specs.States.{is_unfinished}
 use Rattle.resource_end.specs.Calls.{has_room, put, with_cell}
 use Rattle.resource_end.specs.End.{Resource, other_holder, with_resource}
 use Rattle.resource_end.specs.Inside.{HasOwnPuts, IsWhole, IsWritable, is_other_holder, numbered}
 use Rattle.resource_end.specs.Journaling.{IsCalled, IsStarved, nothing}
-use Rattle.resource_end.proofs.Again.{if_there}
+use Rattle.resource_end.proofs.Again.{if_there, open_unfinished}
 use Rattle.resource_end.proofs.Changing.{holder_by, no_holder, put_closed, put_done, put_full, put_held, put_starved, put_unread}
 use Rattle.resource_end.proofs.Claims.{at_known}
 use Rattle.resource_end.proofs.Putting.{owns, whole_put}
@@ -55,6 +56,13 @@ put-requires-clause-clean g c =
     if_there (numbered (c.args.key.now.life, c.args.key.now.generation) c.self.inside.contents.resources) it.resource HasOwnPuts there
     (owns c.self.inside.drawn it.resource it.can_put
     (at_known (numbered (c.args.key.now.life, c.args.key.now.generation) c.self.inside.contents.resources) it.resource (λ r. IsWritable c.self.inside.drawn r.state r) there (c.self.invariant.writable (c.args.key.now.life, c.args.key.now.generation))))
+
+pub put-requires-clause-unfinished : goal.put-requires-clause-unfinished
+put-requires-clause-unfinished g c =
+    let it = c.in_ok-needs_open.ensures.can_put in
+    let there = subst (λ s. numbered (c.args.key.now.life, c.args.key.now.generation) s.end.resources ≡ Some it.resource) (sym c.self.view_is) it.is_numbered in
+    if_there (numbered (c.args.key.now.life, c.args.key.now.generation) c.self.inside.contents.resources) it.resource (λ r. is_unfinished r.state ≡ true) there
+    (open_unfinished it.resource.state it.can_put)
 
 pub invariant_of-self-2 : goal.invariant_of-self-2
 invariant_of-self-2 g c =

@@ -3,9 +3,9 @@ use Rattle.std.specs.Prelude.{IsSome}
 use Rattle.resource_end.specs.declared.state.State.TheVariants as states
 use Rattle.resource_end.specs.Calls.{refuse}
 use Rattle.resource_end.specs.End.{changes}
-use Rattle.resource_end.specs.Inside.{IsWhole, changed, numbered, placed}
+use Rattle.resource_end.specs.Inside.{IsWhole, MayFollow, changed, numbered, placed}
 use Rattle.resource_end.specs.Journaling.{IsCalled, nothing}
-use Rattle.resource_end.proofs.Again.{never_may}
+use Rattle.resource_end.proofs.Again.{if_there, open_may}
 use Rattle.resource_end.proofs.Changing.{refuse_closed, refuse_done, refuse_unread}
 use Rattle.resource_end.proofs.Claims.{at_known}
 use Rattle.resource_end.proofs.Frames.{whole_moved}
@@ -29,7 +29,11 @@ pub change-requires : goal.change-requires
 change-requires g c =
     let it = c.in_ok-needs_open.ensures.can_put in
     let there = subst (λ s. numbered (c.args.key.now.life, c.args.key.now.generation) s.end.resources ≡ Some it.resource) (sym c.self.view_is) it.is_numbered in
-    record { known = subst IsSome (sym there) refl; holds = never_may states.Refused (numbered (c.args.key.now.life, c.args.key.now.generation) c.self.inside.contents.resources) refl }
+    record {
+      known = subst IsSome (sym there) refl;
+      follows = if_there (numbered (c.args.key.now.life, c.args.key.now.generation) c.self.inside.contents.resources) it.resource
+          (λ r. MayFollow states.Refused r.state) there (open_may it.resource.state it.can_put);
+    }
 
 pub invariant_of-self : goal.invariant_of-self
 invariant_of-self g c =

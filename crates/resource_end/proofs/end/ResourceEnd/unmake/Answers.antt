@@ -4,6 +4,7 @@ use Rattle.resource_end.specs.declared.state.State.TheVariants as states
 use Rattle.resource_end.specs.Calls.{is_fresh, unmake}
 use Rattle.resource_end.specs.End.{is_named}
 use Rattle.resource_end.specs.Inside.{IsNamed, IsWhole, changed, numbered, placed}
+use Rattle.resource_end.proofs.Again.{all_may}
 use Rattle.resource_end.proofs.Claims.{at_known, its_number, itself}
 use Rattle.resource_end.proofs.Frames.{whole_unmade}
 use Rattle.resource_end.proofs.Making.{fresh_state, unmade_none, unmade_not, unmade_one}
@@ -28,6 +29,10 @@ returns-then-not-is_fresh-clause-called g c =
 
 pub change-requires-clause-known : goal.change-requires-clause-known
 change-requires-clause-known g c = subst IsSome (sym c.in-Some.ensures.1.numbered) refl
+
+pub change-requires-clause-follows : goal.change-requires-clause-follows
+change-requires-clause-follows g c =
+    all_may states.Forgotten (numbered (c.args.key.now.life, c.args.key.now.generation) c.self.inside.contents.resources) refl
 
 pub invariant_of-self : goal.invariant_of-self
 invariant_of-self g c =

@@ -1,14 +1,12 @@
-use Rattle.std.proofs.Common.{◌≡◌, ◌∙◌, cond, Option, Some, None, List, ℕ, ap, sym, subst}
+use Rattle.std.proofs.Common.{◌≡◌, ◌∙◌, Option, Some, None, List, ℕ, ap, sym, subst}
 use Rattle.std.specs.Prelude.{IfSome}
 use Rattle.std.specs.BTreeMap.{IsOrdered}
-use Rattle.std.specs.List.{sum_by}
-use Rattle.std.specs.Map.{values_of}
 use Rattle.std.specs.Option.{option_map}
 use Rattle.resource_end.specs.States.{is_unfinished}
 use Rattle.resource_end.specs.End.{Resource}
 use Rattle.resource_end.specs.Calls.{bound}
-use Rattle.resource_end.specs.Inside.{id_cmp, numbered, weight}
-use Rattle.resource_end.proofs.Counted.{after_set, it_is, of_none, same_count}
+use Rattle.resource_end.specs.Inside.{id_cmp, numbered, unfinished_ids}
+use Rattle.resource_end.proofs.Counted.{after_set, ids_set_same, it_is, of_none}
 use Rattle.resource_end.proofs.kept.Resources.bind.Goals as goal
 use Rattle.resource_end.proofs.kept.Resources.bind.Goals.{in-Some, in-None}
 
@@ -17,18 +15,18 @@ invariant_of-self c = elim c.match-get_mut.branch [
   | in-Some w ↦
       let held = c.get_mut.follows.holds w.bind.new.self in (
         subst (λ s. IsOrdered id_cmp s.map) (sym w.self-inside-is) held.4,
-        ap (λ s. s.unfinished) w.self-inside-is
+        ap (λ s. s.unfinished.keys) w.self-inside-is
             ∙ c.self.invariant.1
-            ∙ sym (same_count c.args.id c.self.inside.map.entries w.bind.new.self w.in-Some.kept.now (sym w.in-Some.ensures.value) (ap (λ s. cond (is_unfinished s) 1 0) w.bind.ensures.state))
-            ∙ ap (λ es. sum_by weight (values_of es)) (sym held.0)
-            ∙ ap (λ s. sum_by weight (values_of s.map.entries)) (sym w.self-inside-is),
+            ∙ sym (ids_set_same c.args.id w.bind.new.self w.in-Some.kept.now c.self.inside.map.entries (sym w.in-Some.ensures.value) (ap is_unfinished w.bind.ensures.state))
+            ∙ ap unfinished_ids (sym held.0)
+            ∙ ap (λ s. unfinished_ids s.map.entries) (sym w.self-inside-is),
       )
   | in-None w ↦ (
     subst (λ s. IsOrdered id_cmp s.map) (sym w.self-inside-is) (subst (IsOrdered id_cmp) (sym c.get_mut.follows.holds-at-none) c.self.invariant.0),
-    ap (λ s. s.unfinished) w.self-inside-is
+    ap (λ s. s.unfinished.keys) w.self-inside-is
         ∙ c.self.invariant.1
-        ∙ ap (λ m. sum_by weight (values_of m.entries)) (sym c.get_mut.follows.holds-at-none)
-        ∙ ap (λ s. sum_by weight (values_of s.map.entries)) (sym w.self-inside-is),
+        ∙ ap (λ m. unfinished_ids m.entries) (sym c.get_mut.follows.holds-at-none)
+        ∙ ap (λ s. unfinished_ids s.map.entries) (sym w.self-inside-is),
   )
 ]
 

@@ -1,38 +1,44 @@
-use Rattle.std.proofs.Common.{◌≡◌, ◌∙◌, ◌+◌, ◌-◌, ap, sym, arith}
+use Rattle.std.proofs.Common.{◌∙◌, ap, sym}
 use Rattle.std.specs.BTreeMap.{is_at}
-use Rattle.std.specs.List.{sum_by}
-use Rattle.std.specs.Map.{lookup, values_of}
-use Rattle.std.specs.Option.{option_map, unwrap_or}
+use Rattle.std.specs.BTreeSet.{insert_key}
+use Rattle.std.specs.Set.{remove_key}
 use Rattle.resource_end.specs.End.{with_resource}
-use Rattle.resource_end.specs.Inside.{id_cmp, resource_at, resources_of, weight}
-use Rattle.resource_end.proofs.Counted.{count_insert, fits_insert, fits_more}
+use Rattle.resource_end.specs.Inside.{id_cmp, resource_at, resources_of, unfinished_ids}
+use Rattle.resource_end.proofs.Counted.{ids_put, ids_put_over, ids_taken_back}
 use Rattle.resource_end.proofs.Numbered.{inserted}
 use Rattle.resource_end.proofs.kept.Resources.insert.Goals as goal
 
-pub overflow_add-self : goal.overflow_add-self
-overflow_add-self c =
-    let l = fits_more c.self.inside.map.entries c.self.inside.unfinished c.weight-after.result c.args.kept c.self.invariant.1
-    (omega (arith, c.len-fits.ensures.len, c.len-fits.ensures.small)) c.weight-after.ensures in omega (arith, l)
+pub invariant_of-self-then-not-is_unfinished : goal.invariant_of-self-then-not-is_unfinished
+invariant_of-self-then-not-is_unfinished c = (
+  c.insert.ensures.ordered,
+  c.remove.ensures.keys
+      ∙ ap (remove_key (is_at (id_cmp c.args.id))) c.self.invariant.1
+      ∙ sym (ids_put_over c.args.id c.args.kept c.self.inside.map.entries c.self.invariant.0 (sym c.if-not-is_unfinished.ensures))
+      ∙ ap unfinished_ids (sym c.in_ok-insert.ensures.entries),
+)
 
-pub overflow_sub-self : goal.overflow_sub-self
-overflow_sub-self c =
-    let e : c.weight_of-before.result ≡ unwrap_or (option_map weight (lookup (is_at (id_cmp c.args.id)) c.self.inside.map.entries)) 0 =
-    c.weight_of-before.ensures ∙ ap (λ o. unwrap_or (option_map weight o) 0) c.in_ok-insert.ensures.old in
-    let f = fits_insert c.args.id c.self.inside.map.entries c.self.inside.unfinished c.self.invariant.1 c.args.kept c.self.invariant.0 in
-    let w : c.weight-after.result ≡ weight c.args.kept = c.weight-after.ensures in
-    omega (arith, e, f, w)
-
-pub invariant_of-self-2 : goal.invariant_of-self-2
-invariant_of-self-2 c =
-    let e : c.weight_of-before.result ≡ unwrap_or (option_map weight (lookup (is_at (id_cmp c.args.id)) c.self.inside.map.entries)) 0 =
-    c.weight_of-before.ensures ∙ ap (λ o. unwrap_or (option_map weight o) 0) c.in_ok-insert.ensures.old in
-    let w : c.weight-after.result ≡ weight c.args.kept = c.weight-after.ensures in (
-      c.insert.ensures.ordered,
-      (λ i. (c.self.inside.unfinished + w i) - e i)
-          ∙ count_insert c.args.id c.self.inside.map.entries c.self.inside.unfinished c.self.invariant.1 c.args.kept c.self.invariant.0
-          ∙ ap (λ es. sum_by weight (values_of es)) (sym c.in_ok-insert.ensures.entries),
-    )
-
-pub returns-clause-ok : goal.returns-clause-ok
-returns-clause-ok c =
+pub returns-then-not-is_unfinished-clause-ok : goal.returns-then-not-is_unfinished-clause-ok
+returns-then-not-is_unfinished-clause-ok c =
     ap resources_of c.in_ok-insert.ensures.entries ∙ inserted c.args.id c.args.kept c.self.inside.map.entries ∙ ap (with_resource (resource_at c.args.id c.args.kept)) c.self.view_is
+
+pub invariant_of-self-in-Err : goal.invariant_of-self-in-Err
+invariant_of-self-in-Err c = (
+  c.insert-3.ensures.ordered,
+  c.remove-in-Err.ensures.keys
+      ∙ ap (remove_key (is_at (id_cmp c.args.id))) (c.in_ok-insert-2.ensures.keys ∙ ap (λ ks. insert_key id_cmp ks c.args.id) c.self.invariant.1)
+      ∙ ids_taken_back c.args.id c.self.inside.map.entries c.in-Err.ensures.absent
+      ∙ ap unfinished_ids (sym c.in-Err.ensures.err),
+)
+
+pub invariant_of-self-in-Ok : goal.invariant_of-self-in-Ok
+invariant_of-self-in-Ok c = (
+  c.insert-3.ensures.ordered,
+  c.in_ok-insert-2.ensures.keys
+      ∙ ap (λ ks. insert_key id_cmp ks c.args.id) c.self.invariant.1
+      ∙ sym (ids_put c.args.id c.args.kept c.self.inside.map.entries c.self.invariant.0 (sym c.if-not-is_unfinished.ensures))
+      ∙ ap unfinished_ids (sym c.in-Ok.ensures.entries),
+)
+
+pub returns-in-Ok-clause-ok : goal.returns-in-Ok-clause-ok
+returns-in-Ok-clause-ok c =
+    ap resources_of c.in-Ok.ensures.entries ∙ inserted c.args.id c.args.kept c.self.inside.map.entries ∙ ap (with_resource (resource_at c.args.id c.args.kept)) c.self.view_is

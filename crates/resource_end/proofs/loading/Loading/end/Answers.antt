@@ -1,10 +1,11 @@
 use Rattle.std.proofs.Common.{◌≡◌, ◌∙◌, None, ap, sym, subst}
 use Rattle.std.specs.Prelude.{find, IsSome}
-use Rattle.resource_end.specs.States.{state_of}
+use Rattle.resource_end.specs.States.{is_unfinished, state_of}
 use Rattle.resource_end.specs.Cells.{with_puts}
 use Rattle.resource_end.specs.End.{kept, moved}
 use Rattle.resource_end.specs.Recall.{is_recorded_at}
 use Rattle.resource_end.specs.Inside.{AreRecorded, IsRecorded, contents_of, ended, numbered, placed, puts_stored, stored_cells}
+use Rattle.resource_end.proofs.Again.{all_may, ends_over}
 use Rattle.resource_end.proofs.Claims.{at_known, its_number, itself, known, on_ok}
 use Rattle.resource_end.proofs.Named.{one_number}
 use Rattle.resource_end.proofs.Told.{all_kept, ended_is}
@@ -17,7 +18,10 @@ returns-in-None c = record {
 }
 
 pub change-puts-requires : goal.change-puts-requires
-change-puts-requires c = record { known = subst IsSome c.in-Some.ensures.0 c.in-Some.ensures.1 }
+change-puts-requires c = record {
+  known = subst IsSome c.in-Some.ensures.0 c.in-Some.ensures.1;
+  follows = all_may c.of_end.result (numbered c.in-Some.id c.args.self.now.resources) (ap is_unfinished c.of_end.ensures ∙ ends_over c.args.end);
+}
 
 pub returns : goal.returns
 returns c =

@@ -1,0 +1,34 @@
+use crate::journals::AREA;
+use ots_outside::FileDisk;
+use resource_end::{EndFault, ResourceEnd};
+use std::io;
+use std::io::ErrorKind;
+use std::time::Instant;
+
+/// Of the end that a disk holds so many resources put a cell, prepare and commit.
+pub fn ends(rt: &HostRuntime, disk: FileDisk, count: u32) -> io::Result<u128> {
+    match ResourceEnd::load(rt.alloc(), disk, AREA, 1) {
+        Ok(mut end) => commits(rt, &mut end, count),
+        Err(_) => Err(ErrorKind::InvalidData.into()),
+    }
+}
+
+fn commits(rt: &HostRuntime, end: &mut ResourceEnd<FileDisk>, count: u32) -> io::Result<u128> {
+    let start = Instant::now(rt)?;
+    for value in 0..count {
+        if commit_one(end, value).is_err() {
+            return Err(ErrorKind::Other.into());
+        }
+    }
+    Ok(start.elapsed(rt)?.as_nanos())
+}
+
+/// The cells of those that follow one another stand apart.
+fn commit_one(end: &mut ResourceEnd<FileDisk>, value: u32) -> Result<(), EndFault> {
+    let value = u64::from(value);
+    let key = end.fresh(b'R')?;
+    end.put(&key, 613 * value, value)?;
+    end.prepare(&key)?;
+    end.commit(&key)?;
+    Ok(())
+}

@@ -1,0 +1,38 @@
+//! How long a journal or a resource end over a real file takes, in nanoseconds. The words are KIND FILE COUNT, where KIND is one
+//! of these. With no words it does nothing.
+//!
+//! - `load`: the journal in the file is loaded.
+//! - `appends`: so many decisions are appended to it. `bare`: as many octets are written and synced so often, with no journal.
+//! - `retells`: the decisions that stand in it are told again, with so many words, each of which is done.
+//! - `ends`: so many resources of the end in the file put a cell, prepare and commit, one after the other.
+//! - `cells`: the records of as many are appended to the journal in the file, with no end.
+//!
+//! But for `load` the time of the load isn't counted.
+#![tactic(auto)]
+
+use ots_outside::FileDisk;
+use std::fs::File;
+use std::io::{ErrorKind, Write};
+use std::{env, io};
+
+mod ends;
+mod journals;
+mod records;
+
+fn main(rt: HostRuntime) -> io::Result<()> {
+    let words: Vec<String> = env::args(&rt)?.skip(1).collect(rt.alloc())?;
+    let [kind, path, count] = words.as_slice() else {
+        return Ok(());
+    };
+    let count = count.as_str().parse().ok().ok_or(ErrorKind::InvalidInput)?;
+    let mut options = File::options();
+    options.read(true).write(true).create(true);
+    let disk = FileDisk::new(options.open(&rt, path.as_str())?, None);
+    let took = match kind.as_str() {
+        "bare" => journals::bare(&rt, disk, count)?,
+        "load" => journals::load(&rt, disk)?,
+        "ends" => ends::ends(&rt, disk, count)?,
+        kind => journals::journal(&rt, disk, kind, count)?,
+    };
+    writeln!(rt.stdout(), "{took}")
+}
