@@ -45,7 +45,7 @@ use Rattle.nodes_world.proofs.StepsKeep.{StepKeeps, entered_keeps, marks_keep}
 -- ---- a participant is another one, with the same vote
 
 -- what is gathered from the participants
-same_gathered : {A : Type 0} (gather : List Party → A) (with_one : Party → A → A) → ((x : Party) (xs : List Party) → gather (x ∷ xs) ≡ with_one x (gather xs))
+pub same_gathered : {A : Type 0} (gather : List Party → A) (with_one : Party → A → A) → ((x : Party) (xs : List Party) → gather (x ∷ xs) ≡ with_one x (gather xs))
     → (ps : List Party) (i : ℕ) (p q : Party) → slice_get ps i ≡ Some p → ((rest : A) → with_one q rest ≡ with_one p rest) → gather (slice_set ps i q) ≡ gather ps
 same_gathered gather with_one steps [] i p q there same = refl
 same_gathered gather with_one steps (x ∷ ps) zero p q there same =
@@ -82,7 +82,7 @@ any_back P ps i p q there turn any = go ps i there any.0 any.1 any.2 any.3 any.4
     go (y ∷ ps) (suc i) there zero x less is so = (0, x, omega arith, is, so)
     go (y ∷ ps) (suc i) there (suc j) x less is so = let at = go ps i there j x (omega (arith, less)) is so in let l = at.2 in (suc at.0, at.1, omega (arith, l), at.3, at.4)
 
-all_set : (P : Party → Type 0) (ps : List Party) (i : ℕ) (p q : Party) → slice_get ps i ≡ Some p → (P p → P q) → AllByRecursion P ps → AllByRecursion P (slice_set ps i q)
+pub all_set : (P : Party → Type 0) (ps : List Party) (i : ℕ) (p q : Party) → slice_get ps i ≡ Some p → (P p → P q) → AllByRecursion P ps → AllByRecursion P (slice_set ps i q)
 all_set P [] i p q there turn all = tt
 all_set P (x ∷ ps) zero p q there turn (one, all) = (turn (subst P (inner there) one), all)
   where
@@ -174,7 +174,7 @@ module _ (k : Course) (i : ℕ) (p q : Party) (there : slice_get k.parties i ≡
   parties_other rs all = all_set (λ (x : Party). IsRegisteredTo rs x.to) k.parties i p q there (λ one. record { r = one.r; there = one.there; leads = one.leads ∙ sym to }) all
 
 -- the answer to a word that asks nobody
-other_answer : (h : ParticipantHeard) (round : Stage) (p : Party) → is_asking_round round ≡ false
+pub other_answer : (h : ParticipantHeard) (round : Stage) (p : Party) → is_asking_round round ≡ false
     → ((course.heard_at round h p).index ≡ p.index) × ((course.heard_at round h p).to ≡ p.to) × ((course.heard_at round h p).ballot ≡ p.ballot)
 other_answer h rounds.Asking p not_asked = absurd cc
 other_answer h rounds.Telling p not_asked = (refl, refl, refl)
@@ -335,6 +335,7 @@ hears_at_keeps n b c h f is so tidy =
       dues = due_set f.ballots.registrations f.calls b (record c { out = None }) (tidy.dues b c is) tidy.dues;
       parties = tidy.parties;
       alone = tidy.alone;
+      few = tidy.few;
     })
 
 -- the call that waits hears no vote
@@ -346,7 +347,7 @@ hears_call_keeps : (o : Option Call) (b : ℕ) (n : CallNumber) (h : Heard) (f :
 hears_call_keeps (Some c) b n h f is so = hears_at_keeps n b c h f is so
 hears_call_keeps None b n h f is so = only_keeps f
 
-goes_on_keeps : (o : Option ℕ) (f : Family) → Rule f (goes_on_at o f)
+pub goes_on_keeps : (o : Option ℕ) (f : Family) → Rule f (goes_on_at o f)
 goes_on_keeps (Some b) f = goes_on_keep b f
 goes_on_keeps None f = only_keeps f
 
@@ -355,23 +356,26 @@ unfolding hears
 hears_keeps n h b f waits so =
     subst (λ (o : Option ℕ). Rule f (hears_for o n h f)) (sym waits) (hears_call_keeps (call_at f b) b n h f refl so)
 
-answered_keeps : (n : CallNumber) (h : Heard) (b : ℕ) (f : Family) → waiting_for f n ≡ Some b → NoVoteAt f (call_at f b) → Rule f (answered n h None f)
+answered_by : (n : CallNumber) (h : Heard) (f : Family) → Rule f (hears n h f) → Rule f (answered n h None f)
 unfolding answered settles
-answered_keeps n h b f waits so =
+answered_by n h f heard =
     then_keeps f (hears n h f ▹ settles None) (goes_on_at (waiting_for f n))
-    (then_keeps f (hears n h f) (settles None)
-    (hears_keeps n h b f waits so)
-    (only_keeps (hears n h f).family))
+    (then_keeps f (hears n h f) (settles None) heard (only_keeps (hears n h f).family))
     (goes_on_keeps (waiting_for f n) (hears n h f ▹ settles None).family)
 
 -- ---- the step
 
-pub answer_keeps : (f : Family) (o : Outward) (answer : Said) (now b : ℕ) → waiting_for f o.number ≡ Some b → NoVoteAt f (call_at f b) → IsTidy f
+-- where what is heard of the answer keeps so much, all of the step does
+pub answer_by : (f : Family) (o : Outward) (answer : Said) (now b : ℕ) → waiting_for f o.number ≡ Some b → Rule f (hears o.number (heard_in answer) f) → IsTidy f
     → StepKeeps f (family_step f (answer_event o answer now) None)
 unfolding family_step acted
-answer_keeps f o answer now b waits so tidy =
+answer_by f o answer now b waits heard tidy =
     subst (λ (x : Option ℕ). StepKeeps f (if is_none x then quiet_step f else entered f (answer_event o answer now) None (acted (answer_event o answer now) None f))) (sym waits)
-    (entered_keeps f (answer_event o answer now) None (acted (answer_event o answer now) None f) (answered_keeps o.number (heard_in answer) b f waits so) tidy)
+    (entered_keeps f (answer_event o answer now) None (acted (answer_event o answer now) None f) (answered_by o.number (heard_in answer) f heard) tidy)
   where
     quiet_step : Family → Stepped
     quiet_step f = record { family = f; said = said.Plain; words = []; finished = []; effects = [] }
+
+pub answer_keeps : (f : Family) (o : Outward) (answer : Said) (now b : ℕ) → waiting_for f o.number ≡ Some b → NoVoteAt f (call_at f b) → IsTidy f
+    → StepKeeps f (family_step f (answer_event o answer now) None)
+answer_keeps f o answer now b waits so = answer_by f o answer now b waits (hears_keeps o.number (heard_in answer) b f waits so)

@@ -1,5 +1,5 @@
 -- What is known of a world is known once a call has come to a node that answers no word, makes nothing and reads no journal.
-use Rattle.std.proofs.Common.{◌≡◌, inl, inr, ℕ, ◌+◌, ◌-◌, Bool, true, false, cond, is_some, IsTrue, List, [], ◌∷◌, ◌++◌, map, append_assoc, append-nil, slice_get, slice_set, zero, suc, Contains, Option, Some, None, refl, sym, ap, subst, ◌∙◌}
+use Rattle.std.proofs.Common.{◌≡◌, inl, inr, ℕ, ◌+◌, ◌-◌, Bool, true, false, cond, is_some, IsTrue, List, [], ◌∷◌, ◌++◌, map, append_assoc, append-nil, slice_get, slice_set, zero, suc, Contains, Option, Some, None, refl, sym, ap, subst, ◌∙◌, arith}
 use Rattle.std.specs.Prelude.{Ok, if◌then◌else◌}
 use Rattle.std.specs.List.{AllByRecursion}
 use Rattle.std.specs.Option.{option_and_then}
@@ -28,10 +28,10 @@ use Rattle.coordinator.specs.NodeCalls.{Applied, RetoldAnswer, answer_of, answer
 use Rattle.coordinator.specs.NodeRecords.{record_of, record_says}
 use Rattle.coordinator.specs.Step.{Stepped, Wanted, family_step, wanted}
 use Rattle.family_laws.specs.Sound.{HasParties}
-use Rattle.family_laws.specs.SoundNode.{IsSoundNode, NodesStaySound}
+use Rattle.family_laws.specs.OwnDecisions.{KeepsDecisions, NodesKeepDecisions}
 use Rattle.nodes_world.specs.declared.message.Content.TheVariants as contents
 use Rattle.nodes_world.specs.declared.message.Message.{Message}
-use Rattle.nodes_world.specs.AgreementInside.{Known, HasMessage}
+use Rattle.nodes_world.specs.AgreementInside.{Known, HasMessage, edge_at}
 use Rattle.nodes_world.specs.AgreementSteps.{StaysKnown, is_asked}
 use Rattle.nodes_world.specs.Clients.{call_event}
 use Rattle.nodes_world.specs.Disks.{Stop}
@@ -141,12 +141,13 @@ tidy_of w told k key f found =
       dues = λ b c at. (is.dues b c at, is.legs b c at);
       parties = are_parties f.ballots.registrations f.completion (participants 0 f.ballots) is.sound.completion.parties (registered_of f 0);
       alone = is.unsynchronized;
+      few = is.few;
     }
 
 -- ---- such a call
 
 module _ (w : World) (place : ℕ) (s : Seat) (n : Node) (there : slice_get w.seats place ≡ Some s) (up : s.server ≡ OfNode (Some n)) where
-  pub node_sound : (told : List Told) (k : Known w told) → IsSoundNode n
+  pub node_sound : (told : List Told) (k : Known w told) → KeepsDecisions (edge_at w place) n
   unfolding node_at
   node_sound told k = (k.nodes place n (ap (λ (o : Option Seat). option_and_then (λ (y : Seat). node_in y.server) o) there ∙ ap node_in up)).sound
 
@@ -186,7 +187,7 @@ module _ (w : World) (place : ℕ) (s : Seat) (n : Node) (there : slice_get w.se
 
   -- ---- a family goes on
 
-  module _ (laws : FamilyLaws) (nodes : NodesStaySound) (key : ObjectKey) (own_place : place_of key ≡ place) (e : Event) (retold : retold_answer e.act ≡ None)
+  module _ (laws : FamilyLaws) (nodes : NodesKeepDecisions) (key : ObjectKey) (own_place : place_of key ≡ place) (e : Event) (retold : retold_answer e.act ≡ None)
       (came : (r : RetryKey) → e.key ≡ Some r → HasMessage w r) (f : Family) (none : wanted f e ≡ None) (of : family_of key n ≡ Some f) (told : List Told)
       (k : Known w told) where
     slot : (family_in n.families key.slot ≡ Some f) × IsTrue (is_of key f)
@@ -219,10 +220,10 @@ module _ (w : World) (place : ℕ) (s : Seat) (n : Node) (there : slice_get w.se
     pub node_now : (steps_to n f e None step).node ≡ with_family g n
     node_now = ap (λ (x : Found). with_family g (record n { found = x })) (none_journaled (wanted f e) none n.found)
 
-    pub sound_now : applies key e None n ≡ steps_to n f e None step → IsSoundNode (with_family g n)
+    pub sound_now : applies key e None n ≡ steps_to n f e None step → KeepsDecisions (edge_at w place) (with_family g n)
     sound_now same =
-        subst IsSoundNode (ap (λ (a : Applied). a.node) same ∙ node_now)
-        (nodes.called key e None n (λ item at asked stood. absurd (no stood)) (node_sound told k))
+        subst (KeepsDecisions (edge_at w place)) (ap (λ (a : Applied). a.node) same ∙ node_now)
+        (nodes.called (edge_at w place) (edge_at w place) key e None n (omega arith) (λ item at asked stood. absurd (no stood)) (λ x at called asked stood. absurd (no stood)) (node_sound told k))
       where
         no : {x : Stood} → None ≡ Some x → ⊥
         no e = cc
@@ -249,12 +250,12 @@ module _ (w : World) (place : ℕ) (s : Seat) (n : Node) (there : slice_get w.se
         (Ok (answer_of f step)) ≡ lines
     lines_now = ap (λ (o : Option Family). answer_told w (cast_by o e n) (entries_of o) (Ok (answer_of f step))) for_now
 
-    pub step_stays : StepIs f g step.effects step.words → applies key e None n ≡ steps_to n f e None step
+    pub step_stays : StepIs w f g step.effects step.words → applies key e None n ≡ steps_to n f e None step
         → Known (applied_at place key e n s.disk s.stop (steps_to n f e None step) w).done.world (told ++ (applied_at place key e n s.disk s.stop (steps_to n f e None step) w).done.lines)
     step_stays stepped same =
         let v = seats.v w place s n f g there up stepped.key slotted at_place in
         let world : put (steps_to n f e None step).node ≡ v = ap put node_now ∙ seated (with_family g n) in
-        let gone = words_gone w place s n f g there up slotted at_place told k key found (cast_of g) stepped.key step.effects step.words stepped g.entries step.finished (sound_now same) entries_came in
+        let gone = words_gone w place s n f g there up slotted at_place told k key found (cast_of g) (record { key = stepped.key; registrations = stepped.registrations }) step.effects step.words stepped g.entries step.finished (sound_now same) entries_came in
         let here : Known (requests_all place step.words v).world (told ++ (([] ++ lines) ++ (requests_all place step.words v).lines)) =
         subst (Known (requests_all place step.words v).world) (append_assoc told lines (requests_all place step.words v).lines) gone in
         subst (λ (x : World). Known (requests_all place step.words x).world (told ++ (([] ++ answer_told w (cast_by (family_for key e (steps_to n f e None step).node) e n) (entries_of (family_for key e (steps_to n f e None step).node)) (Ok (answer_of f step))) ++ (requests_all place step.words x).lines)))
@@ -268,7 +269,7 @@ module _ (w : World) (place : ℕ) (s : Seat) (n : Node) (there : slice_get w.se
   if_room key e f true goes = goes refl
   if_room key e f false goes = refused_stays key e faults.NoResources
 
-  stays_by : (laws : FamilyLaws) (nodes : NodesStaySound) (key : ObjectKey) (own_place : place_of key ≡ place) (e : Event) (steady : is_steady e.act ≡ true)
+  stays_by : (laws : FamilyLaws) (nodes : NodesKeepDecisions) (key : ObjectKey) (own_place : place_of key ≡ place) (e : Event) (steady : is_steady e.act ≡ true)
       (came : (r : RetryKey) → e.key ≡ Some r → HasMessage w r) (f : Family) (of : family_of key n ≡ Some f) (told : List Told) (k : Known w told)
       → applies key e None n ≡ steps_to n f e None (family_step f e None)
       → Known (applied_at place key e n s.disk s.stop (steps_to n f e None (family_step f e None)) w).done.world (told ++ (applied_at place key e n s.disk s.stop (steps_to n f e None (family_step f e None)) w).done.lines)
@@ -277,9 +278,9 @@ module _ (w : World) (place : ℕ) (s : Seat) (n : Node) (there : slice_get w.se
       let none = steady_wants f e steady in
       let there_f = found laws nodes key own_place e retold came f none of told k in
       step_stays laws nodes key own_place e retold came f none of told k
-      (steady_is laws f e None steady (k.families key f there_f).sound (tidy_of w told k key f there_f)) same
+      (steady_is laws f e None steady (k.families key f there_f).sound (tidy_of w told k key f there_f) (k.families key f there_f).ready) same
 
-  called_by : (laws : FamilyLaws) (nodes : NodesStaySound) (key : ObjectKey) → place_of key ≡ place → (e : Event) → is_steady e.act ≡ true → ((r : RetryKey) → e.key ≡ Some r → HasMessage w r) → (o : Option Family)
+  called_by : (laws : FamilyLaws) (nodes : NodesKeepDecisions) (key : ObjectKey) → place_of key ≡ place → (e : Event) → is_steady e.act ≡ true → ((r : RetryKey) → e.key ≡ Some r → HasMessage w r) → (o : Option Family)
       → family_for key e n ≡ o → Stays key e (applied_by o key e None n)
   unfolding applies answers_recovered
   called_by laws nodes key own_place e steady came (Some f) is = if_room key e f (has_room f.entries e)
@@ -290,12 +291,12 @@ module _ (w : World) (place : ℕ) (s : Seat) (n : Node) (there : slice_get w.se
       subst (λ (o : Option RetoldAnswer). Stays key e (by_records o key e None n)) (sym (steady_retold e.act steady))
       (replied_stays key e (option_and_then (record_says key e.key e.act) (record_of key n)))
 
-  call_stays : (laws : FamilyLaws) (nodes : NodesStaySound) (key : ObjectKey) → place_of key ≡ place → (e : Event) → is_steady e.act ≡ true
+  call_stays : (laws : FamilyLaws) (nodes : NodesKeepDecisions) (key : ObjectKey) → place_of key ≡ place → (e : Event) → is_steady e.act ≡ true
       → ((r : RetryKey) → e.key ≡ Some r → HasMessage w r) → Stays key e (applies key e None n)
   unfolding applies
   call_stays laws nodes key own_place e steady came = called_by laws nodes key own_place e steady came (family_for key e n) refl
 
-  node_called : (laws : FamilyLaws) (nodes : NodesStaySound) (key : ObjectKey) → place_of key ≡ place → (e : Event) → is_steady e.act ≡ true
+  node_called : (laws : FamilyLaws) (nodes : NodesKeepDecisions) (key : ObjectKey) → place_of key ≡ place → (e : Event) → is_steady e.act ≡ true
       → ((r : RetryKey) → e.key ≡ Some r → HasMessage w r) → StaysKnown w (steps_node (Some n) s place key e w).done
   node_called laws nodes key own_place e steady came =
       subst (λ (a : Asked). StaysKnown w (steps_by a place key e n w).done)
@@ -303,7 +304,7 @@ module _ (w : World) (place : ℕ) (s : Seat) (n : Node) (there : slice_get w.se
       (call_stays laws nodes key own_place e steady came)
 
 -- what is known is known once such an event has come to a node
-pub steady_known : (laws : FamilyLaws) (nodes : NodesStaySound) (w : World) (place : ℕ) (key : ObjectKey) → place_of key ≡ place → (e : Event)
+pub steady_known : (laws : FamilyLaws) (nodes : NodesKeepDecisions) (w : World) (place : ℕ) (key : ObjectKey) → place_of key ≡ place → (e : Event)
     → is_steady e.act ≡ true → ((r : RetryKey) → e.key ≡ Some r → HasMessage w r) → StaysKnown w (steps place key e w).done
 unfolding steps
 steady_known laws nodes w place key own_place e steady came = by (slice_get w.seats place) refl
@@ -330,7 +331,7 @@ asked_steady (acts.Reread stands) is = is
 asked_steady _ is = refl
 
 -- a client's call that makes nothing keeps what is known
-pub known_call : (laws : FamilyLaws) (nodes : NodesStaySound) (w : World) (nth now : ℕ) (to : ObjectKey) (act : Act) (m : Message) → slice_get w.messages nth ≡ Some m
+pub known_call : (laws : FamilyLaws) (nodes : NodesKeepDecisions) (w : World) (nth now : ℕ) (to : ObjectKey) (act : Act) (m : Message) → slice_get w.messages nth ≡ Some m
     → m.content ≡ contents.Call to act → is_asked act ≡ true → StaysKnown w (steps (place_of to) to (call_event (nth + 1) to act now) w).done
 known_call laws nodes w nth now to act m at says asked told k = steady_known laws nodes w (place_of to) to refl (call_event (nth + 1) to act now) (asked_steady act asked)
     (λ r by. (nth, m, at, sym (ap (λ (x : RetryKey). x.number) (inner by)), (k.seats.calls nth m to act at says).1, sym (ap (λ (x : RetryKey). x.client) (inner by)))) told k

@@ -43,7 +43,7 @@ use Rattle.family_laws.specs.Sound.{HasParties, IsAsking}
 use Rattle.family_laws.specs.Trees as trees
 use Rattle.nodes_world.specs.Agreement as agreed
 use Rattle.nodes_world.specs.Agreement.{HasSent, IsAlone, IsClosed, IsCutOff, IsDecided, IsTransaction, MayBeRolledBack, has_record, is_decision_of, is_registration_of, names_object, recorded_key, records_at}
-use Rattle.nodes_world.specs.AgreementInside.{Known, IsBack, IsBranch, OutcomeIsTold}
+use Rattle.nodes_world.specs.AgreementInside.{Known, IsBack, IsBranch, OutcomeIsTold, IsNumberedBy}
 use Rattle.nodes_world.specs.declared.thing.Thing.TheVariants as things
 use Rattle.nodes_world.specs.Journals.{records_on}
 use Rattle.nodes_world.specs.Objects.{place_of, service_at}
@@ -232,7 +232,7 @@ pub record IsNextWord (w : World) (f : Family) (o : Outward) : Type 0 where
   pub life : o.number.life ≡ f.key.life
   pub slot : o.number.slot ≡ f.key.slot
   pub generation : o.number.generation ≡ f.key.generation
-  pub serial : o.number.serial ≤ f.serial
+  pub numbered : IsNumberedBy f o
   pub newer : (other : Outward) → HasSent w (place_of f.key) other → other.number ≡ o.number → ⊥
 
 module _ (w : World) (told : List Told) (k : Known w told) (key : ObjectKey) (f : Family) (there : family_at w key ≡ Some f) where
@@ -438,7 +438,7 @@ module _ (w : World) (told : List Told) (k : Known w told) (key : ObjectKey) (f 
       given = λ s n at up alike. inr (subst (λ (y : ℕ). y ≤ n.generation) (sym next.generation) (is_given s n at up));
       told_again = λ rs again held. absurd (in_slot (sym next.slot ∙ again));
       serial = λ g other at life slot generation place.
-          subst (λ (y : Family). o.number.serial ≤ y.serial) (same_family w key other f g there at (sym place) (sym next.slot ∙ slot)) next.serial;
+          subst (λ (y : Family). IsNumberedBy y o) (same_family w key other f g there at (sym place) (sym next.slot ∙ slot)) next.numbered;
       recorded = commit_recorded;
       commits = λ word t b other g registered at branch.
           let own = rests.asks.commit word in

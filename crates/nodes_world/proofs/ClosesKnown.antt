@@ -1,21 +1,20 @@
--- What is known of a world is known once an answer was heard by which nobody votes, and the family's own Done was asked of the journal,
--- where the decision stands that it names, and isn't told again.
-use Rattle.std.proofs.Common.{◌≡◌, ◌≢◌, inl, inr, ℕ, zero, suc, ◌-◌, ◌==◌, Bool, true, false, IsTrue, if◌then◌else◌, List, [], ◌∷◌, ◌++◌, append_assoc, append-nil, position, slice_get, slice_set, Contains, Option, Some, None, refl, sym, ap, subst, ◌∙◌, arith}
+-- What is known of a world is known once an answer was heard by which nobody votes, and the family's own Done was asked of the journal.
+use Rattle.std.proofs.Common.{◌≡◌, inl, inr, ℕ, ◌≤◌, ◌-◌, ◌==◌, Bool, true, false, IsTrue, if◌then◌else◌, List, [], ◌∷◌, ◌++◌, append_assoc, append-nil, slice_get, slice_set, Contains, Option, Some, None, refl, sym, ap, subst, ◌∙◌, arith}
 use Rattle.std.specs.Prelude.{Ok}
-use Rattle.std.specs.List.{AllByRecursion, remove}
+use Rattle.std.specs.List.{AllByRecursion, filter_map}
 use Rattle.std.specs.Option.{option_and_then}
 use Rattle.ior_refs.specs.declared.key.ObjectKey.{ObjectKey}
 use Rattle.ots_model.specs.declared.completion.Stood.{Stood}
-use Rattle.ots_model.specs.declared.completion.Stood.TheVariants as answers
 use Rattle.ots_model.specs.declared.completion.Vote.{Vote}
 use Rattle.ots_model.specs.declared.service.RetryKey.{RetryKey}
+use Rattle.ots_model.specs.declared.tree.Outcome.{Outcome}
 use Rattle.ots_model.specs.declared.tree.Outward.{Outward}
 use Rattle.ots_outside.specs.Disk.{DiskState, at_first}
-use Rattle.decision_journal.specs.Journal.{Found, found_in, is_decision_at, taken_away}
-use Rattle.decision_journal.specs.declared.journal.Standing.{Standing}
+use Rattle.decision_journal.specs.Journal.{Found, found_in}
 use Rattle.decision_journal.specs.declared.record.JournalRecord.{JournalRecord}
 use Rattle.recovery_coord.specs.Limits.{retold_slot}
 use Rattle.recovery_coord.specs.declared.held.Held.{Held}
+use Rattle.two_phase.specs.Stages as stages
 use Rattle.coordinator.specs.declared.effect.Effect.{Effect}
 use Rattle.coordinator.specs.declared.effect.Effect.TheVariants as effects
 use Rattle.coordinator.specs.declared.event.Event.{Event}
@@ -23,14 +22,16 @@ use Rattle.coordinator.specs.declared.node.NodeFault.TheVariants as faults
 use Rattle.coordinator.specs.declared.said.Entry.{Entry}
 use Rattle.coordinator.specs.declared.said.Said.{Said}
 use Rattle.coordinator.specs.Family.{Family}
+use Rattle.coordinator.specs.Moves.{fixed_now}
 use Rattle.coordinator.specs.History.{has_room}
 use Rattle.coordinator.specs.Node.{Node, family_in, family_of, is_of, with_family}
 use Rattle.coordinator.specs.NodeCalls.{Applied, answer_of, applied_by, applies, call_wants, family_for, journaled, refuses, retold_answer, steps_to, wanted_by}
-use Rattle.coordinator.specs.Step.{Stepped, Wanted, Appends, WritesDone, family_step, hears, wanted}
+use Rattle.coordinator.specs.Step.{Stepped, Wanted, Appends, WritesDone, Rereads, family_step, hears, wanted}
 use Rattle.family_laws.specs.HeldRecords.{WasHeld}
-use Rattle.family_laws.specs.SoundNode.{IsSoundNode, NodesStaySound}
+use Rattle.family_laws.specs.LawsOfTelling.{decided_in}
+use Rattle.family_laws.specs.OwnDecisions.{HasDecision, KeepsDecisions, NodesKeepDecisions}
 use Rattle.nodes_world.specs.Agreement.{FollowsDisk, IsHeldWhole, records_at}
-use Rattle.nodes_world.specs.AgreementInside.{Known, HasMessage}
+use Rattle.nodes_world.specs.AgreementInside.{Known, FamilyIsKnown, HasMessage, edge_at, journal_end}
 use Rattle.nodes_world.specs.Deliveries.{answer_event, heard_in}
 use Rattle.nodes_world.specs.Disks.{Stop}
 use Rattle.nodes_world.specs.Happenings as happen
@@ -42,46 +43,27 @@ use Rattle.nodes_world.specs.Objects.{family_key, place_of, service_at}
 use Rattle.nodes_world.specs.Told as tell
 use Rattle.nodes_world.specs.Told.{Told}
 use Rattle.nodes_world.specs.World.{World, Seat, OfNode, family_at, node_at, referred, with_disk, with_seat, with_server}
-use Rattle.nodes_world.proofs.CallKnown.{for_key, key_slot, slot_key}
+use Rattle.nodes_world.proofs.CallKnown.{for_key, key_slot, slot_key, tidy_of}
 use Rattle.nodes_world.proofs.ClosesKeep.{IsMark, MarkAlone}
-use Rattle.nodes_world.proofs.CompletesKnown.{JournalLaws, wanted_more}
-use Rattle.nodes_world.proofs.DoneKnown.{GoesOn, added, gone_on_known, is_done_line, stands_still}
+use Rattle.nodes_world.proofs.ClosesShut.{is_standing, own_decision, shut, shut_node, shut_keeps, written_keeps}
+use Rattle.nodes_world.proofs.CompletesKnown.{JournalLaws, can_close, wanted_more}
+use Rattle.nodes_world.proofs.DoneKnown.{GoesOn, added, gone_on_known, is_done_line}
+use Rattle.nodes_world.proofs.Edges.{edge_held, edge_is, end_grows}
 use Rattle.nodes_world.proofs.EffectsSame.{effects_same}
-use Rattle.nodes_world.proofs.Going.{get_set, on_seat_twice}
+use Rattle.nodes_world.proofs.Going.{get_set, on_seat_twice, set_twice}
 use Rattle.nodes_world.proofs.KnownAlike.{referred_by}
 use Rattle.nodes_world.proofs.KnownFamilies.{family_found, same_parts}
+use Rattle.nodes_world.proofs.KnownLines.{lines_of}
 use Rattle.nodes_world.proofs.KnownSeats.{seat_names_kept}
 use Rattle.nodes_world.proofs.KnownTelling.{IsOne}
 use Rattle.nodes_world.proofs.KnownWorlds.{node_there}
 use Rattle.nodes_world.proofs.LoadedLines.{all_both}
-use Rattle.nodes_world.proofs.SoundNodes.{held_whole}
-use Rattle.nodes_world.proofs.StepIs.{FamilyLaws, entry_cases, keeps_is}
+use Rattle.nodes_world.proofs.RulesKeep.{kept_itself}
+use Rattle.nodes_world.proofs.StepIs.{FamilyLaws, StepIs, entry_cases, keeps_is, kept_step, speaks_of}
 use Rattle.nodes_world.proofs.StepSeats as seats
-use Rattle.nodes_world.proofs.StepWhole.{words_gone}
+use Rattle.nodes_world.proofs.StepWhole.{step_known, words_gone}
 use Rattle.nodes_world.proofs.StepsKeep.{StepKeeps}
-
--- ---- what stands once a Done is written, stood before
-
-was_in : {A : Type 0} (xs : List A) (i : ℕ) (x : A) → Contains (remove xs i) x → Contains xs x
-was_in [] zero x c = c
-was_in [] (suc i) x c = c
-was_in (y ∷ xs) zero x (j, less, is) = (suc j, omega (arith, less), is)
-was_in (y ∷ xs) (suc i) x (zero, less, is) = (0, omega arith, is)
-was_in (y ∷ xs) (suc i) x (suc j, less, is) =
-    let at = was_in xs i x (j, omega (arith, less), is) in
-    let l = at.1 in
-    (suc at.0, omega (arith, l), at.2)
-
-was_among : (o : Option ℕ) (standing : List Standing) (x : Standing) → Contains (taken_away o standing) x → Contains standing x
-was_among None standing x c = c
-was_among (Some i) standing x c = was_in standing i x c
-
-was_standing : (done : ℕ) (stood : Option Stood) (found : Found) (x : Standing) → Contains (journaled (Some (WritesDone done)) stood found).standing x
-    → Contains found.standing x
-was_standing done (Some (answers.Stands at)) found x c = was_among (position (is_decision_at done) found.standing) found.standing x c
-was_standing done (Some (answers.Full used need)) found x c = c
-was_standing done (Some (answers.Unsure why)) found x c = c
-was_standing done None found x c = c
+use Rattle.nodes_world.proofs.StepsAsk.{StepAsks}
 
 -- ---- the line of a mark
 
@@ -104,12 +86,13 @@ mark_lines w c (e ∷ others) (one, all) = all_both (IsOne is_done_line) (effect
 
 -- ---- an answer to a family
 
-module _ (laws : FamilyLaws) (journals : JournalLaws) (nodes : NodesStaySound) (w : World) (place now : ℕ) (o : Outward) (answer : Said)
+module _ (laws : FamilyLaws) (journals : JournalLaws) (nodes : NodesKeepDecisions) (w : World) (place now : ℕ) (o : Outward) (answer : Said)
     (s : Seat) (n : Node) (f : Family) (done : ℕ) (there : slice_get w.seats place ≡ Some s) (up : s.server ≡ OfNode (Some n))
     (family : o.number.slot == retold_slot ≡ false) (of : family_of (family_key place o.number) n ≡ Some f)
     (room : has_room f.entries (answer_event o answer now) ≡ true) (wants : wanted f (answer_event o answer now) ≡ Some (WritesDone done))
-    (told : List Told) (k : Known w told) (can : CanAsk (Some (WritesDone done)) n.found) (apart : (h : Held) → Contains n.recovered h → h.place ≢ done)
+    (told : List Told) (k : Known w told)
     (keeps : (stood : Option Stood) → StepKeeps f (family_step f (answer_event o answer now) stood))
+    (goes_asking : (stood : Option Stood) → StepAsks f (family_step f (answer_event o answer now) stood))
     (no_votes : (stood : Option Stood) (number : ℕ) (vote : Vote) → Contains (family_step f (answer_event o answer now) stood).effects (effects.Voted number vote) → ⊥)
     (marks : MarkAlone (hears o.number (heard_in answer) f)) where
   abbrev key : ObjectKey
@@ -178,6 +161,69 @@ module _ (laws : FamilyLaws) (journals : JournalLaws) (nodes : NodesStaySound) (
       ∙ ap (λ (x : ℕ). asks asked x n.found s.disk s.stop) disk_follows.service
       ∙ ap (λ (x : Found). asks asked (service_at place) x s.disk s.stop) found
 
+  -- its decision stands, and isn't told again
+  sound : KeepsDecisions (edge_at w place) n
+  sound = (k.nodes place n node_up).sound
+
+  decision : HasDecision n f done
+  decision = nodes.closes (edge_at w place) f.key.slot done f e n sound slotted wants
+
+  can : CanAsk asked (found_in rs)
+  can = can_close place rs s.disk order decision.stood (subst (λ (x : Found). Contains x.standing decision.stood) found decision.there)
+      (own_decision f decision.stood.item decision.own) done decision.at
+
+  -- ---- the family remembers that it asked
+
+  known_f : FamilyIsKnown w (lines_of told) f
+  known_f = k.families key f found_here
+
+  asks_is : StepIs w f (shut f) [] []
+  asks_is = record {
+    key = refl;
+    sound = known_f.sound;
+    tidy = tidy_of w told k key f found_here;
+    turn = tt;
+    rows = refl;
+    registrations = refl;
+    on = λ r listed. listed;
+    back = λ r listed. listed;
+    kept = kept_step f.completion f.completion [] (kept_itself f.completion);
+    speaks = speaks_of laws.causes f known_f.sound;
+    heard = λ number vote among. let l = among.1 in absurd (omega (arith, l));
+    outcomes = nothing_new (stages.outcome f.completion);
+    stays = λ fixed is. is;
+    serial = omega arith;
+    numbered = tt;
+    rest = tt;
+    leads = tt;
+    ready = known_f.ready;
+    asks = λ number notice waits asking. inl (waits, asking);
+  }
+    where
+      nothing_new : (o : Option Outcome) → [] ≡ filter_map decided_in (fixed_now o o)
+      nothing_new None = refl
+      nothing_new (Some fixed) = refl
+
+  -- the node in which it does
+  abbrev n1 : Node
+  n1 = shut_node n f slotted (edge_at w place) sound
+
+  abbrev s1 : Seat
+  s1 = record s { server = OfNode (Some n1) }
+
+  abbrev w1 : World
+  w1 = with_seat place s1 w
+
+  known_1 : Known w1 told
+  known_1 = subst (Known w1) (append-nil told)
+      (step_known w place s n f (shut f) there up slotted at_place told k key found_here (cast_of f) (record { key = refl; registrations = refl }) [] [] asks_is [] [] (shut_keeps n f slotted (edge_at w place) sound) known_f.came)
+
+  there_1 : slice_get w1.seats place ≡ Some s1
+  there_1 = get_set w.seats place s s1 there
+
+  held_1 : records_at w1 place ≡ Some rs
+  held_1 = ap (λ (x : Option Seat). option_and_then (λ (y : Seat). records_on (service_at place) y.disk) x) there_1 ∙ disk_follows.held
+
   -- ---- it answers
 
   module _ (stood : Option Stood) (disk : DiskState) (stop : Option Stop)
@@ -189,7 +235,7 @@ module _ (laws : FamilyLaws) (journals : JournalLaws) (nodes : NodesStaySound) (
     g = step.family
 
     leaves : AskingLeaves (service_at place) rs asked stood disk
-    leaves = journals.keep asked (service_at place) rs s.disk s.stop stood disk stop order (subst (CanAsk asked) found can) answered_so
+    leaves = journals.keep asked (service_at place) rs s.disk s.stop stood disk stop order can answered_so
 
     more : (x : Option ℕ) × (leaves.more ≡ added x)
     more = wanted_more done leaves.more leaves.asked
@@ -210,90 +256,94 @@ module _ (laws : FamilyLaws) (journals : JournalLaws) (nodes : NodesStaySound) (
     was : (h : Held) → Contains n.recovered h → WasHeld n.recovered h
     was h c = record { before = h; there = c; same_place = refl; numbers = refl; references = refl }
 
-    whole_by : (x : Option Stood) (h : Held) → m.found ≡ journaled asked x n.found → Contains n.recovered h → IsHeldWhole m h
-    whole_by (Some (answers.Stands at)) h is c =
-        let old = whole h c in
-        record {
-          stood = old.stood;
-          stands = subst (λ (x : Found). Contains x.standing old.stood) (sym is)
-              (stands_still done n.found.standing old.stood old.stands (λ same. apart h c (sym old.same_place ∙ same)));
-          same_place = old.same_place;
-          registrations = old.registrations;
-        }
-    whole_by (Some (answers.Full used need)) h is c = held_whole n m is whole h (inl (was h c))
-    whole_by (Some (answers.Unsure why)) h is c = held_whole n m is whole h (inl (was h c))
-    whole_by None h is c = held_whole n m is whole h (inl (was h c))
-
     node_now : (steps_to n f e stood step).node ≡ with_family g m
     node_now = ap (λ (x : Option Wanted). with_family g (record n { found = journaled x stood n.found })) wants
 
-    sound_now : IsSoundNode (with_family g m)
+    abbrev edge : ℕ
+    edge = journal_end (rs ++ added more.0)
+
+    grows : edge_at w place ≤ edge
+    grows = subst (λ (i : ℕ). i ≤ edge) (sym (edge_is w place rs held)) (end_grows rs (added more.0))
+
+    sound_now : KeepsDecisions edge (with_family g m)
     sound_now =
-        subst IsSoundNode (ap (λ (a : Applied). a.node) (applied_is stood) ∙ node_now)
-        (nodes.called key e stood n (λ item at is so. absurd (not_appended (sym wants_it ∙ is))) (k.nodes place n node_up).sound)
+        subst (KeepsDecisions edge) (ap (λ (a : Applied). a.node) (applied_is stood) ∙ node_now)
+        (nodes.called (edge_at w place) edge key e stood n grows (λ item at is so. absurd (not_appended (sym wants_it ∙ is)))
+        (λ x at called is so. absurd (not_read (sym wants_it ∙ is))) sound)
       where
         not_appended : {item : JournalRecord} → asked ≡ Some (Appends item) → ⊥
         not_appended same = cc
 
-    sound_m : IsSoundNode m
-    sound_m =
-        let old = (k.nodes place n node_up).sound in
-        record {
-          slots = old.slots;
-          families = λ i x at. let was = old.families i x at in
-              (record { of_service = was.0.of_service; of_life = was.0.of_life ∙ same_life stood n.found; own_slot = was.0.own_slot; given = was.0.given }, was.1);
-          last = old.last;
-          numbers = old.numbers;
-          order = sound_now.order;
-          decisions = λ x c is. old.decisions x (was_standing done stood n.found x c) is;
-        }
-      where
-        same_life : (x : Option Stood) (was : Found) → was.life ≡ (journaled asked x was).life
-        same_life (Some (answers.Stands at)) was = refl
-        same_life (Some (answers.Full used need)) was = refl
-        same_life (Some (answers.Unsure why)) was = refl
-        same_life None was = refl
+        not_read : asked ≡ Some Rereads → ⊥
+        not_read same = cc
 
-    goes : (c : Node) → Some m ≡ Some c → GoesOn n c rs more.0
-    goes c is = subst (λ (x : Node). GoesOn n x rs more.0) (some_same is)
+    -- the node in which the Done is written, and the family remembers that it asked
+    abbrev m1 : Node
+    m1 = record n1 { found = journaled asked stood n.found }
+
+    whole_now : (h : Held) → Contains n.recovered h → IsHeldWhole m1 h
+    whole_now h c =
+        let old = whole h c in
+        record {
+          stood = old.stood;
+          stands = is_standing done stood n.found old.stood (λ same. decision.untold h c (sym old.same_place ∙ same)) old.stands;
+          same_place = old.same_place;
+          registrations = old.registrations;
+        }
+
+    goes : (c : Node) → Some m1 ≡ Some c → GoesOn n1 c rs more.0
+    goes c is = subst (λ (x : Node). GoesOn n1 x rs more.0) (some_same is)
         (record {
           service = refl;
           generation = refl;
           families = refl;
           found = found_then;
-          sound = sound_m;
+          sound = written_keeps n f slotted (edge_at w place) sound done stood decision sound_now.sound.order edge grows;
           was = was;
-          whole = λ h c. whole_by stood h refl c;
+          whole = whole_now;
         })
       where
         some_same : {a b : Node} → Some a ≡ Some b → a ≡ b
         some_same same = cc
 
-    -- the world in which the Done is written, and the family is as it was
     abbrev left : Seat
-    left = record s { disk = disk; stop = stop; server = OfNode (Some m) }
+    left = record s1 { disk = disk; stop = stop; server = OfNode (Some m1) }
 
     abbrev v : World
-    v = with_seat place left w
+    v = with_seat place left w1
 
     written : Known v (told ++ [])
-    written = gone_on_known journals.grow journals.read w place s n told there up k rs held more.0 disk order_then stop (Some m) goes [] tt
+    written = gone_on_known journals.grow journals.read w1 place s1 n1 told there_1 refl known_1 rs held_1 more.0 disk order_then stop (Some m1) goes [] tt
 
     known_v : Known v told
     known_v = subst (Known v) (append-nil told) written
 
     there_v : slice_get v.seats place ≡ Some left
-    there_v = get_set w.seats place s left there
+    there_v = get_set w1.seats place s1 left there_1
 
-    found_v : family_at v key ≡ Some f
-    found_v = family_found v key f (record { seat = left; node = m; there = ap (slice_get v.seats) own_place ∙ there_v; up = refl; slotted = slot.0; own = slot.1 })
+    records_v : records_at v place ≡ Some (rs ++ added more.0)
+    records_v = ap (λ (x : Option Seat). option_and_then (λ (y : Seat). records_on (service_at place) y.disk) x) there_v
+        ∙ journals.read (service_at place) disk.reads (rs ++ added more.0) order_then.stands
+
+    slotted_v : family_in m1.families f.key.slot ≡ Some (shut f)
+    slotted_v = seats.in_own_slot n f (shut f) refl slotted
+
+    found_v : family_at v key ≡ Some (shut f)
+    found_v = family_found v key (shut f) (record {
+      seat = left;
+      node = m1;
+      there = ap (slice_get v.seats) own_place ∙ there_v;
+      up = refl;
+      slotted = ap (family_in m1.families) parts.2 ∙ slotted_v;
+      own = slot.1;
+    })
 
     same_key : g.key ≡ f.key
     same_key = laws.numbers.key f e stood
 
     entries_came : (x : Entry) (r : RetryKey) → Contains g.entries x → x.event.key ≡ Some r → HasMessage v r
     entries_came x r among by = elim (entry_cases laws f e stood x among) [
-      | inl was ↦ (k.families key f found_here).came x r was by
+      | inl was ↦ known_f.came x r was by
       | inr new ↦ absurd (no (ap (λ (y : Event). y.key) (sym new) ∙ by))
     ]
       where
@@ -303,13 +353,49 @@ module _ (laws : FamilyLaws) (journals : JournalLaws) (nodes : NodesStaySound) (
     abbrev lines : List Told
     lines = all_effect_lines v (cast_of g) step.effects ++ all_finished_lines g.entries step.finished
 
+    -- what the family goes on as, from there
+    step_is : StepIs v (shut f) g step.effects step.words
+    step_is =
+        let x : StepIs v f g step.effects step.words = keeps_is laws f e stood (no_votes stood) known_f.sound (keeps stood) (goes_asking stood) in
+        record {
+          key = x.key;
+          sound = x.sound;
+          tidy = x.tidy;
+          turn = x.turn;
+          rows = x.rows;
+          registrations = x.registrations;
+          on = x.on;
+          back = x.back;
+          kept = x.kept;
+          speaks = x.speaks;
+          heard = λ number vote among. absurd (no_votes stood number vote among);
+          outcomes = x.outcomes;
+          stays = x.stays;
+          serial = x.serial;
+          numbered = x.numbered;
+          rest = x.rest;
+          leads = x.leads;
+          ready = x.ready;
+          asks = x.asks;
+        }
+
+    one_node : with_family g m1 ≡ with_family g m
+    one_node = ap (λ (fs : List (Option Family)). record m { families = fs })
+        (ap (λ (i : ℕ). slice_set (slice_set n.families i (Some (shut f))) g.key.slot (Some g)) (ap (λ (x : ObjectKey). x.slot) (sym same_key))
+        ∙ set_twice n.families g.key.slot (Some (shut f)) (Some g))
+
+    abbrev then_with : Node → World
+    then_with c = with_seat place (record left { server = OfNode (Some c) }) v
+
     abbrev u : World
-    u = with_seat place (record left { server = OfNode (Some (with_family g m)) }) v
+    u = then_with (with_family g m)
 
     gone : Known (requests_all place step.words u).world ((told ++ lines) ++ (requests_all place step.words u).lines)
     gone =
-        words_gone v place left m f g there_v refl slotted at_place told known_v key found_v (cast_of g) same_key step.effects step.words
-        (keeps_is laws f e stood (no_votes stood) (k.families key f found_here).sound (keeps stood)) g.entries step.finished sound_now entries_came
+        subst (λ (c : Node). Known (requests_all place step.words (then_with c)).world ((told ++ lines) ++ (requests_all place step.words (then_with c)).lines)) one_node
+        (words_gone v place left m1 (shut f) g there_v refl slotted_v at_place told known_v key found_v (cast_of g)
+        (record { key = same_key; registrations = (keeps stood).registrations }) step.effects step.words
+        step_is g.entries step.finished (edge_held v place (rs ++ added more.0) (with_family g m1) records_v (subst (KeepsDecisions edge) (sym one_node) sound_now)) entries_came)
 
     -- ---- that is what comes of the answer
 
@@ -322,7 +408,7 @@ module _ (laws : FamilyLaws) (journals : JournalLaws) (nodes : NodesStaySound) (
         (subst (λ (x : ObjectKey). IsTrue (is_of key (record g { key = x }))) (sym same_key) slot.1)
 
     refers : (to : List ℕ) → referred v to ≡ referred w to
-    refers to = referred_by w v to refl (seat_names_kept w place s left there refl)
+    refers to = referred_by w1 v to refl (seat_names_kept w1 place s1 left there_1 refl) ∙ referred_by w w1 to refl (seat_names_kept w place s s1 there refl)
 
     abbrev said_lines : List Told
     said_lines = answer_told w (cast_by (family_for key e (steps_to n f e stood step).node) e n) (entries_of (family_for key e (steps_to n f e stood step).node)) (Ok (answer_of f step))
@@ -339,13 +425,11 @@ module _ (laws : FamilyLaws) (journals : JournalLaws) (nodes : NodesStaySound) (
     world_now =
         ap put node_now
         ∙ on_seat_twice place (λ (x : Seat). record x { disk = disk; stop = stop }) (λ (x : Seat). record x { server = OfNode (Some (with_family g m)) }) w s there
-        ∙ sym (ap (λ (xs : List Seat). record w { seats = xs }) (seats_twice w.seats place))
+        ∙ sym (ap (λ (xs : List Seat). record w { seats = xs })
+        (set_twice (slice_set w.seats place s1) place left final ∙ set_twice w.seats place s1 final))
       where
-        seats_twice : (xs : List Seat) (i : ℕ) → slice_set (slice_set xs i left) i (record left { server = OfNode (Some (with_family g m)) })
-            ≡ slice_set xs i (record left { server = OfNode (Some (with_family g m)) })
-        seats_twice [] i = refl
-        seats_twice (x ∷ xs) zero = refl
-        seats_twice (x ∷ xs) (suc i) = ap (λ ys. x ∷ ys) (seats_twice xs i)
+        final : Seat
+        final = record left { server = OfNode (Some (with_family g m)) }
 
     answered_known : Known (applied_at place key e n disk stop (applies key e stood n) w).done.world (told ++ (applied_at place key e n disk stop (applies key e stood n) w).done.lines)
     answered_known =
@@ -359,7 +443,7 @@ module _ (laws : FamilyLaws) (journals : JournalLaws) (nodes : NodesStaySound) (
 
   module _ (image : List ℕ) (stops : asks asked (service_at place) (found_in rs) s.disk s.stop ≡ Stops image) where
     crash : CrashLeaves (service_at place) rs asked image
-    crash = journals.stop asked (service_at place) rs s.disk s.stop image order (subst (CanAsk asked) found can) stops
+    crash = journals.stop asked (service_at place) rs s.disk s.stop image order can stops
 
     left_more : (x : Option ℕ) × IsInOrder (service_at place) (at_first image) (rs ++ added x)
     left_more = elim crash.leaves [

@@ -1,10 +1,9 @@
 -- What is known of a world is known once an answer was heard that completes a record, of which its Done is asked of the journal; so it is
 -- where the node goes down inside the write.
-use Rattle.std.proofs.Common.{◌≡◌, ◌≢◌, inl, inr, ℕ, zero, suc, ◌+◌, ◌^◌, ◌<◌, ◌≤◌, ◌==◌, ◌&&◌, Bool, true, false, not, cond, is_some, IsTrue, if◌then◌else◌, List, [], ◌∷◌, ◌++◌, map, length, append-nil, get_or, slice_get, length-append, Any, Contains, Option, Some, None, refl, sym, ap, subst, ◌∙◌, arith}
+use Rattle.std.proofs.Common.{◌≡◌, ◌≢◌, inl, inr, ℕ, zero, suc, ◌^◌, ◌<◌, ◌≤◌, ◌==◌, ◌&&◌, Bool, true, false, not, cond, is_some, if◌then◌else◌, List, [], ◌∷◌, ◌++◌, map, length, append-nil, get_or, slice_get, length-append, Any, Contains, Option, Some, None, refl, sym, ap, subst, ◌∙◌, arith}
 use Rattle.std.specs.List.{AllByRecursion, flat_map, list_any}
 use Rattle.std.specs.Option.{option_and_then, option_map}
 use Rattle.std.proofs.lemmas.Bool.Decides.{nat_tests}
-use Rattle.std.proofs.lemmas.List.Elements.{Contains-append_cases}
 use Rattle.std.proofs.lemmas.List.Folds.{list_any-from_Any}
 use Rattle.ior_refs.specs.declared.key.ObjectKey.{ObjectKey}
 use Rattle.ots_model.specs.declared.completion.CallNumber.{CallNumber}
@@ -33,11 +32,11 @@ use Rattle.coordinator.specs.declared.said.Said.{Said}
 use Rattle.coordinator.specs.Family.{Family}
 use Rattle.coordinator.specs.Node.{Node, family_of, life}
 use Rattle.coordinator.specs.NodeCalls.{Applied, RetoldAnswer, answers_recovered, applied_by, applies, by_records, call_wants, done_told, done_wanted, family_for, hears_record, journaled, records_hear, records_want, records_with, refuses, retold_answer, wanted_by}
-use Rattle.coordinator.specs.Step.{Wanted, Appends, WritesDone}
+use Rattle.coordinator.specs.Step.{Wanted, Appends, WritesDone, Rereads}
 use Rattle.family_laws.specs.HeldRecords.{HeldRecordsStood, WasHeld}
-use Rattle.family_laws.specs.SoundNode.{IsSoundNode, NodesStaySound}
+use Rattle.family_laws.specs.OwnDecisions.{KeepsDecisions, NodesKeepDecisions}
 use Rattle.nodes_world.specs.Agreement.{FollowsDisk, IsHeldWhole, records_at}
-use Rattle.nodes_world.specs.AgreementInside.{Known, placed}
+use Rattle.nodes_world.specs.AgreementInside.{Known, edge_at, journal_end}
 use Rattle.nodes_world.specs.AgreementSteps.{StaysKnown}
 use Rattle.nodes_world.specs.Deliveries.{answer_event, heard_in}
 use Rattle.nodes_world.specs.Disks.{Stop}
@@ -52,11 +51,12 @@ use Rattle.nodes_world.specs.Told as tell
 use Rattle.nodes_world.specs.Told.{Told}
 use Rattle.nodes_world.specs.World.{World, Seat, OfNode, node_at}
 use Rattle.nodes_world.proofs.DoneKnown.{GoesOn, added, gone_on_known, is_done_line, stands_still}
+use Rattle.nodes_world.proofs.Edges.{edge_is, end_grows, places_end}
 use Rattle.nodes_world.proofs.Going.{on_seat_twice}
 use Rattle.nodes_world.proofs.KnownTelling.{IsOne}
 use Rattle.nodes_world.proofs.KnownWorlds.{node_there}
 use Rattle.nodes_world.proofs.LoadedLines.{all_both}
-use Rattle.nodes_world.proofs.LoadedNodes.{one_of, standing_placed}
+use Rattle.nodes_world.proofs.LoadedNodes.{standing_placed}
 use Rattle.nodes_world.proofs.SoundNodes.{held_whole}
 
 -- the laws of journals on which this rests
@@ -104,16 +104,6 @@ decision_named (CellsPrepared in_life number recovery puts) some = absurd (some 
 decision_named (CellsOutcome place how) some = absurd (some refl)
 decision_named (CellsOnePhase in_life number puts) some = absurd (some refl)
 
--- records end where their octets do
-places_end : (gate : ℕ) (rs : List JournalRecord) (s : Standing) → Contains (placed gate rs) s → s.place ≤ gate + length (flat_map record_octets rs)
-places_end gate [] s (i, less, is) = absurd (omega (arith, less))
-places_end gate (r ∷ rs) s c =
-    let both = length-append (record_octets r) (flat_map record_octets rs) in
-    elim (Contains-append_cases (record { place = gate; item = r } ∷ []) (placed (gate + length (record_octets r)) rs) s c) [
-      | inl first ↦ let same = ap (λ (x : Standing). x.place) (one_of (record { place = gate; item = r }) s first) in omega (arith, same)
-      | inr later ↦ let less = places_end (gate + length (record_octets r)) rs s later in omega (arith, less, both)
-    ]
-
 equal_places : (a b : ℕ) → a ≡ b → (a == b) ≡ true
 equal_places a b is = grind (arith, nat_tests)
 
@@ -121,6 +111,22 @@ both_true : (a b : Bool) → a ≡ true → b ≡ true → (a && b) ≡ true
 both_true true true one other = refl
 both_true false b one other = absurd cc
 both_true true false one other = absurd cc
+
+-- a journal can be asked for the Done of a decision that stands
+pub can_close : (place : ℕ) (rs : List JournalRecord) (disk : DiskState) → IsInOrder (service_at place) disk rs → (stood : Standing) → Contains (found_in rs).standing stood
+    → is_decision stood.item ≡ true → (done : ℕ) → stood.place ≡ done → CanAsk (Some (WritesDone done)) (found_in rs)
+can_close place rs disk order stood stands decision done at = (fits, so)
+  where
+    so : list_any (is_decision_at done) (found_in rs).standing ≡ true
+    so = list_any-from_Any (is_decision_at done) (found_in rs).standing
+        (stands.0, stood, stands.1, stands.2, both_true _ _ (equal_places stood.place done at) decision)
+
+    fits : done < 2 ^ 32
+    fits =
+        let end = places_end first_gate rs stood (standing_placed rs stood stands) in
+        let both = length-append (header (service_at place)) (flat_map record_octets rs) in
+        let within = order.stands.within in
+        omega (arith, end, both, within, at)
 
 -- what is left of records isn't at the place of the one that went
 not_left : (place : ℕ) (xs : List Held) (y : Held) → Contains (without place xs) y → y.place ≢ place
@@ -188,7 +194,7 @@ module _ (place now : ℕ) (o : Outward) (answer : Said) (n : Node) (again : o.n
   unfolding call_wants
   wants_again = ap (λ (x : Option Family). wanted_by x record_event n) for_none ∙ ap (λ (x : Option RetoldAnswer). records_want x n) retold_so
 
-module _ (laws : JournalLaws) (nodes : NodesStaySound) (stood_law : HeldRecordsStood) (w : World) (place now : ℕ) (o : Outward) (answer : Said) (s : Seat) (n : Node) (done : ℕ)
+module _ (laws : JournalLaws) (nodes : NodesKeepDecisions) (stood_law : HeldRecordsStood) (w : World) (place now : ℕ) (o : Outward) (answer : Said) (s : Seat) (n : Node) (done : ℕ)
     (there : slice_get w.seats place ≡ Some s) (up : s.server ≡ OfNode (Some n)) (again : o.number.slot == retold_slot ≡ true)
     (completes : completed (life n) o.number (heard_in answer) n.recovered ≡ Some done) (told : List Told) (k : Known w told) where
   abbrev key : ObjectKey
@@ -253,19 +259,7 @@ module _ (laws : JournalLaws) (nodes : NodesStaySound) (stood_law : HeldRecordsS
   found = disk_follows.found
 
   can : CanAsk wanted (found_in rs)
-  can = (fits, subst (λ (f : Found). IsTrue (list_any (is_decision_at done) f.standing)) found so)
-    where
-      so : list_any (is_decision_at done) n.found.standing ≡ true
-      so = list_any-from_Any (is_decision_at done) n.found.standing
-          (stands.stands.0, stands.stood, stands.stands.1, stands.stands.2, both_true _ _ (equal_places stands.stood.place done at_done) decision)
-
-      fits : done < 2 ^ 32
-      fits =
-          let end = places_end first_gate rs stands.stood (standing_placed rs stands.stood (subst (λ (f : Found). Contains f.standing stands.stood) found stands.stands)) in
-          let both = length-append (header (service_at place)) (flat_map record_octets rs) in
-          let within = order.stands.within in
-          let at = at_done in
-          omega (arith, end, both, within, at)
+  can = can_close place rs s.disk order stands.stood (subst (λ (f : Found). Contains f.standing stands.stood) found stands.stands) decision done at_done
 
   asked_is : asks (call_wants key e n) n.service n.found s.disk s.stop ≡ asks wanted (service_at place) (found_in rs) s.disk s.stop
   asked_is =
@@ -335,14 +329,20 @@ module _ (laws : JournalLaws) (nodes : NodesStaySound) (stood_law : HeldRecordsS
       generation = refl;
       families = refl;
       found = found_then;
-      sound = subst (λ (a : Applied). IsSoundNode a.node) applied_is
-          (nodes.called key e stood n (λ item at is so. absurd (not_appended (sym call_wants_it ∙ is))) (k.nodes place n node_up).sound);
+      sound = subst (λ (a : Applied). KeepsDecisions (journal_end (rs ++ added more.0)) a.node) applied_is
+          (nodes.called (edge_at w place) (journal_end (rs ++ added more.0)) key e stood n
+          (subst (λ (i : ℕ). i ≤ journal_end (rs ++ added more.0)) (sym (edge_is w place rs held)) (end_grows rs (added more.0)))
+          (λ item at is so. absurd (not_appended (sym call_wants_it ∙ is))) (λ x at called is so. absurd (not_read (sym call_wants_it ∙ is)))
+          (k.nodes place n node_up).sound);
       was = was_held;
       whole = λ h c. whole_by stood h found_m (subst (λ (x : List Held). Contains x h) recovered_m c) (was_held h c);
     }
       where
         not_appended : {item : JournalRecord} → wanted ≡ Some (Appends item) → ⊥
         not_appended e = cc
+
+        not_read : wanted ≡ Some Rereads → ⊥
+        not_read e = cc
 
     goes_by : (c : Node) → Some m ≡ Some c → GoesOn n c rs more.0
     goes_by c is = subst (λ (x : Node). GoesOn n x rs more.0) (some_same is) goes
@@ -399,7 +399,7 @@ module _ (laws : JournalLaws) (nodes : NodesStaySound) (stood_law : HeldRecordsS
   pub completed_known : Known (steps_node (Some n) s place key e w).done.world (told ++ (steps_node (Some n) s place key e w).done.lines)
   completed_known = by_asked (asks (call_wants key e n) n.service n.found s.disk s.stop) (sym asked_is)
 
-pub known_completes : (laws : JournalLaws) (nodes : NodesStaySound) (stood : HeldRecordsStood) (w : World) (place now : ℕ) (o : Outward) (answer : Said) (s : Seat) (n : Node)
+pub known_completes : (laws : JournalLaws) (nodes : NodesKeepDecisions) (stood : HeldRecordsStood) (w : World) (place now : ℕ) (o : Outward) (answer : Said) (s : Seat) (n : Node)
     (done : ℕ) → slice_get w.seats place ≡ Some s → s.server ≡ OfNode (Some n) → o.number.slot == retold_slot ≡ true
     → completed (life n) o.number (heard_in answer) n.recovered ≡ Some done
     → StaysKnown w (steps_node (Some n) s place (family_key place o.number) (answer_event o answer now) w).done

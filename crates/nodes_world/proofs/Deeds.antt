@@ -78,7 +78,7 @@ calls_goes : (to : ObjectKey) (act : Act) (behind : Said → World → Done) (w 
 unfolding calls
 calls_goes to act behind w goes =
     let sent = with_sent (client_message (contents.Call to act)) w in
-    goes_then w sent (acts_at (next_message w) to act behind sent).world (sends_one (client_message (contents.Call to act)) w).goes
+    goes_then w sent (acts_at (next_message w) to act behind sent).world (sends_one (client_message (contents.Call to act)) w (λ at by says. refl)).goes
     (acts_goes (next_message w) to act behind sent goes)
 
 quiet : (w : World) → Behind w answer_only
@@ -269,7 +269,7 @@ comes_goes (Some receiver) number content w = by (is_up w receiver)
     by false = still
 comes_goes None number content w = still
 
-delivers_goes : (place : ℕ) (w : World) → WorldGoesOn w (delivers place w).world
+pub delivers_goes : (place : ℕ) (w : World) → WorldGoesOn w (delivers place w).world
 unfolding delivers
 delivers_goes place w = by (slice_get w.messages place) refl
   where

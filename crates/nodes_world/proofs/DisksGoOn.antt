@@ -1,6 +1,6 @@
 -- What disks read is as before once something has come of a world, or there is more behind it: a life, or what a node has asked for
 -- that has heard an answer. A decision is then of the life in which the node is.
-use Rattle.std.proofs.Common.{◌≡◌, ℕ, ◌+◌, ◌-◌, Bool, true, false, List, [], ◌∷◌, ◌++◌, slice_get, Option, Some, None, refl, sym, ap, subst, ◌∙◌, true≢false, inl, inr}
+use Rattle.std.proofs.Common.{◌≡◌, ℕ, ◌+◌, ◌-◌, Bool, true, false, List, [], ◌∷◌, ◌++◌, slice_get, Option, Some, None, refl, sym, ap, subst, ◌∙◌, inl, inr}
 use Rattle.std.specs.Prelude.{Result, Ok, Err}
 use Rattle.std.specs.List.{AllByRecursion}
 use Rattle.ior_refs.specs.declared.key.ObjectKey.{ObjectKey}
@@ -25,7 +25,7 @@ use Rattle.nodes_world.specs.declared.message.Message.{Message}
 use Rattle.nodes_world.specs.declared.thing.Thing.{Thing}
 use Rattle.nodes_world.specs.declared.thing.Thing.TheVariants as things
 use Rattle.nodes_world.specs.AgreementInside.{Known}
-use Rattle.nodes_world.specs.AgreementSteps.{Goes, IsAlike, by_alike, by_begin, by_call, by_calling, by_crash, by_end, by_hearing, by_load, by_no_call, by_node, by_receipt, by_register, by_sub, by_tick, by_touch, by_word, kept_seat}
+use Rattle.nodes_world.specs.AgreementSteps.{Goes, IsAlike, by_alike, by_begin, by_call, by_calling, by_crash, by_end, by_hearing, by_load, by_node, by_receipt, by_register, by_sub, by_tick, by_touch, by_word, kept_seat}
 use Rattle.nodes_world.specs.Clients.{begins_at, begun_with, call_event, created, creates_sub, is_registered, registered, registered_if, registering, registers_at}
 use Rattle.nodes_world.specs.Deliveries.{hears_answer, is_waited_for}
 use Rattle.nodes_world.specs.Ends.{drawn_once, with_end, with_fresh}
@@ -210,7 +210,6 @@ module _ (grow : JournalsGrow) (safe : LoadsAreSafe) (read : RecordsAreRead) (he
   disks_go w told d k (by_calling to act asked few) = same_goes w _ (sent_same _ w)
   disks_go w told d k (by_call nth now to act m there is asked) =
       same_goes w _ (steps_same (place_of to) to (call_event (nth + 1) to act now) w (quiet_call (nth + 1) to act now asked))
-  disks_go w told d k (by_no_call nth to act m done there is new) = absurd (true≢false (sym (k.seats.calls nth m to act there is).0 ∙ new))
   disks_go w told d k (by_sub parent name free few) = same_goes w _ (sub_same w parent name)
   disks_go w told d k (by_register manner transaction place name s e there up free may few) =
       same_goes w _ (register_same w manner transaction place name s e)

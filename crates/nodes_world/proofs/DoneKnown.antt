@@ -26,10 +26,10 @@ use Rattle.coordinator.specs.Family.{Family}
 use Rattle.coordinator.specs.Node.{Node, family_in, family_of, life, only_of}
 use Rattle.coordinator.specs.NodeParts.{IsWhole}
 use Rattle.family_laws.specs.HeldRecords.{WasHeld}
-use Rattle.family_laws.specs.SoundNode.{IsSoundNode}
+use Rattle.family_laws.specs.OwnDecisions.{KeepsDecisions}
 use Rattle.nodes_world.specs.Disks.{Stop}
 use Rattle.nodes_world.specs.Agreement.{FollowsDisk, HasSent, HoldsDecisions, IsHeldWhole, has_record, records_at}
-use Rattle.nodes_world.specs.AgreementInside.{Known, DisksAreKnown, IsHeldAs, IsNamedBy, NodeIsKnown, is_prepared, placed}
+use Rattle.nodes_world.specs.AgreementInside.{Known, DisksAreKnown, IsHeldAs, IsNamedBy, NodeIsKnown, is_prepared, placed, journal_end}
 use Rattle.nodes_world.specs.Journals.{records_on}
 use Rattle.nodes_world.specs.Laws.{IsInOrder, RecordsAreRead}
 use Rattle.nodes_world.specs.Objects.{place_of, service_at}
@@ -37,6 +37,7 @@ use Rattle.nodes_world.specs.Told as tell
 use Rattle.nodes_world.specs.Told.{Told, known}
 use Rattle.nodes_world.specs.World.{World, Seat, Server, OfNode, end_in, family_at, node_at, node_in, with_seat}
 use Rattle.nodes_world.proofs.Deeds.{node_is_up}
+use Rattle.nodes_world.proofs.Edges.{edge_held}
 use Rattle.nodes_world.proofs.Going.{get_set}
 use Rattle.nodes_world.proofs.KnownLines.{among_back, among_turned, lines_of}
 use Rattle.nodes_world.proofs.KnownTelling.{IsOne, TellsOn, allowed_on, is_bare, tells_on}
@@ -175,7 +176,7 @@ pub record GoesOn (n m : Node) (rs : List JournalRecord) (more : Option ℕ) : T
   pub generation : m.generation ≡ n.generation
   pub families : m.families ≡ n.families
   pub found : m.found ≡ found_in (rs ++ added more)
-  pub sound : IsSoundNode m
+  pub sound : KeepsDecisions (journal_end (rs ++ added more)) m
   pub was : (h : Held) → Contains m.recovered h → WasHeld n.recovered h
   pub whole : (h : Held) → Contains m.recovered h → IsHeldWhole m h
 
@@ -285,7 +286,7 @@ module _ (grow : JournalsGrow) (read : RecordsAreRead) (w : World) (place : ℕ)
   node_then m on =
       let old = k.nodes place n node_up in
       record {
-        sound = on.sound;
+        sound = edge_held v place rs_then m records_there on.sound;
         given = λ name key named at in_life.
             let less = old.given name key named at (in_life ∙ life_is m on) in
             subst (λ (g : ℕ). key.generation ≤ g) (sym on.generation) less;
@@ -357,14 +358,14 @@ module _ (grow : JournalsGrow) (read : RecordsAreRead) (w : World) (place : ℕ)
         (λ is. (rs_then, inl order.stands, records_there))
         (λ p x old same is. let was = k.disks.held p x o old is in (was.0, was.1, records_other p same ∙ was.2)) p x;
     whole = λ p x c. seats_by (λ (p : ℕ) (x : Seat). x.server ≡ OfNode (Some c) → IsWhole c)
-        (λ is. let on = goes_by c is in node_whole place c (of_service c on) on.sound on.whole)
+        (λ is. let on = goes_by c is in node_whole place c (of_service c on) on.sound.sound on.whole)
         (λ p x old same is. k.disks.whole p x c old is) p x;
     follows = λ p x c. seats_by (λ (p : ℕ) (x : Seat). x.server ≡ OfNode (Some c) → FollowsDisk p x c)
         (λ is. let on = goes_by c is in
         record { service = of_service c on; records = rs_then; held = read (service_at place) disk.reads rs_then order.stands; found = on.found; settled = order.settled })
         (λ p x old same is. k.disks.follows p x c old is) p x;
     decisions = λ p x c. seats_by (λ (p : ℕ) (x : Seat). x.server ≡ OfNode (Some c) → HoldsDecisions p c)
-        (λ is. let on = goes_by c is in node_holds place c (of_service c on) on.sound on.whole)
+        (λ is. let on = goes_by c is in node_holds place c (of_service c on) on.sound.sound on.whole)
         (λ p x old same is. k.disks.decisions p x c old is) p x;
     rise = λ before behind server in_life earlier e stands.
         let was = tells.split (lines.Up server in_life) before behind refl e in

@@ -1,5 +1,5 @@
 -- Which lines tell of what happened to a family, and of which of these things each line tells.
-use Rattle.std.proofs.Common.{◌≡◌, inl, inr, ℕ, zero, suc, ◌<◌, Bool, List, [], ◌∷◌, length, get_or, Contains, Option, Some, None, refl, sym, ap, subst, arith}
+use Rattle.std.proofs.Common.{◌≡◌, inl, inr, ℕ, zero, suc, ◌<◌, Bool, IsTrue, is_some, List, [], ◌∷◌, length, get_or, Contains, Option, Some, None, refl, sym, ap, subst, arith}
 use Rattle.std.specs.List.{AllByRecursion}
 use Rattle.std.proofs.lemmas.List.Elements.{Contains-append_cases, Contains-append_left, Contains-append_right}
 use Rattle.ots_model.specs.Safe.{Stands}
@@ -7,6 +7,7 @@ use Rattle.ots_model.specs.declared.completion.Ground.{Ground}
 use Rattle.ots_model.specs.declared.completion.Outcome.{Outcome as ToldOutcome}
 use Rattle.ots_model.specs.declared.completion.Outcome.TheVariants as told_outcomes
 use Rattle.ots_model.specs.declared.completion.Reason.{Reason as ToldReason}
+use Rattle.ots_model.specs.declared.completion.Vote.{Vote}
 use Rattle.ots_model.specs.declared.completion.Reason.TheVariants as told_reasons
 use Rattle.ots_model.specs.declared.line.Line.{Line}
 use Rattle.ots_model.specs.declared.line.Line.TheVariants as lines
@@ -22,7 +23,6 @@ use Rattle.nodes_world.specs.Happenings.{Cast, all_effect_lines, branch_name, de
 use Rattle.nodes_world.specs.Told as tell
 use Rattle.nodes_world.specs.Told.{Told, known}
 use Rattle.nodes_world.specs.World.{World}
-use Rattle.nodes_world.proofs.RulesKeep.{IsPlainReason}
 
 -- ---- lines among what is told
 
@@ -164,6 +164,12 @@ module _ (w : World) (c : Cast) where
       inner e = cc
   named_told say None name is = absurd cc
 
+  pub voted_told : (some : List Effect) (number : ℕ) (vote : Vote) (name : List ℕ) → Contains some (effects.Voted number vote) → registered w c number ≡ Some name
+      → Contains (all_effect_lines w c some) (tell.Known (lines.Voted name vote))
+  unfolding effect_lines
+  voted_told some number vote name among named =
+      effect_among some (effects.Voted number vote) _ among (named_told (λ (x : List ℕ). tell.Known (lines.Voted x vote)) (registered w c number) name named)
+
   pub end_told : (some : List Effect) (b : ℕ) (committed : Bool) (t : List ℕ) → Contains some (effects.SubtransactionEnded b committed) → branch_name w c b ≡ Some t
       → Contains (all_effect_lines w c some) (tell.Known (lines.SubDone t committed))
   unfolding effect_lines
@@ -190,15 +196,30 @@ rolled_among a b name on (agreed.IsRolledBack.by_synchronization reason synchron
 other_told : (name reason : List ℕ) → IsRolledBack (tell.RolledBack name reason ∷ []) name
 other_told name reason = agreed.IsRolledBack.by_other reason (at_first _ _ [] refl)
 
+-- whom a rollback's reason speaks of has a name, and is no synchronization
+abbrev pub IsNamedReason : World → Cast → Reason → Type 0
+IsNamedReason w c (reasons.Vote g) = IsTrue (is_some (registered w c g))
+IsNamedReason w c (reasons.PrepareLost g) = IsTrue (is_some (registered w c g))
+IsNamedReason w c (reasons.PrepareStarved g) = IsTrue (is_some (registered w c g))
+IsNamedReason w c (reasons.PrepareFault g) = IsTrue (is_some (registered w c g))
+IsNamedReason w c (reasons.SyncLost s) = ⊥
+IsNamedReason w c (reasons.SyncStarved s) = ⊥
+IsNamedReason w c _ = Unit {0}
+
+reason_named : (why : List ℕ → ToldReason (List ℕ)) (name : List ℕ) (o : Option (List ℕ)) → IsTrue (is_some o)
+    → IsRolledBack (naming (λ (object : List ℕ). tell.Known (lines.Decide name (told_outcomes.Rollback (why object)))) o) name
+reason_named why name (Some object) there = agreed.IsRolledBack.by_known (why object) (inl refl)
+reason_named why name None there = absurd cc
+
 module _ (w : World) (c : Cast) where
-  reason_told : (why : Reason) (name : List ℕ) → IsPlainReason why → IsRolledBack (rollback_lines w c name why) name
+  reason_told : (why : Reason) (name : List ℕ) → IsNamedReason w c why → IsRolledBack (rollback_lines w c name why) name
   reason_told reasons.Asked name plain = other_told name _
   reason_told reasons.Marked name plain = other_told name _
   reason_told reasons.Timeout name plain = other_told name _
-  reason_told (reasons.Vote g) name plain = absurd plain
-  reason_told (reasons.PrepareLost g) name plain = absurd plain
-  reason_told (reasons.PrepareStarved g) name plain = absurd plain
-  reason_told (reasons.PrepareFault g) name plain = absurd plain
+  reason_told (reasons.Vote g) name there = reason_named told_reasons.Vote name (registered w c g) there
+  reason_told (reasons.PrepareLost g) name there = reason_named told_reasons.PrepareLost name (registered w c g) there
+  reason_told (reasons.PrepareStarved g) name there = reason_named told_reasons.PrepareStarved name (registered w c g) there
+  reason_told (reasons.PrepareFault g) name there = reason_named told_reasons.PrepareFault name (registered w c g) there
   reason_told (reasons.SyncLost s) name plain = absurd plain
   reason_told (reasons.SyncStarved s) name plain = absurd plain
   reason_told (reasons.JournalFull used need) name plain = agreed.IsRolledBack.by_known (told_reasons.JournalFull used need) (inl refl)
@@ -207,7 +228,7 @@ module _ (w : World) (c : Cast) where
   reason_told reasons.NotEnlisted name plain = other_told name _
 
   -- a rollback for such a reason is told
-  pub rollback_told : (some : List Effect) (why : Reason) (name : List ℕ) → IsPlainReason why → Contains some (effects.Decided (outcomes.Rollback why))
+  pub rollback_told : (some : List Effect) (why : Reason) (name : List ℕ) → IsNamedReason w c why → Contains some (effects.Decided (outcomes.Rollback why))
       → branch_name w c 0 ≡ Some name → IsRolledBack (all_effect_lines w c some) name
   unfolding effect_lines
   rollback_told some why name plain among named =

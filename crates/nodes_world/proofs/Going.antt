@@ -19,7 +19,7 @@ use Rattle.nodes_world.specs.World.{World, Seat, Server, OfNode, OfEnd, FlatEnd,
 use Rattle.nodes_world.specs.Happenings.{Done, new_message, requests, requests_all, replies}
 use Rattle.nodes_world.specs.Nodes.{Stepping, steps, steps_by, steps_node, crashes, crashes_seat, happens, happens_all, ticks_node}
 use Rattle.nodes_world.specs.Ends.{with_end, with_resource, with_resource_at}
-use Rattle.nodes_world.specs.Changes.{SeatBecomes, by_call, by_crash_inside, by_end, by_tick, EndBecomes, by_change, ResourceBecomes, WorldBecomes, by_seat, by_sending, by_message, WorldGoesOn, still, further, asked_of, left_with, MessageBecomes}
+use Rattle.nodes_world.specs.Changes.{CallIsDelivered, SeatBecomes, by_call, by_crash_inside, by_end, by_tick, EndBecomes, by_change, ResourceBecomes, WorldBecomes, by_seat, by_sending, by_message, WorldGoesOn, still, further, asked_of, left_with, MessageBecomes}
 
 -- ---- places of a list
 
@@ -81,12 +81,12 @@ seat_becomes place s later w v there change is =
 
 -- ---- messages
 
-pub sends_one : (m : Message) (w : World) → GoesUnnamed w (with_sent m w)
-sends_one m w = once w (with_sent m w) (by_sending m) refl
+pub sends_one : (m : Message) (w : World) → CallIsDelivered m → GoesUnnamed w (with_sent m w)
+sends_one m w delivered = once w (with_sent m w) (by_sending m delivered) refl
 
 pub requests_unnamed : (place : ℕ) (o : Outward) (w : World) → GoesUnnamed w (requests place o w).world
 unfolding requests
-requests_unnamed place o w = sends_one (new_message (contents.Request place o)) w
+requests_unnamed place o w = sends_one (new_message (contents.Request place o)) w (λ to act says. cc)
 
 pub requests_all_unnamed : (place : ℕ) (some : List Outward) (w : World) → GoesUnnamed w (requests_all place some w).world
 requests_all_unnamed place [] w = stays w
@@ -96,7 +96,7 @@ requests_all_unnamed place (o ∷ others) w =
 
 pub replies_unnamed : (request : ℕ) (answer : Said) (w : World) → GoesUnnamed w (replies request answer w).world
 unfolding replies
-replies_unnamed request answer w = sends_one (new_message (contents.Reply request answer)) w
+replies_unnamed request answer w = sends_one (new_message (contents.Reply request answer)) w (λ to act says. cc)
 
 -- something becomes of a message that is there
 pub message_becomes : (place : ℕ) (m later : Message) (w : World) → slice_get w.messages place ≡ Some m → MessageBecomes m later

@@ -1,5 +1,5 @@
 -- Each deed is made of steps.
-use Rattle.std.proofs.Common.{◌≡◌, ℕ, zero, suc, ◌+◌, ◌-◌, ◌&&◌, Bool, true, false, min, List, [], ◌∷◌, length, map, slice_get, slice_set, codes, Option, Some, None, Result, refl, sym, ap, subst, ◌∙◌, append_assoc, append-nil, not, ◌||◌, ◌≤◌, IsTrue, nat_le, arith}
+use Rattle.std.proofs.Common.{◌≡◌, ℕ, zero, suc, ◌+◌, ◌-◌, ◌&&◌, Bool, true, false, min, List, [], ◌∷◌, length, map, slice_get, slice_set, codes, Option, Some, None, Result, refl, sym, ap, subst, ◌∙◌, append_assoc, append-nil, not, ◌||◌, ◌≤◌, IsTrue, nat_le, arith, true≢false}
 use Rattle.std.specs.List.{AllByRecursion}
 use Rattle.std.proofs.lemmas.Option.{same_Some, get_or_from_slice_get}
 use Rattle.std.proofs.lemmas.Bool.{and_parts}
@@ -44,9 +44,11 @@ use Rattle.nodes_world.specs.Deliveries.{comes, comes_to, delivers, flows, hears
 use Rattle.nodes_world.specs.Lives.{crashes_now, loads, makes_node, new_seat, restarts, stops, ticks, ticks_seat, ticks_to, with_named_seat}
 use Rattle.nodes_world.specs.Resolve.{as_resource, asks_for, begins_named, calls_named, commits_as, commits_named, creates_named, end_named, ends_by, if_free, is_down_at, is_down_node, is_key_up, may_commit, may_put, may_refuse, may_register, resource_named, where_so, node_named, puts_named, refuses_named, registers_named, registers_with, relates_named, relation_act, resolve, status_act, transaction_named}
 use Rattle.nodes_world.specs.Step.{carried_out, is_full, lacks_life, lacks_life_at, lacks_life_on, limit_before, limit_where}
-use Rattle.nodes_world.specs.AgreementSteps.{DeedsGo, Goes, by_alike, by_receipt, by_node, by_end, by_load, by_crash, by_begin, by_calling, by_call, by_sub, by_register, by_touch, by_word, by_hearing, by_tick, GoesOn, still, further, IsAlike, IsQuiet, by_put, by_refusal, kept_seat, by_no_call, is_asked, is_call, kept_message}
+use Rattle.nodes_world.specs.AgreementSteps.{DeedsGo, Goes, by_alike, by_receipt, by_node, by_end, by_load, by_crash, by_begin, by_calling, by_call, by_sub, by_register, by_touch, by_word, by_hearing, by_tick, GoesOn, still, further, IsAlike, IsQuiet, by_put, by_refusal, kept_seat, is_asked, is_call, kept_message}
 use Rattle.nodes_world.proofs.Going.{get_last, get_set, node_up, on_seat_there, end_up}
-use Rattle.nodes_world.proofs.Deeds.{MayBeDone, down, mapped_of, may_be_done, node_is_up, only_of, some_of}
+use Rattle.nodes_world.specs.Changes.{CallsAreDelivered}
+use Rattle.nodes_world.proofs.Delivered.{still_delivered}
+use Rattle.nodes_world.proofs.Deeds.{MayBeDone, delivers_goes, down, mapped_of, may_be_done, node_is_up, only_of, some_of}
 use Rattle.std.proofs.lemmas.List.Quantifiers.{position-Some}
 use Rattle.std.proofs.lemmas.Bool.Decides.{nat_tests}
 use Rattle.ots_model.specs.Limits.{name_limit}
@@ -235,9 +237,10 @@ comes_on (Some receiver) nth m w there none = by (is_up w receiver)
 comes_on None nth m w there none = still
 
 -- a message that wasn't delivered yet is; so it is no call
-delivers_on : (place : ℕ) (w : World) → ((m : Message) → slice_get w.messages place ≡ Some m → m.delivered ≡ false) → GoesOn w (delivers place w)
+delivers_on : (place : ℕ) (w : World) → CallsAreDelivered w → ((m : Message) → slice_get w.messages place ≡ Some m → m.delivered ≡ false)
+    → GoesOn w (delivers place w)
 unfolding delivers
-delivers_on place w new = by (slice_get w.messages place) refl
+delivers_on place w calls new = by (slice_get w.messages place) refl
   where
     taken : Message → Message
     taken m = record m { delivered = true }
@@ -252,7 +255,7 @@ delivers_on place w new = by (slice_get w.messages place) refl
 
     of : (m : Message) (content : Content) → slice_get w.messages place ≡ Some m → m.content ≡ content
         → GoesOn w (changes (with_message place (taken m) w) ▹ comes (receiver_of w m.content) (place + 1) m.content)
-    of m (contents.Call to act) there is = one w _ (by_no_call place to act m _ there is (new m there))
+    of m (contents.Call to act) there is = absurd (true≢false (sym (calls place m there to act is) ∙ new m there))
     of m (contents.Request from o) there is = reached m there (ap is_call is)
     of m (contents.Reply request answer) there is = reached m there (ap is_call is)
 
@@ -275,16 +278,16 @@ lowest_new w place m first there =
     neither true b is = absurd cc
     neither false b is = refl
 
-flows_on : (count : ℕ) (w : World) → GoesOn w (flows count w)
+flows_on : (count : ℕ) (w : World) → CallsAreDelivered w → GoesOn w (flows count w)
 unfolding flows
-flows_on zero w = still
-flows_on (suc count) w = by (lowest w) refl (flows_on count)
+flows_on zero w calls = still
+flows_on (suc count) w calls = by (lowest w) refl (flows_on count)
   where
-    by : (found : Option ℕ) → lowest w ≡ found → ((v : World) → GoesOn v (flows count v))
+    by : (found : Option ℕ) → lowest w ≡ found → ((v : World) → CallsAreDelivered v → GoesOn v (flows count v))
         → GoesOn w (elim found as (λ _. Done) [ Some place ↦ delivers place w ▹ flows count | None ↦ nothing w ])
     by (Some place) first others =
-        on_then w (delivers place w) (flows count (delivers place w).world) (delivers_on place w (λ m there. lowest_new w place m first there))
-        (others (delivers place w).world)
+        on_then w (delivers place w) (flows count (delivers place w).world) (delivers_on place w calls (λ m there. lowest_new w place m first there))
+        (others (delivers place w).world (still_delivered w (delivers place w).world (delivers_goes place w) calls))
     by None first others = still
 
 -- ---- nodes and ends
@@ -400,21 +403,21 @@ MayGo w (deeds.Put key cell value) = (name : List ℕ) × (thing w name ≡ Some
 MayGo w (deeds.Refuse key) = (name : List ℕ) × (thing w name ≡ Some (things.Resource key))
 MayGo w _ = Unit {0}
 
-deed_on : (deed : Deed) (w : World) → GoesOnFrom w → MayBeDone w deed → MayGo w deed → limit_before deed w ≡ None → GoesOn w (carried_out deed w)
+deed_on : (deed : Deed) (w : World) → CallsAreDelivered w → GoesOnFrom w → MayBeDone w deed → MayGo w deed → limit_before deed w ≡ None → GoesOn w (carried_out deed w)
 unfolding carried_out
-deed_on (deeds.MakeNode name) w few may go limit = makes_node_on name w may (not_passed _ _ limit)
-deed_on (deeds.MakeEnd name) w few may go limit = one w _ (by_end name may (not_passed _ _ limit) go)
-deed_on (deeds.Begin place name seconds) w few may go limit = begins_on place name seconds w may
-deed_on (deeds.Call to act) w few may go limit = calls_on to act w go few
-deed_on (deeds.Create parent name) w few may go limit = one w _ (by_sub parent name may few)
-deed_on (deeds.Register manner transaction place name) w few may go limit = registers_on manner transaction place name w may go few
-deed_on (deeds.Put resource cell value) w few may go limit = puts_on go.0 resource cell value w go.1
-deed_on (deeds.Refuse resource) w few may go limit = refuses_on go.0 resource w go.1
-deed_on (deeds.Flow count) w few may go limit = flows_on count w
-deed_on (deeds.Tick place seconds) w few may go limit = ticks_on place seconds w
-deed_on (deeds.Crash place) w few may go limit = crashes_on place may.0 w may.1
-deed_on (deeds.Restart place) w few may go limit = restarts_down_on place w may (not_passed _ _ limit)
-deed_on (deeds.Stop place write image) w few may go limit = stops_on place (record { write = write; image = image }) w
+deed_on (deeds.MakeNode name) w calls few may go limit = makes_node_on name w may (not_passed _ _ limit)
+deed_on (deeds.MakeEnd name) w calls few may go limit = one w _ (by_end name may (not_passed _ _ limit) go)
+deed_on (deeds.Begin place name seconds) w calls few may go limit = begins_on place name seconds w may
+deed_on (deeds.Call to act) w calls few may go limit = calls_on to act w go few
+deed_on (deeds.Create parent name) w calls few may go limit = one w _ (by_sub parent name may few)
+deed_on (deeds.Register manner transaction place name) w calls few may go limit = registers_on manner transaction place name w may go few
+deed_on (deeds.Put resource cell value) w calls few may go limit = puts_on go.0 resource cell value w go.1
+deed_on (deeds.Refuse resource) w calls few may go limit = refuses_on go.0 resource w go.1
+deed_on (deeds.Flow count) w calls few may go limit = flows_on count w calls
+deed_on (deeds.Tick place seconds) w calls few may go limit = ticks_on place seconds w
+deed_on (deeds.Crash place) w calls few may go limit = crashes_on place may.0 w may.1
+deed_on (deeds.Restart place) w calls few may go limit = restarts_down_on place w may (not_passed _ _ limit)
+deed_on (deeds.Stop place write image) w calls few may go limit = stops_on place (record { write = write; image = image }) w
 
 free_go : (w : World) (name : List ℕ) (made deed : Deed) → if_free w name made ≡ Some deed → MayGo w made → MayGo w deed
 free_go w name made deed is may = subst (MayGo w) (sym (only_of (is_free w name) made deed is).1) may
@@ -508,4 +511,4 @@ may_go (events.Stop server write image) deed w fit is = mapped_go (λ (place : �
 may_go _ deed w fit is = absurd cc
 
 pub deeds_go : DeedsGo
-deeds_go event deed w few fit is limit = deed_on deed w few (may_be_done event deed w is) (may_go event deed w fit is) limit
+deeds_go event deed w calls few fit is limit = deed_on deed w calls few (may_be_done event deed w is) (may_go event deed w fit is) limit

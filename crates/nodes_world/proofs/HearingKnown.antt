@@ -1,9 +1,11 @@
 -- What is known of a world is known once an answer was heard for which nobody waits, or that is for a record.
-use Rattle.std.proofs.Common.{◌≡◌, ◌≢◌, ◌⊎◌, inl, inr, ℕ, zero, suc, ◌+◌, ◌-◌, ◌<◌, ◌==◌, Bool, true, false, is_none, is_some, if◌then◌else◌, List, [], ◌∷◌, ◌++◌, map, append-nil, slice_get, slice_set, Contains, Option, Some, None, refl, sym, ap, subst, ◌∙◌, arith}
+use Rattle.std.proofs.Common.{◌≡◌, ◌⊎◌, inl, inr, ℕ, zero, suc, ◌+◌, ◌-◌, ◌<◌, ◌==◌, Bool, true, false, is_none, is_some, if◌then◌else◌, List, [], ◌∷◌, ◌++◌, map, append-nil, slice_get, slice_set, Contains, Option, Some, None, refl, sym, ap, subst, ◌∙◌, arith}
 use Rattle.std.specs.Prelude.{Ok}
 use Rattle.std.specs.Option.{option_and_then, option_map}
 use Rattle.ior_refs.specs.declared.key.ObjectKey.{ObjectKey}
 use Rattle.ots_model.specs.declared.completion.Stood.{Stood}
+use Rattle.ots_model.specs.declared.completion.Stood.TheVariants as answers
+use Rattle.ots_model.specs.declared.tree.Word.TheVariants as words
 use Rattle.ots_model.specs.declared.service.RetryKey.{RetryKey}
 use Rattle.ots_model.specs.declared.tree.Outward.{Outward}
 use Rattle.recovery_coord.specs.Held.{is_held}
@@ -13,6 +15,10 @@ use Rattle.recovery_coord.specs.declared.held.Held.{Held}
 use Rattle.ots_model.specs.declared.completion.CallNumber.{CallNumber}
 use Rattle.ots_model.specs.declared.completion.Vote.{Vote}
 use Rattle.ots_model.specs.declared.tree.Heard.{Heard}
+use Rattle.ots_model.specs.declared.tree.Heard.TheVariants as hears_words
+use Rattle.ots_model.specs.Heard.{of_participant}
+use Rattle.ots_model.specs.declared.completion.Heard.TheVariants as participants
+use Rattle.family_laws.specs.LawsOfTelling.{IsHeardVote}
 use Rattle.family_laws.specs.Sound.{IsOfSub, IsSoundFamily}
 use Rattle.coordinator.specs.declared.event.Act.TheVariants as acts
 use Rattle.coordinator.specs.declared.call.Leg.{Leg}
@@ -25,21 +31,20 @@ use Rattle.coordinator.specs.declared.said.Said.{Said}
 use Rattle.coordinator.specs.declared.said.Said.TheVariants as said
 use Rattle.coordinator.specs.Family.{Family, Call, call_at, waiting_for}
 use Rattle.coordinator.specs.History.{has_room}
-use Rattle.coordinator.specs.Node.{Node, family_of, life}
+use Rattle.coordinator.specs.Node.{Node, family_of, life, family_in}
 use Rattle.coordinator.specs.NodeCalls.{Applied, RetoldAnswer, alone, answers_recovered, applied_by, applies, by_records, call_wants, done_told, done_wanted, family_for, hears_record, journaled, records_hear, records_want, records_with, refuses, replies, retold_answer, steps_to, wanted_by}
 use Rattle.coordinator.specs.NodeRecords.{record_of, record_says}
 use Rattle.coordinator.specs.Step.{Stepped, Wanted, Appends, WritesDone, acted, entered, family_step, hears, wanted, wanted_by as wanted_after}
 use Rattle.family_laws.specs.HeldRecords.{HeldRecordsStood, WasHeld}
-use Rattle.family_laws.specs.SoundNode.{IsSoundNode, NodesStaySound}
+use Rattle.family_laws.specs.OwnDecisions.{KeepsDecisions, NodesKeepDecisions}
 use Rattle.nodes_world.specs.declared.message.Content.TheVariants as contents
 use Rattle.nodes_world.specs.declared.message.Message.{Message}
 use Rattle.nodes_world.specs.Agreement.{IsWord}
-use Rattle.nodes_world.specs.AgreementInside.{Known, HasMessage, IsNotBefore, FamilyIsKnown}
+use Rattle.nodes_world.specs.AgreementInside.{Known, HasMessage, IsNotBefore, FamilyIsKnown, edge_at, IsNumberedBy}
 use Rattle.nodes_world.specs.AgreementSteps.{NodeStepsStayKnown, StaysKnown, is_asking, kept_message}
 use Rattle.nodes_world.specs.Deliveries.{answer_event, heard_in, hears_answer, is_waited_for}
 use Rattle.nodes_world.specs.Happenings.{changes}
-use Rattle.nodes_world.specs.Laws.{CanAsk}
-use Rattle.nodes_world.specs.Journals.{Asked, asks}
+use Rattle.nodes_world.specs.Journals.{Asked, asks, Answers, records_on}
 use Rattle.nodes_world.specs.Nodes.{Stepping, cast_by, effects_told, no_step, steps, steps_by, steps_node}
 use Rattle.nodes_world.specs.Objects.{family_key, place_of}
 use Rattle.nodes_world.specs.Told.{Told}
@@ -50,9 +55,9 @@ use Rattle.nodes_world.proofs.KnownRecoveries.{recoveries_known}
 use Rattle.nodes_world.proofs.KnownSeats.{set_at}
 use Rattle.two_phase.specs.Stages as stages
 use Rattle.decision_journal.specs.declared.record.JournalRecord.{JournalRecord}
-use Rattle.coordinator.specs.Hearing.{decision_record, record_place, wants_done}
-use Rattle.nodes_world.proofs.AnswersKeep.{HearsNoVote, NoVoteAt, answer_keeps, hears_keeps, no_voter}
-use Rattle.nodes_world.proofs.KnownFamilies.{family_found}
+use Rattle.coordinator.specs.Hearing.{decision_record, record_place, wants_done, settles}
+use Rattle.nodes_world.proofs.AnswersKeep.{HearsNoVote, NoVoteAt, answer_by, answer_keeps, hears_keeps, no_voter}
+use Rattle.nodes_world.proofs.KnownFamilies.{family_found, same_parts}
 use Rattle.nodes_world.proofs.KnownLines.{lines_of}
 use Rattle.nodes_world.proofs.CallKnown as call
 use Rattle.nodes_world.proofs.ClosesKeep.{closing_keeps, hears_alone}
@@ -60,11 +65,18 @@ use Rattle.nodes_world.proofs.ClosesKnown.{closed_known}
 use Rattle.nodes_world.proofs.CompletesKnown as complete
 use Rattle.nodes_world.proofs.CompletesKnown.{JournalLaws}
 use Rattle.nodes_world.proofs.CallKnown.{for_key, nothing_asked, tidy_of}
+use Rattle.nodes_world.proofs.AskedKeeps.{IsNoVote, asked_keeps, asked_no_done, vote_or_not}
 use Rattle.nodes_world.proofs.AskedCalls.{call_cases, deaf_no_vote, deaf_tells_no_vote, deaf_wants, nothing_fixed}
-use Rattle.nodes_world.proofs.RulesKeep.{IsTidy}
-use Rattle.nodes_world.proofs.StepIs.{FamilyLaws, keeps_is}
+use Rattle.nodes_world.proofs.RulesKeep.{IsTidy, Rule}
+use Rattle.nodes_world.proofs.StepIs.{FamilyLaws, keeps_is, StepIs}
 use Rattle.nodes_world.proofs.StepsKeep.{StepKeeps, quiet_keeps}
 use Rattle.nodes_world.proofs.SubKnown.{stays_then}
+use Rattle.nodes_world.proofs.StepsAsk.{answer_asks, stale_asks}
+use Rattle.nodes_world.proofs.AskedWords.{own_number, vote_not_alone}
+use Rattle.nodes_world.proofs.VotedStep.{voted_is, none_wanted, settles_nothing, vote_heard}
+use Rattle.nodes_world.proofs.FullKnown.{asked_cases, full_known}
+use Rattle.nodes_world.proofs.FullStep.{settled_full, full_decides}
+use Rattle.nodes_world.proofs.DecisionFits.{heard_fits}
 
 -- ---- a stale answer
 
@@ -84,7 +96,7 @@ stale_wants f o answer now none =
 
 -- ---- an answer that comes to a node
 
-module _ (laws : FamilyLaws) (journals : JournalLaws) (nodes : NodesStaySound) (stood : HeldRecordsStood) (others : NodeStepsStayKnown) (w : World) (nth place reply now : ℕ) (o : Outward) (back : Message)
+module _ (laws : FamilyLaws) (journals : JournalLaws) (nodes : NodesKeepDecisions) (stood : HeldRecordsStood) (others : NodeStepsStayKnown) (w : World) (nth place reply now : ℕ) (o : Outward) (back : Message)
     (answer : Said) (s : Seat) (n : Node) (word : IsWord w nth place o) (replied : slice_get w.messages reply ≡ Some back)
     (says : back.content ≡ contents.Reply (nth + 1) answer) (there : slice_get w.seats place ≡ Some s) (up : s.server ≡ OfNode (Some n)) where
   abbrev key : ObjectKey
@@ -146,7 +158,8 @@ module _ (laws : FamilyLaws) (journals : JournalLaws) (nodes : NodesStaySound) (
         let step = stale_step f o answer now waits in
         call.step_stays w place s n there up laws nodes key own_place e retold no_retry f none is told k
         (keeps_is laws f e None (λ number vote among. nothing_in (subst (λ (x : Stepped). Contains x.effects (effects.Voted number vote)) step among))
-        (k.families key f found).sound (subst (StepKeeps f) (sym step) (quiet_keeps said.Plain f (tidy_of w told k key f found)))) same))
+        (k.families key f found).sound (subst (StepKeeps f) (sym step) (quiet_keeps said.Plain f (tidy_of w told k key f found)))
+        (stale_asks f o answer now None waits (k.families key f found).ready)) same))
       where
         nothing_in : {x : Effect} → Contains [] x → ⊥
         nothing_in among = let l = among.1 in omega (arith, l)
@@ -205,7 +218,8 @@ module _ (laws : FamilyLaws) (journals : JournalLaws) (nodes : NodesStaySound) (
           (subst Ends (sym same) (λ told k.
           let sound = (k.families key f found_here).sound in
           call.step_stays w place s n there up laws nodes key own_place e retold no_retry f none is told k
-          (keeps_is laws f e None (votes_none sound) sound (keeps (tidy_of w told k key f found_here) told k)) same))
+          (keeps_is laws f e None (votes_none sound) sound (keeps (tidy_of w told k key f found_here) told k)
+          (answer_asks f o answer now b None waits (λ c at. (k.families key f found_here).legs b c at) (k.families key f found_here).ready)) same))
 
       hears_on : NobodyVotes → wanted f e ≡ None → StaysKnown w (steps_node (Some n) s place key e w).done
       hears_on nobody none =
@@ -218,16 +232,14 @@ module _ (laws : FamilyLaws) (journals : JournalLaws) (nodes : NodesStaySound) (
       unfolding wanted
       wanted_is = ap (λ (x : Option ℕ). if is_some x then wanted_after heard_family else None) waits
 
-      -- the family's own Done is wanted, where the decision stands that it names and isn't told again
-      closes_open : NobodyVotes → (done : ℕ) → wanted f e ≡ Some (WritesDone done) → (told : List Told) (k : Known w told) → CanAsk (Some (WritesDone done)) n.found
-          → ((h : Held) → Contains n.recovered h → h.place ≢ done)
-          → Known (steps_node (Some n) s place key e w).done.world (told ++ (steps_node (Some n) s place key e w).done.lines)
-      closes_open nobody done wants told k can apart =
+      -- the family's own Done is wanted
+      closes_own : NobodyVotes → (done : ℕ) → wanted f e ≡ Some (WritesDone done) → StaysKnown w (steps_node (Some n) s place key e w).done
+      closes_own nobody done wants told k =
           let known = k.families key f found_here in
           let so = no_vote_at nobody told k (call_at f b) refl in
-          closed_known laws journals nodes w place now o answer s n f done there up family is room wants told k can apart
+          closed_known laws journals nodes w place now o answer s n f done there up family is room wants told k
           (λ stood. closing_keeps f o answer now stood b waits so known.settled (tidy_of w told k key f found_here))
-          (no_votes nobody known.sound) (hears_alone o.number (heard_in answer) b f waits so)
+          (λ stood. answer_asks f o answer now b stood waits (λ c at. known.legs b c at) known.ready) (no_votes nobody known.sound) (hears_alone o.number (heard_in answer) b f waits so)
 
       -- no decision is wanted, so it is the family's own Done
       own_done : (t u : Bool) (x : Option ℕ) (r : JournalRecord) (item : Wanted) → t ≡ false
@@ -243,7 +255,104 @@ module _ (laws : FamilyLaws) (journals : JournalLaws) (nodes : NodesStaySound) (
           let rule = hears_keeps o.number (heard_in answer) b f waits (no_vote_at nobody told k (call_at f b) refl) (tidy_of w told k key f found_here) in
           let done = own_done (stages.wants_decision heard_family.completion) (wants_done heard_family) (record_place heard_family.completion) (decision_record heard_family) item
           (rule.kept.wants (k.families key f found_here).settled) (sym wanted_is ∙ asks_for) in
-          others.closes w nth place reply now o back answer s n f b done.0 word replied says there up family is room waits nobody (asks_for ∙ ap (λ (x : Wanted). Some x) done.1) told k
+          closes_own nobody done.0 (asks_for ∙ ap (λ (x : Wanted). Some x) done.1) told k
+
+      -- a participant is asked, and its answer is no vote
+      asked_by_none : waiting_for f o.number ≡ Some 0 → is_asking f.completion ≡ true → (c : Call) → call_at f 0 ≡ Some c → c.leg ≡ Deciding
+          → IsNoVote (of_participant (heard_in answer)) → StaysKnown w (steps_node (Some n) s place key e w).done
+      asked_by_none first asking c at decides no_vote told k =
+          let known : FamilyIsKnown w (lines_of told) f = k.families key f found_here in
+          let rule = asked_keeps laws.causes f o.number (heard_in answer) c first at decides known.sound.completion.there asking no_vote in
+          hears_by
+          (wanted_is ∙ neither (stages.wants_decision heard_family.completion) (wants_done heard_family)
+          ((rule (tidy_of w told k key f found_here)).kept.wants known.settled)
+          (asked_no_done laws.causes f o.number (heard_in answer) c first at decides known.sound.completion.there asking))
+          (λ whole number vote among. no_vote vote (heard_so number vote (laws.votes.told f e None number vote whole among)))
+          (λ tidy others_told others_known. answer_by f o answer now 0 first rule tidy) told k
+        where
+          neither : (t u : Bool) → t ≡ false → u ≡ false
+              → (if t then Some (Appends (decision_record heard_family)) else if u then option_map WritesDone (record_place heard_family.completion) else None) ≡ None
+          neither true u is not_done = absurd cc
+          neither false true is not_done = absurd cc
+          neither false false is not_done = refl
+
+          heard_so : (number : ℕ) (vote : Vote) → IsHeardVote f (family_step f e None).family e.act number vote
+              → of_participant (heard_in answer) ≡ participants.Voted vote
+          heard_so number vote heard = ap of_participant (same_heard heard.number vote heard.answer)
+            where
+              same_heard : (x : CallNumber) (vote : Vote) → acts.Answer o.number (heard_in answer) ≡ acts.Answer x (hears_words.Voted vote) → heard_in answer ≡ hears_words.Voted vote
+              same_heard x vote is = cc
+
+      -- one that is to decide alone answers no vote
+      word_numbered : waiting_for f o.number ≡ Some 0 → (told : List Told) (k : Known w told) → IsNumberedBy f o
+      word_numbered first told k =
+          let own = own_number f o.number first in
+          let parts = same_parts key.service key.life key.slot key.generation f.key.service f.key.life f.key.slot f.key.generation (call.key_slot key n f is).1 in
+          k.words.serials place o f key (nth, word) found_here own.0 own.1 own.2 (ap (λ (x : ℕ). x - 1) (sym parts.0) ∙ own_place)
+
+      alone_no_vote : waiting_for f o.number ≡ Some 0 → is_asking f.completion ≡ true → (c : Call) → call_at f 0 ≡ Some c → c.leg ≡ Deciding
+          → (vote : Vote) → answer ≡ said.Voted vote → (told : List Told) (k : Known w told) → stages.decides_alone f.completion ≡ false
+      alone_no_vote first asking c at decides vote votes told k =
+          vote_not_alone f o c (word_numbered first told k) first at decides (k.families key f found_here).sound.completion.there asking
+          (k.words.voters reply nth place back vote o replied (says ∙ ap (λ (x : Said). contents.Reply (nth + 1) x) votes) word)
+
+      -- what a step is then that hears a vote
+      prepared : (vote : Vote) → answer ≡ said.Voted vote → (told : List Told) → Known w told → o.word ≡ words.Prepare
+      prepared vote votes told k = k.words.voters reply nth place back vote o replied (says ∙ ap (λ (x : Said). contents.Reply (nth + 1) x) votes) word
+
+      voted_then : waiting_for f o.number ≡ Some 0 → is_asking f.completion ≡ true → (c : Call) → call_at f 0 ≡ Some c → c.leg ≡ Deciding
+          → (vote : Vote) → answer ≡ said.Voted vote → (told : List Told) → Known w told → (x : Option Stood) → Rule heard_family (settles x heard_family)
+          → stages.wants_decision (family_step f e x).family.completion ≡ false
+          → StepIs w f (family_step f e x).family (family_step f e x).effects (family_step f e x).words
+      voted_then first asking c at decides vote votes told k x settled undecided =
+          let known = k.families key f found_here in
+          voted_is laws w nth place reply now o back answer f c vote word replied says votes known.sound (tidy_of w told k key f found_here) (word_numbered first told k)
+          first at decides asking (prepared vote votes told k) x settled
+          (answer_asks f o answer now 0 x first (λ d under. known.legs 0 d under) known.ready) undecided
+
+      -- a vote comes, and no decision is wanted
+      asked_by_vote : waiting_for f o.number ≡ Some 0 → is_asking f.completion ≡ true → (c : Call) → call_at f 0 ≡ Some c → c.leg ≡ Deciding
+          → (vote : Vote) → answer ≡ said.Voted vote → wanted f e ≡ None → StaysKnown w (steps_node (Some n) s place key e w).done
+      asked_by_vote first asking c at decides vote votes none told k =
+          let same : applies key e None n ≡ steps_to n f e None (family_step f e None) =
+          applied_is (Some f) is ∙ ap (λ (t : Bool). if t then steps_to n f e None (family_step f e None) else refuses faults.NoResources n) room in
+          by_nothing (wants_is (Some f) is ∙ ap (λ (t : Bool). if t then wanted f e else None) room ∙ none)
+          (subst Ends (sym same) (λ told k.
+          let known = k.families key f found_here in
+          call.step_stays w place s n there up laws nodes key own_place e retold no_retry f none is told k
+          (voted_then first asking c at decides vote votes told k None (settles_nothing heard_family)
+          (none_wanted laws w nth place reply now o back answer f c vote word replied says votes known.sound (tidy_of w told k key f found_here) (word_numbered first told k)
+          first at decides asking (prepared vote votes told k) None (settles_nothing heard_family)
+          (answer_asks f o answer now 0 None first (λ d under. known.legs 0 d under) known.ready) (sym wanted_is ∙ none))) same)) told k
+
+      -- the last vote comes, and there is no room for the decision
+      asked_by_full : waiting_for f o.number ≡ Some 0 → is_asking f.completion ≡ true → (c : Call) → call_at f 0 ≡ Some c → c.leg ≡ Deciding
+          → (vote : Vote) → answer ≡ said.Voted vote → (item : JournalRecord) → wanted f e ≡ Some (Appends item) → (used need : ℕ)
+          → asks (Some (Appends item)) n.service n.found s.disk s.stop ≡ Answers (Some (answers.Full used need)) s.disk s.stop
+          → StaysKnown w (steps_node (Some n) s place key e w).done
+      asked_by_full first asking c at decides vote votes item wants used need full told k =
+          let known : FamilyIsKnown w (lines_of told) f = k.families key f found_here in
+          let decides_now = a_decision_wanted (stages.wants_decision heard_family.completion) (wants_done heard_family) (record_place heard_family.completion) (decision_record heard_family) item
+          (sym wanted_is ∙ wants) in
+          full_known laws nodes w place now o answer s n f item used need there up family is room wants told k full
+          (voted_then first asking c at decides vote votes told k (Some (answers.Full used need))
+          (settled_full laws.causes f o answer now c first at decides known.sound.completion.there asking vote (vote_heard answer vote votes) used need decides_now)
+          (full_decides laws.causes f o answer now c first at decides known.sound.completion.there asking vote (vote_heard answer vote votes) used need decides_now
+          (tidy_of w told k key f found_here)))
+        where
+          a_decision_wanted : (t u : Bool) (x : Option ℕ) (r item : JournalRecord)
+              → (if t then Some (Appends r) else if u then option_map WritesDone x else None) ≡ Some (Appends item) → t ≡ true
+          a_decision_wanted true u x r item is = refl
+          a_decision_wanted false true (Some done) r item is = absurd cc
+          a_decision_wanted false true None r item is = absurd cc
+          a_decision_wanted false false x r item is = absurd cc
+
+      -- what is asked of the journal is the decision, where it isn't the Done
+      a_decision : (item : Wanted) (t u : Bool) (x : Option ℕ) (r : JournalRecord) → u ≡ false
+          → (if t then Some (Appends r) else if u then option_map WritesDone x else None) ≡ Some item → item ≡ Appends r
+      a_decision item true u x r never is = cc
+      a_decision item false true x r never is = absurd cc
+      a_decision item false false x r never is = absurd cc
 
       -- a participant is asked: the call is at the decision, or hears nothing of the answer
       while_asked : waiting_for f o.number ≡ Some 0 → is_asking f.completion ≡ true → StaysKnown w (steps_node (Some n) s place key e w).done
@@ -251,11 +360,34 @@ module _ (laws : FamilyLaws) (journals : JournalLaws) (nodes : NodesStaySound) (
         | inl deaf ↦ hears_by (wanted_is ∙ deaf_wants f o answer now first deaf known.settled (nothing_fixed f.completion known.sound.completion.there asking))
             (deaf_tells_no_vote f o answer now first deaf laws)
             (λ tidy others_told others_known. answer_keeps f o answer now 0 first (deaf_no_vote f (call_at f 0) deaf) tidy) told k
-        | inr at ↦ others.asked w nth place reply now o back answer s n f at.0 word replied says there up family is room first at.1 at.2 asking told k
+        | inr at ↦ elim (vote_or_not answer) [
+          | inl vote ↦ by_decision vote.0 vote.1 at.0 at.1 at.2 (wanted f e) refl
+          | inr no_vote ↦ asked_by_none first asking at.0 at.1 at.2 no_vote told k
+        ]
       ]
         where
           known : FamilyIsKnown w (lines_of told) f
           known = k.families key f found_here
+
+          -- the journal is asked for the decision, or for nothing
+          by_decision : (vote : Vote) → answer ≡ said.Voted vote → (c : Call) → call_at f 0 ≡ Some c → c.leg ≡ Deciding → (x : Option Wanted) → wanted f e ≡ x
+              → Known (steps_node (Some n) s place key e w).done.world (told ++ (steps_node (Some n) s place key e w).done.lines)
+          by_decision vote votes c at decides None none = asked_by_vote first asking c at decides vote votes none told k
+          by_decision vote votes c at decides (Some item) asks_for =
+              let item_is = a_decision item (stages.wants_decision heard_family.completion) (wants_done heard_family) (record_place heard_family.completion) (decision_record heard_family)
+              (asked_no_done laws.causes f o.number (heard_in answer) c first at decides known.sound.completion.there asking) (sym wanted_is ∙ asks_for) in
+              let wants = asks_for ∙ ap (λ (x : Wanted). Some x) item_is in
+              let slot = call.key_slot key n f is in
+              let parts = same_parts key.service key.life key.slot key.generation f.key.service f.key.life f.key.slot f.key.generation slot.1 in
+              let can = heard_fits laws.causes f o.number (heard_in answer) c first at decides known.sound.completion.there asking w told k key found_here known.sound.completion.parties
+              place s n there up (subst (λ (x : ℕ). family_in n.families x ≡ Some f) parts.2 slot.0) in
+              let follows = k.disks.follows place s n there up in
+              elim (asked_cases (decision_record heard_family) n.service follows.records n.found s.disk s.stop (ap (λ (x : ℕ). records_on x s.disk) follows.service ∙ follows.held)) [
+                | inl written ↦
+                    others.asked w nth place reply now o back answer s n f c vote (decision_record heard_family) word replied says votes there up family is room first at decides asking
+                    (alone_no_vote first asking c at decides vote votes told k) wants can written told k
+                | inr (used, need, full) ↦ asked_by_full first asking c at decides vote votes (decision_record heard_family) wants used need full told k
+              ]
 
       -- whoever waits for it
       waited : StaysKnown w (steps_node (Some n) s place key e w).done
@@ -319,10 +451,10 @@ module _ (laws : FamilyLaws) (journals : JournalLaws) (nodes : NodesStaySound) (
       words = [];
     }) none
 
-    sound_then : (told : List Told) (k : Known w told) → applies key e None n ≡ quiet_answer → IsSoundNode m
+    sound_then : (told : List Told) (k : Known w told) → applies key e None n ≡ quiet_answer → KeepsDecisions (edge_at w place) m
     sound_then told k same =
-        subst IsSoundNode (ap (λ (a : Applied). a.node) same)
-        (nodes.called key e None n (λ item at asked stood. absurd (no stood)) (call.node_sound w place s n there up told k))
+        subst (KeepsDecisions (edge_at w place)) (ap (λ (a : Applied). a.node) same)
+        (nodes.called (edge_at w place) (edge_at w place) key e None n (omega arith) (λ item at asked stood. absurd (no stood)) (λ x at called asked stood. absurd (no stood)) (call.node_sound w place s n there up told k))
       where
         no : {x : Stood} → None ≡ Some x → ⊥
         no is = cc
@@ -371,7 +503,7 @@ map_set g (z ∷ xs) zero x y there same = ap (λ u. u ∷ map g xs) (same ∙ s
     inner e = cc
 map_set g (z ∷ xs) (suc i) x y there same = ap (λ us. g z ∷ us) (map_set g xs i x y there same)
 
-pub known_hearing : (laws : FamilyLaws) (journals : JournalLaws) (nodes : NodesStaySound) (stood : HeldRecordsStood) (others : NodeStepsStayKnown) (w : World) (request from reply : ℕ) (o : Outward)
+pub known_hearing : (laws : FamilyLaws) (journals : JournalLaws) (nodes : NodesKeepDecisions) (stood : HeldRecordsStood) (others : NodeStepsStayKnown) (w : World) (request from reply : ℕ) (o : Outward)
     (m back : Message) (answer : Said) (s : Seat) → slice_get w.messages (request - 1) ≡ Some m → m.content ≡ contents.Request from o
     → slice_get w.messages reply ≡ Some back → back.content ≡ contents.Reply request answer → slice_get w.seats from ≡ Some s → is_waited_for w m from o ≡ true
     → StaysKnown w (hears_answer (request - 1) m from o answer s w)

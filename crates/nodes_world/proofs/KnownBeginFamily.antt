@@ -26,6 +26,7 @@ use Rattle.nodes_world.proofs.KnownLines.{lines_of, not_free}
 use Rattle.nodes_world.proofs.KnownFamilies.{is_own}
 use Rattle.nodes_world.proofs.KnownFrames.{newest_phase}
 use Rattle.nodes_world.proofs.KnownMakings.{thing_cases, thing_given}
+use Rattle.nodes_world.proofs.ListedFew.{none_few}
 
 -- none takes part where nothing is registered
 none_numbered : (xs : List ℕ) → filter_map (numbered {A = Registration} []) xs ≡ []
@@ -128,6 +129,8 @@ module _ (w : World) (name node : List ℕ) (key : ObjectKey) (deadline : Option
     came = λ e r among is. absurd (no_entry e among);
     dues = λ b c is. absurd (no_call b c is);
     legs = λ b c is. absurd (no_call b c is);
+    ready = λ b c is. absurd (no_call b c is);
+    few = none_few;
     settled = refl;
     votes = λ g vote r object among is refers. absurd (none_of r among);
     outcome = no_decision;

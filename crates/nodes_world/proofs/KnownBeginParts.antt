@@ -26,12 +26,12 @@ use Rattle.coordinator.specs.Node.{Node, family_in, is_of, life}
 use Rattle.coordinator.specs.NodeSlots.{next_key}
 use Rattle.family_laws.specs.HeldRecords.{IsOfStanding, WasHeld}
 use Rattle.family_laws.specs.Sound.{IsSoundFamily}
-use Rattle.family_laws.specs.SoundNode.{IsSoundNode}
+use Rattle.family_laws.specs.OwnDecisions.{KeepsDecisions}
 use Rattle.nodes_world.specs.declared.thing.Thing.{Thing}
 use Rattle.nodes_world.specs.declared.thing.Thing.TheVariants as things
 use Rattle.nodes_world.specs.Agreement as agreed
 use Rattle.nodes_world.specs.Agreement.{FollowsDisk, HasSent, IsAlone, IsClosed, IsCutOff, IsDecided, IsRolledBack, IsTransaction, MayBeRolledBack, RecordsRestOnVotes, RestsOnVotes, VotesWereGiven, CommitsAreRecorded, DecisionsAreRecorded, NoneIsBoth, OnePhaseIsAlone, RollbacksAreClosed, SubtransactionsEndOnce, has_record, is_decision_of, recorded_key, records_at}
-use Rattle.nodes_world.specs.AgreementInside.{Known, EndsHaveCounted, FamiliesAreKnown, FamilyIsKnown, IsBack, IsBranch, IsHeldAs, IsListed, IsNamed, NodeIsKnown, NodesAreKnown, OutcomeIsTold, RollbacksAreOutcomes, RollbacksAreTold, ToldIsOpen, TransactionsAreKnown}
+use Rattle.nodes_world.specs.AgreementInside.{Known, EndsHaveCounted, FamiliesAreKnown, FamilyIsKnown, IsBack, IsBranch, IsHeldAs, IsListed, IsNamed, NodeIsKnown, NodesAreKnown, OutcomeIsTold, RollbacksAreOutcomes, RollbacksAreTold, ToldIsOpen, TransactionsAreKnown, edge_at, IsNumberedBy}
 use Rattle.nodes_world.specs.Laws.{IsInOrder}
 use Rattle.nodes_world.specs.Journals.{records_on}
 use Rattle.nodes_world.specs.Objects.{place_of, service_at}
@@ -39,6 +39,7 @@ use Rattle.nodes_world.specs.Told as tell
 use Rattle.nodes_world.specs.Told.{Told, known}
 use Rattle.nodes_world.specs.World.{World, Seat, OfNode, end_at, end_in, family_at, node_at, referred, thing, with_name, with_seat}
 use Rattle.nodes_world.proofs.Deeds.{node_is_up}
+use Rattle.nodes_world.proofs.Edges.{edge_kept}
 use Rattle.nodes_world.proofs.Going.{get_set}
 use Rattle.nodes_world.proofs.KnownLines.{AreAmong, among_back, among_turned, cut_among, lines_of, not_free, part_among, registered_among, same_key}
 use Rattle.nodes_world.proofs.KnownFamilies.{IsSeated, family_found, is_own, same_parts, seated}
@@ -94,7 +95,7 @@ own_decision key (CellsOnePhase l number puts) so = absurd cc
 module _ (w : World) (place : ℕ) (name : List ℕ) (deadline : Option ℕ) (slot : ℕ) (s : Seat) (n c : Node) (told : List Told)
     (there : slice_get w.seats place ≡ Some s) (up : s.server ≡ OfNode (Some n)) (free : thing w name ≡ None) (k : Known w told)
     (found_same : c.found ≡ n.found) (families : c.families ≡ slice_set n.families slot (Some (new_family (next_key n slot) deadline)))
-    (generation : c.generation ≡ n.generation + 1) (sound : IsSoundNode c)
+    (generation : c.generation ≡ n.generation + 1) (sound : KeepsDecisions (edge_at w place) c)
     (holds : (h : Held) → Contains c.recovered h → WasHeld n.recovered h ⊎ IsOfStanding n.found.standing h) where
   abbrev key : ObjectKey
   key = next_key n slot
@@ -219,9 +220,9 @@ module _ (w : World) (place : ℕ) (name : List ℕ) (deadline : Option ℕ) (sl
       in_slot at here node (inl new) =
           let slotted : family_in c.families of.slot ≡ Some g = ap (λ (x : Node). family_in x.families of.slot) node ∙ at.slotted in
           let within = place_within c.families of.slot (Some g) (flat (slice_get c.families of.slot) g slotted) in
-          let many = sound.slots in
+          let many = sound.sound.slots in
           let same = new.0 in
-          inl (record { is = inner g f new.1; is_sound = (sound.families of.slot g slotted).1; slots = omega (arith, within, many, same) })
+          inl (record { is = inner g f new.1; is_sound = (sound.sound.families of.slot g slotted).1; slots = omega (arith, within, many, same) })
       in_slot at here node (inr was) =
           inr (family_found w of g (record {
             seat = s;
@@ -325,6 +326,8 @@ module _ (w : World) (place : ℕ) (name : List ℕ) (deadline : Option ℕ) (sl
     came = old.came;
     dues = old.dues;
     legs = old.legs;
+    ready = old.ready;
+    few = old.few;
     settled = old.settled;
     votes = λ number vote r object among is leads.
         let was = old.votes number vote r object among is (sym (refers r.to) ∙ leads) in
@@ -554,7 +557,7 @@ module _ (w : World) (place : ℕ) (name : List ℕ) (deadline : Option ℕ) (sl
       by (inr other) = k.words.given p x m o (sym (set_other w.seats place p left other) ∙ at) is sent same
 
   pub serials_begun : (p : ℕ) (o : Outward) (g : Family) (of : ObjectKey) → HasSent v p o → family_at v of ≡ Some g → o.number.life ≡ g.key.life
-      → o.number.slot ≡ g.key.slot → o.number.generation ≡ g.key.generation → place_of g.key ≡ p → o.number.serial ≤ g.serial
+      → o.number.slot ≡ g.key.slot → o.number.generation ≡ g.key.generation → place_of g.key ≡ p → IsNumberedBy g o
   serials_begun p o g of sent is in_life at_slot numbered at = elim (family_cases of g is) [
     | inl new ↦ absurd (no_word (new.slots) (in_life ∙ ap (λ (x : Family). x.key.life) new.is) (at_slot ∙ ap (λ (x : Family). x.key.slot) new.is)
         (numbered ∙ ap (λ (x : Family). x.key.generation) new.is) (sym at ∙ ap (λ (x : Family). place_of x.key) new.is ∙ key_place))
@@ -614,7 +617,7 @@ module _ (w : World) (place : ℕ) (name : List ℕ) (deadline : Option ℕ) (sl
 
   node_new : NodeIsKnown v later place c
   node_new = record {
-    sound = sound;
+    sound = edge_kept v w place c (records_same place) sound;
     given = λ t other named at in_life. elim (trans_cases t other named) [
       | inl was ↦
           let less = (k.nodes place n node_up).given t other was at (in_life ∙ life_same) in
@@ -633,7 +636,7 @@ module _ (w : World) (place : ℕ) (name : List ℕ) (deadline : Option ℕ) (sl
   node_old p m x other at is =
       let old = k.nodes p m (node_there w p x m at is) in
       record {
-        sound = old.sound;
+        sound = edge_kept v w p m (records_same p) old.sound;
         given = λ t key_of named here in_life. elim (trans_cases t key_of named) [
           | inl was ↦ old.given t key_of was here in_life
           | inr new ↦ absurd (other (sym here ∙ ap place_of (sym new.1) ∙ key_place))

@@ -11,14 +11,14 @@ use Rattle.coordinator.specs.Limits.{generation_limit}
 use Rattle.coordinator.specs.Node.{Node}
 use Rattle.coordinator.specs.NodeSlots.{Created, creates, deadline_after, free_slot, makes, makes_in, makes_no_family, next_key, with_new}
 use Rattle.family_laws.specs.HeldRecords.{HeldRecordsStood, IsOfStanding, WasHeld}
-use Rattle.family_laws.specs.SoundNode.{IsSoundNode, NodesStaySound}
+use Rattle.family_laws.specs.OwnDecisions.{KeepsDecisions, NodesKeepDecisions}
 use Rattle.nodes_world.specs.declared.thing.Thing.TheVariants as things
 use Rattle.nodes_world.specs.Clients.{begins_at, begun_by, begun_with}
 use Rattle.nodes_world.specs.Told as tell
 use Rattle.nodes_world.specs.Told.{Told, known}
 use Rattle.nodes_world.specs.World.{World, Seat, OfNode, thing, with_name, with_seat}
 use Rattle.nodes_world.specs.Agreement.{FollowsDisk, IsHeldWhole, IsTransaction}
-use Rattle.nodes_world.specs.AgreementInside.{Known}
+use Rattle.nodes_world.specs.AgreementInside.{Known, edge_at}
 use Rattle.nodes_world.specs.AgreementSteps.{StaysKnown}
 use Rattle.nodes_world.proofs.Going.{on_seat_there}
 use Rattle.nodes_world.proofs.KnownWorlds.{node_there}
@@ -30,7 +30,7 @@ use Rattle.nodes_world.proofs.KnownBeginResources.{all_resources_begun}
 use Rattle.nodes_world.proofs.KnownBeginSeats.{disks_begun, resources_begun, seats_begun}
 use Rattle.nodes_world.proofs.KnownBeginWords.{words_begun}
 
-module _ (stays : NodesStaySound) (stood : HeldRecordsStood) (w : World) (place : ℕ) (name : List ℕ) (seconds : ℕ) (s : Seat) (n : Node)
+module _ (stays : NodesKeepDecisions) (stood : HeldRecordsStood) (w : World) (place : ℕ) (name : List ℕ) (seconds : ℕ) (s : Seat) (n : Node)
     (there : slice_get w.seats place ≡ Some s) (up : s.server ≡ OfNode (Some n)) (free : thing w name ≡ None) (told : List Told) (k : Known w told) where
   abbrev deadline : Option ℕ
   deadline = deadline_after s.clock seconds
@@ -58,8 +58,8 @@ module _ (stays : NodesStaySound) (stood : HeldRecordsStood) (w : World) (place 
     abbrev later : List Told
     later = told ++ tell.Known line ∷ []
 
-    sound : IsSoundNode c
-    sound = subst IsSoundNode (ap (λ (x : Created). x.node) is) (stays.made s.clock seconds n (k.nodes place n (node_there w place s n there up)).sound)
+    sound : KeepsDecisions (edge_at w place) c
+    sound = subst (KeepsDecisions (edge_at w place)) (ap (λ (x : Created). x.node) is) (stays.made (edge_at w place) s.clock seconds n (k.nodes place n (node_there w place s n there up)).sound)
 
     holds : (h : Held) → Contains c.recovered h → WasHeld n.recovered h ⊎ IsOfStanding n.found.standing h
     holds h among = stood.made s.clock seconds n h (subst (λ (x : Created). Contains x.node.recovered h) (sym is) among)
@@ -79,8 +79,8 @@ module _ (stays : NodesStaySound) (stood : HeldRecordsStood) (w : World) (place 
       names = names_begun w name s.name key (slice_set w.seats place left) told free k fresh refl refl
           (λ r. resources_begun w place name key s n c told there up free k r);
       seats = seats_begun w place name key s n c told there up free k;
-      disks = disks_begun w place name key s n c told there up free k (node_whole place c follows.service sound whole) follows
-          (node_holds place c follows.service sound whole);
+      disks = disks_begun w place name key s n c told there up free k (node_whole place c follows.service sound.sound whole) follows
+          (node_holds place c follows.service sound.sound whole);
       words = words_begun w place name key s n c told there up free k
           (parts.given_begun w place name deadline slot s n c told there up free k refl refl refl sound holds)
           (parts.serials_begun w place name deadline slot s n c told there up free k refl refl refl sound holds);
@@ -127,7 +127,7 @@ module _ (stays : NodesStaySound) (stood : HeldRecordsStood) (w : World) (place 
   unfolding creates makes
   creates_is = refl
 
-pub known_begin : NodesStaySound → HeldRecordsStood → (w : World) (place : ℕ) (name : List ℕ) (seconds : ℕ) (s : Seat) (n : Node) → slice_get w.seats place ≡ Some s
+pub known_begin : NodesKeepDecisions → HeldRecordsStood → (w : World) (place : ℕ) (name : List ℕ) (seconds : ℕ) (s : Seat) (n : Node) → slice_get w.seats place ≡ Some s
     → s.server ≡ OfNode (Some n) → thing w name ≡ None → StaysKnown w (begins_at place name seconds s (Some n) w)
 known_begin stays stood w place name seconds s n there up free told k =
     by_slot stays stood w place name seconds s n there up free told k (free_slot n) (creates_is stays stood w place name seconds s n there up free told k)

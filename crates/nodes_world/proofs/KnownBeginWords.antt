@@ -15,7 +15,7 @@ use Rattle.nodes_world.specs.Told as tell
 use Rattle.nodes_world.specs.Told.{Told}
 use Rattle.nodes_world.specs.World.{World, Seat, OfNode, referred, family_at, thing, with_name, with_seat}
 use Rattle.nodes_world.specs.Agreement.{HasSent, records_at}
-use Rattle.nodes_world.specs.AgreementInside.{Known, WordsAreTold}
+use Rattle.nodes_world.specs.AgreementInside.{Known, WordsAreTold, IsNumberedBy}
 use Rattle.nodes_world.proofs.KnownLines.{AreAmong, lines_of}
 use Rattle.nodes_world.proofs.KnownFrames.{newest_phase}
 use Rattle.nodes_world.proofs.KnownBeginSeats.{records_begun, refers_begun}
@@ -51,7 +51,7 @@ module _ (w : World) (place : ℕ) (name : List ℕ) (key : ObjectKey) (s : Seat
   pub words_begun : ((p : ℕ) (x : Seat) (m : Node) (o : Outward) → slice_get v.seats p ≡ Some x → x.server ≡ OfNode (Some m) → HasSent v p o
       → o.number.life ≡ life m → (o.number.slot ≡ retold_slot) ⊎ (o.number.generation ≤ m.generation))
       → ((p : ℕ) (o : Outward) (f : Family) (of : ObjectKey) → HasSent v p o → family_at v of ≡ Some f → o.number.life ≡ f.key.life
-      → o.number.slot ≡ f.key.slot → o.number.generation ≡ f.key.generation → place_of f.key ≡ p → o.number.serial ≤ f.serial)
+      → o.number.slot ≡ f.key.slot → o.number.generation ≡ f.key.generation → place_of f.key ≡ p → IsNumberedBy f o)
       → WordsAreTold v (lines_of (told ++ tell.Known line ∷ []))
   words_begun given serials = subst (WordsAreTold v) (sym (newest_phase told line)) (record {
     named = λ p o sent. ap is_some (refers o.to) ∙ k.words.named p o sent;

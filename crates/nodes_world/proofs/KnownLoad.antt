@@ -36,7 +36,8 @@ use Rattle.nodes_world.specs.Nodes.{key_of_record}
 use Rattle.nodes_world.specs.Lives.{loads, standing_lines, up_lines}
 use Rattle.nodes_world.specs.Step.{lacks_life}
 use Rattle.nodes_world.specs.Agreement.{FollowsDisk, HasSent, HoldsDecisions, IsTransaction, has_record, is_decision_of, records_at, recorded_key}
-use Rattle.nodes_world.specs.AgreementInside.{Known, DisksAreKnown, SeatsAreNamed, is_prepared, IsHeldAs, IsNamed, NodeIsKnown}
+use Rattle.nodes_world.specs.AgreementInside.{Known, DisksAreKnown, SeatsAreNamed, is_prepared, IsHeldAs, IsNamed, NodeIsKnown, journal_end}
+use Rattle.nodes_world.proofs.Edges.{before_end, edge_held}
 use Rattle.nodes_world.proofs.Going.{get_set, on_seat_twice}
 use Rattle.nodes_world.proofs.KnownLines.{among_back, among_turned, lines_of}
 use Rattle.nodes_world.proofs.KnownFamilies.{seated}
@@ -50,7 +51,7 @@ use Rattle.nodes_world.proofs.LoadedDisks.{life_follows, load_leaves, next_found
 use Rattle.nodes_world.proofs.LoadedLines.{IsTold, is_recorded_decision, name_is, standing_one, standing_told, stands_both, told_standing, transaction_found, stands_behind}
 use Rattle.nodes_world.proofs.KnownFrames.{known_phase}
 use Rattle.nodes_world.proofs.Reaching.{known_more}
-use Rattle.family_laws.specs.SoundNode.{NodesStaySound}
+use Rattle.family_laws.specs.OwnDecisions.{NodesKeepDecisions}
 use Rattle.nodes_world.proofs.Deeds.{node_is_up}
 use Rattle.nodes_world.proofs.EffectsTold.{name_named}
 use Rattle.decision_journal.specs.declared.record.Registration.{Registration as Named}
@@ -101,7 +102,7 @@ held_as w place s rs told there down held k =
     subst (Holds (service_at place) s.disk.reads)
     (inner was.0 rs (sym was.2 ∙ ap (λ (o : Option Seat). option_and_then (λ (x : Seat). records_on (service_at place) x.disk) o) there ∙ held)) was.1
 
-module _ (grow : JournalsGrow) (safe : LoadsAreSafe) (read : RecordsAreRead) (sound : NodesStaySound) (w : World) (place : ℕ) (s : Seat) (rs : List JournalRecord) (told : List Told)
+module _ (grow : JournalsGrow) (safe : LoadsAreSafe) (read : RecordsAreRead) (sound : NodesKeepDecisions) (w : World) (place : ℕ) (s : Seat) (rs : List JournalRecord) (told : List Told)
     (there : slice_get w.seats place ≡ Some s) (down : s.server ≡ OfNode None) (held : records_on (service_at place) s.disk ≡ Some rs)
     (lacks : lacks_life (service_at place) rs ≡ false) (fits : (found_in rs).life + 1 < 2 ^ 32) (k : Known w told) where
   abbrev n : Node
@@ -291,7 +292,7 @@ module _ (grow : JournalsGrow) (safe : LoadsAreSafe) (read : RecordsAreRead) (so
 
   node_up_known : NodeIsKnown v later place n
   node_up_known = record {
-    sound = sound.loaded (service_at place) rs;
+    sound = edge_held v place rs_then n records_there (sound.loaded (journal_end rs_then) (service_at place) rs (before_end rs_then));
     given = λ name key named at in_life.
         let low = k.transactions.lives name key rs named (ap (records_at w) at ∙ records_was) in
         let next = next_found grow (service_at place) rs in

@@ -16,14 +16,15 @@ use Rattle.coordinator.specs.Family.{Family}
 use Rattle.coordinator.specs.Node.{Node, family_in, family_of, life, only_of}
 use Rattle.coordinator.specs.NodeParts.{IsWhole}
 use Rattle.family_laws.specs.HeldRecords.{IsOfStanding, WasHeld}
-use Rattle.family_laws.specs.SoundNode.{IsSoundNode}
+use Rattle.family_laws.specs.OwnDecisions.{KeepsDecisions}
 use Rattle.nodes_world.specs.Agreement.{FollowsDisk, HasSent, HoldsDecisions, IsHeldWhole, records_at}
-use Rattle.nodes_world.specs.AgreementInside.{Known, DisksAreKnown, NodeIsKnown}
+use Rattle.nodes_world.specs.AgreementInside.{Known, DisksAreKnown, NodeIsKnown, edge_at}
 use Rattle.nodes_world.specs.Laws.{IsInOrder}
 use Rattle.nodes_world.specs.Objects.{place_of, service_at}
 use Rattle.nodes_world.specs.Told.{Told, known}
 use Rattle.nodes_world.specs.World.{World, Seat, OfNode, end_in, family_at, node_at, node_in, with_seat}
 use Rattle.nodes_world.proofs.Deeds.{node_is_up}
+use Rattle.nodes_world.proofs.Edges.{edge_kept}
 use Rattle.nodes_world.proofs.Going.{get_set}
 use Rattle.nodes_world.proofs.KnownLines.{lines_of}
 use Rattle.nodes_world.proofs.KnownTelling.{is_bare, tells_on, TellsOn}
@@ -42,7 +43,7 @@ inner x y e = cc
 
 module _ (w : World) (place : ℕ) (s : Seat) (n m : Node) (told : List Told) (there : slice_get w.seats place ≡ Some s) (up : s.server ≡ OfNode (Some n))
     (k : Known w told) (service : m.service ≡ n.service) (found : m.found ≡ n.found) (families : m.families ≡ n.families) (generation : m.generation ≡ n.generation)
-    (sound : IsSoundNode m) (holds : (h : Held) → Contains m.recovered h → WasHeld n.recovered h ⊎ IsOfStanding n.found.standing h) where
+    (sound : KeepsDecisions (edge_at w place) m) (holds : (h : Held) → Contains m.recovered h → WasHeld n.recovered h ⊎ IsOfStanding n.found.standing h) where
   abbrev left : Seat
   left = record s { server = OfNode (Some m) }
 
@@ -79,7 +80,7 @@ module _ (w : World) (place : ℕ) (s : Seat) (n m : Node) (told : List Told) (t
   node_then =
       let old = k.nodes place n node_up in
       record {
-        sound = sound;
+        sound = edge_kept v w place m (records_same place) sound;
         given = λ name key named at in_life.
             let less = old.given name key named at (in_life ∙ ap (λ (x : _). x.life) found) in
             subst (λ (g : ℕ). key.generation ≤ g) (sym generation) less;
@@ -163,12 +164,12 @@ module _ (w : World) (place : ℕ) (s : Seat) (n m : Node) (told : List Told) (t
     held = λ p x o. seats_by (λ p x. x.server ≡ OfNode o → (rs : List JournalRecord) × Holds (service_at p) x.disk.reads rs × (records_at v p ≡ Some rs))
         (λ is. let was = k.disks.held place s (Some n) there up in (was.0, was.1, records_same place ∙ was.2))
         (λ p x at is. let was = k.disks.held p x o at is in (was.0, was.1, records_same p ∙ was.2)) p x;
-    whole = λ p x c. seats_by (λ p x. x.server ≡ OfNode (Some c) → IsWhole c) (λ is. subst IsWhole (some_node c is) (node_whole place m follows.service sound whole))
+    whole = λ p x c. seats_by (λ p x. x.server ≡ OfNode (Some c) → IsWhole c) (λ is. subst IsWhole (some_node c is) (node_whole place m follows.service sound.sound whole))
         (λ p x at is. k.disks.whole p x c at is) p x;
     follows = λ p x c. seats_by (λ p x. x.server ≡ OfNode (Some c) → FollowsDisk p x c) (λ is. subst (FollowsDisk place left) (some_node c is) follows)
         (λ p x at is. k.disks.follows p x c at is) p x;
     decisions = λ p x c. seats_by (λ p x. x.server ≡ OfNode (Some c) → HoldsDecisions p c)
-        (λ is. subst (HoldsDecisions place) (some_node c is) (node_holds place m follows.service sound whole))
+        (λ is. subst (HoldsDecisions place) (some_node c is) (node_holds place m follows.service sound.sound whole))
         (λ p x at is. k.disks.decisions p x c at is) p x;
     rise = k.disks.rise;
     lives = λ p x o in_life rs at is stands has. lives_then p x o in_life rs at is stands (sym (records_same p) ∙ has);

@@ -34,7 +34,7 @@ use Rattle.nodes_world.specs.declared.message.Content.TheVariants as contents
 use Rattle.nodes_world.specs.declared.message.Message.{Message}
 use Rattle.nodes_world.specs.Agreement as agreed
 use Rattle.nodes_world.specs.Agreement.{HasSent, IsAlone, IsClosed, IsCutOff, IsDecided, IsOutlived, IsRolledBack, IsTransaction, IsWord, MayBeRolledBack, NumbersAreOnce, RecordsRestOnVotes, RestsOnVotes, StatesFollow, VotesWereGiven, CommitsAreRecorded, DecisionsAreRecorded, DonesAreComplete, NoneIsBoth, OnePhaseIsAlone, RollbacksAreClosed, SubtransactionsEndOnce, has_record, names_object, records_at}
-use Rattle.nodes_world.specs.AgreementInside.{Known, CompletionsAreOver, DisksAreKnown, FamiliesAreKnown, FamilyIsKnown, HasAnswered, HasHeardAll, HasNotVoted, HasVotedCommit, IsBranch, IsNamedBy, NamesAreTold, OutcomeIsTold, ResourceIsKnown, ResourcesAreKnown, SeatsAreNamed, ToldIsOpen, WordsAreTold, phase_of, placed, EndsHaveCounted, NodesAreKnown, TransactionsAreKnown}
+use Rattle.nodes_world.specs.AgreementInside.{Known, CompletionsAreOver, DisksAreKnown, FamiliesAreKnown, FamilyIsKnown, HasAnswered, HasHeardAll, HasNotVoted, HasVotedCommit, IsBranch, IsNamedBy, NamesAreTold, OutcomeIsTold, ResourceIsKnown, ResourcesAreKnown, SeatsAreNamed, ToldIsOpen, WordsAreTold, phase_of, placed, EndsHaveCounted, NodesAreKnown, TransactionsAreKnown, IsNumberedBy}
 use Rattle.nodes_world.specs.Happenings.{naming, new_message, requests}
 use Rattle.nodes_world.specs.Objects.{place_of}
 use Rattle.nodes_world.specs.Told as tell
@@ -61,7 +61,7 @@ pub record MayGo (w : World) (told : List Told) (place : ℕ) (o : Outward) : Ty
       → (o.number.slot ≡ retold_slot) ⊎ (o.number.generation ≤ n.generation)
   pub told_again : (rs : List JournalRecord) → o.number.slot ≡ retold_slot → records_at w place ≡ Some rs → Any (IsNamedBy o) (placed first_gate rs)
   pub serial : (f : Family) (key : ObjectKey) → family_at w key ≡ Some f → o.number.life ≡ f.key.life → o.number.slot ≡ f.key.slot
-      → o.number.generation ≡ f.key.generation → place_of f.key ≡ place → o.number.serial ≤ f.serial
+      → o.number.generation ≡ f.key.generation → place_of f.key ≡ place → IsNumberedBy f o
   -- what it says rests on the record, on the family where that is there, and on what is closed
   pub recorded : o.word ≡ words.Commit → IsTrue (has_record w place (names_object o.to))
   pub commits : o.word ≡ words.Commit → (t : List ℕ) (b : ℕ) (key : ObjectKey) (f : Family) → IsRegistered resource.name t (lines_of told)
@@ -412,7 +412,7 @@ module _ (w : World) (told : List Told) (k : Known w told) (place : ℕ) (o : Ou
         (λ x y early rs again held. k.words.told_again x y rs early again held) m.told_again p q sent rs again held;
     serials = λ p q f key sent there same_life same_slot same_generation at.
         by_sent (λ (x : ℕ) (y : Outward). (f : Family) (key : ObjectKey) → family_at w key ≡ Some f → y.number.life ≡ f.key.life → y.number.slot ≡ f.key.slot
-        → y.number.generation ≡ f.key.generation → place_of f.key ≡ x → y.number.serial ≤ f.serial)
+        → y.number.generation ≡ f.key.generation → place_of f.key ≡ x → IsNumberedBy f y)
         (λ x y early f key there a b c d. k.words.serials x y f key early there a b c d) m.serial p q sent f key there same_life same_slot same_generation at;
   }
 
@@ -497,6 +497,8 @@ module _ (w : World) (told : List Told) (k : Known w told) (place : ℕ) (o : Ou
     came = λ e r among is. let at = old.came e r among is in (at.0, at.1, push_kept w.messages at.0 (new_message (contents.Request place o)) at.1 at.2, at.3, at.4, at.5);
     dues = old.dues;
     legs = old.legs;
+    ready = old.ready;
+    few = old.few;
     settled = old.settled;
     votes = λ g vote r object among is refers. (λ v. on _ ((old.votes g vote r object among is refers).0 v), λ s. (old.votes g vote r object among is refers).1 (back _ refl s));
     outcome = outcome_kept (stages.outcome f.completion) old.name _ _ on back old.outcome;

@@ -135,7 +135,7 @@ place_number : (key : ObjectKey) (next z : FlatResource) (a : Bool) → has_numb
 place_number key next z true is = ap (λ (n : ℕ). n == key.generation) (sym (same_number z.key.generation next.key.generation is))
 place_number key next z false is = refl
 
-found_kept : (key : ObjectKey) (next : FlatResource) (xs : List FlatResource) (q : FlatResource) → find (has_number key) xs ≡ Some q
+pub found_kept : (key : ObjectKey) (next : FlatResource) (xs : List FlatResource) (q : FlatResource) → find (has_number key) xs ≡ Some q
     → find (has_number key) (map (in_place_of next) xs) ≡ Some (in_place_of next q)
 found_kept key next [] q e = absurd cc
 found_kept key next (z ∷ xs) q e =

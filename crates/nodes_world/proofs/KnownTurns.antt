@@ -36,6 +36,7 @@ use Rattle.nodes_world.specs.AgreementInside.{Known, CompletionsAreOver, DisksAr
 use Rattle.nodes_world.specs.Objects.{place_of}
 use Rattle.nodes_world.specs.Told.{Told, known}
 use Rattle.nodes_world.specs.World.{World, Seat, OfNode, FlatResource, NamedKey, family_at, referred, resource_at, seat_name, thing, thing_in}
+use Rattle.nodes_world.proofs.Edges.{edge_kept}
 use Rattle.nodes_world.proofs.KnownLines.{AreAmong, among_back, among_turned, cut_among, lines_of, part_among, registered_among, same_resource}
 use Rattle.nodes_world.proofs.KnownTelling.{TellsOn}
 use Rattle.nodes_world.proofs.KnownRequests.{follows_kept, unvoted_kept, voted_kept}
@@ -361,6 +362,8 @@ module _ (w v : World) (told later : List Told) (k : Known w told) (x : NamedKey
         (at.0, at.1, t.messages at.0 at.1 at.2, at.3, at.4, at.5);
     dues = old.dues;
     legs = old.legs;
+    ready = old.ready;
+    few = old.few;
     settled = old.settled;
     votes = λ g vote z object among is refers.
         let known_one = old.votes g vote z object among is (refers_w z.to object refers) in
@@ -553,7 +556,7 @@ module _ (w v : World) (told later : List Told) (k : Known w told) (x : NamedKey
       let seat = t.nodes p at.seat (Some n) at.there at.up in
       let old = k.nodes p n (node_there w p at.seat n seat at.up) in
       record {
-        sound = old.sound;
+        sound = edge_kept v w p n (t.records p) old.sound;
         given = λ name key named here in_life. old.given name key (to_w name _ named) here in_life;
         order = λ s rs there held.
             old.order s rs (seat ∙ sym at.there ∙ there) (records_w p rs held);

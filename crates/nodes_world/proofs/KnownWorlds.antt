@@ -39,6 +39,7 @@ use Rattle.nodes_world.specs.AgreementInside.{Known, CompletionsAreOver, DisksAr
 use Rattle.nodes_world.specs.Objects.{place_of, service_at}
 use Rattle.nodes_world.specs.Told.{Told, known}
 use Rattle.nodes_world.specs.World.{World, Seat, OfNode, FlatResource, NamedKey, family_at, referred, resource_at, seat_name, thing, node_at, node_in}
+use Rattle.nodes_world.proofs.Edges.{edge_kept}
 use Rattle.nodes_world.proofs.KnownLines.{AreAmong, among_back, among_turned, cut_among, lines_of, part_among, registered_among}
 use Rattle.nodes_world.proofs.KnownTelling.{TellsOn, is_bare, is_recorded}
 use Rattle.nodes_world.proofs.KnownRequests.{follows_kept, unvoted_kept, voted_kept}
@@ -352,6 +353,8 @@ module _ (w v : World) (told later : List Told) (f : Frame w v told later) (k : 
         (at.0, there.0, there.1, at.3, at.4, at.5);
     dues = old.dues;
     legs = old.legs;
+    ready = old.ready;
+    few = old.few;
     settled = old.settled;
     votes = λ number vote r object among is refers.
         let was = old.votes number vote r object among is (refers_back r.to object refers) in
@@ -582,7 +585,7 @@ module _ (w v : World) (told later : List Told) (f : Frame w v told later) (k : 
 
   node_then : (p : ℕ) (n : Node) → WasUp w v p n → NodeIsKnown w told p n → NodeIsKnown v later p n
   node_then p n was old = record {
-    sound = old.sound;
+    sound = edge_kept v w p n was.records old.sound;
     given = λ name key named at in_life. old.given name key (f.transaction_back name key named) at in_life;
     order = λ s rs there held.
         let t = was.disks s there in

@@ -2,6 +2,7 @@ mod Struck
 mod Played
 mod Going
 mod Deeds
+mod Delivered
 mod GoingOn
 mod NamesFit
 mod NothingKnown
@@ -41,6 +42,9 @@ mod WordKnown
 mod CanRetell
 mod EndsOpen
 mod StepsKnown
+mod StandingTold
+mod OverForGood
+mod CommitsStored
 mod ReachedKnown
 mod EffectsTold
 mod EffectsSame
@@ -49,6 +53,7 @@ mod TickSlots
 mod StepTold
 mod StepBranches
 mod SoundNodes
+mod Edges
 mod HeldLines
 mod RetoldWords
 mod KnownRecoveries
@@ -87,6 +92,19 @@ mod CompletesKnown
 mod AnswersKeep
 mod AskedCalls
 mod AskedVotes
+mod AskedKeeps
+mod DecisionFits
+mod ListedFew
+mod FullStep
+mod FullKnown
+mod VotedStep
+mod AskedCounts
+mod NamedVotes
+mod AskedWords
+mod RulesAsk
+mod StepsAsk
+mod NumberedWords
+mod RecordsLate
 mod DoneKnown
 mod ResourceNamed
 mod ResourceNamedKnown
@@ -101,4 +119,5 @@ mod DisksGoOn
 mod OutcomesLast
 mod HearingsAsk
 mod ClosesKeep
+mod ClosesShut
 mod ClosesKnown

@@ -16,7 +16,7 @@ use Rattle.nodes_world.specs.Lives.{loads}
 use Rattle.nodes_world.specs.Step.{lacks_life}
 use Rattle.nodes_world.specs.AgreementSteps.{StaysKnown}
 use Rattle.nodes_world.proofs.KnownLoad.{held_as, known_load}
-use Rattle.family_laws.specs.SoundNode.{NodesStaySound}
+use Rattle.family_laws.specs.OwnDecisions.{NodesKeepDecisions}
 
 one_further : (found : Found) (place : ℕ) (r : JournalRecord) → IsTrue (can_follow found r) → (with_record found place r).life ≤ found.life + 1
 one_further found place (Life life) is = let same = next life found.life is in omega (arith, same)
@@ -53,7 +53,7 @@ life_fits service octets rs (inl stands) =
     omega (arith, rises, some, both, within)
 life_fits service octets rs (inr (fresh, none)) = subst (λ (ps : List JournalRecord). (found_in ps).life + 1 < 2 ^ 32) (sym none) (omega arith)
 
-pub known_loading : JournalsGrow → LoadsAreSafe → RecordsAreRead → NodesStaySound → (w : World) (place : ℕ) (s : Seat) (rs : List JournalRecord)
+pub known_loading : JournalsGrow → LoadsAreSafe → RecordsAreRead → NodesKeepDecisions → (w : World) (place : ℕ) (s : Seat) (rs : List JournalRecord)
     → slice_get w.seats place ≡ Some s → s.server ≡ OfNode None → records_on (service_at place) s.disk ≡ Some rs
     → lacks_life (service_at place) rs ≡ false → StaysKnown w (loads place s (Some rs) w)
 known_loading grow safe read sound w place s rs there down held lacks told k =

@@ -213,7 +213,7 @@ load_whole service rs = record {
 same_place : (n : ℕ) → (n == n) ≡ true
 same_place n = grind (arith, nat_tests)
 
-decision_held : (stood : Standing) (life slot generation : ℕ) (retry : Option RetryKey) (asked : Bool) (regs : List Registration)
+pub decision_held : (stood : Standing) (life slot generation : ℕ) (retry : Option RetryKey) (asked : Bool) (regs : List Registration)
     → stood.item ≡ Decision life slot generation retry asked regs → (h : Held) × (loaded stood ≡ Some h) × (h.place ≡ stood.place)
 decision_held stood life slot generation retry asked regs is =
     (_, ap (λ (item : JournalRecord). held_of stood.place item [] []) is, refl)

@@ -29,6 +29,7 @@ use Rattle.nodes_world.specs.Step.{carried_out}
 use Rattle.nodes_world.specs.Told.{Told, known}
 use Rattle.nodes_world.specs.World.{World, Seat, OfNode, seat_name, thing}
 use Rattle.nodes_world.proofs.DisksGoOn.{DisksGoOn, HearingsGoOn, IsOfLife, RecordsGoOn, disks_go, more, same}
+use Rattle.nodes_world.proofs.Delivered.{reached_delivered}
 use Rattle.nodes_world.proofs.GoingOn.{deeds_go}
 use Rattle.nodes_world.proofs.KnownLines.{in_front}
 use Rattle.nodes_world.proofs.Reaching.{goes_known, known_more, known_reached}
@@ -209,4 +210,4 @@ module _ (grow : JournalsGrow) (safe : LoadsAreSafe) (read : RecordsAreRead) (he
 
   pub reached_outcomes_last : ReachedOutcomesLast
   reached_outcomes_last w told event deed reached few fit is limit =
-      (lasts_on w (carried_out deed w) (deeds_go event deed w few fit is limit) told (known_reached keeps w told reached)).outcomes
+      (lasts_on w (carried_out deed w) (deeds_go event deed w (reached_delivered w told reached) few fit is limit) told (known_reached keeps w told reached)).outcomes

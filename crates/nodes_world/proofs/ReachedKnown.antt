@@ -7,9 +7,12 @@ use Rattle.resource_end.specs.declared.state.State.{State}
 use Rattle.resource_end.specs.declared.state.State.TheVariants as states
 use Rattle.nodes_world.specs.Told.{Told, known}
 use Rattle.nodes_world.specs.World.{World}
-use Rattle.nodes_world.specs.Agreement.{IsKnown, StatesFollow, VotesAreBound, DonesAreComplete}
+use Rattle.nodes_world.specs.Agreement.{IsKnown, StatesFollow, VotesAreBound, DonesAreComplete, ReachedDonesAreComplete, ReachedIsKnown}
 use Rattle.nodes_world.specs.AgreementInside.{Known}
+use Rattle.nodes_world.specs.AgreementSteps.{StepsStayKnown}
 use Rattle.nodes_world.proofs.KnownLines.{among_back, among_turned, lines_of}
+use Rattle.nodes_world.proofs.Reaching.{known_reached}
+use Rattle.nodes_world.proofs.VotesBound.{votes_are_bound}
 
 sent_in_order : (told : List Told) (word : Word) (name : List ℕ) → IsSent word name (lines_of told) → IsSent word name (known told)
 sent_in_order told word name (number, s) = (number, among_back (known told) _ s)
@@ -58,3 +61,9 @@ known_together w told k bound dones = record {
         undone = (λ s. is.undone.0 (among_turned (known told) _ s), λ e. among_back (known told) _ (is.undone.1 e));
       };
 }
+
+-- so all of it is known of every world that is reached, where each Done there is complete
+pub reached_is_known : StepsStayKnown → ReachedDonesAreComplete → ReachedIsKnown
+reached_is_known keeps dones w told reached =
+    let k : Known w told = known_reached keeps w told reached in
+    known_together w told k (votes_are_bound w told k) (dones w told reached)

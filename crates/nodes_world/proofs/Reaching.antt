@@ -19,7 +19,8 @@ use Rattle.nodes_world.specs.Step.{carried_out, carries_named, carries_unless, l
 use Rattle.nodes_world.specs.Run.{Run, ahead_of, run_from, runs_by}
 use Rattle.nodes_world.specs.Agreement.{Agreement, Reaches, nothing, further, RunsAreSafe, GoesOnFrom, names_fit}
 use Rattle.nodes_world.specs.AgreementInside.{Known}
-use Rattle.nodes_world.specs.AgreementSteps.{Goes, by_alike, by_receipt, by_node, by_end, by_load, by_crash, by_begin, by_calling, by_call, by_sub, by_register, by_touch, by_word, by_hearing, by_tick, GoesOn, still, further as and_further, StaysKnown, StepsStayKnown, by_no_call}
+use Rattle.nodes_world.specs.AgreementSteps.{Goes, by_alike, by_receipt, by_node, by_end, by_load, by_crash, by_begin, by_calling, by_call, by_sub, by_register, by_touch, by_word, by_hearing, by_tick, GoesOn, still, further as and_further, StaysKnown, StepsStayKnown}
+use Rattle.nodes_world.proofs.Delivered.{reached_delivered}
 use Rattle.nodes_world.proofs.GoingOn.{deeds_go}
 use Rattle.nodes_world.proofs.NothingKnown.{nothing_known}
 use Rattle.std.proofs.lemmas.Bool.Decides.{nat_tests}
@@ -38,7 +39,6 @@ module _ (keeps : StepsStayKnown) where
   goes_known w d (by_begin place name seconds s n there up free) = keeps.begin w place name seconds s n there up free
   goes_known w d (by_calling to act named few) = keeps.calling w to act named few
   goes_known w d (by_call nth now to act m there is asked) = keeps.call w nth now to act m there is asked
-  goes_known w _ (by_no_call nth to act m done there is new) = keeps.no_call w nth to act m done there is new
   goes_known w d (by_sub parent name free few) = keeps.sub w parent name free few
   goes_known w d (by_register manner transaction place name s e there up free may few) =
       keeps.register w manner transaction place name s e there up free may few
@@ -57,7 +57,7 @@ module _ (keeps : StepsStayKnown) where
   pub known_reached : (w : World) (told : List Told) → Reaches w told → Known w told
   known_reached w told nothing = nothing_known
   known_reached w told (further before earlier event deed reached few fit is limit) =
-      goes_on_known before (carried_out deed before) (deeds_go event deed before few fit is limit) earlier (known_reached before earlier reached)
+      goes_on_known before (carried_out deed before) (deeds_go event deed before (reached_delivered before earlier reached) few fit is limit) earlier (known_reached before earlier reached)
 
   pub agreement : AllowedIsSafe → Agreement
   agreement safe w told reached =

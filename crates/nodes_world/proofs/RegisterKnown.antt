@@ -31,14 +31,14 @@ use Rattle.coordinator.specs.Step.{Stepped, Wanted, family_step, wanted}
 use Rattle.decision_journal.specs.Journal.{Found}
 use Rattle.recovery_coord.specs.declared.held.Held.{Held}
 use Rattle.family_laws.specs.Sound.{IsSoundFamily}
-use Rattle.family_laws.specs.SoundNode.{IsSoundNode, NodesStaySound}
+use Rattle.family_laws.specs.OwnDecisions.{KeepsDecisions, NodesKeepDecisions}
 use Rattle.nodes_world.specs.declared.deed.Manner.{Manner}
 use Rattle.nodes_world.specs.declared.deed.Manner.TheVariants as manners
 use Rattle.nodes_world.specs.declared.message.Content.TheVariants as contents
 use Rattle.nodes_world.specs.declared.message.Message.{Message}
 use Rattle.nodes_world.specs.declared.thing.Thing.{Thing}
 use Rattle.nodes_world.specs.declared.thing.Thing.TheVariants as things
-use Rattle.nodes_world.specs.AgreementInside.{Known, HasMessage, IsBranch}
+use Rattle.nodes_world.specs.AgreementInside.{Known, HasMessage, IsBranch, edge_at}
 use Rattle.nodes_world.specs.AgreementSteps.{StaysKnown}
 use Rattle.nodes_world.specs.Clients.{acts_at, answered_with, call_event, called_line, calls, is_registered, registered, registered_if, registered_line, registering, registers_at, registers_object, said_in, said_lines, then_answers}
 use Rattle.nodes_world.specs.Ends.{drawn_once, with_end, with_fresh}
@@ -60,7 +60,7 @@ use Rattle.nodes_world.proofs.KnownFrames.{place_within, push_last}
 use Rattle.nodes_world.proofs.KnownLines.{lines_of, not_free, referred_named}
 use Rattle.nodes_world.proofs.KnownTouch.{set_other}
 use Rattle.nodes_world.proofs.RegisteredLists.{has_list}
-use Rattle.nodes_world.proofs.RegisterSteps.{Registers, answer_to, is_aware, is_listed, line_is, listed_before, listed_new, listed_then, none_retold, registered_step, registering_event, registering_step, registrations_then, synchronizations_then, was_registered}
+use Rattle.nodes_world.proofs.RegisterSteps.{Registers, answer_to, is_aware, is_listed, line_is, listed_before, listed_new, listed_then, none_retold, registered_step, registering_event, registering_step, registrations_then, synchronizations_then, was_registered, registering_called, HasPlace, registered_few}
 use Rattle.nodes_world.proofs.ResourceNamed as made
 use Rattle.nodes_world.proofs.ResourceNamedKnown as named
 use Rattle.nodes_world.proofs.ResourceRegistered.{line_of, registered_known}
@@ -69,6 +69,7 @@ use Rattle.nodes_world.proofs.StepIs.{FamilyLaws, keeps_is}
 use Rattle.nodes_world.proofs.StepSeats as seats
 use Rattle.nodes_world.proofs.StepsKeep.{StepKeeps}
 use Rattle.nodes_world.proofs.SubKnown.{answer_stays, not_kept}
+use Rattle.nodes_world.proofs.StepsAsk.{called_asks}
 
 inner : {A : Type 0} {x y : A} → Some x ≡ Some y → x ≡ y
 inner e = cc
@@ -141,7 +142,7 @@ not_answer manners.Double to number heard is = cc
 
 -- ---- the deed
 
-module _ (laws : FamilyLaws) (nodes : NodesStaySound) (law : SameOctetsSameKey) (w : World) (manner : Manner) (transaction : ObjectKey) (place : ℕ) (name : List ℕ)
+module _ (laws : FamilyLaws) (nodes : NodesKeepDecisions) (law : SameOctetsSameKey) (w : World) (manner : Manner) (transaction : ObjectKey) (place : ℕ) (name : List ℕ)
     (s : Seat) (e : FlatEnd) (there : slice_get w.seats place ≡ Some s) (up : s.server ≡ OfEnd (Some e)) (free : thing w name ≡ None)
     (few : length w.messages ≤ message_limit) (told : List Told) (k : Known w told) where
   abbrev key : ObjectKey
@@ -300,10 +301,10 @@ module _ (laws : FamilyLaws) (nodes : NodesStaySound) (law : SameOctetsSameKey) 
           nothing_more (steps_to n f ev None (family_step f ev None))
           (call.step_stays d home seat n there_d up_n laws nodes transaction refl ev (none_retold manner to) has_come f unwanted of later k_drawn
           (keeps_is laws f ev None (λ number vote among. let heard = laws.votes.told f ev None number vote (k_drawn.families transaction f found_d).sound among in not_answer manner to heard.number _ heard.answer) (k_drawn.families transaction f found_d).sound
-          (keeps (tidy_of d later k_drawn transaction f found_d))) same) none
+          (keeps (tidy_of d later k_drawn transaction f found_d)) (called_asks f ev None (registering_called manner to) (k_drawn.families transaction f found_d).ready)) same) none
 
       -- it registers it
-      module _ (inside : transaction.index < length f.rows) (may : IsTrue (is_open (column f transaction.index))) (entry : Entry)
+      module _ (inside : transaction.index < length f.rows) (may : IsTrue (is_open (column f transaction.index))) (left : HasPlace f) (entry : Entry)
           (is : family_step f ev None ≡ registered_step f manner transaction.index to entry)
           (same : applies transaction ev None n ≡ steps_to n f ev None (family_step f ev None)) where
         abbrev step : Stepped
@@ -324,8 +325,8 @@ module _ (laws : FamilyLaws) (nodes : NodesStaySound) (law : SameOctetsSameKey) 
         sound_family : IsSoundFamily g
         sound_family = subst (λ (t : Stepped). IsSoundFamily t.family) is (laws.sound.steps f ev None (k_named.families transaction f found_v).sound)
 
-        sound_node : IsSoundNode (with_family g n)
-        sound_node = subst (λ (t : Stepped). IsSoundNode (with_family t.family n)) is
+        sound_node : KeepsDecisions (edge_at v home) (with_family g n)
+        sound_node = subst (λ (t : Stepped). KeepsDecisions (edge_at v home) (with_family t.family n)) is
             (call.sound_now v home seat n there_v up_n laws nodes transaction refl ev (none_retold manner to) has_come f unwanted of later k_named same)
 
         entries_came : (x : Entry) (r : RetryKey) → Contains g.entries x → x.event.key ≡ Some r → HasMessage v r
@@ -370,7 +371,8 @@ module _ (laws : FamilyLaws) (nodes : NodesStaySound) (law : SameOctetsSameKey) 
             (listed_then manner transaction.index to f.ballots list_there (k_named.families transaction f found_v).sound.lists.numbers)
             (listed_before manner transaction.index to f.ballots list_there (k_named.families transaction f found_v).sound.lists.numbers)
             (listed_new manner transaction.index to f.ballots list_there (k_named.families transaction f found_v).sound.lists.numbers)
-            refl refl sound_family dues_now (k_named.families transaction f found_v).legs entries_came sound_node
+            refl (record { serial = refl; waits = refl; asks = refl; ready = λ ready. ready })
+            (registered_few manner transaction.index to f.ballots left (k_named.families transaction f found_v).few) sound_family dues_now (k_named.families transaction f found_v).legs entries_came sound_node
 
         abbrev a : Applied
         a = steps_to n f ev None step
@@ -441,7 +443,7 @@ module _ (laws : FamilyLaws) (nodes : NodesStaySound) (law : SameOctetsSameKey) 
       by_step : Registers f manner transaction.index to (family_step f ev None) → applies transaction ev None n ≡ steps_to n f ev None (family_step f ev None)
           → Ends (steps_to n f ev None (family_step f ev None))
       by_step (inl kept) same = not_made kept.0 kept.1 same
-      by_step (inr (inside, may, (entry, is))) same = made_so inside may entry is same
+      by_step (inr (inside, may, left, (entry, is))) same = made_so inside may left entry is same
 
       by_room : (b : Bool) → (b ≡ true → Ends (steps_to n f ev None (family_step f ev None)))
           → Ends (if b then steps_to n f ev None (family_step f ev None) else refuses faults.NoResources n)
@@ -528,7 +530,7 @@ module _ (laws : FamilyLaws) (nodes : NodesStaySound) (law : SameOctetsSameKey) 
       subst (Known acted.world) (append_assoc told lines_then acted.lines) came_to)
 
 -- a client has a resource registered
-pub known_register : FamilyLaws → NodesStaySound → SameOctetsSameKey → (w : World) (manner : Manner) (transaction : ObjectKey) (place : ℕ) (name : List ℕ) (s : Seat) (e : FlatEnd)
+pub known_register : FamilyLaws → NodesKeepDecisions → SameOctetsSameKey → (w : World) (manner : Manner) (transaction : ObjectKey) (place : ℕ) (name : List ℕ) (s : Seat) (e : FlatEnd)
     → slice_get w.seats place ≡ Some s → s.server ≡ OfEnd (Some e) → thing w name ≡ None → length w.messages ≤ message_limit
     → StaysKnown w (registers_at manner transaction place s (Some e) name w)
 known_register laws nodes law w manner transaction place name s e there up free few told k =

@@ -1,8 +1,9 @@
 -- What a step of a family does that is to register a resource: it registers it, or keeps what other steps keep.
-use Rattle.std.proofs.Common.{◌≡◌, ◌⊎◌, inl, inr, ℕ, ◌+◌, ◌<◌, ◌==◌, Bool, true, false, nat_lt, if◌then◌else◌, IsTrue, List, [], ◌∷◌, ◌++◌, length, Contains, Option, Some, None, refl, sym, subst, arith}
+use Rattle.std.proofs.Common.{◌≡◌, ◌⊎◌, inl, inr, ℕ, ◌+◌, ◌<◌, ◌==◌, Bool, true, false, nat_le, nat_lt, if◌then◌else◌, IsTrue, List, [], ◌∷◌, ◌++◌, length, Contains, Option, Some, None, refl, sym, subst, arith}
 use Rattle.std.proofs.lemmas.Bool.Decides.{nat_tests}
+use Rattle.std.specs.Option.{option_or}
 use Rattle.ots_model.specs.declared.service.RetryKey.{RetryKey}
-use Rattle.resource_votes.specs.Ballots.{Ballots, participants, registered, registered_aware, registering as registering_refusal}
+use Rattle.resource_votes.specs.Ballots.{Ballots, participants, registered, registered_aware, registering as registering_refusal, by_count, registering_aware}
 use Rattle.resource_votes.specs.declared.registration.Registration.{Registration}
 use Rattle.resource_votes.specs.declared.registration.VoteFault.{VoteFault}
 use Rattle.resource_votes.specs.declared.registration.VoteFault.TheVariants as vote_faults
@@ -24,6 +25,10 @@ use Rattle.nodes_world.proofs.RegisteredLists.{aware_back, aware_on, lists_cases
 use Rattle.nodes_world.proofs.ResourceRegistered.{line_of}
 use Rattle.nodes_world.proofs.RulesKeep.{IsTidy, only_keeps}
 use Rattle.nodes_world.proofs.StepsKeep.{StepKeeps, entered_keeps}
+use Rattle.nodes_world.proofs.StepsAsk.{is_called}
+use Rattle.ots_model.specs.Limits.{registration_limit}
+use Rattle.nodes_world.specs.AgreementInside.{AreFew}
+use Rattle.nodes_world.proofs.ListedFew.{aware_few, entered_few}
 
 -- a call that is to register one
 abbrev pub registering_event : Option RetryKey → Manner → List ℕ → ℕ → ℕ → Event
@@ -61,6 +66,11 @@ pub none_retold : (m : Manner) (to : List ℕ) → retold_answer (registering m 
 none_retold manners.Resource to = refl
 none_retold manners.Aware to = refl
 none_retold manners.Double to = refl
+
+pub registering_called : (m : Manner) (to : List ℕ) → is_called (registering m to) ≡ true
+registering_called manners.Resource to = refl
+registering_called manners.Aware to = refl
+registering_called manners.Double to = refl
 
 -- ---- the ballots then
 
@@ -110,11 +120,21 @@ registered_step f m b to entry = record {
   effects = [];
 }
 
+-- one more may be registered
+abbrev pub HasPlace : Family → Type 0
+HasPlace f = length f.ballots.registrations < registration_limit
+
+pub registered_few : (m : Manner) (b : ℕ) (to : List ℕ) (some : Ballots) → length some.registrations < registration_limit → AreFew some
+    → AreFew (later_ballots m b to some)
+registered_few manners.Resource b to some left few = entered_few some b to false left few
+registered_few manners.Aware b to some left few = aware_few some b to left few
+registered_few manners.Double b to some left few = entered_few some b to true left few
+
 -- it registers nothing, or that
 abbrev pub Registers : Family → Manner → ℕ → List ℕ → Stepped → Type 0
 Registers f m b to step =
     ((IsTidy f → StepKeeps f step) × (is_registered m step.said ≡ false))
-    ⊎ ((b < length f.rows) × IsTrue (is_open (column f b)) × ((entry : Entry) × (step ≡ registered_step f m b to entry)))
+    ⊎ ((b < length f.rows) × IsTrue (is_open (column f b)) × HasPlace f × ((entry : Entry) × (step ≡ registered_step f m b to entry)))
 
 refused : (f : Family) (m : Manner) (b : ℕ) (to : List ℕ) (e : Event) (answer : Said) → is_registered m answer ≡ false
     → Registers f m b to (entered f e None (says answer f))
@@ -147,28 +167,49 @@ no_object manners.Aware = refl
 no_object manners.Double = refl
 
 by_fault : (f : Family) (m : Manner) (b : ℕ) (to : List ℕ) (e : Event) (o : Option VoteFault) → b < length f.rows
-    → (o ≡ None → IsTrue (is_open (column f b)))
+    → (o ≡ None → IsTrue (is_open (column f b)) × HasPlace f)
     → Registers f m b to (entered f e None (registers o (answer_to m f) (later_ballots m b to f.ballots) f))
 unfolding entered
 by_fault f m b to e (Some fault) less open_now = refused f m b to e (vote_refusal fault) (no_refusal m fault)
-by_fault f m b to e None less open_now = inr (less, open_now refl, (_, refl))
+by_fault f m b to e None less open_now = inr (less, (open_now refl).0, (open_now refl).1, (_, refl))
 
 is_less : (b n : ℕ) → nat_lt b n ≡ true → b < n
 is_less b n is = grind (arith, nat_tests, is)
 
-on_a_branch : (f : Family) (m : Manner) (b : ℕ) (to : List ℕ) (e : Event) (o : Option VoteFault) → (o ≡ None → IsTrue (is_open (column f b)))
+on_a_branch : (f : Family) (m : Manner) (b : ℕ) (to : List ℕ) (e : Event) (o : Option VoteFault) → (o ≡ None → IsTrue (is_open (column f b)) × HasPlace f)
     → (t : Bool) → has_branch f b ≡ t
     → Registers f m b to (entered f e None (if t then registers o (answer_to m f) (later_ballots m b to f.ballots) f else says said.ObjectNotExist f))
 on_a_branch f m b to e o open_now true is = by_fault f m b to e o (is_less b (length f.rows) is) open_now
 on_a_branch f m b to e o open_now false is = refused f m b to e said.ObjectNotExist (no_object m)
 
-open_place : (t : Bool) (o : Option VoteFault) → (if t then o else Some vote_faults.Inactive) ≡ None → IsTrue t
-open_place true o is = refl
-open_place false o is = absurd cc
+-- where nothing refuses it, the transaction is open, and there is place
+none_of : (o other : Option VoteFault) → option_or o other ≡ None → other ≡ None
+none_of (Some fault) other is = absurd cc
+none_of None other is = is
 
-open_below : (top t : Bool) (o : Option VoteFault) → (if top then Some vote_faults.NotSubtransaction else (if t then o else Some vote_faults.Inactive)) ≡ None → IsTrue t
-open_below true t o is = absurd cc
-open_below false t o is = open_place t o is
+place_left : (count : ℕ) → by_count registration_limit count ≡ None → count < registration_limit
+place_left count is = by (nat_le registration_limit count) refl is
+  where
+    by : (t : Bool) → nat_le registration_limit count ≡ t → (if t then Some vote_faults.NoResources else None) ≡ None → count < registration_limit
+    by true most is = absurd cc
+    by false less is = grind (arith, nat_tests, less)
+
+open_place : (f : Family) (b : ℕ) (t : Bool) (o : Option VoteFault) → (o ≡ None → registering_refusal f.rows b f.ballots ≡ None)
+    → (if t then o else Some vote_faults.Inactive) ≡ None → IsTrue t × HasPlace f
+open_place f b true o none is = (refl, place_left (length f.ballots.registrations) (none_of _ _ (none is)))
+open_place f b false o none is = absurd cc
+
+open_below : (f : Family) (b : ℕ) (top t : Bool) (o : Option VoteFault) → (o ≡ None → registering_refusal f.rows b f.ballots ≡ None)
+    → (if top then Some vote_faults.NotSubtransaction else (if t then o else Some vote_faults.Inactive)) ≡ None → IsTrue t × HasPlace f
+open_below f b true t o none is = absurd cc
+open_below f b false t o none is = open_place f b t o none is
+
+aware_none : (f : Family) (b : ℕ) → registering_aware f.rows b f.ballots ≡ None → registering_refusal f.rows b f.ballots ≡ None
+aware_none f b is = by (b == 0) is
+  where
+    by : (t : Bool) → (if t then Some vote_faults.NotSubtransaction else registering_refusal f.rows b f.ballots) ≡ None → registering_refusal f.rows b f.ballots ≡ None
+    by true is = absurd cc
+    by false is = is
 
 -- where the call is no repeat
 pub registering_step : (f : Family) (m : Manner) (to : List ℕ) (by : Option RetryKey) (b now : ℕ) → kept_for f.entries by ≡ None
@@ -177,12 +218,12 @@ unfolding family_step acted registers_resource registers_aware
 registering_step f manners.Resource to by b now new =
     subst (λ (o : Option Said). Registers f manners.Resource b to (step_by o f (registering_event by manners.Resource to b now) None)) (sym new)
     (on_a_branch f manners.Resource b to (registering_event by manners.Resource to b now) (unless_past (column f b) (registering_refusal f.rows b f.ballots))
-    (open_place (is_open (column f b)) (registering_refusal f.rows b f.ballots)) (has_branch f b) refl)
+    (open_place f b (is_open (column f b)) (registering_refusal f.rows b f.ballots) (λ none. none)) (has_branch f b) refl)
 registering_step f manners.Aware to by b now new =
     subst (λ (o : Option Said). Registers f manners.Aware b to (step_by o f (registering_event by manners.Aware to b now) None)) (sym new)
     (on_a_branch f manners.Aware b to (registering_event by manners.Aware to b now) (aware_refusal f b)
-    (open_below (b == 0) (is_open (column f b)) _) (has_branch f b) refl)
+    (open_below f b (b == 0) (is_open (column f b)) (registering_aware f.rows b f.ballots) (aware_none f b)) (has_branch f b) refl)
 registering_step f manners.Double to by b now new =
     subst (λ (o : Option Said). Registers f manners.Double b to (step_by o f (registering_event by manners.Double to b now) None)) (sym new)
     (on_a_branch f manners.Double b to (registering_event by manners.Double to b now) (unless_past (column f b) (registering_refusal f.rows b f.ballots))
-    (open_place (is_open (column f b)) (registering_refusal f.rows b f.ballots)) (has_branch f b) refl)
+    (open_place f b (is_open (column f b)) (registering_refusal f.rows b f.ballots) (λ none. none)) (has_branch f b) refl)

@@ -29,6 +29,7 @@ use Rattle.nodes_world.specs.Objects.{place_of}
 use Rattle.nodes_world.specs.Told.{Told, known}
 use Rattle.nodes_world.specs.World.{World, Seat, OfEnd, OfNode, FlatEnd, FlatResource, NamedKey, end_at, family_at, node_at, referred, resource_at, seat_name, thing}
 use Rattle.nodes_world.proofs.Deeds.{node_is_up}
+use Rattle.nodes_world.proofs.Edges.{edge_kept}
 use Rattle.nodes_world.proofs.KnownFamilies.{all_at}
 use Rattle.nodes_world.proofs.KnownLines.{among_turned, lines_of, referred_named}
 use Rattle.nodes_world.proofs.KnownSeats.{as_long, disks_kept, set_at, set_cases}
@@ -329,6 +330,8 @@ module _ (law : SameOctetsSameKey) (w : World) (place : ℕ) (name : List ℕ) (
     apart = old.apart;
     dues = old.dues;
     legs = old.legs;
+    ready = old.ready;
+    few = old.few;
     settled = old.settled;
     came = old.came;
     within = old.within;
@@ -455,7 +458,7 @@ module _ (law : SameOctetsSameKey) (w : World) (place : ℕ) (name : List ℕ) (
       let was = seat_was p at.seat (Some n) at.there at.up in
       let old = k.nodes p n (node_there w p at.seat n was at.up) in
       record {
-        sound = old.sound;
+        sound = edge_kept v w p n (records p) old.sound;
         given = λ t x named here in_life. old.given t x (trans_back t x named) here in_life;
         order = λ y rs now held. old.order y rs (was ∙ sym at.there ∙ now) (sym (records p) ∙ held);
         held = λ rs x held among. held_on p rs x (old.held rs x (sym (records p) ∙ held) among);

@@ -40,11 +40,11 @@ use Rattle.coordinator.specs.Phases.{column, is_open}
 use Rattle.coordinator.specs.declared.said.Entry.{Entry}
 use Rattle.family_laws.specs.LawsOfTelling.{IsVoted}
 use Rattle.family_laws.specs.Sound.{HasParties, IsAsking, IsSoundFamily}
-use Rattle.family_laws.specs.SoundNode.{IsSoundNode}
+use Rattle.family_laws.specs.OwnDecisions.{KeepsDecisions}
 use Rattle.nodes_world.specs.declared.thing.Thing.TheVariants as things
 use Rattle.nodes_world.specs.Agreement as agreed
 use Rattle.nodes_world.specs.Agreement.{FollowsDisk, HasSent, HoldsDecisions, IsAlone, IsClosed, IsCutOff, IsDecided, IsRolledBack, IsTransaction, RecordsRestOnVotes, RestsOnVotes, StatesFollow, VotesWereGiven, CommitsAreRecorded, DecisionsAreRecorded, NoneIsBoth, OnePhaseIsAlone, RollbacksAreClosed, SubtransactionsEndOnce, has_record, is_decision_of, names_object, recorded_key, records_at}
-use Rattle.nodes_world.specs.AgreementInside.{Known, DisksAreKnown, EndsHaveCounted, FamiliesAreKnown, FamilyIsKnown, HasAnswered, HasMessage, IsBack, IsBranch, IsHeldAs, IsListed, IsMade, NamesAreTold, NodeIsKnown, NodesAreKnown, OutcomeIsTold, ResourceIsKnown, ResourcesAreKnown, RollbacksAreOutcomes, RollbacksAreTold, SeatsAreNamed, ToldIsOpen, TransactionsAreKnown, WordsAreTold, IsNotBefore}
+use Rattle.nodes_world.specs.AgreementInside.{Known, DisksAreKnown, EndsHaveCounted, FamiliesAreKnown, FamilyIsKnown, HasAnswered, HasMessage, IsBack, IsBranch, IsHeldAs, IsListed, IsMade, NamesAreTold, NodeIsKnown, NodesAreKnown, OutcomeIsTold, ResourceIsKnown, ResourcesAreKnown, RollbacksAreOutcomes, RollbacksAreTold, SeatsAreNamed, ToldIsOpen, TransactionsAreKnown, WordsAreTold, IsNotBefore, edge_at, IsNumberedBy, AreFew}
 use Rattle.nodes_world.specs.Laws.{IsInOrder}
 use Rattle.nodes_world.specs.Objects.{place_of, service_at}
 use Rattle.nodes_world.specs.Told as tell
@@ -53,6 +53,7 @@ use Rattle.nodes_world.specs.World.{World, Seat, OfNode, FlatResource, NamedKey,
 use Rattle.nodes_world.proofs.CanRegister.{not_asking, open_column, open_family}
 use Rattle.nodes_world.proofs.CanGo.{first_key}
 use Rattle.nodes_world.proofs.Deeds.{node_is_up}
+use Rattle.nodes_world.proofs.Edges.{edge_kept}
 use Rattle.nodes_world.proofs.KnownFamilies.{all_at, branch_joined, commits_asking, family_found, is_own, same_of_branch, same_parts}
 use Rattle.nodes_world.proofs.KnownFrames.{newest_phase, push_cases}
 use Rattle.nodes_world.proofs.KnownLines.{AreAmong, among_back, among_turned, cut_among, joined_among, joined_of, lines_of, of_key, part_among, registered_among, same_key}
@@ -63,6 +64,7 @@ use Rattle.nodes_world.proofs.KnownWorlds.{node_there}
 use Rattle.nodes_world.proofs.RulesKeep.{registered_of}
 use Rattle.nodes_world.proofs.StepSeats as seats
 use Rattle.ots_model.specs.declared.completion.Vote.TheVariants.{VoteCommit}
+use Rattle.nodes_world.proofs.NumberedWords.{IsNumberedAs, numbered_as}
 
 inner : {A : Type 0} (x y : A) → Some x ≡ Some y → x ≡ y
 inner x y e = cc
@@ -137,10 +139,10 @@ module _ (w : World) (place : ℕ) (s : Seat) (n : Node) (f g : Family) (there :
     (listed_cases : (d : ℕ) (r : Registration) → Contains (participants d g.ballots) r → Contains (participants d f.ballots) r
     ⊎ ((r ≡ record { index = length f.ballots.registrations + 1; branch = b0; to = to; aware = aware }) × (listed ≡ true)))
     (listed_new : listed ≡ true → Contains (participants b0 g.ballots) (record { index = length f.ballots.registrations + 1; branch = b0; to = to; aware = aware }))
-    (completion : g.completion ≡ f.completion) (serial : g.serial ≡ f.serial) (sound : IsSoundFamily g)
+    (completion : g.completion ≡ f.completion) (serial : IsNumberedAs f g) (few : AreFew g.ballots) (sound : IsSoundFamily g)
     (dues : (b : ℕ) (c : Call) → call_at g b ≡ Some c → AllByRecursion (λ (d : Duty). Contains g.ballots.registrations d.resource) c.left)
     (legs : (b : ℕ) (c : Call) → call_at g b ≡ Some c → IsNotBefore c.leg)
-    (came : (e : Entry) (r : RetryKey) → Contains g.entries e → e.event.key ≡ Some r → HasMessage w r) (sound_now : IsSoundNode (with_family g n)) where
+    (came : (e : Entry) (r : RetryKey) → Contains g.entries e → e.event.key ≡ Some r → HasMessage w r) (sound_now : KeepsDecisions (edge_at w place) (with_family g n)) where
   abbrev new_one : Registration
   new_one = record { index = length f.ballots.registrations + 1; branch = b0; to = to; aware = aware }
 
@@ -339,14 +341,13 @@ module _ (w : World) (place : ℕ) (s : Seat) (n : Node) (f g : Family) (there :
       (λ q x at is sent in_life. k.words.given q x m o at is sent in_life) q x
 
   serials_now : (q : ℕ) (o : Outward) (h : Family) (x : ObjectKey) → HasSent w q o → family_at v x ≡ Some h → o.number.life ≡ h.key.life
-      → o.number.slot ≡ h.key.slot → o.number.generation ≡ h.key.generation → place_of h.key ≡ q → o.number.serial ≤ h.serial
+      → o.number.slot ≡ h.key.slot → o.number.generation ≡ h.key.generation → place_of h.key ≡ q → IsNumberedBy h o
   serials_now q o h x sent at in_life at_slot numbered here = elim (families x h at) [
     | inl this ↦
         let key_is : h.key ≡ f.key = ap (λ (y : Family). y.key) this.0 ∙ same in
         let was = k.words.serials q o f key sent found (in_life ∙ ap (λ (y : ObjectKey). y.life) key_is) (at_slot ∙ ap (λ (y : ObjectKey). y.slot) key_is)
         (numbered ∙ ap (λ (y : ObjectKey). y.generation) key_is) (ap place_of (sym key_is) ∙ here) in
-        let as_many = ap (λ (y : Family). y.serial) this.0 ∙ serial in
-        omega (arith, was, as_many)
+        subst (λ (y : Family). IsNumberedBy y o) (sym this.0) (numbered_as f g o serial was)
     | inr that ↦ k.words.serials q o h x sent that.0 in_life at_slot numbered here
   ]
 
@@ -583,6 +584,8 @@ module _ (w : World) (place : ℕ) (s : Seat) (n : Node) (f g : Family) (there :
     came = came;
     dues = dues;
     legs = legs;
+    ready = serial.ready old.ready;
+    few = few;
     settled = ap stages.wants_decision completion ∙ old.settled;
     votes = votes_of;
     outcome = subst (λ (x : Completion). OutcomeIsTold (stages.outcome x) old.name (lines_of later)) (sym completion) (outcome_on (stages.outcome f.completion) old.name old.outcome);
@@ -632,6 +635,8 @@ module _ (w : World) (place : ℕ) (s : Seat) (n : Node) (f g : Family) (there :
         came = was.came;
         dues = was.dues;
         legs = was.legs;
+        ready = was.ready;
+        few = was.few;
         settled = was.settled;
         votes = λ number vote r object among is to_r.
             let before = was.votes number vote r object among is (sym (refers r.to) ∙ to_r) in
@@ -874,7 +879,7 @@ module _ (w : World) (place : ℕ) (s : Seat) (n : Node) (f g : Family) (there :
   node_now =
       let was = k.nodes place n (node_there w place s n there up) in
       record {
-        sound = sound_now;
+        sound = edge_kept v w place c (records place) sound_now;
         given = was.given;
         order = order_now place n was;
         held = λ rs x held among. held_on place rs x (was.held rs x (sym (records place) ∙ held) among);
@@ -882,7 +887,7 @@ module _ (w : World) (place : ℕ) (s : Seat) (n : Node) (f g : Family) (there :
 
   node_still : (q : ℕ) (a : Node) → NodeIsKnown w told q a → NodeIsKnown v later q a
   node_still q a was = record {
-    sound = was.sound;
+    sound = edge_kept v w q a (records q) was.sound;
     given = was.given;
     order = order_now q a was;
     held = λ rs x held among. held_on q rs x (was.held rs x (sym (records q) ∙ held) among);

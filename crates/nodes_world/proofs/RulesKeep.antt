@@ -47,9 +47,10 @@ use Rattle.coordinator.specs.declared.call.Ending.TheVariants.{TellsRollback, Te
 use Rattle.coordinator.specs.Phases.{is_marked}
 use Rattle.family_laws.specs.LawsOfTelling.{rows_told, HasVote, IsVoted}
 use Rattle.family_laws.specs.Sound.{IsAsking, IsListed, called}
-use Rattle.nodes_world.specs.AgreementInside.{IsNotBefore}
+use Rattle.nodes_world.specs.AgreementInside.{IsNotBefore, AreFew}
 use Rattle.nodes_world.proofs.EndsOpen.{parent_set}
 use Rattle.nodes_world.proofs.StepBranches.{rows_parents}
+use Rattle.nodes_world.proofs.ListedFew.{adopted_few}
 
 -- ---- what is kept
 
@@ -79,20 +80,16 @@ pub record AreTidy (rs : List Row) (some : Ballots) (calls : List (Option Call))
   pub dues : AllDue some.registrations calls
   pub parties : ArePartiesOf some.registrations s
   pub alone : some.synchronizations ≡ []
+  pub few : AreFew some
 
 abbrev pub IsTidy : Family → Type 0
 IsTidy f = AreTidy f.rows f.ballots f.calls f.completion
 
--- a reason that speaks of nobody
+-- a reason that speaks of no synchronization
 abbrev pub IsPlainReason : Reason → Type 0
-IsPlainReason reasons.Asked = Unit {0}
-IsPlainReason reasons.Marked = Unit {0}
-IsPlainReason reasons.Timeout = Unit {0}
-IsPlainReason (reasons.JournalFull used need) = Unit {0}
-IsPlainReason reasons.NotStored = Unit {0}
-IsPlainReason reasons.Superior = Unit {0}
-IsPlainReason reasons.NotEnlisted = Unit {0}
-IsPlainReason _ = ⊥
+IsPlainReason (reasons.SyncLost number) = ⊥
+IsPlainReason (reasons.SyncStarved number) = ⊥
+IsPlainReason _ = Unit {0}
 
 -- Votes stay, and no other ones come to count. No record comes to decide, and a rollback comes for such a reason. One that decides
 -- alone goes on to.
@@ -173,7 +170,7 @@ all_entered rs (i ∷ numbers) = and_one rs (numbered rs i) (filter_map (numbere
 
 -- ---- one thing after another
 
-told_joined : (rs : List Row) (some others : List Effect) → rows_told (some ++ others) rs ≡ rows_told others (rows_told some rs)
+pub told_joined : (rs : List Row) (some others : List Effect) → rows_told (some ++ others) rs ≡ rows_told others (rows_told some rs)
 told_joined rs [] others = refl
 told_joined rs (effects.Voted g vote ∷ some) others = told_joined rs some others
 told_joined rs (effects.Decided fixed ∷ some) others = told_joined rs some others
@@ -182,21 +179,24 @@ told_joined rs (effects.Marked b ∷ some) others = told_joined (marked rs b) so
 told_joined rs (effects.Doubted ∷ some) others = told_joined rs some others
 told_joined rs (effects.Done ∷ some) others = told_joined rs some others
 
-pub then_keeps : (f : Family) (first : Moved) (next : Family → Moved) → Rule f first → Rule first.family (next first.family) → Rule f (first ▹ next)
-then_keeps f first next one other tidy =
-    let a = one tidy in
+pub then_from : (rs : List Row) (some : Ballots) (s : Standing) (first : Moved) (next : Family → Moved) → AreKept rs some s first → Rule first.family (next first.family)
+    → AreKept rs some s (first ▹ next)
+then_from rs some s first next a other =
     let b = other a.tidy in
     let later : Moved = next first.family in
     record {
       tidy = b.tidy;
-      rows = b.rows ∙ ap (λ (rs : List Row). rows_told later.effects rs) a.rows ∙ sym (told_joined f.rows first.effects later.effects);
+      rows = b.rows ∙ ap (λ (before : List Row). rows_told later.effects before) a.rows ∙ sym (told_joined rs first.effects later.effects);
       registrations = b.registrations ∙ a.registrations;
       on = λ r is. b.on r (a.on r is);
       back = λ r is. a.back r (b.back r is);
-      words = all_both (λ (o : Outward). IsRegisteredTo f.ballots.registrations o.to) first.words later.words a.words
-          (subst (λ (rs : List Registration). AllByRecursion (λ (o : Outward). IsRegisteredTo rs o.to) later.words) a.registrations b.words);
-      kept = kept_further f.completion first.family.completion later.family.completion a.kept b.kept;
+      words = all_both (λ (o : Outward). IsRegisteredTo some.registrations o.to) first.words later.words a.words
+          (subst (λ (all : List Registration). AllByRecursion (λ (o : Outward). IsRegisteredTo all o.to) later.words) a.registrations b.words);
+      kept = kept_further s first.family.completion later.family.completion a.kept b.kept;
     }
+
+pub then_keeps : (f : Family) (first : Moved) (next : Family → Moved) → Rule f first → Rule first.family (next first.family) → Rule f (first ▹ next)
+then_keeps f first next one other tidy = then_from f.rows f.ballots f.completion first next (one tidy) other
 
 pub either_keeps : (f : Family) (t : Bool) (x y : Moved) → Rule f x → Rule f y → Rule f (if t then x else y)
 either_keeps f true x y one other = one
@@ -214,6 +214,7 @@ calls_keep f m rows ballots completion words dues tidy = record {
     parties = subst (λ (s : Standing). ArePartiesOf m.family.ballots.registrations s) (sym completion)
         (subst (λ (x : Ballots). ArePartiesOf x.registrations f.completion) (sym ballots) tidy.parties);
     alone = ap (λ (x : Ballots). x.synchronizations) ballots ∙ tidy.alone;
+    few = subst AreFew (sym ballots) tidy.few;
   };
   rows = rows;
   registrations = ap (λ (x : Ballots). x.registrations) ballots;
@@ -227,7 +228,7 @@ pub only_keeps : (f : Family) → Rule f (only f)
 only_keeps f = calls_keep f (only f) refl refl refl tt (λ tidy. tidy.dues)
 
 -- a call is put in its place, or taken away
-called_set : (calls : List (Option Call)) (b d : ℕ) (o : Option Call) (c : Call) → called (slice_set calls b o) d ≡ Some c → (o ≡ Some c) ⊎ (called calls d ≡ Some c)
+pub called_set : (calls : List (Option Call)) (b d : ℕ) (o : Option Call) (c : Call) → called (slice_set calls b o) d ≡ Some c → (o ≡ Some c) ⊎ (called calls d ≡ Some c)
 called_set [] b d o c is = inr is
 called_set (z ∷ calls) zero zero o c is = inl is
 called_set (z ∷ calls) zero (suc d) o c is = inr is
@@ -267,7 +268,7 @@ sends_keep b c n receipt f left to =
 
 -- ---- the completion goes on
 
-fixed_rows : (rs : List Row) (a b : Option Outcome) → rs ≡ rows_told (fixed_now a b) rs
+pub fixed_rows : (rs : List Row) (a b : Option Outcome) → rs ≡ rows_told (fixed_now a b) rs
 fixed_rows rs None None = refl
 fixed_rows rs None (Some fixed) = refl
 fixed_rows rs (Some fixed) b = refl
@@ -276,7 +277,7 @@ pub completes_keep : (later : Standing) (f : Family) → IsKept f.completion lat
     → (ArePartiesOf f.ballots.registrations f.completion → ArePartiesOf f.ballots.registrations later) → Rule f (completes_as later f)
 unfolding completes_as
 completes_keep later f kept parties tidy = record {
-  tidy = record { below = tidy.below; dues = tidy.dues; parties = parties tidy.parties; alone = tidy.alone };
+  tidy = record { below = tidy.below; dues = tidy.dues; parties = parties tidy.parties; alone = tidy.alone; few = tidy.few };
   rows = fixed_rows f.rows (stages.outcome f.completion) (stages.outcome later);
   registrations = refl;
   on = λ r is. is;
@@ -573,7 +574,7 @@ sent_keeps : (k : Course) (o : Option Outward) → course.next_word k ≡ o → 
     → Rule (record f { completion = UnderWay k }) (decides_by o c (record f { completion = UnderWay k }))
 sent_keeps k (Some w) next c f left tidy =
     let later : Family = record f { completion = UnderWay (course.after_next k) } in
-    let tidy_later : IsTidy later = record { below = tidy.below; dues = tidy.dues; parties = next_parties f.ballots.registrations k tidy.parties; alone = tidy.alone } in
+    let tidy_later : IsTidy later = record { below = tidy.below; dues = tidy.dues; parties = next_parties f.ballots.registrations k tidy.parties; alone = tidy.alone; few = tidy.few } in
     let sent = sends_keep 0 c _ w.receipt later left (next_to f.ballots.registrations k w next tidy.parties) tidy_later in
     record {
       tidy = sent.tidy;
@@ -727,6 +728,7 @@ joins_keep b p f less tidy = record {
     dues = tidy.dues;
     parties = tidy.parties;
     alone = tidy.alone;
+    few = adopted_few f.ballots b p less tidy.few;
   };
   rows = refl;
   registrations = refl;

@@ -10,13 +10,14 @@ use Rattle.recovery_coord.specs.declared.held.Held.{Held}
 use Rattle.coordinator.specs.Family.{Family}
 use Rattle.coordinator.specs.Node.{Node, family_in}
 use Rattle.coordinator.specs.NodeParts.{IsWhole}
-use Rattle.family_laws.specs.SoundNode.{IsSoundNode}
+use Rattle.family_laws.specs.OwnDecisions.{KeepsDecisions}
 use Rattle.nodes_world.specs.Agreement.{FollowsDisk, HoldsDecisions, records_at}
-use Rattle.nodes_world.specs.AgreementInside.{Known, DisksAreKnown, EndsHaveCounted, IsHeldAs, NodeIsKnown, NodesAreKnown}
+use Rattle.nodes_world.specs.AgreementInside.{Known, DisksAreKnown, EndsHaveCounted, IsHeldAs, NodeIsKnown, NodesAreKnown, edge_at}
 use Rattle.nodes_world.specs.Objects.{place_of, service_at}
 use Rattle.nodes_world.specs.Told.{Told, known}
 use Rattle.nodes_world.specs.Laws.{IsInOrder}
 use Rattle.nodes_world.specs.World.{World, Seat, OfNode, node_at, node_in}
+use Rattle.nodes_world.proofs.Edges.{edge_kept}
 use Rattle.nodes_world.proofs.KnownFamilies.{some_of}
 use Rattle.nodes_world.proofs.KnownSeats.{seat_names_kept, set_cases}
 use Rattle.nodes_world.proofs.EffectsTold.{TellsEffects}
@@ -97,7 +98,7 @@ module _ (w : World) (place : ℕ) (s : Seat) (n : Node) (f g : Family) (there :
     | inr old ↦ was.order x rs old (sym (records p) ∙ has)
   ]
 
-  pub nodes_now : IsSoundNode m → NodesAreKnown v more
+  pub nodes_now : KeepsDecisions (edge_at w place) m → NodesAreKnown v more
   unfolding node_at
   nodes_now sound p a is =
       let at = some_of (λ (x : Seat). node_in x.server) (slice_get v.seats p) a is in
@@ -111,7 +112,7 @@ module _ (w : World) (place : ℕ) (s : Seat) (n : Node) (f g : Family) (there :
 
       own_now : NodeIsKnown w told place n → NodeIsKnown v more place m
       own_now was = record {
-        sound = sound;
+        sound = edge_kept v w place m (records place) sound;
         given = was.given;
         order = order_now place n was;
         held = λ rs h has among. held_now place rs h (was.held rs h (sym (records place) ∙ has) among);
@@ -119,7 +120,7 @@ module _ (w : World) (place : ℕ) (s : Seat) (n : Node) (f g : Family) (there :
 
       other_now : NodeIsKnown w told p a → NodeIsKnown v more p a
       other_now was = record {
-        sound = was.sound;
+        sound = edge_kept v w p a (records p) was.sound;
         given = was.given;
         order = order_now p a was;
         held = λ rs h has among. held_now p rs h (was.held rs h (sym (records p) ∙ has) among);

@@ -28,7 +28,7 @@ use Rattle.coordinator.specs.Phases.{is_before}
 use Rattle.family_laws.specs.LawsOfTelling.{IsVoted, rows_told}
 use Rattle.nodes_world.specs.Agreement.{has_record, is_decision_of}
 use Rattle.nodes_world.specs.AgreementInside.{Known, FamilyIsKnown, HasMessage, IsBranch, IsListed, OutcomeIsTold}
-use Rattle.nodes_world.specs.Happenings.{Cast, all_effect_lines, all_finished_lines, branch_name}
+use Rattle.nodes_world.specs.Happenings.{Cast, all_effect_lines, all_finished_lines, branch_name, registered}
 use Rattle.nodes_world.specs.Objects.{place_of}
 use Rattle.nodes_world.specs.Told as tell
 use Rattle.nodes_world.specs.Told.{Told, known}
@@ -36,14 +36,15 @@ use Rattle.nodes_world.specs.World.{World, NamedKey, family_at, referred}
 use Rattle.nodes_world.proofs.KnownLines.{among_back, among_turned, lines_of}
 use Rattle.nodes_world.proofs.KnownFamilies.{is_own}
 use Rattle.nodes_world.proofs.EffectsTold.{TellsEffects, effects_told_on}
-use Rattle.nodes_world.proofs.EffectsSay.{IsSaidAs, Says, commit_told}
+use Rattle.nodes_world.proofs.EffectsSay.{IsSaidAs, Says, commit_told, voted_told}
 use Rattle.nodes_world.proofs.BranchNames.{named_branch}
 use Rattle.nodes_world.proofs.StepBranches as branches
 use Rattle.nodes_world.proofs.StepEnds.{ends_now, line_cases, new_stands}
-use Rattle.nodes_world.proofs.StepIs.{StepIs, decided_new, new_decided}
+use Rattle.nodes_world.proofs.StepIs.{IsCastOf, StepIs, decided_new, new_decided}
+use Rattle.nodes_world.proofs.NamedVotes.{is_named, one_reference, who_is}
 
-module _ (w v : World) (told : List Told) (k : Known w told) (key : ObjectKey) (f g : Family) (there : family_at w key ≡ Some f) (c : Cast) (own : c.key ≡ f.key)
-    (some : List Effect) (words : List Outward) (is : StepIs f g some words) (entries : List Entry) (done : List Finished) (names : v.names ≡ w.names)
+module _ (w v : World) (told : List Told) (k : Known w told) (key : ObjectKey) (f g : Family) (there : family_at w key ≡ Some f) (c : Cast) (cast : IsCastOf f c)
+    (some : List Effect) (words : List Outward) (is : StepIs w f g some words) (entries : List Entry) (done : List Finished) (names : v.names ≡ w.names)
     (refers : (to : List ℕ) → referred v to ≡ referred w to)
     (has : (place : ℕ) (is_so : JournalRecord → Bool) → has_record v place is_so ≡ has_record w place is_so) where
   abbrev more : List Told
@@ -51,6 +52,9 @@ module _ (w v : World) (told : List Told) (k : Known w told) (key : ObjectKey) (
 
   abbrev early : Bool
   early = is_before f.stage
+
+  own : c.key ≡ f.key
+  own = cast.key
 
   tells : TellsEffects told more
   tells = effects_told_on w told k key f there c own early some is.turn entries done
@@ -92,10 +96,21 @@ module _ (w v : World) (told : List Told) (k : Known w told) (key : ObjectKey) (
       → referred v r.to ≡ Some object → IsVoted g.completion number vote ↔ Stands (lines.Voted object.name vote) (lines_of more)
   votes_now number vote r object among at leads =
       let was = old.votes number vote r object (was_registered r among) at (sym (refers r.to) ∙ leads) in (
-        λ voted. on _ (was.0 (is.kept.votes number vote voted)),
+        λ voted. elim (is.kept.votes number vote voted) [
+          | inl before ↦ on _ (was.0 before)
+          | inr happened ↦ among_turned _ _ (new_stands w told k key f there c own early some is.turn entries done _
+              (voted_told w c some number vote object.name happened
+              (subst (λ (x : ℕ). registered w c x ≡ Some object.name) at
+              (is_named w told k key f there c cast r object (was_registered r among) (sym (refers r.to) ∙ leads)))))
+        ],
         λ s. elim (cases (lines.Voted object.name vote) s) [
           | inl before ↦ is.kept.voted number vote (was.1 (among_turned _ _ before))
-          | inr (e, happened, (other, same, named)) ↦ absurd (is.no_votes other vote (subst (λ (x : Effect). Contains some x) same happened))
+          | inr (e, happened, (other, same, named)) ↦
+              let who = who_is w told k key f there c cast other object.name named in
+              let one = one_reference w told k who.r.to r.to who.object object who.leads (sym (refers r.to) ∙ leads) who.named in
+              let this = old.apart who.r r who.there (was_registered r among) one in
+              let equal : other ≡ number = sym who.index ∙ ap (λ (x : Registration). x.index) this ∙ at in
+              subst (λ (x : ℕ). IsVoted g.completion x vote) equal (is.heard other vote (subst (λ (x : Effect). Contains some x) same happened)).counted
         ],
       )
 
@@ -115,7 +130,7 @@ module _ (w v : World) (told : List Told) (k : Known w told) (key : ObjectKey) (
           → Stands (lines.Decide old.name (told_outcomes.Commit basis)) (lines_of more)
       by None before line =
           among_turned _ _ (new_stands w told k key f there c own early some is.turn entries done _
-          (commit_told w c some basis old.name (new_decided f g some words is (outcomes.Commit basis) before now) own_branch))
+          (commit_told w c some basis old.name (new_decided w f g some words is (outcomes.Commit basis) before now) own_branch))
       by (Some fixed) before line = on _ (told_so fixed (inner (sym (is.stays fixed before) ∙ now)) line)
         where
           told_so : (x : Outcome) → x ≡ outcomes.Commit basis → OutcomeIsTold (Some x) old.name (lines_of told)
@@ -136,7 +151,7 @@ module _ (w v : World) (told : List Told) (k : Known w told) (key : ObjectKey) (
 
       new : (fixed : Outcome) → IsSaidAs fixed (told_outcomes.Commit Record) → Contains some (effects.Decided fixed) → ⊥
       new (outcomes.Commit basis) said among =
-          other ((decided_new f g some words is (outcomes.Commit basis) among).1 ∙ ap (λ (x : Ground). Some (outcomes.Commit x)) (sym (same_basis _ Record basis refl said)))
+          other ((decided_new w f g some words is (outcomes.Commit basis) among).1 ∙ ap (λ (x : Ground). Some (outcomes.Commit x)) (sym (same_basis _ Record basis refl said)))
       new (outcomes.Rollback reason) said among = absurd (no _ said.0 refl said.1)
       new outcomes.Unknown said among = absurd cc
 
@@ -189,6 +204,8 @@ module _ (w v : World) (told : List Told) (k : Known w told) (key : ObjectKey) (
     came = came;
     dues = λ b c at. (is.tidy.dues b c at).0;
     legs = λ b c at. (is.tidy.dues b c at).1;
+    ready = is.ready;
+    few = is.tidy.few;
     settled = is.kept.wants old.settled;
     votes = votes_now;
     outcome = outcome_now (stages.outcome g.completion) refl;

@@ -1,15 +1,23 @@
 -- What a step of a family is that answers no word, makes nothing and reads no journal.
-use Rattle.std.proofs.Common.{◌≡◌, ◌⊎◌, inl, inr, ℕ, ◌+◌, Bool, true, false, if◌then◌else◌, List, [], ◌∷◌, length, Contains, Option, Some, None, is_some, refl, sym, ap, subst, ◌∙◌, arith}
+use Rattle.std.proofs.Common.{◌≡◌, ◌⊎◌, inl, inr, ℕ, ◌+◌, Bool, true, false, if◌then◌else◌, List, [], ◌∷◌, length, map, slice_get, zero, suc, Contains, Option, Some, None, is_some, refl, sym, ap, subst, ◌∙◌, arith}
 use Rattle.std.specs.List.{AllByRecursion, filter_map}
 use Rattle.std.proofs.lemmas.List.Elements.{Contains-append_right, Contains-push_cases}
 use Rattle.ots_model.specs.declared.completion.CallNumber.{CallNumber}
+use Rattle.ots_model.specs.declared.completion.Heard.{Heard as ParticipantHeard}
 use Rattle.ots_model.specs.declared.completion.Stood.{Stood}
 use Rattle.ots_model.specs.declared.completion.Vote.{Vote}
 use Rattle.ots_model.specs.declared.tree.Heard.{Heard}
 use Rattle.ots_model.specs.declared.tree.Outcome.{Outcome}
+use Rattle.ots_model.specs.declared.tree.Outcome.TheVariants as outcomes
 use Rattle.ots_model.specs.declared.tree.Outward.{Outward}
+use Rattle.ots_model.specs.declared.tree.Reason.{Reason}
+use Rattle.ots_model.specs.declared.tree.Reason.TheVariants as reasons
+use Rattle.resource_votes.specs.Ballots.{participants}
 use Rattle.resource_votes.specs.declared.registration.Registration.{Registration}
+use Rattle.two_phase.specs.LawsOfOutcomes.{HasAnswered, HasCause, OutcomesHaveCauses}
 use Rattle.two_phase.specs.Stages as stages
+use Rattle.two_phase.specs.Stages.{Standing, Waiting, Going as UnderWay}
+use Rattle.two_phase.specs.declared.party.Party.{Party}
 use Rattle.coordinator.specs.declared.effect.Effect.{Effect}
 use Rattle.coordinator.specs.declared.effect.Effect.TheVariants as effects
 use Rattle.coordinator.specs.declared.event.Act.{Act}
@@ -18,16 +26,23 @@ use Rattle.coordinator.specs.declared.event.Event.{Event}
 use Rattle.coordinator.specs.declared.said.Entry.{Entry}
 use Rattle.coordinator.specs.Family.{Family}
 use Rattle.coordinator.specs.History.{kept_for}
-use Rattle.coordinator.specs.Laws.{FamilyOutcomesStay, HistoriesGrowByEntries}
+use Rattle.coordinator.specs.Laws.{FamilyOutcomesStay, HistoriesGrowByEntries, IsThere}
 use Rattle.coordinator.specs.Moves.{fixed_now}
 use Rattle.coordinator.specs.Phases.{is_before}
 use Rattle.coordinator.specs.Step.{Wanted, family_step, wanted, wanted_act}
 use Rattle.family_laws.specs.LawsOfSteps.{EndInTurn, FamiliesEndInTurn, FamiliesStaySound, FamiliesWordsRest, WordsRest}
-use Rattle.family_laws.specs.LawsOfTelling.{AreNumberedFrom, FamiliesNumberWords, FamiliesTellOutcomes, FamiliesTellVotes, decided_in, rows_told}
-use Rattle.family_laws.specs.Sound.{IsListed, IsSoundFamily}
+use Rattle.family_laws.specs.LawsOfTelling.{AreNumberedFrom, FamiliesNumberWords, FamiliesTellOutcomes, FamiliesTellVotes, decided_in, rows_told, IsVoted}
+use Rattle.family_laws.specs.Sound.{HasParties, IsListed, IsSoundFamily, IsAsking}
+use Rattle.nodes_world.specs.Happenings.{Cast}
 use Rattle.nodes_world.proofs.RowsEnd.{first_or_later}
-use Rattle.nodes_world.proofs.RulesKeep.{IsKept, IsRegisteredTo, IsTidy}
+use Rattle.nodes_world.proofs.RulesKeep.{IsKept, IsRegisteredTo, IsTidy, registered_of, IsPlainReason}
 use Rattle.nodes_world.proofs.StepsKeep.{StepKeeps, is_steady, step_keeps}
+use Rattle.nodes_world.specs.AgreementInside.{AreReady}
+use Rattle.nodes_world.proofs.NumberedWords.{GoesOnAsking}
+use Rattle.nodes_world.proofs.StepsAsk.{StepAsks, called_asks, steady_called}
+use Rattle.ots_model.specs.declared.completion.Ground.TheVariants.{Record}
+use Rattle.nodes_world.specs.Agreement.{HasGiven}
+use Rattle.nodes_world.specs.World.{World, NamedKey, referred}
 
 -- the laws of families that it goes by
 pub record FamilyLaws : Type 0 where
@@ -39,9 +54,55 @@ pub record FamilyLaws : Type 0 where
   pub votes : FamiliesTellVotes
   pub stay : FamilyOutcomesStay
   pub grow : HistoriesGrowByEntries
+  pub causes : OutcomesHaveCauses
+
+-- a registration with a number is there
+abbrev pub HasNumber : List Registration → ℕ → Type 0
+HasNumber rs number = (r : Registration) × Contains rs r × (r.index ≡ number)
+
+-- of whom the reason of a rollback speaks is registered
+abbrev pub SpeaksOf : List Registration → Reason → Type 0
+SpeaksOf rs (reasons.Vote number) = HasNumber rs number
+SpeaksOf rs (reasons.PrepareLost number) = HasNumber rs number
+SpeaksOf rs (reasons.PrepareStarved number) = HasNumber rs number
+SpeaksOf rs (reasons.PrepareFault number) = HasNumber rs number
+SpeaksOf rs _ = Unit {0}
+
+-- whom the lines of a step speak of: the family, and who is registered with it
+pub record IsCastOf (f : Family) (c : Cast) : Type 0 where
+  pub key : c.key ≡ f.key
+  pub registrations : c.registrations ≡ f.ballots.registrations
+
+-- what a completion becomes, where that happened: votes stay, and others come to count that are told. No record comes to decide.
+pub record IsStepKept (s t : Standing) (some : List Effect) : Type 0 where
+  pub voted : (number : ℕ) (vote : Vote) → IsVoted s number vote → IsVoted t number vote
+  pub votes : (number : ℕ) (vote : Vote) → IsVoted t number vote → IsVoted s number vote ⊎ Contains some (effects.Voted number vote)
+  pub commits : stages.outcome t ≡ Some (outcomes.Commit Record) → stages.outcome s ≡ Some (outcomes.Commit Record)
+  pub reasons : (why : Reason) → stages.outcome t ≡ Some (outcomes.Rollback why) → (stages.outcome s ≡ Some (outcomes.Rollback why)) ⊎ IsPlainReason why
+  pub wants : stages.wants_decision s ≡ false → stages.wants_decision t ≡ false
+  pub decides : IsAsking s → stages.decides_alone s ≡ true → IsAsking t × (stages.decides_alone t ≡ true)
+
+pub kept_step : (s t : Standing) (some : List Effect) → IsKept s t → IsStepKept s t some
+kept_step s t some kept = record {
+  voted = kept.voted;
+  votes = λ number vote voted. inl (kept.votes number vote voted);
+  commits = kept.commits;
+  reasons = kept.reasons;
+  wants = kept.wants;
+  decides = kept.decides;
+}
+
+-- a vote that is told: a participant was asked for it, and has given it; it counts from then on
+pub record VoteIsHeard (w : World) (f g : Family) (number : ℕ) (vote : Vote) : Type 0 where
+  pub r : Registration
+  pub there : Contains (participants 0 f.ballots) r
+  pub index : r.index ≡ number
+  pub undecided : stages.outcome f.completion ≡ None
+  pub counted : IsVoted g.completion number vote
+  pub given : (x : NamedKey) → referred w r.to ≡ Some x → HasGiven w x.name vote
 
 -- what a family becomes, what happened, and the words that go out
-pub record StepIs (f g : Family) (some : List Effect) (words : List Outward) : Type 0 where
+pub record StepIs (w : World) (f g : Family) (some : List Effect) (words : List Outward) : Type 0 where
   pub key : g.key ≡ f.key
   pub sound : IsSoundFamily g
   pub tidy : IsTidy g
@@ -50,14 +111,17 @@ pub record StepIs (f g : Family) (some : List Effect) (words : List Outward) : T
   pub registrations : g.ballots.registrations ≡ f.ballots.registrations
   pub on : (r : Registration) → IsListed f.ballots r → IsListed g.ballots r
   pub back : (r : Registration) → IsListed g.ballots r → IsListed f.ballots r
-  pub kept : IsKept f.completion g.completion
-  pub no_votes : (number : ℕ) (vote : Vote) → Contains some (effects.Voted number vote) → ⊥
+  pub kept : IsStepKept f.completion g.completion some
+  pub speaks : (why : Reason) → stages.outcome g.completion ≡ Some (outcomes.Rollback why) → SpeaksOf g.ballots.registrations why
+  pub heard : (number : ℕ) (vote : Vote) → Contains some (effects.Voted number vote) → VoteIsHeard w f g number vote
   pub outcomes : filter_map decided_in some ≡ filter_map decided_in (fixed_now (stages.outcome f.completion) (stages.outcome g.completion))
   pub stays : (fixed : Outcome) → stages.outcome f.completion ≡ Some fixed → stages.outcome g.completion ≡ Some fixed
   pub serial : g.serial ≡ f.serial + length words
   pub numbered : AreNumberedFrom f.key f.serial words
   pub rest : WordsRest g words
   pub leads : AllByRecursion (λ (o : Outward). IsRegisteredTo f.ballots.registrations o.to) words
+  pub ready : AreReady g.serial g.calls
+  pub asks : GoesOnAsking f g words
 
 no_answer : (act : Act) → is_steady act ≡ true → (n : CallNumber) (h : Heard) → act ≡ acts.Answer n h → ⊥
 no_answer act steady n h is = absurd (no (sym steady ∙ ap is_steady is))
@@ -65,10 +129,58 @@ no_answer act steady n h is = absurd (no (sym steady ∙ ap is_steady is))
     no : true ≡ false → ⊥
     no e = cc
 
+-- a participant of a completion is registered
+registered_as : (all : List Registration) (ps : List Party) (rs : List Registration) (i : ℕ) (p : Party)
+    → map (λ (x : Party). x.index) ps ≡ map (λ (x : Registration). x.index) rs → AllByRecursion (Contains all) rs → slice_get ps i ≡ Some p → HasNumber all p.index
+registered_as all [] rs i p same there at = absurd cc
+registered_as all (x ∷ ps) [] i p same there at = absurd cc
+registered_as all (x ∷ ps) (r ∷ rs) zero p same (one, there) at = (r, one, sym (head_of same) ∙ ap (λ (y : Party). y.index) (inner at))
+  where
+    head_of : {a b : ℕ} {xs ys : List ℕ} → a ∷ xs ≡ b ∷ ys → a ≡ b
+    head_of e = cc
+
+    inner : {a b : Party} → Some a ≡ Some b → a ≡ b
+    inner e = cc
+registered_as all (x ∷ ps) (r ∷ rs) (suc i) p same (one, there) at = registered_as all ps rs i p (tail_of same) there at
+  where
+    tail_of : {a b : ℕ} {xs ys : List ℕ} → a ∷ xs ≡ b ∷ ys → xs ≡ ys
+    tail_of e = cc
+
+-- so are those of whom the reason of a rollback speaks
+pub speaks_of : OutcomesHaveCauses → (g : Family) → IsSoundFamily g → (why : Reason) → stages.outcome g.completion ≡ Some (outcomes.Rollback why)
+    → SpeaksOf g.ballots.registrations why
+speaks_of causes g sound why is = by g.completion sound.completion.there sound.completion.parties is
+  where
+    by : (s : Standing) → IsThere s → HasParties s (participants 0 g.ballots) → stages.outcome s ≡ Some (outcomes.Rollback why) → SpeaksOf g.ballots.registrations why
+    by (Waiting room) there parties is = absurd cc
+    by (UnderWay c) there parties is = by_reason why (causes c (outcomes.Rollback why) there is)
+      where
+        number_of : (number : ℕ) (h : ParticipantHeard) → HasAnswered number h c → HasNumber g.ballots.registrations number
+        number_of number h answered =
+            subst (HasNumber g.ballots.registrations) answered.named
+            (registered_as g.ballots.registrations c.parties (participants 0 g.ballots) answered.place answered.party parties.0 (registered_of g 0) answered.there)
+
+        by_reason : (reason : Reason) → HasCause reason c → SpeaksOf g.ballots.registrations reason
+        by_reason (reasons.Vote number) (inl answered) = number_of number _ answered
+        by_reason (reasons.Vote number) (inr (alone, answered)) = number_of number _ answered
+        by_reason (reasons.PrepareLost number) answered = number_of number _ answered
+        by_reason (reasons.PrepareStarved number) answered = number_of number _ answered
+        by_reason (reasons.PrepareFault number) faulted = number_of number faulted.heard faulted.answer
+        by_reason reasons.Asked cause = tt
+        by_reason reasons.Marked cause = tt
+        by_reason reasons.Timeout cause = tt
+        by_reason (reasons.SyncLost number) cause = tt
+        by_reason (reasons.SyncStarved number) cause = tt
+        by_reason (reasons.JournalFull used need) cause = tt
+        by_reason reasons.NotStored cause = tt
+        by_reason reasons.Superior cause = tt
+        by_reason reasons.NotEnlisted cause = tt
+
 -- a step that keeps so much, and tells no vote
-pub keeps_is : FamilyLaws → (f : Family) (e : Event) (stood : Option Stood)
-    → ((number : ℕ) (vote : Vote) → Contains (family_step f e stood).effects (effects.Voted number vote) → ⊥) → IsSoundFamily f → StepKeeps f (family_step f e stood) → StepIs f (family_step f e stood).family (family_step f e stood).effects (family_step f e stood).words
-keeps_is laws f e stood no_votes sound x =
+pub keeps_is : {w : World} → FamilyLaws → (f : Family) (e : Event) (stood : Option Stood)
+    → ((number : ℕ) (vote : Vote) → Contains (family_step f e stood).effects (effects.Voted number vote) → ⊥) → IsSoundFamily f → StepKeeps f (family_step f e stood) → StepAsks f (family_step f e stood)
+    → StepIs w f (family_step f e stood).family (family_step f e stood).effects (family_step f e stood).words
+keeps_is laws f e stood no_votes sound x asks =
     record {
       key = laws.numbers.key f e stood;
       sound = laws.sound.steps f e stood sound;
@@ -78,22 +190,25 @@ keeps_is laws f e stood no_votes sound x =
       registrations = x.registrations;
       on = x.on;
       back = x.back;
-      kept = x.kept;
-      no_votes = no_votes;
+      kept = kept_step f.completion (family_step f e stood).family.completion (family_step f e stood).effects x.kept;
+      speaks = speaks_of laws.causes (family_step f e stood).family (laws.sound.steps f e stood sound);
+      heard = λ number vote among. absurd (no_votes number vote among);
       outcomes = laws.outcomes f e stood sound.completion.there;
       stays = λ fixed is. laws.stay f e stood fixed sound.completion.there is;
       serial = laws.numbers.serial f e stood;
       numbered = laws.numbers.numbers f e stood;
       rest = laws.rest f e stood sound;
       leads = x.words;
+      ready = asks.ready;
+      asks = asks.out;
     }
 
-pub steady_is : FamilyLaws → (f : Family) (e : Event) (stood : Option Stood) → is_steady e.act ≡ true → IsSoundFamily f → IsTidy f
-    → StepIs f (family_step f e stood).family (family_step f e stood).effects (family_step f e stood).words
-steady_is laws f e stood steady sound tidy =
+pub steady_is : {w : World} → FamilyLaws → (f : Family) (e : Event) (stood : Option Stood) → is_steady e.act ≡ true → IsSoundFamily f → IsTidy f → AreReady f.serial f.calls
+    → StepIs w f (family_step f e stood).family (family_step f e stood).effects (family_step f e stood).words
+steady_is laws f e stood steady sound tidy ready =
     keeps_is laws f e stood
     (λ number vote among. let heard = laws.votes.told f e stood number vote sound among in no_answer e.act steady heard.number _ heard.answer) sound
-    (step_keeps f e stood steady tidy)
+    (step_keeps f e stood steady tidy) (called_asks f e stood (steady_called e.act steady) ready)
 
 -- an entry of a family then was there, or is of the event
 pub entry_cases : FamilyLaws → (f : Family) (e : Event) (stood : Option Stood) (x : Entry) → Contains (family_step f e stood).family.entries x
@@ -167,7 +282,7 @@ new_only None (Some other) fixed among = elim (first_or_later other fixed [] amo
 ]
 new_only (Some other) b fixed among = let l = among.1 in absurd (omega (arith, l))
 
-module _ (f g : Family) (some : List Effect) (words : List Outward) (is : StepIs f g some words) where
+module _ (w : World) (f g : Family) (some : List Effect) (words : List Outward) (is : StepIs w f g some words) where
   -- what is told to be decided was not decided before, and is from then on
   pub decided_new : (fixed : Outcome) → Contains some (effects.Decided fixed) → (stages.outcome f.completion ≡ None) × (stages.outcome g.completion ≡ Some fixed)
   decided_new fixed among =

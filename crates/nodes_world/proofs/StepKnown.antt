@@ -1,7 +1,7 @@
 -- What is known of the lines, words and resources of a world once a family has gone on by a step.
 use Rattle.std.proofs.Common.{◌≡◌, ◌⊎◌, inl, inr, ℕ, ◌<◌, ◌≤◌, Bool, false, IsTrue, is_some, List, ◌++◌, slice_get, Contains, Option, Some, None, refl, sym, ap, subst, ◌∙◌, arith}
 use Rattle.ior_refs.specs.declared.key.ObjectKey.{ObjectKey}
-use Rattle.ots_model.specs.Safe.{Stands}
+use Rattle.ots_model.specs.Safe.{Stands, IsRegistered}
 use Rattle.ots_model.specs.declared.completion.Ground.{Ground}
 use Rattle.ots_model.specs.declared.completion.Ground.TheVariants.{Record}
 use Rattle.ots_model.specs.declared.completion.Outcome.TheVariants as told_outcomes
@@ -24,27 +24,32 @@ use Rattle.coordinator.specs.Node.{Node, family_in, is_of, life}
 use Rattle.coordinator.specs.Phases.{is_before}
 use Rattle.family_laws.specs.LawsOfTelling.{rows_told}
 use Rattle.nodes_world.specs.declared.thing.Thing.TheVariants as things
-use Rattle.nodes_world.specs.Agreement.{HasSent, IsTransaction, StatesFollow, VotesWereGiven, is_decision_of}
-use Rattle.nodes_world.specs.AgreementInside.{Known, FamiliesAreKnown, FamilyIsKnown, HasAnswered, HasMessage, IsBranch, IsMade, NamesAreTold, OutcomeIsTold, ResourceIsKnown, ResourcesAreKnown, SeatsAreNamed, WordsAreTold}
+use Rattle.nodes_world.specs.Agreement.{HasSent, IsTransaction, StatesFollow, VotesWereGiven, is_decision_of, HasGiven}
+use Rattle.nodes_world.specs.AgreementInside.{Known, FamiliesAreKnown, FamilyIsKnown, HasAnswered, HasMessage, IsBranch, IsMade, NamesAreTold, OutcomeIsTold, ResourceIsKnown, ResourcesAreKnown, SeatsAreNamed, WordsAreTold, IsNumberedBy}
 use Rattle.nodes_world.specs.Happenings.{Cast, all_effect_lines, all_finished_lines}
 use Rattle.nodes_world.specs.Objects.{place_of}
 use Rattle.nodes_world.specs.Told as tell
 use Rattle.nodes_world.specs.Told.{Told, known}
-use Rattle.nodes_world.specs.World.{World, Seat, OfNode, FlatResource, family_at, referred, resource_at}
+use Rattle.nodes_world.specs.World.{World, Seat, OfNode, FlatResource, family_at, referred, resource_at, NamedKey}
 use Rattle.nodes_world.proofs.KnownLines.{AreAmong, among_back, among_turned, lines_of}
-use Rattle.nodes_world.proofs.KnownFamilies.{is_own, same_of_branch}
+use Rattle.nodes_world.proofs.KnownFamilies.{is_own, same_of_branch, participant_of, all_at}
 use Rattle.nodes_world.proofs.KnownRequests.{follows_kept, unvoted_kept, voted_kept}
 use Rattle.nodes_world.proofs.KnownSeats.{seats_kept, set_cases}
 use Rattle.nodes_world.proofs.EffectsTold.{TellsEffects, branch_named, effects_told_on, is_effect}
 use Rattle.nodes_world.proofs.EffectsSay.{Says}
 use Rattle.nodes_world.proofs.StepEnds.{line_cases, not_top}
 use Rattle.nodes_world.proofs.StepFamily.{family_now}
-use Rattle.nodes_world.proofs.StepIs.{StepIs}
+use Rattle.nodes_world.proofs.StepIs.{IsCastOf, StepIs}
 use Rattle.nodes_world.proofs.StepSeats as seats
+use Rattle.nodes_world.proofs.NumberedWords.{still_numbered}
+use Rattle.nodes_world.proofs.NamedVotes.{one_index, who_is}
+use Rattle.nodes_world.proofs.RulesKeep.{registered_of}
+use Rattle.resource_votes.specs.Ballots.{participants}
+use Rattle.resource_votes.specs.declared.registration.Registration.{Registration}
 
 module _ (w : World) (place : ℕ) (s : Seat) (n : Node) (f g : Family) (there : slice_get w.seats place ≡ Some s) (up : s.server ≡ OfNode (Some n))
     (slotted : family_in n.families f.key.slot ≡ Some f) (at_place : place_of f.key ≡ place) (told : List Told) (k : Known w told) (key : ObjectKey)
-    (found : family_at w key ≡ Some f) (c : Cast) (own : c.key ≡ f.key) (some : List Effect) (words : List Outward) (is : StepIs f g some words)
+    (found : family_at w key ≡ Some f) (c : Cast) (cast : IsCastOf f c) (some : List Effect) (words : List Outward) (is : StepIs w f g some words)
     (entries : List Entry) (done : List Finished) where
   abbrev pub v : World
   v = seats.v w place s n f g there up is.key slotted at_place
@@ -54,6 +59,9 @@ module _ (w : World) (place : ℕ) (s : Seat) (n : Node) (f g : Family) (there :
 
   abbrev early : Bool
   early = is_before f.stage
+
+  own : c.key ≡ f.key
+  own = cast.key
 
   pub tells : TellsEffects told more
   tells = effects_told_on w told k key f found c own early some is.turn entries done
@@ -133,15 +141,14 @@ module _ (w : World) (place : ℕ) (s : Seat) (n : Node) (f g : Family) (there :
       server_of e = cc
 
   serials_now : (p : ℕ) (o : Outward) (h : Family) (of : ObjectKey) → HasSent v p o → family_at v of ≡ Some h → o.number.life ≡ h.key.life
-      → o.number.slot ≡ h.key.slot → o.number.generation ≡ h.key.generation → place_of h.key ≡ p → o.number.serial ≤ h.serial
+      → o.number.slot ≡ h.key.slot → o.number.generation ≡ h.key.generation → place_of h.key ≡ p → IsNumberedBy h o
   serials_now p o h of sent at life_is slot_is generation_is place_is = elim (seats.families_now w place s n f g there up is.key slotted at_place of h at) [
     | inl this ↦
         let same : h.key ≡ f.key = ap (λ (x : Family). x.key) this.0 ∙ is.key in
-        let low = k.words.serials p o f key sent found (life_is ∙ ap (λ (x : ObjectKey). x.life) same) (slot_is ∙ ap (λ (x : ObjectKey). x.slot) same)
+        let was = k.words.serials p o f key sent found (life_is ∙ ap (λ (x : ObjectKey). x.life) same) (slot_is ∙ ap (λ (x : ObjectKey). x.slot) same)
         (generation_is ∙ ap (λ (x : ObjectKey). x.generation) same) (sym (ap place_of same) ∙ place_is) in
         let more_words = is.serial in
-        let own_serial = ap (λ (x : Family). x.serial) this.0 in
-        omega (arith, low, more_words, own_serial)
+        subst (λ (x : Family). IsNumberedBy x o) (sym this.0) (still_numbered f g words o is.asks is.numbered (omega (arith, more_words)) was)
     | inr that ↦ k.words.serials p o h of sent that.0 life_is slot_is generation_is place_is
   ]
 
@@ -162,25 +169,35 @@ module _ (w : World) (place : ℕ) (s : Seat) (n : Node) (f g : Family) (there :
     serials = serials_now;
   }
 
+  given_on : (name : List ℕ) (vote : Vote) → HasGiven w name vote → HasGiven v name vote
+  given_on name vote given = record {
+    request = given.request;
+    from = given.from;
+    asked = given.asked;
+    sent = given.sent;
+    prepare = given.prepare;
+    resource = given.resource;
+    object = refers given.asked.to ∙ given.object;
+    same_name = given.same_name;
+    reply = given.reply;
+    answer = given.answer;
+    answered = given.answered;
+    says = given.says;
+  }
+
+  -- a participant is registered
+  participant_registered : (r : Registration) → Contains (participants 0 f.ballots) r → Contains f.ballots.registrations r
+  participant_registered r among = all_at (Contains f.ballots.registrations) (participants 0 f.ballots) r (registered_of f 0) among
+
   pub votes_given : VotesWereGiven v more
   votes_given name vote x = elim (cases (lines.Voted name vote) x) [
-    | inl was ↦
-        let given = k.votes name vote was in
-        record {
-          request = given.request;
-          from = given.from;
-          asked = given.asked;
-          sent = given.sent;
-          prepare = given.prepare;
-          resource = given.resource;
-          object = refers given.asked.to ∙ given.object;
-          same_name = given.same_name;
-          reply = given.reply;
-          answer = given.answer;
-          answered = given.answered;
-          says = given.says;
-        }
-    | inr (e, among, (number, same, named)) ↦ absurd (is.no_votes number vote (subst (λ (y : Effect). Contains some y) same among))
+    | inl was ↦ given_on name vote (k.votes name vote was)
+    | inr (e, among, (number, same, named)) ↦
+        let who = who_is w told k key f found c cast number name named in
+        let heard = is.heard number vote (subst (λ (y : Effect). Contains some y) same among) in
+        let this = one_index w told k key f found c cast who.r heard.r who.there (participant_registered heard.r heard.there) (who.index ∙ sym heard.index) in
+        subst (λ (y : List ℕ). HasGiven v y vote) who.named
+        (given_on who.object.name vote (heard.given who.object (ap (λ (y : Registration). referred w y.to) (sym this) ∙ who.leads)))
   ]
 
   -- ---- resources
@@ -233,10 +250,18 @@ module _ (w : World) (place : ℕ) (s : Seat) (n : Node) (f g : Family) (there :
       | inr (e, among, (d, same, named)) ↦ absurd (not_both t b d branch (branch_named w told k key f found c own d t named))
     ]
 
-    vote_was : (name : List ℕ) (vote : Vote) → Stands (lines.Voted name vote) (lines_of more) → Stands (lines.Voted name vote) (lines_of told)
-    vote_was name vote x = elim (cases (lines.Voted name vote) (among_back _ _ x)) [
+    -- who votes in this family isn't registered with that one
+    vote_was : (name : List ℕ) (vote : Vote) (r : Registration) (object : NamedKey) → Contains h.ballots.registrations r → referred w r.to ≡ Some object
+        → object.name ≡ name → Stands (lines.Voted name vote) (lines_of more) → Stands (lines.Voted name vote) (lines_of told)
+    vote_was name vote r object registered leads is_name x = elim (cases (lines.Voted name vote) (among_back _ _ x)) [
       | inl was ↦ among_turned _ _ was
-      | inr (e, among, (number, same, named)) ↦ absurd (is.no_votes number vote (subst (λ (y : Effect). Contains some y) same among))
+      | inr (e, among, (number, same, named)) ↦
+          let who = who_is w told k key f found c cast number name named in
+          let heard = is.heard number vote (subst (λ (y : Effect). Contains some y) same among) in
+          let this = one_index w told k key f found c cast heard.r who.r (participant_registered heard.r heard.there) who.there (heard.index ∙ sym who.index) in
+          let at = participant_of w told k key f found heard.r who.object heard.there (ap (λ (y : Registration). referred w y.to) this ∙ who.leads) in
+          let same_object = subst (λ (y : List ℕ). IsRegistered y at.0 (lines_of told)) (who.named ∙ sym is_name) at.2 in
+          absurd (not_both at.0 r.branch heard.r.branch (theirs.own r object at.0 registered leads same_object) at.1)
     ]
 
     outcome_was : (basis : Ground) → Stands (lines.Decide theirs.name (told_outcomes.Commit basis)) (lines_of more)
@@ -280,10 +305,12 @@ module _ (w : World) (place : ℕ) (s : Seat) (n : Node) (f g : Family) (there :
       came = theirs.came;
       dues = theirs.dues;
       legs = theirs.legs;
+      ready = theirs.ready;
+      few = theirs.few;
       settled = theirs.settled;
       votes = λ number vote r object among numbered leads.
           let was = theirs.votes number vote r object among numbered (sym (refers r.to) ∙ leads) in
-          (λ e. on _ (was.0 e), λ x. was.1 (vote_was object.name vote x));
+          (λ e. on _ (was.0 e), λ x. was.1 (vote_was object.name vote r object among (sym (refers r.to) ∙ leads) refl x));
       outcome = outcome_stays (stages.outcome h.completion) theirs.outcome;
       recorded =
           let same = seats.has_now w place s n f g there up is.key slotted at_place (place_of h.key) (is_decision_of h.key) in
@@ -294,6 +321,6 @@ module _ (w : World) (place : ℕ) (s : Seat) (n : Node) (f g : Family) (there :
   families_now came of h at = elim (seats.families_now w place s n f g there up is.key slotted at_place of h at) [
     | inl this ↦
         subst (FamilyIsKnown v (lines_of more)) (sym this.0)
-        (family_now w v told k key f g found c own some words is entries done refl refers (seats.has_now w place s n f g there up is.key slotted at_place) came)
+        (family_now w v told k key f g found c cast some words is entries done refl refers (seats.has_now w place s n f g there up is.key slotted at_place) came)
     | inr that ↦ other_family h of that.0 that.1
   ]

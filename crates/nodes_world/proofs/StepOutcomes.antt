@@ -1,9 +1,9 @@
 -- What is known of outcomes and records once a family has gone on by a step.
-use Rattle.std.proofs.Common.{◌≡◌, ◌⊎◌, inl, inr, ℕ, ◌+◌, ◌-◌, ◌==◌, ◌&&◌, Bool, true, false, IsTrue, is_some, List, ◌++◌, slice_get, Contains, Option, Some, None, refl, sym, ap, subst, ◌∙◌, arith}
+use Rattle.std.proofs.Common.{◌≡◌, ◌⊎◌, inl, inr, ℕ, ◌+◌, ◌-◌, ◌==◌, ◌&&◌, Bool, true, false, IsTrue, is_some, cond, find, List, [], ◌∷◌, ◌++◌, slice_get, Contains, Option, Some, None, refl, sym, ap, subst, ◌∙◌, arith}
 use Rattle.std.proofs.lemmas.List.Elements.{Contains-append_left, Contains-append_right}
 use Rattle.std.proofs.lemmas.Bool.Decides.{nat_tests}
 use Rattle.std.specs.List.{list_any}
-use Rattle.std.specs.Option.{option_map_or}
+use Rattle.std.specs.Option.{option_and_then, option_map, option_map_or}
 use Rattle.ior_refs.specs.declared.key.ObjectKey.{ObjectKey}
 use Rattle.ots_model.specs.Safe.{Stands, HasConsented, IsRegistered, IsSent, TakesPart}
 use Rattle.ots_model.specs.declared.completion.Ground.{Ground}
@@ -20,6 +20,8 @@ use Rattle.ots_model.specs.declared.tree.Outcome.{Outcome}
 use Rattle.ots_model.specs.declared.tree.Outcome.TheVariants as outcomes
 use Rattle.ots_model.specs.declared.tree.Outward.{Outward}
 use Rattle.ots_model.specs.declared.tree.Reason.{Reason}
+use Rattle.ots_model.specs.declared.tree.Reason.TheVariants as reasons
+use Rattle.resource_votes.specs.declared.registration.Registration.{Registration}
 use Rattle.two_phase.specs.Stages as stages
 use Rattle.decision_journal.specs.declared.record.JournalRecord.{JournalRecord}
 use Rattle.decision_journal.specs.declared.record.JournalRecord.TheVariants.{Decision}
@@ -36,28 +38,30 @@ use Rattle.nodes_world.specs.declared.thing.Thing.TheVariants as things
 use Rattle.nodes_world.specs.Agreement as agreed
 use Rattle.nodes_world.specs.Agreement.{CommitsAreRecorded, DecisionsAreRecorded, IsAlone, IsClosed, IsCutOff, IsDecided, IsRolledBack, IsTransaction, MayBeRolledBack, NoneIsBoth, OnePhaseIsAlone, RecordsRestOnVotes, RestsOnVotes, RollbacksAreClosed, SubtransactionsEndOnce, has_record, is_decision_of, names_object, recorded_key, records_at}
 use Rattle.nodes_world.specs.AgreementInside.{Known, FamilyIsKnown, IsBack, IsBranch, RollbacksAreOutcomes, RollbacksAreTold, ToldIsOpen, TransactionsAreKnown}
-use Rattle.nodes_world.specs.Happenings.{Cast, all_effect_lines, all_finished_lines, branch_name}
+use Rattle.nodes_world.specs.Happenings.{Cast, all_effect_lines, all_finished_lines, branch_name, name_numbered, registered}
 use Rattle.nodes_world.specs.Objects.{place_of}
 use Rattle.nodes_world.specs.Told as tell
 use Rattle.nodes_world.specs.Told.{Told, known}
-use Rattle.nodes_world.specs.World.{World, Seat, OfNode, family_at, referred, resource_at, thing}
-use Rattle.nodes_world.proofs.KnownLines.{AreAmong, among_turned, cut_among, lines_of, part_among, registered_among}
-use Rattle.nodes_world.proofs.KnownFamilies.{branch_joined, commits_asking, family_found, is_own, same_parts}
+use Rattle.nodes_world.specs.World.{World, Seat, OfNode, NamedKey, family_at, referred, resource_at, thing}
+use Rattle.nodes_world.proofs.KnownLines.{AreAmong, among_turned, cut_among, lines_of, part_among, registered_among, joined_of, of_key}
+use Rattle.nodes_world.proofs.KnownFamilies.{branch_joined, commits_asking, family_found, is_own, same_parts, all_at, participant_of}
 use Rattle.nodes_world.proofs.KnownSeats.{seat_names_kept, set_at}
 use Rattle.nodes_world.proofs.CanGo.{any_of, first_key}
 use Rattle.nodes_world.proofs.EffectsTold.{TellsEffects, branch_named, is_effect}
-use Rattle.nodes_world.proofs.EffectsSay.{IsSaidAs, Says, rollback_told, rolled_among}
+use Rattle.nodes_world.proofs.EffectsSay.{IsNamedReason, IsSaidAs, Says, rollback_told, rolled_among}
 use Rattle.nodes_world.proofs.BranchNames.{named_branch}
-use Rattle.nodes_world.proofs.RowsEnd.{was_live}
-use Rattle.nodes_world.proofs.RulesKeep.{IsPlainReason}
+use Rattle.nodes_world.proofs.RowsEnd.{first_or_later, was_live}
+use Rattle.nodes_world.proofs.RulesKeep.{IsPlainReason, registered_of}
 use Rattle.nodes_world.proofs.StepEnds.{JoinsNow, ends_once_now, not_top, part_cases, told_cases}
-use Rattle.nodes_world.proofs.StepIs.{StepIs, decided_new, new_decided}
+use Rattle.nodes_world.proofs.StepIs.{HasNumber, IsCastOf, SpeaksOf, StepIs, decided_new, new_decided}
 use Rattle.nodes_world.proofs.StepKnown as step
 use Rattle.nodes_world.proofs.StepSeats as seats
+use Rattle.nodes_world.proofs.NamedVotes.{one_index, who_is}
+use Rattle.resource_votes.specs.Ballots.{participants}
 
 module _ (w : World) (place : ℕ) (s : Seat) (n : Node) (f g : Family) (there : slice_get w.seats place ≡ Some s) (up : s.server ≡ OfNode (Some n))
     (slotted : family_in n.families f.key.slot ≡ Some f) (at_place : place_of f.key ≡ place) (told : List Told) (k : Known w told) (key : ObjectKey)
-    (found : family_at w key ≡ Some f) (c : Cast) (own : c.key ≡ f.key) (some : List Effect) (sent : List Outward) (is : StepIs f g some sent)
+    (found : family_at w key ≡ Some f) (c : Cast) (cast : IsCastOf f c) (some : List Effect) (sent : List Outward) (is : StepIs w f g some sent)
     (entries : List Entry) (done : List Finished) where
   abbrev v : World
   v = seats.v w place s n f g there up is.key slotted at_place
@@ -68,17 +72,20 @@ module _ (w : World) (place : ℕ) (s : Seat) (n : Node) (f g : Family) (there :
   abbrev early : Bool
   early = is_before f.stage
 
+  own : c.key ≡ f.key
+  own = cast.key
+
   tells : TellsEffects told more
-  tells = step.tells w place s n f g there up slotted at_place told k key found c own some sent is entries done
+  tells = step.tells w place s n f g there up slotted at_place told k key found c cast some sent is entries done
 
   abbrev old : FamilyIsKnown w (lines_of told) f
   old = k.families key f found
 
   on : AreAmong (lines_of told) (lines_of more)
-  on line x = step.on w place s n f g there up slotted at_place told k key found c own some sent is entries done line x
+  on line x = step.on w place s n f g there up slotted at_place told k key found c cast some sent is entries done line x
 
   cases : (line : Line) → Stands line (known more) → Stands line (known told) ⊎ ((e : Effect) × Contains some e × Says w c e (tell.Known line))
-  cases line x = step.cases w place s n f g there up slotted at_place told k key found c own some sent is entries done line x
+  cases line x = step.cases w place s n f g there up slotted at_place told k key found c cast some sent is entries done line x
 
   refers : (to : List ℕ) → referred v to ≡ referred w to
   refers to = seats.refers_now w place s n f g there up is.key slotted at_place to
@@ -100,7 +107,7 @@ module _ (w : World) (place : ℕ) (s : Seat) (n : Node) (f g : Family) (there :
   -- no commit by a record is told now
   no_commit : (fixed : Outcome) → IsSaidAs fixed (told_outcomes.Commit Record) → Contains some (effects.Decided fixed) → ⊥
   no_commit (outcomes.Commit basis) said at =
-      let new = decided_new f g some sent is (outcomes.Commit basis) at in
+      let new = decided_new w f g some sent is (outcomes.Commit basis) at in
       no (sym new.0 ∙ is.kept.commits (new.1 ∙ ap (λ (x : Ground). Some (outcomes.Commit x)) (sym (same_basis _ Record basis refl said))))
     where
       same_basis : (x : ToldOutcome (List ℕ)) (a b : Ground) → x ≡ told_outcomes.Commit a → x ≡ told_outcomes.Commit b → a ≡ b
@@ -186,7 +193,7 @@ module _ (w : World) (place : ℕ) (s : Seat) (n : Node) (f g : Family) (there :
   back_or_decided name of named top decided (why, at, is_name) =
       let same = own_key name of is_name named in
       let stands : IsTrue (has_record w (place_of of) (is_decision_of of)) = by decided in
-      none_not (sym (decided_new f g some sent is (outcomes.Rollback why) at).0
+      none_not (sym (decided_new w f g some sent is (outcomes.Rollback why) at).0
       ∙ old.recorded.0 (subst (λ (x : ObjectKey). IsTrue (has_record w (place_of x) (is_decision_of x))) same stands))
     where
       by : IsDecided w told of name → IsTrue (has_record w (place_of of) (is_decision_of of))
@@ -251,7 +258,7 @@ module _ (w : World) (place : ℕ) (s : Seat) (n : Node) (f g : Family) (there :
       | inl was ↦
           back_stays (stages.outcome f.completion) refl
           (k.rolled_back name of f named top (found_own of (subst (λ (x : ObjectKey). IsTrue (is_of of (record g { key = x }))) is.key this.1)) was)
-      | inr new ↦ is_back _ new.0 (decided_new f g some sent is (outcomes.Rollback new.0) new.1).1
+      | inr new ↦ is_back _ new.0 (decided_new w f g some sent is (outcomes.Rollback new.0) new.1).1
     ])
     | inr that ↦ elim (rolled_cases name back) [
       | inl was ↦ k.rolled_back name of h named top that.0 was
@@ -264,6 +271,48 @@ module _ (w : World) (place : ℕ) (s : Seat) (n : Node) (f g : Family) (there :
   why_back (Some (outcomes.Commit basis)) back = absurd back
   why_back (Some outcomes.Unknown) back = absurd back
   why_back None back = absurd back
+
+  -- who is registered with a number has a name
+  number_named : (rs : List Registration) → ((r : Registration) → Contains rs r → IsTrue (is_some (referred w r.to))) → (number : ℕ) → HasNumber rs number
+      → IsTrue (is_some (name_numbered w rs number))
+  number_named [] all number (r, there_r, at) = let l = there_r.1 in absurd (omega (arith, l))
+  number_named (x ∷ rs) all number (r, there_r, at) =
+      by (λ later. number_named rs (λ y c. all y (Contains-append_right (x ∷ []) rs y c)) number (r, later, at)) (x.index == number) refl
+    where
+      mapped : (o : Option NamedKey) → IsTrue (is_some o) → IsTrue (is_some (option_map (λ (y : NamedKey). y.name) o))
+      mapped (Some y) is_there = refl
+      mapped None is_there = absurd cc
+
+      not_equal : x.index ≡ number → x.index == number ≡ false → ⊥
+      not_equal a b = grind (arith, nat_tests)
+
+      by : (Contains rs r → IsTrue (is_some (name_numbered w rs number))) → (t : Bool) → x.index == number ≡ t
+          → IsTrue (is_some (option_map (λ (y : NamedKey). y.name) (option_and_then (λ (y : Registration). referred w y.to) (cond t (Some x) (find (λ (y : Registration). y.index == number) rs)))))
+      by rest true equal = mapped (referred w x.to) (all x (0, omega arith, refl))
+      by rest false other = elim (first_or_later x r rs there_r) [
+        | inl here ↦ absurd (not_equal (ap (λ (y : Registration). y.index) here ∙ at) other)
+        | inr later ↦ rest later
+      ]
+
+  registered_now : (number : ℕ) → HasNumber g.ballots.registrations number → IsTrue (is_some (registered w c number))
+  registered_now number has_it =
+      subst (λ (rs : List Registration). IsTrue (is_some (name_numbered w rs number))) (sym cast.registrations)
+      (number_named f.ballots.registrations old.named number (subst (λ (rs : List Registration). HasNumber rs number) is.registrations has_it))
+
+  named_reason : (why : Reason) → IsPlainReason why → SpeaksOf g.ballots.registrations why → IsNamedReason w c why
+  named_reason (reasons.Vote number) plain of = registered_now number of
+  named_reason (reasons.PrepareLost number) plain of = registered_now number of
+  named_reason (reasons.PrepareStarved number) plain of = registered_now number of
+  named_reason (reasons.PrepareFault number) plain of = registered_now number of
+  named_reason reasons.Asked plain of = tt
+  named_reason reasons.Marked plain of = tt
+  named_reason reasons.Timeout plain of = tt
+  named_reason (reasons.SyncLost number) plain of = absurd plain
+  named_reason (reasons.SyncStarved number) plain of = absurd plain
+  named_reason (reasons.JournalFull used need) plain of = tt
+  named_reason reasons.NotStored plain of = tt
+  named_reason reasons.Superior plain of = tt
+  named_reason reasons.NotEnlisted plain of = tt
 
   -- where this family is rolled back, a line tells it
   told_of_this : (name : List ℕ) → IsTransaction w name f.key → IsBack (stages.outcome g.completion) → IsRolledBack more name
@@ -282,7 +331,7 @@ module _ (w : World) (place : ℕ) (s : Seat) (n : Node) (f g : Family) (there :
       by None same (why, now) =
           rolled_among (all_effect_lines w c some) more name
           (λ t at. Contains-append_right told _ t (Contains-append_left (all_effect_lines w c some) (all_finished_lines entries done) t at))
-          (rollback_told w c some why name (plain why same (is.kept.reasons why now)) (new_decided f g some sent is (outcomes.Rollback why) same now)
+          (rollback_told w c some why name (named_reason why (plain why same (is.kept.reasons why now)) (is.speaks why now)) (new_decided w f g some sent is (outcomes.Rollback why) same now)
           (named_branch w told k f c own name 0 (f.key, named, is_own f, old.top)))
 
   pub told_back_now : RollbacksAreTold v more
@@ -296,13 +345,13 @@ module _ (w : World) (place : ℕ) (s : Seat) (n : Node) (f g : Family) (there :
   -- ---- the ends of subtransactions
 
   pub ends_once : SubtransactionsEndOnce more
-  ends_once = ends_once_now w told k key f found c own early some is.turn (step.top_live w place s n f g there up slotted at_place told k key found c own some sent is entries done) entries done
+  ends_once = ends_once_now w told k key f found c own early some is.turn (step.top_live w place s n f g there up slotted at_place told k key found c cast some sent is entries done) entries done
 
   -- nobody joins a family that asks
   no_join : (name : List ℕ) → IsAsking f.completion → JoinsNow w told k key f found c own early some is.turn entries done tells name → ⊥
   no_join name asking (b, at, same) =
       old.sound.completion.asking asking b
-      (not_top w told k key f found c own early some is.turn entries done (step.top_live w place s n f g there up slotted at_place told k key found c own some sent is entries done) b true at)
+      (not_top w told k key f found c own early some is.turn entries done (step.top_live w place s n f g there up slotted at_place told k key found c cast some sent is entries done) b true at)
       (was_live early some f.rows b true is.turn at)
 
   parts : (p name : List ℕ) → TakesPart p name (known more) → TakesPart p name (known told) ⊎ JoinsNow w told k key f found c own early some is.turn entries done tells name
@@ -358,7 +407,7 @@ module _ (w : World) (place : ℕ) (s : Seat) (n : Node) (f g : Family) (there :
   }
     where
       back_turned : (line : Line) → is_effect line ≡ false → Stands line (lines_of more) → Stands line (lines_of told)
-      back_turned line other x = step.back w place s n f g there up slotted at_place told k key found c own some sent is entries done line other x
+      back_turned line other x = step.back w place s n f g there up slotted at_place told k key found c cast some sent is entries done line other x
 
       this_branch : (h : Family) (t : List ℕ) (b : ℕ) → h ≡ g → IsBranch v h t b → IsBranch w f t b
       this_branch h t b same (branch, named, of, first) =
@@ -382,26 +431,26 @@ module _ (w : World) (place : ℕ) (s : Seat) (n : Node) (f g : Family) (there :
 
   -- ---- records
 
+  -- a participant is registered
+  participant_registered : (r : Registration) → Contains (participants 0 f.ballots) r → Contains f.ballots.registrations r
+  participant_registered r at = all_at (Contains f.ballots.registrations) (participants 0 f.ballots) r (registered_of f 0) at
+
   consented_on : (p : List ℕ) → HasConsented p (known told) → HasConsented p (known more)
   consented_on p (inl x) = inl (tells.on _ x)
   consented_on p (inr x) = inr (tells.on _ x)
 
-  -- the record of this family stands where it asks
-  record_asks : (p life slot generation : ℕ) (by : Option RetryKey) (asked : Bool) (regs : List Named) (rs : List JournalRecord) → records_at w p ≡ Some rs
-      → Contains rs (Decision life slot generation by asked regs) → (rests : RestsOnVotes w told (recorded_key p life slot generation) regs)
-      → rests.name ≡ old.name → IsAsking f.completion
-  record_asks p life slot generation by asked regs rs held at rests same =
-      let named : recorded_key p life slot generation ≡ f.key = inner (sym rests.of_name ∙ ap (thing w) same ∙ old.of_name) in
+  -- where its record stands, this family has decided
+  decided_by : (p life slot generation : ℕ) (by : Option RetryKey) (asked : Bool) (regs : List Named) (rs : List JournalRecord) → records_at w p ≡ Some rs
+      → Contains rs (Decision life slot generation by asked regs) → recorded_key p life slot generation ≡ f.key
+      → stages.outcome f.completion ≡ Some (outcomes.Commit Record)
+  decided_by p life slot generation by asked regs rs held at named =
       let stands : IsTrue (has_record w p (is_decision_of f.key)) =
       ap (λ (o : Option (List JournalRecord)). option_map_or (λ (x : List JournalRecord). list_any (is_decision_of f.key) x) o false) held
       ∙ any_of (is_decision_of f.key) rs _ at (own_decision life slot generation f.key (ap (λ (x : ObjectKey). x.life) named) (ap (λ (x : ObjectKey). x.slot) named)
       (ap (λ (x : ObjectKey). x.generation) named)) in
       let here : place_of f.key ≡ p = sym (ap place_of named) ∙ place_again p in
-      commits_asking f.completion (old.recorded.0 (subst (λ (x : ℕ). IsTrue (has_record w x (is_decision_of f.key))) (sym here) stands))
+      old.recorded.0 (subst (λ (x : ℕ). IsTrue (has_record w x (is_decision_of f.key))) (sym here) stands)
     where
-      inner : {x y : ObjectKey} → Some (things.Transaction x) ≡ Some (things.Transaction y) → x ≡ y
-      inner e = cc
-
       place_again : (p : ℕ) → (p + 1) - 1 ≡ p
       place_again p = omega arith
 
@@ -409,10 +458,21 @@ module _ (w : World) (place : ℕ) (s : Seat) (n : Node) (f g : Family) (there :
           → (life == of.life && slot == of.slot && generation == of.generation) ≡ true
       own_decision life slot generation of a b d = grind (arith, nat_tests)
 
+  -- the record of this family stands where it asks
+  record_asks : (p life slot generation : ℕ) (by : Option RetryKey) (asked : Bool) (regs : List Named) (rs : List JournalRecord) → records_at w p ≡ Some rs
+      → Contains rs (Decision life slot generation by asked regs) → (rests : RestsOnVotes w told (recorded_key p life slot generation) regs)
+      → rests.name ≡ old.name → IsAsking f.completion
+  record_asks p life slot generation by asked regs rs held at rests same =
+      let named : recorded_key p life slot generation ≡ f.key = inner (sym rests.of_name ∙ ap (thing w) same ∙ old.of_name) in
+      commits_asking f.completion (decided_by p life slot generation by asked regs rs held at named)
+    where
+      inner : {x y : ObjectKey} → Some (things.Transaction x) ≡ Some (things.Transaction y) → x ≡ y
+      inner e = cc
+
   rests_on : (p life slot generation : ℕ) (by : Option RetryKey) (asked : Bool) (regs : List Named) (rs : List JournalRecord) → records_at w p ≡ Some rs
       → Contains rs (Decision life slot generation by asked regs) → RestsOnVotes w told (recorded_key p life slot generation) regs
       → RestsOnVotes v more (recorded_key p life slot generation) regs
-  rests_on p life slot generation by asked regs rs held at was = record {
+  rests_on p life slot generation by asked regs rs held at_record was = record {
     name = was.name;
     of_name = was.of_name;
     consented = λ x part. consented_on x (was.consented x (part_was x part));
@@ -420,7 +480,7 @@ module _ (w : World) (place : ℕ) (s : Seat) (n : Node) (f g : Family) (there :
     voters = λ to r leads.
         let before = was.voters to r (sym (refers to) ∙ leads) in (
           λ names. (part_among _ _ r.name was.name tells.on (before.0 names).0, tells.on _ (before.0 names).1),
-          λ voter. before.1 (part_was r.name voter.0, vote_was r.name voter.1),
+          λ voter. before.1 (part_was r.name voter.0, vote_was r.name (part_was r.name voter.0) voter.1),
         );
     once = was.once;
   }
@@ -428,14 +488,29 @@ module _ (w : World) (place : ℕ) (s : Seat) (n : Node) (f g : Family) (there :
       part_was : (x : List ℕ) → TakesPart x was.name (known more) → TakesPart x was.name (known told)
       part_was x part = elim (parts x was.name part) [
         | inl before ↦ before
-        | inr joins ↦ absurd (no_join was.name (record_asks p life slot generation by asked regs rs held at was joins.2) joins)
+        | inr joins ↦ absurd (no_join was.name (record_asks p life slot generation by asked regs rs held at_record was joins.2) joins)
       ]
 
-      vote_was : (x : List ℕ) → Stands (lines.Voted x VoteCommit) (known more) → Stands (lines.Voted x VoteCommit) (known told)
-      vote_was x y = elim (cases (lines.Voted x VoteCommit) y) [
+      -- nobody votes whose family has decided
+      vote_was : (x : List ℕ) → TakesPart x was.name (known told) → Stands (lines.Voted x VoteCommit) (known more) → Stands (lines.Voted x VoteCommit) (known told)
+      vote_was x part y = elim (cases (lines.Voted x VoteCommit) y) [
         | inl before ↦ before
-        | inr (e, happened, (number, same, named)) ↦ absurd (is.no_votes number VoteCommit (among e _ same happened))
+        | inr (e, happened, (number, same, named)) ↦
+            let who = who_is w told k key f found c cast number x named in
+            let heard = is.heard number VoteCommit (among e _ same happened) in
+            let this = one_index w told k key f found c cast heard.r who.r (participant_registered heard.r heard.there) who.there (heard.index ∙ sym who.index) in
+            let at = participant_of w told k key f found heard.r who.object heard.there (ap (λ (z : Registration). referred w z.to) this ∙ who.leads) in
+            let mine = subst (λ (z : List ℕ). IsRegistered z at.0 (lines_of told)) who.named at.2 in
+            let turned = part_among (known told) (lines_of told) x was.name (among_turned (known told)) part in
+            let same_t = k.names.one_transaction x at.0 turned.0 mine turned.1 in
+            let named_t : IsTransaction w turned.0 at.1.0 = subst (λ (z : List ℕ). IsTransaction w z at.1.0) same_t at.1.1 in
+            let top = of_key w told k was.name turned.0 at.1.0 (joined_of (lines_of told) was.name turned.0 turned.2) named_t in
+            let is_key : recorded_key p life slot generation ≡ f.key = inner (sym was.of_name ∙ top) ∙ first_key w told k key f found at.0 heard.r.branch at.1 in
+            absurd (none_not (sym heard.undecided ∙ decided_by p life slot generation by asked regs rs held at_record is_key))
       ]
+        where
+          inner : {a b : ObjectKey} → Some (things.Transaction a) ≡ Some (things.Transaction b) → a ≡ b
+          inner z = cc
 
   pub records_rest : RecordsRestOnVotes v more
   records_rest p life slot generation by asked regs rs held at =

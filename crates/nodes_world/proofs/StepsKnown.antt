@@ -1,12 +1,12 @@
 -- Each step keeps what is known, where that does in which an answer comes to a node; agreement follows.
-use Rattle.std.proofs.Common.{◌≡◌, inl, inr, ℕ, List, append-nil, Some, refl, sym, subst, true≢false, false, slice_get, ◌∙◌}
+use Rattle.std.proofs.Common.{◌≡◌, inl, inr, ℕ, List, append-nil, Some, refl, sym, subst}
 use Rattle.ior_refs.specs.declared.key.ObjectKey.{ObjectKey}
 use Rattle.ots_model.specs.SafeByLine.{AllowedIsSafe}
 use Rattle.decision_journal.specs.Loading.{LoadsAreSafe}
 use Rattle.nodes_world.specs.declared.thing.Thing.TheVariants as things
 use Rattle.nodes_world.proofs.CompletesKnown.{JournalLaws}
 use Rattle.nodes_world.specs.World.{World, FlatResource, resource_at, thing}
-use Rattle.nodes_world.specs.Happenings.{changes, Done}
+use Rattle.nodes_world.specs.Happenings.{changes}
 use Rattle.nodes_world.specs.Ends.{put_into, refusing, with_resource_at}
 use Rattle.nodes_world.specs.Agreement.{Agreement, RunsAreSafe}
 use Rattle.nodes_world.specs.AgreementInside.{Known}
@@ -19,10 +19,7 @@ use Rattle.nodes_world.proofs.KnownTouch.{touch_known}
 use Rattle.nodes_world.proofs.LoadedLives.{known_loading}
 use Rattle.nodes_world.proofs.Reaching.{agreement, runs_are_safe}
 use Rattle.nodes_world.proofs.WordKnown.{word_known}
-use Rattle.family_laws.specs.SoundNode.{NodesStaySound}
-use Rattle.coordinator.specs.declared.event.Act.{Act}
-use Rattle.nodes_world.specs.declared.message.Content.TheVariants as contents
-use Rattle.nodes_world.specs.declared.message.Message.{Message}
+use Rattle.family_laws.specs.OwnDecisions.{NodesKeepDecisions}
 use Rattle.family_laws.specs.HeldRecords.{HeldRecordsStood}
 use Rattle.nodes_world.proofs.KnownBeginWhole.{known_begin}
 use Rattle.nodes_world.proofs.CallKnown.{known_call}
@@ -42,12 +39,7 @@ known_touch w name key r _ named was (by_refusal may) told k =
     subst (Known (with_resource_at key (refusing r) w)) (sym (append-nil told))
     (touch_known w told k name key r (refusing r) named was refl may (inr refl))
 
--- no call is still to be delivered
-known_no_call : (w : World) (nth : ℕ) (to : ObjectKey) (act : Act) (m : Message) (done : Done) → slice_get w.messages nth ≡ Some m
-    → m.content ≡ contents.Call to act → m.delivered ≡ false → StaysKnown w done
-known_no_call w nth to act m done there is new told k = absurd (true≢false (sym (k.seats.calls nth m to act there is).0 ∙ new))
-
-pub steps_stay_known : AllowedIsSafe → JournalLaws → LoadsAreSafe → NodesStaySound → HeldRecordsStood → SameOctetsSameKey → FamilyLaws → NodeStepsStayKnown → StepsStayKnown
+pub steps_stay_known : AllowedIsSafe → JournalLaws → LoadsAreSafe → NodesKeepDecisions → HeldRecordsStood → SameOctetsSameKey → FamilyLaws → NodeStepsStayKnown → StepsStayKnown
 steps_stay_known allowed journals safe sound stood keys families nodes = record {
   alike = known_alike;
   receipt = known_receipt;
@@ -58,7 +50,6 @@ steps_stay_known allowed journals safe sound stood keys families nodes = record 
   begin = known_begin sound stood;
   calling = known_calling;
   call = known_call families sound;
-  no_call = known_no_call;
   sub = known_sub families sound;
   register = λ w manner transaction place name s e at up free may few. known_register families sound keys w manner transaction place name s e at up free few;
   touch = known_touch;
@@ -68,8 +59,8 @@ steps_stay_known allowed journals safe sound stood keys families nodes = record 
 }
 
 -- so agreement rests on the steps of nodes
-pub nodes_agree : AllowedIsSafe → JournalLaws → LoadsAreSafe → NodesStaySound → HeldRecordsStood → SameOctetsSameKey → FamilyLaws → NodeStepsStayKnown → Agreement
+pub nodes_agree : AllowedIsSafe → JournalLaws → LoadsAreSafe → NodesKeepDecisions → HeldRecordsStood → SameOctetsSameKey → FamilyLaws → NodeStepsStayKnown → Agreement
 nodes_agree allowed journals safe sound stood keys families nodes = agreement (steps_stay_known allowed journals safe sound stood keys families nodes) allowed
 
-pub runs_agree : AllowedIsSafe → JournalLaws → LoadsAreSafe → NodesStaySound → HeldRecordsStood → SameOctetsSameKey → FamilyLaws → NodeStepsStayKnown → RunsAreSafe
+pub runs_agree : AllowedIsSafe → JournalLaws → LoadsAreSafe → NodesKeepDecisions → HeldRecordsStood → SameOctetsSameKey → FamilyLaws → NodeStepsStayKnown → RunsAreSafe
 runs_agree allowed journals safe sound stood keys families nodes = runs_are_safe (nodes_agree allowed journals safe sound stood keys families nodes)

@@ -27,7 +27,7 @@ use Rattle.family_laws.specs.Sound.{IsSoundFamily}
 use Rattle.nodes_world.specs.declared.thing.Thing.{Thing}
 use Rattle.nodes_world.specs.declared.thing.Thing.TheVariants as things
 use Rattle.nodes_world.specs.Agreement.{IsTransaction, has_record, is_decision_of, records_at}
-use Rattle.nodes_world.specs.AgreementInside.{Known, FamiliesAreKnown, FamilyIsKnown, HasMessage, IsBranch, IsListed, OutcomeIsTold, ended_state, IsNotBefore}
+use Rattle.nodes_world.specs.AgreementInside.{Known, FamiliesAreKnown, FamilyIsKnown, HasMessage, IsBranch, IsListed, OutcomeIsTold, ended_state, IsNotBefore, AreFew}
 use Rattle.nodes_world.specs.Objects.{place_of}
 use Rattle.nodes_world.specs.Told as tell
 use Rattle.nodes_world.specs.Told.{Told, known}
@@ -37,6 +37,7 @@ use Rattle.nodes_world.proofs.KnownFamilies.{all_at, is_own, parent_within, same
 use Rattle.nodes_world.proofs.BranchNames.{one_branch}
 use Rattle.nodes_world.proofs.RulesKeep.{registered_of}
 use Rattle.nodes_world.proofs.SubMade as made
+use Rattle.nodes_world.proofs.NumberedWords.{IsNumberedAs}
 
 -- ---- one more row
 
@@ -82,7 +83,7 @@ module _ (w : World) (place : ℕ) (s : Seat) (n : Node) (f g : Family) (there :
     (same : g.key ≡ f.key) (slotted : family_in n.families f.key.slot ≡ Some f) (at_place : place_of f.key ≡ place) (told : List Told) (k : Known w told)
     (key : ObjectKey) (found : family_at w key ≡ Some f) (name : List ℕ) (free : thing w name ≡ None) (above : List ℕ) (p : ℕ) (branch : IsBranch w f above p)
     (own_key : ObjectKey) (kind : own_key.kind ≡ coordinator_kind) (of : IsTrue (is_of own_key f)) (last : own_key.index ≡ length f.rows) (inside : p < length f.rows)
-    (serial : g.serial ≡ f.serial) (more : g.rows ≡ created f.rows p) (ballots : g.ballots ≡ f.ballots) (completion : g.completion ≡ f.completion)
+    (serial : IsNumberedAs f g) (more : g.rows ≡ created f.rows p) (ballots : g.ballots ≡ f.ballots) (completion : g.completion ≡ f.completion)
     (sound : IsSoundFamily g) (dues : (b : ℕ) (c : Call) → call_at g b ≡ Some c → AllByRecursion (λ (d : Duty). Contains f.ballots.registrations d.resource) c.left × IsNotBefore c.leg)
     (came : (e : Entry) (r : RetryKey) → Contains g.entries e → e.event.key ≡ Some r → HasMessage w r) where
   abbrev v : World
@@ -338,6 +339,8 @@ module _ (w : World) (place : ℕ) (s : Seat) (n : Node) (f g : Family) (there :
     came = came;
     dues = λ b c is. subst (λ (x : Ballots). AllByRecursion (λ (d : Duty). Contains x.registrations d.resource) c.left) (sym ballots) (dues b c is).0;
     legs = λ b c is. (dues b c is).1;
+    ready = serial.ready old.ready;
+    few = subst AreFew (sym ballots) old.few;
     settled = ap stages.wants_decision completion ∙ old.settled;
     votes = λ number vote r object among at leads.
         let was = old.votes number vote r object (was_in r among) at (sym (refers r.to) ∙ leads) in (
@@ -399,6 +402,8 @@ module _ (w : World) (place : ℕ) (s : Seat) (n : Node) (f g : Family) (there :
         came = was.came;
         dues = was.dues;
         legs = was.legs;
+        ready = was.ready;
+        few = was.few;
         settled = was.settled;
         votes = λ number vote r object among is leads.
             let before = was.votes number vote r object among is (sym (refers r.to) ∙ leads) in

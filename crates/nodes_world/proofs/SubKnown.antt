@@ -24,12 +24,12 @@ use Rattle.coordinator.specs.Step.{Stepped, Wanted, family_step, wanted}
 use Rattle.decision_journal.specs.Journal.{Found}
 use Rattle.recovery_coord.specs.declared.held.Held.{Held}
 use Rattle.family_laws.specs.Sound.{IsSoundFamily}
-use Rattle.family_laws.specs.SoundNode.{IsSoundNode, NodesStaySound}
+use Rattle.family_laws.specs.OwnDecisions.{KeepsDecisions, NodesKeepDecisions}
 use Rattle.nodes_world.specs.declared.message.Content.TheVariants as contents
 use Rattle.nodes_world.specs.declared.message.Message.{Message}
 use Rattle.nodes_world.specs.declared.thing.Thing.TheVariants as things
 use Rattle.nodes_world.specs.Agreement.{GoesOnFrom}
-use Rattle.nodes_world.specs.AgreementInside.{Known, HasMessage, IsBranch}
+use Rattle.nodes_world.specs.AgreementInside.{Known, HasMessage, IsBranch, edge_at}
 use Rattle.nodes_world.specs.AgreementSteps.{IsQuiet, StaysKnown}
 use Rattle.nodes_world.specs.Clients.{acts_at, answered_with, call_event, called_line, calls, created, creates_sub, said_in, said_lines, then_answers}
 use Rattle.nodes_world.specs.Happenings.{Done, ◌▹◌, client_message, naming, nothing}
@@ -54,6 +54,7 @@ use Rattle.nodes_world.proofs.RulesKeep.{IsTidy}
 use Rattle.nodes_world.proofs.SubSteps.{Makes, call_was, creating_event, creating_step, made_step}
 use Rattle.nodes_world.proofs.SubWhole.{sub_known}
 use Rattle.nodes_world.proofs.StepSeats as seats
+use Rattle.nodes_world.proofs.StepsAsk.{called_asks, first_call}
 
 -- ---- one thing after another
 
@@ -131,7 +132,7 @@ same_five : (a b c d e p q r s t x y z u : ℕ) → a ≡ x → b ≡ y → c �
     → (a == p && b == q && c == r && d == s && e == t) ≡ true
 same_five a b c d e p q r s t x y z u one two three four five six seven eight nine = grind (arith, nat_tests)
 
-module _ (laws : FamilyLaws) (nodes : NodesStaySound) (w : World) (parent : ObjectKey) (name : List ℕ) (free : thing w name ≡ None) (few : GoesOnFrom w) (told : List Told)
+module _ (laws : FamilyLaws) (nodes : NodesKeepDecisions) (w : World) (parent : ObjectKey) (name : List ℕ) (free : thing w name ≡ None) (few : GoesOnFrom w) (told : List Told)
     (k : Known w told) where
   abbrev sent : Message
   sent = client_message (contents.Call parent acts.CreateSubtransaction)
@@ -219,7 +220,8 @@ module _ (laws : FamilyLaws) (nodes : NodesStaySound) (w : World) (parent : Obje
       not_made keeps none same =
           no_branch (steps_to n f e None (family_step f e None))
           (call.step_stays u place s n there up laws nodes parent refl e refl has_come f unwanted of later k_sent
-          (keeps_is laws f e None (λ number vote among. let heard = laws.votes.told f e None number vote (k_sent.families parent f found).sound among in not_answer heard.number _ heard.answer) (k_sent.families parent f found).sound (keeps (tidy_of u later k_sent parent f found))) same) none
+          (keeps_is laws f e None (λ number vote among. let heard = laws.votes.told f e None number vote (k_sent.families parent f found).sound among in not_answer heard.number _ heard.answer) (k_sent.families parent f found).sound (keeps (tidy_of u later k_sent parent f found))
+          (called_asks f e None refl (k_sent.families parent f found).ready)) same) none
 
       -- it makes one
       module _ (inside : parent.index < length f.rows) (entry : Entry) (is : family_step f e None ≡ made_step f parent.index entry)
@@ -245,8 +247,8 @@ module _ (laws : FamilyLaws) (nodes : NodesStaySound) (w : World) (parent : Obje
         sound_family : IsSoundFamily g
         sound_family = subst (λ (t : Stepped). IsSoundFamily t.family) is (laws.sound.steps f e None (k_sent.families parent f found).sound)
 
-        sound_node : IsSoundNode (with_family g n)
-        sound_node = subst (λ (t : Stepped). IsSoundNode (with_family t.family n)) is
+        sound_node : KeepsDecisions (edge_at u place) (with_family g n)
+        sound_node = subst (λ (t : Stepped). KeepsDecisions (edge_at u place) (with_family t.family n)) is
             (call.sound_now u place s n there up laws nodes parent refl e refl has_come f unwanted of later k_sent same)
 
         entries_came : (x : Entry) (r : RetryKey) → Contains g.entries x → x.event.key ≡ Some r → HasMessage u r
@@ -275,7 +277,8 @@ module _ (laws : FamilyLaws) (nodes : NodesStaySound) (w : World) (parent : Obje
         named_world : Known (with_name name (things.Transaction own_key) (seats.v u place s n f g there up refl slotted at_place))
             (later ++ tell.Known (lines.Sub name above) ∷ [])
         named_world =
-            sub_known u place s n f g there up refl slotted at_place later k_sent parent found name free above parent.index parent_named.1 own_key refl own_of refl inside refl
+            sub_known u place s n f g there up refl slotted at_place later k_sent parent found name free above parent.index parent_named.1 own_key refl own_of refl inside
+            (record { serial = refl; waits = first_call f.calls; asks = refl; ready = λ ready b c is. ready b c (call_was f.calls b c is) })
             refl refl refl sound_family (λ b c under. ((k_sent.families parent f found).dues b c (call_was f.calls b c under), (k_sent.families parent f found).legs b c (call_was f.calls b c under))) entries_came sound_node
 
         abbrev a : Applied
@@ -393,7 +396,7 @@ module _ (laws : FamilyLaws) (nodes : NodesStaySound) (w : World) (parent : Obje
       by None there = nothing_came
 
 -- a client has a subtransaction made
-pub known_sub : FamilyLaws → NodesStaySound → (w : World) (parent : ObjectKey) (name : List ℕ) → thing w name ≡ None → GoesOnFrom w → StaysKnown w (creates_sub parent name w)
+pub known_sub : FamilyLaws → NodesKeepDecisions → (w : World) (parent : ObjectKey) (name : List ℕ) → thing w name ≡ None → GoesOnFrom w → StaysKnown w (creates_sub parent name w)
 unfolding creates_sub calls
 known_sub laws nodes w parent name free few told k =
     let lines_then = called_line (next_message w) (operation_of acts.CreateSubtransaction) (transaction_name w parent) in

@@ -20,7 +20,7 @@ use Rattle.coordinator.specs.NodeParts.{IsWhole}
 use Rattle.nodes_world.specs.declared.thing.Thing.{Thing}
 use Rattle.nodes_world.specs.declared.thing.Thing.TheVariants as things
 use Rattle.nodes_world.specs.Agreement.{FollowsDisk, HasSent, HoldsDecisions, IsTransaction, KeysAreOnce, StatesFollow, VotesWereGiven, has_record, records_at}
-use Rattle.nodes_world.specs.AgreementInside.{Known, DisksAreKnown, HasAnswered, IsBranch, IsMade, NamesAreTold, ResourceIsKnown, ResourcesAreKnown, SeatsAreNamed, WordsAreTold}
+use Rattle.nodes_world.specs.AgreementInside.{Known, DisksAreKnown, HasAnswered, IsBranch, IsMade, NamesAreTold, ResourceIsKnown, ResourcesAreKnown, SeatsAreNamed, WordsAreTold, IsNumberedBy}
 use Rattle.nodes_world.specs.Objects.{place_of, service_at}
 use Rattle.nodes_world.specs.Told as tell
 use Rattle.nodes_world.specs.Told.{Told, known}
@@ -36,6 +36,7 @@ use Rattle.nodes_world.proofs.KnownSeats.{seats_kept, set_cases}
 use Rattle.nodes_world.proofs.KnownBeginSeats.{has_begun, records_begun, refers_begun, resources_begun}
 use Rattle.nodes_world.proofs.CanRegister.{can_make}
 use Rattle.nodes_world.proofs.StepSeats as seats
+use Rattle.nodes_world.proofs.NumberedWords.{IsNumberedAs, numbered_as}
 
 -- it tells of a subtransaction
 abbrev pub is_sub_line : Line → Bool
@@ -46,7 +47,7 @@ module _ (w : World) (place : ℕ) (s : Seat) (n : Node) (f g : Family) (there :
     (same : g.key ≡ f.key) (slotted : family_in n.families f.key.slot ≡ Some f) (at_place : place_of f.key ≡ place) (told : List Told) (k : Known w told)
     (key : ObjectKey) (found : family_at w key ≡ Some f) (name : List ℕ) (free : thing w name ≡ None) (above : List ℕ) (p : ℕ) (branch : IsBranch w f above p)
     (own_key : ObjectKey) (kind : own_key.kind ≡ coordinator_kind) (of : IsTrue (is_of own_key f)) (last : own_key.index ≡ length f.rows) (inside : p < length f.rows)
-    (serial : g.serial ≡ f.serial) where
+    (serial : IsNumberedAs f g) where
   abbrev pub own : Thing
   own = things.Transaction own_key
 
@@ -329,14 +330,13 @@ module _ (w : World) (place : ℕ) (s : Seat) (n : Node) (f g : Family) (there :
   ]
 
   serials_now : (q : ℕ) (o : Outward) (h : Family) (x : ObjectKey) → HasSent v q o → family_at v x ≡ Some h → o.number.life ≡ h.key.life
-      → o.number.slot ≡ h.key.slot → o.number.generation ≡ h.key.generation → place_of h.key ≡ q → o.number.serial ≤ h.serial
+      → o.number.slot ≡ h.key.slot → o.number.generation ≡ h.key.generation → place_of h.key ≡ q → IsNumberedBy h o
   serials_now q o h x sent at in_life at_slot numbered place_is = elim (families x h at) [
     | inl this ↦
         let key_is : h.key ≡ f.key = ap (λ (y : Family). y.key) this.0 ∙ same in
-        let low = k.words.serials q o f key sent found (in_life ∙ ap (λ (y : ObjectKey). y.life) key_is) (at_slot ∙ ap (λ (y : ObjectKey). y.slot) key_is)
+        let was = k.words.serials q o f key sent found (in_life ∙ ap (λ (y : ObjectKey). y.life) key_is) (at_slot ∙ ap (λ (y : ObjectKey). y.slot) key_is)
         (numbered ∙ ap (λ (y : ObjectKey). y.generation) key_is) (sym (ap place_of key_is) ∙ place_is) in
-        let own_serial = ap (λ (y : Family). y.serial) this.0 in
-        omega (arith, low, serial, own_serial)
+        subst (λ (y : Family). IsNumberedBy y o) (sym this.0) (numbered_as f g o serial was)
     | inr that ↦ k.words.serials q o h x sent that.0 in_life at_slot numbered place_is
   ]
 

@@ -21,17 +21,18 @@ use Rattle.coordinator.specs.Family.{Call, Duty, Family, call_at}
 use Rattle.coordinator.specs.Names.{coordinator_kind}
 use Rattle.coordinator.specs.Node.{Node, family_in, is_of, life, with_family}
 use Rattle.family_laws.specs.Sound.{IsAsking, IsSoundFamily}
-use Rattle.family_laws.specs.SoundNode.{IsSoundNode}
+use Rattle.family_laws.specs.OwnDecisions.{KeepsDecisions}
 use Rattle.nodes_world.specs.declared.thing.Thing.{Thing}
 use Rattle.nodes_world.specs.declared.thing.Thing.TheVariants as things
 use Rattle.nodes_world.specs.Agreement as agreed
 use Rattle.nodes_world.specs.Agreement.{CommitsAreRecorded, DecisionsAreRecorded, IsAlone, IsClosed, IsCutOff, IsDecided, IsRolledBack, IsTransaction, MayBeRolledBack, NoneIsBoth, OnePhaseIsAlone, RecordsRestOnVotes, RestsOnVotes, RollbacksAreClosed, SubtransactionsEndOnce, has_record, is_decision_of, names_object, recorded_key, records_at}
-use Rattle.nodes_world.specs.AgreementInside.{Known, EndsHaveCounted, HasMessage, IsBack, IsBranch, IsHeldAs, IsNamed, NodeIsKnown, NodesAreKnown, RollbacksAreOutcomes, RollbacksAreTold, ToldIsOpen, TransactionsAreKnown, IsNotBefore}
+use Rattle.nodes_world.specs.AgreementInside.{Known, EndsHaveCounted, HasMessage, IsBack, IsBranch, IsHeldAs, IsNamed, NodeIsKnown, NodesAreKnown, RollbacksAreOutcomes, RollbacksAreTold, ToldIsOpen, TransactionsAreKnown, IsNotBefore, edge_at}
 use Rattle.nodes_world.specs.Laws.{IsInOrder}
 use Rattle.nodes_world.specs.Objects.{place_of, service_at}
 use Rattle.nodes_world.specs.Told as tell
 use Rattle.nodes_world.specs.Told.{Told, known}
 use Rattle.nodes_world.specs.World.{World, Seat, OfNode, end_at, end_in, family_at, node_at, node_in, referred, thing}
+use Rattle.nodes_world.proofs.Edges.{edge_kept}
 use Rattle.nodes_world.proofs.KnownLines.{cut_among, lines_of, part_among, registered_among}
 use Rattle.nodes_world.proofs.KnownFamilies.{some_of}
 use Rattle.nodes_world.proofs.KnownSeats.{ends_kept, seat_names_kept, set_at, set_cases}
@@ -41,15 +42,16 @@ use Rattle.nodes_world.proofs.HeldLines.{found_is}
 use Rattle.nodes_world.proofs.SubFamily as family
 use Rattle.nodes_world.proofs.SubMade as made
 use Rattle.nodes_world.proofs.SubMade.{is_sub_line}
+use Rattle.nodes_world.proofs.NumberedWords.{IsNumberedAs}
 
 module _ (w : World) (place : ℕ) (s : Seat) (n : Node) (f g : Family) (there : slice_get w.seats place ≡ Some s) (up : s.server ≡ OfNode (Some n))
     (same : g.key ≡ f.key) (slotted : family_in n.families f.key.slot ≡ Some f) (at_place : place_of f.key ≡ place) (told : List Told) (k : Known w told)
     (key : ObjectKey) (found : family_at w key ≡ Some f) (name : List ℕ) (free : thing w name ≡ None) (above : List ℕ) (p : ℕ) (branch : IsBranch w f above p)
     (own_key : ObjectKey) (kind : own_key.kind ≡ coordinator_kind) (of : IsTrue (is_of own_key f)) (last : own_key.index ≡ length f.rows) (inside : p < length f.rows)
-    (serial : g.serial ≡ f.serial) (more : g.rows ≡ created f.rows p) (ballots : g.ballots ≡ f.ballots) (completion : g.completion ≡ f.completion)
+    (serial : IsNumberedAs f g) (more : g.rows ≡ created f.rows p) (ballots : g.ballots ≡ f.ballots) (completion : g.completion ≡ f.completion)
     (sound : IsSoundFamily g) (dues : (b : ℕ) (c : Call) → call_at g b ≡ Some c → AllByRecursion (λ (d : Duty). Contains f.ballots.registrations d.resource) c.left × IsNotBefore c.leg)
     (came : (e : Entry) (r : RetryKey) → Contains g.entries e → e.event.key ≡ Some r → HasMessage w r)
-    (sound_now : IsSoundNode (with_family g n)) where
+    (sound_now : KeepsDecisions (edge_at w place) (with_family g n)) where
   abbrev v : World
   v = made.v w place s n f g there up same slotted at_place told k key found name free above p branch own_key kind of last inside serial
 
@@ -349,7 +351,7 @@ module _ (w : World) (place : ℕ) (s : Seat) (n : Node) (f g : Family) (there :
 
       own_now : NodeIsKnown w told place n → NodeIsKnown v later place c
       own_now was = record {
-        sound = sound_now;
+        sound = edge_kept v w place c (records place) sound_now;
         given = given_now place n was (λ e. refl);
         order = order_now place n was;
         held = λ rs h held among. held_on place rs h (was.held rs h (sym (records place) ∙ held) among);
@@ -357,7 +359,7 @@ module _ (w : World) (place : ℕ) (s : Seat) (n : Node) (f g : Family) (there :
 
       other_now : NodeIsKnown w told q a → (q ≡ place → a ≡ n) → NodeIsKnown v later q a
       other_now was here = record {
-        sound = was.sound;
+        sound = edge_kept v w q a (records q) was.sound;
         given = given_now q a was here;
         order = order_now q a was;
         held = λ rs h held among. held_on q rs h (was.held rs h (sym (records q) ∙ held) among);

@@ -160,7 +160,7 @@ module _ (place now : ℕ) (n later : Node) (families : later.families ≡ map (
         (ap (slice_get (map (ticked now) before ++ (Some f ∷ others))) (sym (map_length (ticked now) before)) ∙ get_middle (map (ticked now) before) others (Some f))
 
     own_slot : f.key.slot ≡ length before
-    own_slot = ((k.nodes place (midway before (Some f ∷ others)) (node_there u place s _ there up)).sound.families (length before) f at_middle).0.own_slot
+    own_slot = ((k.nodes place (midway before (Some f ∷ others)) (node_there u place s _ there up)).sound.sound.families (length before) f at_middle).0.own_slot
 
     slotted : family_in (midway before (Some f ∷ others)).families f.key.slot ≡ Some f
     slotted = ap (family_in (midway before (Some f ∷ others)).families) own_slot ∙ at_middle

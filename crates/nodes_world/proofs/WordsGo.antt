@@ -1,5 +1,5 @@
 -- The words of a family that is there go out, one after another.
-use Rattle.std.proofs.Common.{◌≡◌, ℕ, ◌+◌, ◌≤◌, is_some, IsTrue, List, [], ◌∷◌, ◌++◌, length, append_assoc, append-nil, Option, Some, None, refl, sym, ap, subst, ◌∙◌, arith}
+use Rattle.std.proofs.Common.{◌≡◌, ℕ, ◌+◌, ◌≤◌, is_some, IsTrue, List, [], ◌∷◌, ◌++◌, append_assoc, append-nil, Option, Some, None, refl, sym, ap, subst, ◌∙◌, arith}
 use Rattle.std.specs.List.{AllByRecursion}
 use Rattle.ior_refs.specs.declared.key.ObjectKey.{ObjectKey}
 use Rattle.ots_model.specs.declared.completion.CallNumber.{CallNumber}
@@ -8,7 +8,7 @@ use Rattle.coordinator.specs.Family.{Family}
 use Rattle.family_laws.specs.LawsOfSteps.{WordsRest}
 use Rattle.family_laws.specs.LawsOfTelling.{AreNumberedFrom}
 use Rattle.nodes_world.specs.Agreement.{HasSent}
-use Rattle.nodes_world.specs.AgreementInside.{Known}
+use Rattle.nodes_world.specs.AgreementInside.{Known, IsNumberedBy}
 use Rattle.nodes_world.specs.Happenings.{requests, requests_all}
 use Rattle.nodes_world.specs.Objects.{place_of}
 use Rattle.nodes_world.specs.Told.{Told}
@@ -40,8 +40,8 @@ named_still place o w (q ∷ others) all = (all.0, named_still place o w others 
 
 next_word : (w : World) (f : Family) (o : Outward) (serial : ℕ)
     → o.number ≡ record { life = f.key.life; slot = f.key.slot; generation = f.key.generation; serial = serial + 1 }
-    → serial + 1 ≤ f.serial → HaveNumbersUpTo w f.key serial → IsNextWord w f o
-next_word w f o serial is room before =
+    → IsNumberedBy f o → HaveNumbersUpTo w f.key serial → IsNextWord w f o
+next_word w f o serial is numbered before =
     let life = ap (λ (n : CallNumber). n.life) is in
     let slot = ap (λ (n : CallNumber). n.slot) is in
     let generation = ap (λ (n : CallNumber). n.generation) is in
@@ -50,7 +50,7 @@ next_word w f o serial is room before =
       life = life;
       slot = slot;
       generation = generation;
-      serial = omega (arith, number, room);
+      numbered = numbered;
       newer = λ other sent same.
           let low = before other sent (ap (λ (n : CallNumber). n.life) same ∙ life) (ap (λ (n : CallNumber). n.slot) same ∙ slot)
           (ap (λ (n : CallNumber). n.generation) same ∙ generation) in
@@ -71,15 +71,15 @@ numbers_still w told k f o m serial is before other sent life slot generation =
 -- they go out, and what is known is known then
 pub words_known : (some : List Outward) (w : World) (told : List Told) → Known w told → (key : ObjectKey) (f : Family) → family_at w key ≡ Some f
     → (serial : ℕ) → AllByRecursion (IsNamed w) some → WordsRest f some → AreNumberedFrom f.key serial some
-    → serial + length some ≤ f.serial → HaveNumbersUpTo w f.key serial
+    → AllByRecursion (IsNumberedBy f) some → HaveNumbersUpTo w f.key serial
     → Known (requests_all (place_of f.key) some w).world (told ++ (requests_all (place_of f.key) some w).lines)
-words_known [] w told k key f there serial named rest numbered room before = subst (Known w) (sym (append-nil told)) k
-words_known (o ∷ others) w told k key f there serial named rest numbered room before =
+words_known [] w told k key f there serial named rest numbered given before = subst (Known w) (sym (append-nil told)) k
+words_known (o ∷ others) w told k key f there serial named rest numbered given before =
     let place = place_of f.key in
     let x = named_one (referred w o.to) named.0 in
-    let m = family_may_go w told k key f there o x.0 x.1 rest.0 (next_word w f o serial numbered.0 (omega (arith, room)) before) in
+    let m = family_may_go w told k key f there o x.0 x.1 rest.0 (next_word w f o serial numbered.0 given.0 before) in
     let first = requests_known w told k place o m in
     let after = words_known others (requests place o w).world (told ++ (requests place o w).lines) first key f (family_still place o w key f there) (serial + 1)
-    (named_still place o w others named.1) rest.1 numbered.1 (omega (arith, room)) (numbers_still w told k f o m serial numbered.0 before) in
+    (named_still place o w others named.1) rest.1 numbered.1 given.1 (numbers_still w told k f o m serial numbered.0 before) in
     subst (Known (requests_all place others (requests place o w).world).world)
     (append_assoc told (requests place o w).lines (requests_all place others (requests place o w).world).lines) after

@@ -386,6 +386,10 @@ pub record IsKnown (w : World) (told : List Told) : Type 0 where
   pub states : StatesFollowWords w told
   pub shown : StatesAreTold w told
 
+-- in each of them a Done is complete
+abbrev pub ReachedDonesAreComplete : Type 0
+ReachedDonesAreComplete = (w : World) (told : List Told) → Reaches w told → DonesAreComplete w
+
 abbrev pub ReachedIsKnown : Type 0
 ReachedIsKnown = (w : World) (told : List Told) → Reaches w told → IsKnown w told
 

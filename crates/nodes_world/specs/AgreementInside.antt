@@ -1,9 +1,10 @@
 -- What is known of every world that a script can reach, so that one more step keeps it: the parts of agreement, each of what one kind
 -- of line, message or record says. The lines so far come newest first.
 use Rattle.std.specs.Prelude.{◌≡◌, ◌↔◌, ℕ, ◌<◌, ◌≤◌, ◌⊎◌, ◌+◌, Bool, true, false, List, length, map, reverse, slice_get, Contains, Option, Some, None, IsTrue, is_some, ◌∷◌, []}
-use Rattle.std.specs.List.{Any, AllByRecursion}
+use Rattle.std.specs.List.{Any, AllByRecursion, flat_map}
+use Rattle.std.specs.Option.{option_map_or, option_and_then, option_map}
 use Rattle.ior_refs.specs.declared.key.ObjectKey.{ObjectKey}
-use Rattle.ots_model.specs.Limits.{name_limit}
+use Rattle.ots_model.specs.Limits.{name_limit, registration_limit}
 use Rattle.ots_model.specs.Safe.{Stands, IsRegistered, IsSent, IsToldCommit, IsToldRollback, IsTop}
 use Rattle.ots_model.specs.SafeByLine.{AreAllowed}
 use Rattle.ots_model.specs.declared.completion.Ground.TheVariants.{Record}
@@ -23,14 +24,17 @@ use Rattle.ots_model.specs.declared.tree.Outcome.TheVariants as outcomes
 use Rattle.ots_model.specs.declared.tree.Outward.{Outward}
 use Rattle.ots_model.specs.declared.tree.Word.{Word}
 use Rattle.ots_model.specs.declared.tree.Word.TheVariants as words
-use Rattle.resource_votes.specs.Ballots.{participants}
+use Rattle.resource_votes.specs.Ballots.{Ballots, participants}
 use Rattle.resource_votes.specs.declared.registration.Registration.{Registration}
 use Rattle.txn_tree.specs.Rows.{parent, state}
 use Rattle.txn_tree.specs.declared.row.State.{State as BranchState}
 use Rattle.txn_tree.specs.declared.row.State.TheVariants as rows
+use Rattle.two_phase.specs.Course.{Course, decides_alone, first_word}
 use Rattle.two_phase.specs.Stages as stages
 use Rattle.two_phase.specs.Stages.{Standing as Completion, Waiting, Going as UnderWay}
+use Rattle.two_phase.specs.declared.party.Errand.{Errand}
 use Rattle.two_phase.specs.declared.party.Party.{Party}
+use Rattle.two_phase.specs.declared.party.Stage.TheVariants as rounds
 use Rattle.decision_journal.specs.Journal.{Holds, first_gate, found_in}
 use Rattle.decision_journal.specs.Laws.{IsSettled}
 use Rattle.decision_journal.specs.Layout.{record_octets}
@@ -45,13 +49,15 @@ use Rattle.recovery_coord.specs.declared.held.Held.{Held}
 use Rattle.recovery_coord.specs.declared.held.Party.{Party as HeldParty}
 use Rattle.resource_end.specs.declared.state.State.{State}
 use Rattle.resource_end.specs.declared.state.State.TheVariants as states
+use Rattle.coordinator.specs.Closing.{notice_of}
 use Rattle.coordinator.specs.Family.{Family, Call, Duty, call_at}
+use Rattle.coordinator.specs.Moves.{Notice}
 use Rattle.coordinator.specs.declared.call.Leg.{Leg}
 use Rattle.coordinator.specs.declared.call.Leg.TheVariants.{Below, Own, Before, Deciding, After}
 use Rattle.coordinator.specs.Names.{coordinator_kind}
-use Rattle.family_laws.specs.Sound.{IsSoundFamily, IsAsking}
+use Rattle.family_laws.specs.Sound.{IsSoundFamily, IsAsking, called}
 use Rattle.family_laws.specs.LawsOfTelling.{IsVoted}
-use Rattle.family_laws.specs.SoundNode.{IsSoundNode}
+use Rattle.family_laws.specs.OwnDecisions.{KeepsDecisions}
 use Rattle.coordinator.specs.Node.{Node, is_of, life}
 use Rattle.coordinator.specs.declared.event.Act.{Act}
 use Rattle.coordinator.specs.NodeParts.{IsWhole}
@@ -155,10 +161,47 @@ abbrev pub placed : ℕ → List JournalRecord → List Standing
 placed place [] = []
 placed place (r ∷ rs) = record { place = place; item = r } ∷ placed (place + length (record_octets r)) rs
 
+-- the place of the record that comes next, where a journal has these
+abbrev pub journal_end : List JournalRecord → ℕ
+journal_end rs = first_gate + length (flat_map record_octets rs)
+
+abbrev pub edge_at : World → ℕ → ℕ
+edge_at w place = option_map_or journal_end (records_at w place) 0
+
 -- a word is of a registration that a record names, which stands at the place that the word's number has
 abbrev pub IsNamedBy : Outward → Standing → Type 0
 IsNamedBy o s = (s.place ≡ o.number.generation)
     × Any (λ (r : Named). (r.index ≡ o.number.serial) × (r.reference ≡ o.to)) (registrations_of s.item)
+
+-- the notice of the word by which a completion asks a participant, while that is out
+abbrev pub asking_notice : Course → Errand → Option Notice
+asking_notice c e = elim e.stage [
+  | rounds.Asking ↦ option_map (λ (p : Party). record { word = first_word (decides_alone c); registration = p.index; to = p.to }) (slice_get c.parties e.place)
+  | rounds.Telling ↦ None
+  | rounds.Forgetting ↦ None
+]
+
+abbrev pub notice_out : Completion → Option Notice
+notice_out (Waiting room) = None
+notice_out (UnderWay c) = option_and_then (asking_notice c) c.out
+
+-- the serial number of the word that a call at the decision has out
+abbrev pub out_at : Leg → Option ℕ → Option ℕ
+out_at Below out = None
+out_at Own out = None
+out_at (Before so_many) out = None
+out_at Deciding out = out
+out_at (After so_many) out = None
+
+abbrev pub decides_out : Option Call → Option ℕ
+decides_out (Some c) = out_at c.leg c.out
+decides_out None = None
+
+-- A word of a family has a number that the family has given. Where the call at the decision waits for it while a participant is asked,
+-- it is the word that asks that one.
+pub record IsNumberedBy (f : Family) (o : Outward) : Type 0 where
+  pub within : o.number.serial ≤ f.serial
+  pub out : (notice : Notice) → decides_out (call_at f 0) ≡ Some o.number.serial → notice_out f.completion ≡ Some notice → notice ≡ notice_of o
 
 pub record WordsAreTold (w : World) (h : List Line) : Type 0 where
   pub named : WordsAreNamed w
@@ -188,7 +231,7 @@ pub record WordsAreTold (w : World) (h : List Line) : Type 0 where
   -- a family that is there has numbered its words so far
   pub serials : (place : ℕ) (o : Outward) (f : Family) (key : ObjectKey) → HasSent w place o → family_at w key ≡ Some f
       → o.number.life ≡ f.key.life → o.number.slot ≡ f.key.slot → o.number.generation ≡ f.key.generation → place_of f.key ≡ place
-      → o.number.serial ≤ f.serial
+      → IsNumberedBy f o
 
 -- ---- resources
 
@@ -260,6 +303,32 @@ IsNotBefore (Before so_many) = ⊥
 IsNotBefore Deciding = Unit {0}
 IsNotBefore (After so_many) = Unit {0}
 
+-- a call at the decision, or before it, has nothing left to tell
+abbrev pub IsBare : Leg → List Duty → Type 0
+IsBare Below left = Unit {0}
+IsBare Own left = Unit {0}
+IsBare (Before so_many) left = left ≡ []
+IsBare Deciding left = left ≡ []
+IsBare (After so_many) left = Unit {0}
+
+abbrev pub IsWithin : ℕ → Option ℕ → Type 0
+IsWithin serial (Some out) = out ≤ serial
+IsWithin serial None = Unit {0}
+
+-- how many are listed, in all lists together
+abbrev pub listed_in : List (List ℕ) → ℕ
+listed_in [] = 0
+listed_in (xs ∷ lists) = length xs + listed_in lists
+
+-- no more are listed than are registered, and these are as few as a decision record can name
+pub record AreFew (some : Ballots) : Type 0 where
+  pub listed : listed_in some.lists ≤ length some.registrations
+  pub registered : length some.registrations ≤ registration_limit
+
+-- so is each of these calls, and its word that is out has a number that was given
+abbrev pub AreReady : ℕ → List (Option Call) → Type 0
+AreReady serial calls = (b : ℕ) (c : Call) → called calls b ≡ Some c → IsBare c.leg c.left × IsWithin serial c.out
+
 pub record FamilyIsKnown (w : World) (h : List Line) (f : Family) : Type 0 where
   pub sound : IsSoundFamily f
   pub name : List ℕ
@@ -288,6 +357,9 @@ pub record FamilyIsKnown (w : World) (h : List Line) (f : Family) : Type 0 where
   pub dues : (b : ℕ) (c : Call) → call_at f b ≡ Some c → AllByRecursion (λ (d : Duty). Contains f.ballots.registrations d.resource) c.left
   -- no call is at a synchronization
   pub legs : (b : ℕ) (c : Call) → call_at f b ≡ Some c → IsNotBefore c.leg
+  pub ready : AreReady f.serial f.calls
+  -- a decision record has room for all that take part
+  pub few : AreFew f.ballots
   pub votes : (g : ℕ) (vote : Vote) (r : Registration) (object : NamedKey) → Contains f.ballots.registrations r → r.index ≡ g
       → referred w r.to ≡ Some object → IsVoted f.completion g vote ↔ Stands (lines.Voted object.name vote) h
   -- between its steps it wants no decision of the journal
@@ -367,7 +439,8 @@ pub record IsHeldAs (w : World) (told : List Told) (place : ℕ) (rs : List Jour
       × Stands (lines.Decide name (told_outcomes.Commit Record)) (known told)
 
 pub record NodeIsKnown (w : World) (told : List Told) (place : ℕ) (n : Node) : Type 0 where
-  pub sound : IsSoundNode n
+  -- it keeps its decisions, before the end of its journal
+  pub sound : KeepsDecisions (edge_at w place) n
   -- the transactions of this life were given numbers
   pub given : (name : List ℕ) (key : ObjectKey) → IsTransaction w name key → place_of key ≡ place → key.life ≡ life n → key.generation ≤ n.generation
   -- its disk is in order

@@ -1,19 +1,22 @@
 -- The steps of which all that a script does is made, each with the lines that it tells. What is known of a world is kept by each of
 -- them; so it is known of every world that a script reaches (our profile).
-use Rattle.std.specs.Prelude.{◌≡◌, ◌⊎◌, ◌<◌, ℕ, ◌+◌, ◌-◌, ◌==◌, ◌&&◌, ◌≤◌, Bool, true, false, List, [], ◌∷◌, ◌++◌, map, slice_get, length, IsTrue, Option, Some, None, is_some}
+use Rattle.std.specs.Prelude.{◌≡◌, ℕ, ◌+◌, ◌-◌, ◌==◌, ◌&&◌, ◌≤◌, Bool, true, false, List, [], ◌∷◌, ◌++◌, map, slice_get, length, IsTrue, Option, Some, None, is_some}
 use Rattle.std.specs.List.{AllByRecursion}
 use Rattle.ior_refs.specs.declared.key.ObjectKey.{ObjectKey}
 use Rattle.ots_model.specs.Limits.{name_limit}
+use Rattle.ots_model.specs.declared.completion.Stood.TheVariants as answers
+use Rattle.ots_model.specs.declared.completion.Vote.{Vote}
 use Rattle.ots_model.specs.declared.line.Line.TheVariants as lines
 use Rattle.ots_model.specs.declared.tree.Outward.{Outward}
 use Rattle.ots_world.specs.declared.script.ScriptEvent.{ScriptEvent}
 use Rattle.decision_journal.specs.declared.record.JournalRecord.{JournalRecord}
+use Rattle.two_phase.specs.Stages as stages
 use Rattle.two_phase.specs.Stages.{Standing, Waiting, Going as UnderWay}
 use Rattle.two_phase.specs.declared.party.Errand.{Errand}
 use Rattle.two_phase.specs.declared.party.Stage.{Stage as Round}
 use Rattle.two_phase.specs.declared.party.Stage.TheVariants as rounds
 use Rattle.recovery_coord.specs.Limits.{retold_slot}
-use Rattle.coordinator.specs.Step.{WritesDone, wanted}
+use Rattle.coordinator.specs.Step.{Appends, wanted}
 use Rattle.coordinator.specs.Family.{Family, Call, call_at, waiting_for}
 use Rattle.coordinator.specs.History.{has_room}
 use Rattle.coordinator.specs.Node.{Node, family_of}
@@ -21,13 +24,14 @@ use Rattle.coordinator.specs.declared.call.Leg.TheVariants.{Deciding}
 use Rattle.coordinator.specs.declared.event.Act.{Act}
 use Rattle.coordinator.specs.declared.event.Act.TheVariants as acts
 use Rattle.coordinator.specs.declared.said.Said.{Said}
+use Rattle.coordinator.specs.declared.said.Said.TheVariants as said
 use Rattle.nodes_world.specs.declared.deed.Deed.{Deed}
 use Rattle.nodes_world.specs.declared.deed.Manner.{Manner}
 use Rattle.nodes_world.specs.declared.message.Content.{Content}
 use Rattle.nodes_world.specs.declared.message.Content.TheVariants as contents
 use Rattle.nodes_world.specs.declared.message.Message.{Message}
 use Rattle.nodes_world.specs.declared.thing.Thing.TheVariants as things
-use Rattle.nodes_world.specs.Journals.{records_on}
+use Rattle.nodes_world.specs.Journals.{records_on, Asked, Answers, Stops, asks}
 use Rattle.nodes_world.specs.Objects.{family_key, place_of, service_at}
 use Rattle.nodes_world.specs.Told.{Told, Known as Line, RolledBack, RolledBackBy, operation_of}
 use Rattle.nodes_world.specs.World.{World, Seat, OfNode, OfEnd, FlatEnd, FlatResource, next_message, resource_at, thing, transaction_name, with_sent}
@@ -39,8 +43,10 @@ use Rattle.nodes_world.specs.Deliveries.{answer_event, hears_answer, is_waited_f
 use Rattle.nodes_world.specs.Lives.{loads, makes_end, with_named_seat}
 use Rattle.nodes_world.specs.Resolve.{may_register, resolve}
 use Rattle.nodes_world.specs.Step.{carried_out, is_full, lacks_life, limit_before}
-use Rattle.nodes_world.specs.Agreement.{IsWord, GoesOnFrom, names_fit}
+use Rattle.nodes_world.specs.Agreement.{IsWord, GoesOnFrom, Reaches, names_fit}
 use Rattle.nodes_world.specs.AgreementInside.{Known}
+use Rattle.nodes_world.specs.Changes.{CallsAreDelivered}
+use Rattle.nodes_world.specs.Laws.{CanAsk}
 
 -- ---- worlds of which the same is known
 
@@ -101,7 +107,7 @@ pub data Goes (w : World) : Done → Type 0 where
   -- a top-level transaction is made
   by_begin : (place : ℕ) (name : List ℕ) (seconds : ℕ) (s : Seat) (n : Node) → slice_get w.seats place ≡ Some s
       → s.server ≡ OfNode (Some n) → thing w name ≡ None → Goes w (begins_at place name seconds s (Some n) w)
-  -- a client's call goes out; it comes to its node; and as that is at once, none is delivered later
+  -- a client's call goes out, and comes to its node
   by_calling : (to : ObjectKey) (act : Act) → is_asked act ≡ true → GoesOnFrom w
       → Goes w (record {
         world = with_sent (client_message (contents.Call to act)) w;
@@ -109,8 +115,6 @@ pub data Goes (w : World) : Done → Type 0 where
       })
   by_call : (nth now : ℕ) (to : ObjectKey) (act : Act) (m : Message) → slice_get w.messages nth ≡ Some m → m.content ≡ contents.Call to act
       → is_asked act ≡ true → Goes w (steps (place_of to) to (call_event (nth + 1) to act now) w).done
-  by_no_call : (nth : ℕ) (to : ObjectKey) (act : Act) (m : Message) (done : Done) → slice_get w.messages nth ≡ Some m
-      → m.content ≡ contents.Call to act → m.delivered ≡ false → Goes w done
   -- one that makes a subtransaction, or registers a resource, with the name that is given then
   by_sub : (parent : ObjectKey) (name : List ℕ) → thing w name ≡ None → GoesOnFrom w → Goes w (creates_sub parent name w)
   by_register : (manner : Manner) (transaction : ObjectKey) (place : ℕ) (name : List ℕ) (s : Seat) (e : FlatEnd) → slice_get w.seats place ≡ Some s
@@ -132,10 +136,14 @@ pub data GoesOn (w : World) : Done → Type 0 where
   still : GoesOn w (nothing w)
   further : (between later : Done) → GoesOn w between → Goes between.world later → GoesOn w (after between later)
 
--- whatever a line does that passes no limit is made of these steps
+-- where no call waits to be delivered, whatever a line does that passes no limit is made of these steps
 abbrev pub DeedsGo : Type 0
-DeedsGo = (event : ScriptEvent) (deed : Deed) (w : World) → GoesOnFrom w → IsTrue (names_fit event) → resolve event w ≡ Some deed → limit_before deed w ≡ None
-    → GoesOn w (carried_out deed w)
+DeedsGo = (event : ScriptEvent) (deed : Deed) (w : World) → CallsAreDelivered w → GoesOnFrom w → IsTrue (names_fit event)
+    → resolve event w ≡ Some deed → limit_before deed w ≡ None → GoesOn w (carried_out deed w)
+
+-- and none waits in any world that a script reaches
+abbrev pub ReachedCallsAreDelivered : Type 0
+ReachedCallsAreDelivered = (w : World) (told : List Told) → Reaches w told → CallsAreDelivered w
 
 -- ---- what is known is kept
 
@@ -165,8 +173,6 @@ pub record StepsStayKnown : Type 0 where
   pub call : (w : World) (nth now : ℕ) (to : ObjectKey) (act : Act) (m : Message) → slice_get w.messages nth ≡ Some m
       → m.content ≡ contents.Call to act → is_asked act ≡ true
       → StaysKnown w (steps (place_of to) to (call_event (nth + 1) to act now) w).done
-  pub no_call : (w : World) (nth : ℕ) (to : ObjectKey) (act : Act) (m : Message) (done : Done) → slice_get w.messages nth ≡ Some m
-      → m.content ≡ contents.Call to act → m.delivered ≡ false → StaysKnown w done
   pub sub : (w : World) (parent : ObjectKey) (name : List ℕ) → thing w name ≡ None → GoesOnFrom w → StaysKnown w (creates_sub parent name w)
   pub register : (w : World) (manner : Manner) (transaction : ObjectKey) (place : ℕ) (name : List ℕ) (s : Seat) (e : FlatEnd)
       → slice_get w.seats place ≡ Some s → s.server ≡ OfEnd (Some e) → thing w name ≡ None → may_register manner w transaction ≡ true → GoesOnFrom w
@@ -195,19 +201,21 @@ abbrev pub is_asking : Standing → Bool
 is_asking (Waiting room) = false
 is_asking (UnderWay c) = is_asking_errand c.out
 
--- those of which it is still to be shown: two kinds of answers for which a call of a family waits
+-- the journal writes what it is asked for: it tells that the record stands, or the node goes down meanwhile
+abbrev pub IsWritten : Asked → Type 0
+IsWritten (Answers (Some (answers.Stands place)) disk stop) = Unit {0}
+IsWritten (Stops image) = Unit {0}
+IsWritten _ = ⊥
+
+-- that of which it is still to be shown: one kind of answers for which a call of a family waits
 pub record NodeStepsStayKnown : Type 0 where
-  -- one to the word by which the completion asks a participant, where the call is at the decision
-  pub asked : (w : World) (nth place reply now : ℕ) (o : Outward) (back : Message) (answer : Said) (s : Seat) (n : Node) (f : Family) (c : Call)
-      → IsWord w nth place o → slice_get w.messages reply ≡ Some back → back.content ≡ contents.Reply (nth + 1) answer
+  -- the last vote: the call is at the decision, and the journal has room for it
+  pub asked : (w : World) (nth place reply now : ℕ) (o : Outward) (back : Message) (answer : Said) (s : Seat) (n : Node) (f : Family) (c : Call) (vote : Vote)
+      (item : JournalRecord)
+      → IsWord w nth place o → slice_get w.messages reply ≡ Some back → back.content ≡ contents.Reply (nth + 1) answer → answer ≡ said.Voted vote
       → slice_get w.seats place ≡ Some s → s.server ≡ OfNode (Some n) → o.number.slot == retold_slot ≡ false
       → family_of (family_key place o.number) n ≡ Some f → has_room f.entries (answer_event o answer now) ≡ true
       → waiting_for f o.number ≡ Some 0 → call_at f 0 ≡ Some c → c.leg ≡ Deciding → is_asking f.completion ≡ true
-      → StaysKnown w (steps_node (Some n) s place (family_key place o.number) (answer_event o answer now) w).done
-  -- one by which a family asks the journal for its own Done
-  pub closes : (w : World) (nth place reply now : ℕ) (o : Outward) (back : Message) (answer : Said) (s : Seat) (n : Node) (f : Family) (b done : ℕ)
-      → IsWord w nth place o → slice_get w.messages reply ≡ Some back → back.content ≡ contents.Reply (nth + 1) answer
-      → slice_get w.seats place ≡ Some s → s.server ≡ OfNode (Some n) → o.number.slot == retold_slot ≡ false
-      → family_of (family_key place o.number) n ≡ Some f → has_room f.entries (answer_event o answer now) ≡ true
-      → waiting_for f o.number ≡ Some b → (is_asking f.completion ≡ false) ⊎ (0 < b) → wanted f (answer_event o answer now) ≡ Some (WritesDone done)
+      → stages.decides_alone f.completion ≡ false → wanted f (answer_event o answer now) ≡ Some (Appends item)
+      → CanAsk (Some (Appends item)) n.found → IsWritten (asks (Some (Appends item)) n.service n.found s.disk s.stop)
       → StaysKnown w (steps_node (Some n) s place (family_key place o.number) (answer_event o answer now) w).done

@@ -10,6 +10,7 @@ use Rattle.decision_journal.specs.declared.record.JournalRecord.{JournalRecord}
 use Rattle.resource_end.specs.Table.{row}
 use Rattle.resource_end.specs.declared.state.State.{State}
 use Rattle.resource_end.specs.declared.state.Word.{Word}
+use Rattle.coordinator.specs.declared.event.Act.{Act}
 use Rattle.coordinator.specs.declared.event.Event.{Event}
 use Rattle.coordinator.specs.Limits.{last_moment}
 use Rattle.coordinator.specs.Node.{Node, load}
@@ -17,6 +18,7 @@ use Rattle.coordinator.specs.NodeCalls.{applies, call_wants}
 use Rattle.coordinator.specs.NodeSlots.{creates}
 use Rattle.coordinator.specs.NodeTick.{ticks}
 use Rattle.nodes_world.specs.declared.deed.Deed.{Deed}
+use Rattle.nodes_world.specs.declared.message.Content.TheVariants as contents
 use Rattle.nodes_world.specs.declared.message.Message.{Message}
 use Rattle.nodes_world.specs.declared.thing.Thing.{Thing}
 use Rattle.nodes_world.specs.Disks.{Stop}
@@ -76,6 +78,10 @@ pub data SeatBecomes (place : ℕ) : Seat → Seat → Type 0 where
   by_end : (s : Seat) (e later : FlatEnd) → s.server ≡ OfEnd (Some e) → EndBecomes e later
       → SeatBecomes place s (record s { server = OfEnd (Some later) })
 
+-- if it is a client's call, it was delivered
+abbrev pub CallIsDelivered : Message → Type 0
+CallIsDelivered m = (to : ObjectKey) (act : Act) → m.content ≡ contents.Call to act → m.delivered ≡ true
+
 -- a message comes to its receiver, is passed over, or its sender hears what became of it
 pub data MessageBecomes : Message → Message → Type 0 where
   by_delivery : (m : Message) → MessageBecomes m (record m { delivered = true })
@@ -92,7 +98,8 @@ pub data WorldBecomes (w : World) : World → Type 0 where
   by_new_seat : (s : Seat) → IsNewSeat s → WorldBecomes w (with_new_seat s w)
   by_seat : (place : ℕ) (s later : Seat) → slice_get w.seats place ≡ Some s → SeatBecomes place s later
       → WorldBecomes w (with_seat place later w)
-  by_sending : (m : Message) → WorldBecomes w (with_sent m w)
+  -- a message is sent; a client's call is delivered with that
+  by_sending : (m : Message) → CallIsDelivered m → WorldBecomes w (with_sent m w)
   by_message : (place : ℕ) (m later : Message) → slice_get w.messages place ≡ Some m → MessageBecomes m later
       → WorldBecomes w (with_message place later w)
   by_name : (name : List ℕ) (named : Thing) → thing w name ≡ None → WorldBecomes w (with_name name named w)
@@ -101,6 +108,10 @@ pub data WorldBecomes (w : World) : World → Type 0 where
 pub data WorldGoesOn (w : World) : World → Type 0 where
   still : WorldGoesOn w w
   further : (between later : World) → WorldGoesOn w between → WorldBecomes between later → WorldGoesOn w later
+
+-- so no client's call waits to be delivered
+abbrev pub CallsAreDelivered : World → Type 0
+CallsAreDelivered w = (nth : ℕ) (m : Message) → slice_get w.messages nth ≡ Some m → CallIsDelivered m
 
 -- whatever a line does in a world is made of these changes
 abbrev pub DeedsAreChanges : Type 0

@@ -17,5 +17,7 @@ pub mod Changes
 pub mod Agreement
 pub mod AgreementInside
 pub mod AgreementSteps
+pub mod StandingDecisions
+pub mod OverForGood
 pub mod Laws
 pub mod Plays

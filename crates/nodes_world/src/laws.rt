@@ -1,20 +1,23 @@
 // Laws of the definitions: these functions do nothing, and their contracts are the laws.
-ghost use Rattle.nodes_world.specs.Agreement.{Agreement, ReadNamesFit, RunsAreSafe};
-ghost use Rattle.nodes_world.specs.AgreementSteps.{DeedsGo, NodeStepsStayKnown};
+ghost use Rattle.nodes_world.specs.Agreement.{Agreement, ReachedDonesAreComplete, ReachedIsKnown, ReadNamesFit, RunsAreSafe};
+ghost use Rattle.nodes_world.specs.AgreementSteps.{DeedsGo, NodeStepsStayKnown, ReachedCallsAreDelivered};
 ghost use Rattle.nodes_world.specs.Changes.{DeedsAreChanges};
 ghost use Rattle.nodes_world.specs.Laws.{AppendsGoThrough, AppendsStrike, AskedJournalsKeep, AskedJournalsStop, RecordsAreRead, StoppedAppendsAreSafe, WhatIsLeftIsAnImage};
+ghost use Rattle.nodes_world.specs.OverForGood.{CommitsAreStored, ResourcesStay};
 ghost use Rattle.nodes_world.specs.Plays.{WorldsPlay};
+ghost use Rattle.nodes_world.specs.StandingDecisions.{RestartsTellAgain, StandingIsTold, ToldIsRecorded};
 
 use coordinator::{family_outcomes_stay, histories_grow_by_entries};
 use decision_journal::{appends_are_safe, bodies_are_read, journals_grow, loads_are_safe};
 use family_laws::{
     families_end_in_turn, families_number_words, families_stay_sound, families_tell_outcomes,
-    families_tell_votes, families_words_rest, held_records_stood, nodes_stay_sound,
+    families_tell_votes, families_words_rest, held_records_stood, nodes_keep_decisions,
 };
 use ior_refs::same_octets_same_key;
 use ots_model::allowed_lines_are_safe;
 use ots_outside::writes_read_images;
 use recovery_coord::completes_once;
+use two_phase::tree_outcomes_have_causes;
 
 /// The strokes of an append leave the disk that a journal's append leaves. A crash inside each of its writes leaves what stood before
 /// that write, or that write too, by the image that is asked for; one inside a later write comes two writes nearer.
@@ -67,9 +70,17 @@ pub fn deeds_are_changes()
 {}
 
 /// Whatever a line does that passes no limit is made of few kinds of step, with the lines that tell it: a node or an end is made, a
-/// node goes down or is loaded, a call or an answer comes to it, its time passes, a resource is touched or told a word.
+/// node goes down or is loaded, a call or an answer comes to it, its time passes, a resource is touched or told a word. That is so
+/// where no client's call waits to be delivered, as in each world that a script reaches.
 pub fn deeds_are_steps()
-    ensures { DeedsGo }
+    ensures steps { DeedsGo }
+    ensures delivered { ReachedCallsAreDelivered }
+{}
+
+/// Whatever a line does, a resource that has stored its updates stays so, and one that has dropped them; and where it is over for a
+/// resource, that stays.
+pub fn resources_stay_over()
+    ensures { ResourcesStay }
 {}
 
 /// What the grammar of scripts reads has names that fit, so the clause on runs speaks of every script that is read.
@@ -77,8 +88,8 @@ pub fn names_that_are_read_fit()
     ensures { ReadNamesFit }
 {}
 
-/// The lines of every script are safe, if what is known of a world stays known where an answer is heard to a word that asks a
-/// participant, or by which a family asks the journal for its own Done. Of all other steps that is shown.
+/// The lines of every script are safe, if what is known of a world stays known where a vote is heard by which a family asks the
+/// journal for its decision, and the journal has room for it. Of all other steps that is shown.
 pub fn agreement_rests_on_node_steps()
     ensures agreement { NodeStepsStayKnown → Agreement }
     ensures runs { NodeStepsStayKnown → RunsAreSafe }
@@ -89,7 +100,7 @@ pub fn agreement_rests_on_node_steps()
     records_are_read();
     asked_journals_stay_in_order();
     completes_once();
-    nodes_stay_sound();
+    nodes_keep_decisions();
     held_records_stood();
     families_stay_sound();
     families_end_in_turn();
@@ -99,5 +110,83 @@ pub fn agreement_rests_on_node_steps()
     families_tell_votes();
     family_outcomes_stay();
     histories_grow_by_entries();
+    tree_outcomes_have_causes();
+    same_octets_same_key();
+}
+
+/// Where a node is up, a line tells each decision that stands in its journal; a restart tells each one again that stands on the disk;
+/// and no decision is told but one whose record the disk of its node holds. This rests on what is still to be shown for agreement.
+pub fn decisions_outlive_crashes()
+    ensures told { NodeStepsStayKnown → StandingIsTold }
+    ensures again { NodeStepsStayKnown → RestartsTellAgain }
+    ensures recorded { NodeStepsStayKnown → ToldIsRecorded }
+{
+    allowed_lines_are_safe();
+    journals_grow();
+    loads_are_safe();
+    records_are_read();
+    asked_journals_stay_in_order();
+    completes_once();
+    nodes_keep_decisions();
+    held_records_stood();
+    families_stay_sound();
+    families_end_in_turn();
+    families_words_rest();
+    families_number_words();
+    families_tell_outcomes();
+    families_tell_votes();
+    family_outcomes_stay();
+    histories_grow_by_entries();
+    tree_outcomes_have_causes();
+    same_octets_same_key();
+}
+
+/// What is known together of a world holds of each one that a script reaches, if beside what is still to be shown for agreement each
+/// Done is complete there: the decision that it names is over for all whom it names.
+pub fn reached_worlds_are_known()
+    ensures { NodeStepsStayKnown → ReachedDonesAreComplete → ReachedIsKnown }
+{
+    allowed_lines_are_safe();
+    journals_grow();
+    loads_are_safe();
+    records_are_read();
+    asked_journals_stay_in_order();
+    completes_once();
+    nodes_keep_decisions();
+    held_records_stood();
+    families_stay_sound();
+    families_end_in_turn();
+    families_words_rest();
+    families_number_words();
+    families_tell_outcomes();
+    families_tell_votes();
+    family_outcomes_stay();
+    histories_grow_by_entries();
+    tree_outcomes_have_causes();
+    same_octets_same_key();
+}
+
+/// In each world that a script reaches, a resource that obeys commit has stored its updates then. This rests on what is still to be
+/// shown for agreement.
+pub fn commits_are_stored()
+    ensures { NodeStepsStayKnown → CommitsAreStored }
+{
+    allowed_lines_are_safe();
+    journals_grow();
+    loads_are_safe();
+    records_are_read();
+    asked_journals_stay_in_order();
+    completes_once();
+    nodes_keep_decisions();
+    held_records_stood();
+    families_stay_sound();
+    families_end_in_turn();
+    families_words_rest();
+    families_number_words();
+    families_tell_outcomes();
+    families_tell_votes();
+    family_outcomes_stay();
+    histories_grow_by_entries();
+    tree_outcomes_have_causes();
     same_octets_same_key();
 }

@@ -10,7 +10,7 @@ returns-clause-agreement c = λ nodes.
       keep = c.asked_journals_stay_in_order.ensures.keep;
       stop = c.asked_journals_stay_in_order.ensures.stop;
       complete = c.completes_once.ensures;
-    }) c.loads_are_safe.ensures c.nodes_stay_sound.ensures c.held_records_stood.ensures c.same_octets_same_key.ensures
+    }) c.loads_are_safe.ensures c.nodes_keep_decisions.ensures c.held_records_stood.ensures c.same_octets_same_key.ensures
     (record {
       sound = c.families_stay_sound.ensures;
       turns = c.families_end_in_turn.ensures;
@@ -20,6 +20,7 @@ returns-clause-agreement c = λ nodes.
       votes = c.families_tell_votes.ensures;
       stay = c.family_outcomes_stay.ensures;
       grow = c.histories_grow_by_entries.ensures;
+      causes = c.tree_outcomes_have_causes.ensures;
     }) nodes
 
 pub returns-clause-runs : goal.returns-clause-runs
@@ -31,7 +32,7 @@ returns-clause-runs c = λ nodes.
       keep = c.asked_journals_stay_in_order.ensures.keep;
       stop = c.asked_journals_stay_in_order.ensures.stop;
       complete = c.completes_once.ensures;
-    }) c.loads_are_safe.ensures c.nodes_stay_sound.ensures c.held_records_stood.ensures c.same_octets_same_key.ensures
+    }) c.loads_are_safe.ensures c.nodes_keep_decisions.ensures c.held_records_stood.ensures c.same_octets_same_key.ensures
     (record {
       sound = c.families_stay_sound.ensures;
       turns = c.families_end_in_turn.ensures;
@@ -41,4 +42,5 @@ returns-clause-runs c = λ nodes.
       votes = c.families_tell_votes.ensures;
       stay = c.family_outcomes_stay.ensures;
       grow = c.histories_grow_by_entries.ensures;
+      causes = c.tree_outcomes_have_causes.ensures;
     }) nodes
