@@ -1,24 +1,23 @@
 -- An end as its objects change.
-use Rattle.std.proofs.Common.{◌≡◌, ℕ, ◌+◌, ◌-◌, ◌<◌, ◌≤◌, ◌==◌, ◌||◌, Bool, true, false, zero, suc, inl, inr, List, [], ◌∷◌, ◌++◌, length, map, slice_set, Option, Some, None, sym, ap, subst, ◌∙◌, refl, arith}
-use Rattle.std.specs.List.{slice_get, filter_map, find, list_any}
-use Rattle.std.specs.Option.{option_and_then, option_map}
+use Rattle.std.proofs.Common.{◌≡◌, ℕ, ◌+◌, ◌-◌, ◌<◌, ◌≤◌, ◌==◌, ◌||◌, Bool, true, false, zero, suc, inl, inr, List, [], ◌∷◌, ◌++◌, length, slice_set, Option, Some, None, sym, ap, subst, ◌∙◌, refl, arith}
+use Rattle.std.specs.List.{slice_get, find, list_any}
+use Rattle.std.specs.Option.{option_and_then}
 use Rattle.std.proofs.lemmas.Option.{same_Some, slice_get_within, slice_get-get_or}
 use Rattle.std.proofs.lemmas.List.{length-set}
-use Rattle.std.proofs.lemmas.List.Elements.{filter_map-append}
 use Rattle.std.proofs.lemmas.List.Folds.{list_any-append}
 use Rattle.std.proofs.lemmas.Cmp.{nat_eq_equiv}
 use Rattle.std.proofs.lemmas.Grind.{common_steps}
 use Rattle.ior_refs.specs.declared.key.ObjectKey.{ObjectKey}
 use Rattle.decision_journal.specs.declared.record.Put.{Put}
-use Rattle.nodes_world.specs.World.{FlatEnd, FlatResource}
-use Rattle.nodes_world.specs.Ends.{drawn_once, in_place_of, with_fresh, with_resource, fresh}
+use Rattle.nodes_world.specs.World.{FlatResource}
+use Rattle.nodes_world.specs.Ends.{drawn_once, with_fresh, with_resource, fresh}
 use Rattle.nodes_world.specs.Resolve.{has_put}
 use Rattle.nodes_parts.specs.Cell.{is_cell}
-use Rattle.nodes_parts.specs.Kept.{AreNumbered, end_of, flat, flat_all, flat_object, names_cell, numbered, place_numbered, resource_numbered}
+use Rattle.nodes_parts.specs.Kept.{AreNumbered, end_of, flat, flat_all, flat_object, numbered, place_numbered, resource_numbered}
 use Rattle.nodes_parts.specs.KeptInside.{IsKept}
 use Rattle.nodes_parts.specs.declared.ends.Resource.{Resource}
 use Rattle.nodes_parts.proofs.Lists.{push_cases, push_last, set_cases}
-use Rattle.nodes_parts.proofs.Numbered.{AreFrom, any_kept, any_put, found_at, from_here, made_last, none_before, not_same_above, replaced_at}
+use Rattle.nodes_parts.proofs.Numbered.{any_kept, any_put, found_at, from_here, made_last, none_before, not_same_above, replaced_at}
 
 -- ---- an object is made
 

@@ -1,7 +1,11 @@
-mod Lists
+pub mod Lists
 mod Numbered
 mod Ending
 mod NameLemmas
 mod Found
 mod Referred
 mod Waiting
+mod Seams
+mod Filled
+mod Unsynced
+mod Walking

@@ -1,11 +1,10 @@
 -- Resources at places that tell their numbers.
-use Rattle.std.proofs.Common.{◌≡◌, ℕ, ◌+◌, ◌<◌, ◌≤◌, ◌==◌, Bool, true, false, ◌||◌, cond, zero, suc, List, [], ◌∷◌, ◌++◌, length, map, slice_set, Option, Some, None, sym, ap, ◌∙◌, refl, arith}
-use Rattle.std.specs.List.{slice_get, filter_map, find, list_any}
-use Rattle.std.specs.Option.{option_and_then, option_map}
+use Rattle.std.proofs.Common.{◌≡◌, ℕ, ◌+◌, ◌<◌, ◌≤◌, ◌==◌, Bool, true, false, ◌||◌, zero, suc, List, [], ◌∷◌, ◌++◌, length, map, slice_set, Option, Some, None, sym, ap, ◌∙◌, refl, arith}
+use Rattle.std.specs.List.{slice_get, find, list_any}
+use Rattle.std.specs.Option.{option_and_then}
 use Rattle.std.proofs.lemmas.Grind.{common_steps}
 use Rattle.std.proofs.lemmas.Option.{same_Some}
 use Rattle.decision_journal.specs.declared.record.Put.{Put}
-use Rattle.nodes_world.specs.World.{FlatResource}
 use Rattle.nodes_world.specs.Ends.{in_place_of}
 use Rattle.nodes_world.specs.Resolve.{has_put}
 use Rattle.nodes_parts.specs.Kept.{AreNumbered, flat, flat_all, flat_object, numbered}

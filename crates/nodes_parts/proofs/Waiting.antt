@@ -1,5 +1,5 @@
 -- Which message comes next.
-use Rattle.std.proofs.Common.{◌≡◌, ℕ, ◌+◌, ◌-◌, ◌<◌, ◌≤◌, zero, suc, Bool, true, false, cond, nat_lt, List, [], ◌∷◌, length, drop, Option, Some, None, ◌⊎◌, inl, inr, refl, sym, ap, ◌∙◌, arith, length-drop}
+use Rattle.std.proofs.Common.{◌≡◌, ℕ, ◌+◌, ◌-◌, ◌<◌, ◌≤◌, zero, suc, true, false, cond, nat_lt, List, [], ◌∷◌, length, drop, Some, None, ◌⊎◌, inl, inr, refl, ap, ◌∙◌, arith, length-drop}
 use Rattle.std.specs.List.{slice_get, position, position_or_len}
 use Rattle.nodes_world.specs.declared.message.Message.{Message}
 use Rattle.nodes_parts.specs.Sending.{ArePassed, CountsPassed, is_waiting}

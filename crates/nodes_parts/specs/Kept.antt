@@ -1,8 +1,7 @@
 -- The resources of an end, as the code keeps them (our profile).
-use Rattle.std.specs.Prelude.{◌≡◌, ℕ, ◌+◌, ◌-◌, ◌<◌, Bool, List, ◌==◌, find, length, slice_get, Option, Some, None, if◌then◌else◌}
+use Rattle.std.specs.Prelude.{◌≡◌, ℕ, ◌+◌, ◌-◌, Bool, List, ◌==◌, find, length, slice_get, Option, Some, None, if◌then◌else◌}
 use Rattle.std.specs.List.{filter_map, list_any}
 use Rattle.std.specs.Option.{option_map}
-use Rattle.ior_refs.specs.declared.key.ObjectKey.{ObjectKey}
 use Rattle.nodes_world.specs.World.{FlatEnd, FlatResource}
 use Rattle.nodes_world.specs.Resolve.{has_put}
 use Rattle.nodes_parts.specs.declared.ends.Resource.{Resource}

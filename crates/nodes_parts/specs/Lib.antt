@@ -5,3 +5,6 @@ pub mod KeptInside
 pub mod Index
 pub mod Referring
 pub mod Naming
+pub mod Filling
+pub mod Striking
+pub mod Gated

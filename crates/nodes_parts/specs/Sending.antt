@@ -1,11 +1,12 @@
 -- The messages of a world, as the code keeps them (our profile).
-use Rattle.std.specs.Prelude.{◌≡◌, ℕ, ◌-◌, ◌<◌, ◌≤◌, ◌||◌, Bool, true, false, not, List, [], ◌∷◌, length, position, slice_get, slice_set, Option, Some, None}
+use Rattle.std.specs.Prelude.{◌≡◌, ℕ, ◌<◌, ◌≤◌, ◌||◌, Bool, true, false, not, List, length, slice_get, slice_set, Option, Some, None}
 use Rattle.std.specs.Option.{option_and_then}
 use Rattle.ior_refs.specs.declared.key.ObjectKey.{ObjectKey}
 use Rattle.coordinator.specs.declared.event.Act.{Act}
 use Rattle.ots_world.specs.declared.fault.WorldFault.{WorldFault}
 use Rattle.ots_world.specs.declared.fault.WorldFault.TheVariants as faults
 use Rattle.nodes_world.specs.Limits.{message_limit}
+use Rattle.nodes_world.specs.Happenings.{new_message}
 use Rattle.nodes_world.specs.declared.message.Content.{Content}
 use Rattle.nodes_world.specs.declared.message.Content.TheVariants as contents
 use Rattle.nodes_world.specs.declared.message.Message.{Message}
@@ -31,6 +32,10 @@ abbrev pub CannotSend : List Message → WorldFault → Type 0
 CannotSend messages faults.Memory = Unit {0}
 CannotSend messages (faults.Limit n) = (n ≡ message_limit) × (message_limit ≤ length messages)
 CannotSend messages faults.Names = ⊥
+
+-- a message as it goes out: it may stand as delivered at once
+abbrev pub as_sent : Content → Bool → Message
+as_sent content delivered = record (new_message content) { delivered = delivered }
 
 -- the message at a place was delivered, or answered
 abbrev pub marked_delivered : ℕ → List Message → List Message

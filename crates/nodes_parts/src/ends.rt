@@ -1,5 +1,5 @@
 // Ends, and their resources.
-ghost use Rattle.std.specs.Prelude.{◌≡◌, ◌+◌, ◌-◌, ◌<◌, ◌≤◌, [], length, slice_get, slice_set, None, Some, IfOk, OnOk};
+ghost use Rattle.std.specs.Prelude.{◌≡◌, ◌+◌, ◌-◌, ◌<◌, ◌≤◌, [], length, slice_get, slice_set, None, Some, IfOk, OnErr, OnOk};
 ghost use Rattle.std.specs.Option.{option_and_then, option_copied, option_map};
 ghost use Rattle.nodes_world.specs.Ends as ends;
 ghost use Rattle.nodes_world.specs.Resolve as resolving;
@@ -75,10 +75,11 @@ impl End {
         }
     }
 
-    /// Makes an object, and tells its number.
+    /// Makes an object, and tells its number. Where memory is wanted for it the end is as it was.
     pub fn draw(&mut self) -> Result<u64, AllocError>
         ensures ok { IfOk result (λ number. (number ≡ self.old.drawn + 1) × (self.new ≡ ends.drawn_once self.old)) }
         ensures free { IfOk result (λ number. resource_numbered number self.new ≡ None) }
+        ensures err { OnErr result (self.new ≡ self.old) }
     {
         self.objects.push(None)?;
         Ok(self.objects.len() as u64)
@@ -117,11 +118,12 @@ impl End {
         replace(&mut self.objects, Resource { state, ..*resource });
     }
 
-    /// A value is put into a cell for a resource.
+    /// A value is put into a cell for a resource. Where memory is wanted for it the end is as it was.
     pub fn put(&mut self, resource: &Resource, cell: u64, value: u64) -> Result<(), AllocError>
         requires there { resource_numbered ((resource.now).key).generation self.old ≡ Some (flat resource.now) }
         requires nothing { (resource.now).put ≡ None }
-        ensures { OnOk result (self.new ≡ ends.with_resource (ends.put_into cell value (flat resource.now)) self.old) }
+        ensures ok { OnOk result (self.new ≡ ends.with_resource (ends.put_into cell value (flat resource.now)) self.old) }
+        ensures err { OnErr result (self.new ≡ self.old) }
     {
         self.cells.add(cell)?;
         let put = Some(Put { cell, value });

@@ -1,7 +1,10 @@
-//! The parts of a world of nodes: its names, its messages, and its ends with their resources.
+//! The parts of a world of nodes: its names, its messages, its ends with their resources, and what a crash inside a write
+//! leaves of a disk.
 #![tactic(auto)]
 
+pub use disks::{Appended, Stop, copy_image};
 pub use ends::{End, Resource, answer_of_row, closed_by, shown_state, told_word};
+pub use journals::{Gates, last_gates};
 pub use messages::Messages;
 pub use names::Directory;
 pub use objects::{
@@ -11,7 +14,9 @@ pub use objects::{
 pub use references::NamedKey;
 
 mod cells;
+mod disks;
 mod ends;
+mod journals;
 mod messages;
 mod names;
 mod objects;

@@ -1,8 +1,8 @@
 // The messages of a world.
-ghost use Rattle.std.specs.Prelude.{◌≡◌, ◌+◌, ◌<◌, ◌≤◌, ◌∷◌, ◌++◌, [], not, ◌||◌, length, position, slice_set, slice_get, nat_lt, true, false, Some, None, if◌then◌else◌, IfOk, IfErr, IfSome};
+ghost use Rattle.std.specs.Prelude.{◌≡◌, ◌+◌, ◌<◌, ◌≤◌, ◌∷◌, ◌++◌, [], not, ◌||◌, length, position, slice_set, slice_get, nat_lt, true, false, Some, None, if◌then◌else◌, IfOk, IfErr, IfSome, OnOk, OnErr};
 ghost use Rattle.std.specs.Option.{option_copied};
 ghost use Rattle.nodes_world.specs.Limits.{message_limit};
-ghost use Rattle.nodes_parts.specs.Sending.{CannotSend, CountsPassed, called_by, called_in, is_waiting, marked_answered, marked_delivered};
+ghost use Rattle.nodes_parts.specs.Sending.{CannotSend, CountsPassed, as_sent, called_by, called_in, is_waiting, marked_answered, marked_delivered};
 
 use coordinator::{Act, Event, copy_event};
 use ior_refs::ObjectKey;
@@ -60,9 +60,10 @@ impl Messages {
 
     /// A message goes out. Its number is the answer.
     pub fn send(&mut self, content: Content, delivered: bool) -> Result<u32, WorldFault>
-        ensures ok { IfOk result (λ number. (number ≡ length self.new)
-            × (self.new ≡ self.old ++ record { content = content; delivered = delivered; lost = false; answered = false } ∷ [])) }
-        ensures err { IfErr result (λ fault. CannotSend self.old fault) }
+        ensures number { IfOk result (λ number. number ≡ length self.new) }
+        ensures sent { OnOk result (self.new ≡ self.old ++ as_sent content delivered ∷ []) }
+        ensures refused { IfErr result (λ fault. CannotSend self.old fault) }
+        ensures err { OnErr result (self.new ≡ self.old) }
     {
         if self.items.len() >= MESSAGE_LIMIT {
             return Err(WorldFault::Limit(MESSAGE_LIMIT as u64));

@@ -1,10 +1,10 @@
 // What the names of a script name, and how what has a name is found by its key or its reference.
-ghost use Rattle.std.specs.Prelude.{◌≡◌, ◌∷◌, ◌++◌, [], None, is_none, OnOk};
+ghost use Rattle.std.specs.Prelude.{◌≡◌, None, is_none, OnOk, OnErr};
 ghost use Rattle.std.specs.Option.{option_map};
 ghost use Rattle.nodes_world.specs.World as world;
 ghost use Rattle.nodes_world.specs.declared.thing.Thing.TheVariants as things;
-ghost use Rattle.nodes_parts.specs.Naming.{HasNoNames, name_of_key};
-ghost use Rattle.nodes_parts.specs.Referring.{LeadsTo, named, referred_in};
+ghost use Rattle.nodes_parts.specs.Naming.{HasNoNames, IsNamedToo, IsReferredToo, name_of_key};
+ghost use Rattle.nodes_parts.specs.Referring.{named, referred_in};
 
 use crate::references::{NamedKey, References};
 use crate::transactions::Transactions;
@@ -76,8 +76,9 @@ impl Directory {
     /// The node or end at a place has this name from now on.
     pub fn name_seat(&mut self, name: &Name, place: u32) -> Result<(), AllocError>
         requires free { world.thing_in self.old.things name.now ≡ None }
-        ensures things { OnOk result (self.new.things ≡ self.old.things ++ (name.now, things.Seat place) ∷ []) }
+        ensures things { OnOk result (IsNamedToo self.old self.new name.now (things.Seat place)) }
         ensures referred { self.new.referred ≡ self.old.referred }
+        ensures err { OnErr result (self.new ≡ self.old) }
     {
         self.things.insert(*name, Thing::Seat(place))?;
         Ok(())
@@ -86,8 +87,9 @@ impl Directory {
     /// The transaction with a key has this name from now on.
     pub fn name_transaction(&mut self, name: &Name, key: &ObjectKey) -> Result<(), AllocError>
         requires free { world.thing_in self.old.things name.now ≡ None }
-        ensures things { OnOk result (self.new.things ≡ self.old.things ++ (name.now, things.Transaction key.now) ∷ []) }
+        ensures things { OnOk result (IsNamedToo self.old self.new name.now (things.Transaction key.now)) }
         ensures referred { self.new.referred ≡ self.old.referred }
+        ensures err { OnErr result (self.new ≡ self.old) }
     {
         self.things.reserve(1)?;
         self.transactions.add(key, name)?;
@@ -103,12 +105,14 @@ impl Directory {
         reference: Vec<u8>,
     ) -> Result<(), AllocError>
         requires free { world.thing_in self.old.things name.now ≡ None }
-        ensures things { OnOk result (self.new.things ≡ self.old.things ++ (name.now, things.Resource key.now) ∷ []) }
-        ensures referred { OnOk result (LeadsTo reference.items (record { name = name.now; key = key.now }) self.old.referred self.new.referred) }
+        ensures things { OnOk result (IsNamedToo self.old self.new name.now (things.Resource key.now)) }
+        ensures referred { OnOk result (IsReferredToo self.old self.new reference.items name.now key.now) }
+        ensures err { OnErr result (self.new ≡ self.old) }
     {
-        self.things.insert(*name, Thing::Resource(*key))?;
+        self.things.reserve(1)?;
         let (name, key) = (*name, *key);
         self.references.add(reference, NamedKey { name, key })?;
+        self.things.insert(name, Thing::Resource(key))?;
         Ok(())
     }
 }

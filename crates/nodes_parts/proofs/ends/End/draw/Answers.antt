@@ -1,4 +1,4 @@
-use Rattle.std.proofs.Common.{◌≡◌, ℕ, ◌+◌, length, sym, ap, ◌∙◌, arith}
+use Rattle.std.proofs.Common.{◌≡◌, ◌+◌, length, ap, ◌∙◌, arith}
 use Rattle.std.proofs.lemmas.Grind.{common_steps}
 use Rattle.nodes_world.specs.Ends.{drawn_once}
 use Rattle.nodes_parts.proofs.Ending.{drawn_view, free_drawn, kept_drawn, length_drawn}

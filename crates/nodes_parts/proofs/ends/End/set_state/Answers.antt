@@ -1,8 +1,8 @@
-use Rattle.std.proofs.Common.{◌≡◌, ℕ, ◌+◌, ◌-◌, Some, length, slice_set, sym, ap, subst, ◌∙◌, refl, arith}
+use Rattle.std.proofs.Common.{sym, ap, subst, ◌∙◌, refl}
 use Rattle.nodes_world.specs.Ends.{with_resource}
 use Rattle.nodes_parts.specs.Kept.{end_of, flat, resource_numbered}
 use Rattle.nodes_parts.specs.KeptInside.{IsKept}
-use Rattle.nodes_parts.proofs.Ending.{Stands, kept_put, kept_replaced, replaced_view, standing_at}
+use Rattle.nodes_parts.proofs.Ending.{kept_replaced, replaced_view, standing_at}
 use Rattle.nodes_parts.proofs.ends.End.set_state.Goals as goal
 
 pub replace-requires-clause-number : goal.replace-requires-clause-number

@@ -1,4 +1,4 @@
-use Rattle.std.proofs.Common.{List, ℕ, sym, ap, ◌∙◌, ◌++◌, [], ◌∷◌}
+use Rattle.std.proofs.Common.{sym, ap, ◌∙◌, ◌++◌, [], ◌∷◌}
 use Rattle.indexmap.proofs.CallerLemmas.{insert_entry-new}
 use Rattle.nodes_world.specs.World.{thing_in}
 use Rattle.nodes_world.specs.declared.thing.Thing.TheVariants as things
@@ -8,24 +8,18 @@ use Rattle.nodes_parts.proofs.names.Directory.name_resource.Goals as goal
 
 pub invariant_of-self-2 : goal.invariant_of-self-2
 invariant_of-self-2 c = λ key.
-    let before = c.self.inside.things in
+    let before = c.reserve.new.self in
     let name = c.args.name.now in
-    let free = lookup-thing before.entries name ∙ ap (λ n. thing_in n.things name) c.self.view_is ∙ c.requires.free in
-    let added = c.in_ok-insert.ensures.entries ∙ insert_entry-new same_padded before name (things.Resource c.args.key.now) free in
-    c.self.invariant key ∙ sym (ap (λ some. name_of_key some key) added ∙ resource_named before.entries name c.args.key.now key)
-
-pub invariant_of-self-in_err-add : goal.invariant_of-self-in_err-add
-invariant_of-self-in_err-add c = λ key.
-    let before = c.self.inside.things in
-    let name = c.args.name.now in
-    let free = lookup-thing before.entries name ∙ ap (λ n. thing_in n.things name) c.self.view_is ∙ c.requires.free in
-    let added = c.in_ok-insert.ensures.entries ∙ insert_entry-new same_padded before name (things.Resource c.args.key.now) free in
-    c.self.invariant key ∙ sym (ap (λ some. name_of_key some key) added ∙ resource_named before.entries name c.args.key.now key)
+    let free = lookup-thing before.entries name ∙ ap (λ some. thing_in some name) c.reserve.ensures.entries ∙ ap (λ n. thing_in n.things name) c.self.view_is ∙ c.requires.free in
+    let added = c.in_ok-insert.ensures.entries ∙ insert_entry-new same_padded before name (things.Resource c.args.key.now) free
+    ∙ ap (λ some. some ++ (name, things.Resource c.args.key.now) ∷ []) c.reserve.ensures.entries in
+    c.self.invariant key
+    ∙ sym (ap (λ some. name_of_key some key) added ∙ resource_named c.self.inside.things.entries name c.args.key.now key)
 
 pub returns-clause-things : goal.returns-clause-things
 returns-clause-things c =
-    let before = c.self.inside.things in
+    let before = c.reserve.new.self in
     let name = c.args.name.now in
-    let free = lookup-thing before.entries name ∙ ap (λ n. thing_in n.things name) c.self.view_is ∙ c.requires.free in
+    let free = lookup-thing before.entries name ∙ ap (λ some. thing_in some name) c.reserve.ensures.entries ∙ ap (λ n. thing_in n.things name) c.self.view_is ∙ c.requires.free in
     c.in_ok-insert.ensures.entries ∙ insert_entry-new same_padded before name (things.Resource c.args.key.now) free
-    ∙ ap (λ n. n.things ++ (name, things.Resource c.args.key.now) ∷ []) c.self.view_is
+    ∙ ap (λ some. some ++ (name, things.Resource c.args.key.now) ∷ []) (c.reserve.ensures.entries ∙ ap (λ n. n.things) c.self.view_is)

@@ -1,5 +1,4 @@
-use Rattle.std.proofs.Common.{◌≡◌, cond, Some, is_some, true, false, not, arith, sym, ap, ◌∙◌}
-use Rattle.std.proofs.lemmas.Grind.{common_steps}
+use Rattle.std.proofs.Common.{◌≡◌, cond, Some, is_some, true, false, not, sym, ap, ◌∙◌}
 use Rattle.nodes_parts.specs.Index.{name_in, number_of, same_number}
 use Rattle.nodes_parts.proofs.Found.{name_added, name_kept, none_of}
 use Rattle.nodes_parts.proofs.transactions.Transactions.add.Goals as goal
