@@ -1,5 +1,5 @@
 -- Fields one after another, whatever the table: what is read is spelled so, and what is spelled so is read.
-use Rattle.std.proofs.Common.{◌≡◌, ℕ, ◌+◌, List, [], ◌∷◌, ◌++◌, length, Result, Ok, Err, Some, refl, sym, ap, subst, ◌∙◌}
+use Rattle.std.proofs.Common.{◌≡◌, ℕ, ◌+◌, List, [], ◌∷◌, ◌++◌, length, Result, Ok, refl, sym, ap, subst, ◌∙◌}
 use Rattle.cdr_values.specs.declared.order.Order.{Order}
 use Rattle.cdr_values.specs.declared.fault.CdrFault.{CdrFault}
 use Rattle.cdr_values.specs.Value.{Value, Octet, ULong, Text}
@@ -18,11 +18,7 @@ use Rattle.giop_frames.specs.Fault.{field}
 use Rattle.giop_frames.specs.Layout.{Fields, IsField, AreFields, blank, contexts_values, kept_tail, layout, message_with, tail_start}
 use Rattle.giop_frames.specs.Message.{IsContent, kind_of}
 use Rattle.giop_frames.specs.ContentInside.{FieldLaws}
-use Rattle.giop_frames.specs.Content.{target_at, contexts_at, field_at, fields_at, fields_in, front_of, message_behind, message_of, start_behind, start_of}
-use Rattle.giop_frames.specs.Laws.{FramedIsWhole, IsFramed, WholeIsFramed}
-use Rattle.giop_frames.specs.Stream.{message_by, start_by, whole}
-use Rattle.giop_frames.specs.declared.framed.Framed.{Framed}
-use Rattle.giop_frames.specs.declared.header.Header.{Header}
+use Rattle.giop_frames.specs.Content.{target_at, contexts_at, field_at, fields_at, fields_in, front_of, message_behind, message_of, start_of}
 use Rattle.giop_frames.proofs.Given.{ok_is, read_is, bind_ok, field_ok}
 use Rattle.giop_frames.proofs.Spelled.{reads_then, reads_apart, after, reads_spelled, passed}
 use Rattle.giop_frames.proofs.FieldsRead.{target_found, target_only, contexts_found, contexts_only}
@@ -127,11 +123,10 @@ kind_is order kinds.CloseConnection told tail m e = ap kind_of (ok_is messages.C
 kind_is order kinds.MessageError told tail m e = ap kind_of (ok_is messages.Error m e)
 kind_is order kinds.Fragment told tail m e = absurd cc
 
--- the message that is read has this content, and what it keeps begins behind the fields
-pub content_and_start : FieldLaws → (version : Version) (order : Order) (kind : Kind) (content : List ℕ) (m : Message) → message_of version order kind content ≡ Ok m
-    → (kind ≡ kind_of m) × (is : IsContent version order m content) × (start_of version order kind content ≡ tail_start version kind (12 + length is.fields))
-unfolding message_of start_of
-content_and_start laws version order kind content m e =
+-- the message that is read has this content
+pub content_found : FieldLaws → (version : Version) (order : Order) (kind : Kind) (content : List ℕ) (m : Message) → message_of version order kind content ≡ Ok m → (kind ≡ kind_of m) × IsContent version order m content
+unfolding message_of
+content_found laws version order kind content m e =
     let r = front_of order content in
     let a = bind_ok (fields_in version order kind content) (message_behind version order kind) m e in
     let p = fields_found laws (layout version kind) blank r a.0.0 a.0.1 a.1 in
@@ -141,13 +136,7 @@ content_and_start laws version order kind content m e =
     let kind_same = kind_is order kind a.0.0 _ m made in
     let P : Kind → Type 0 = λ k. AreFields (layout version k) blank a.0.0 p.0 × (message_with order k a.0.0 (kept_tail version k (12 + length q.octets) tail) ≡ Ok m) in
     let both = subst P kind_same (p.1, made) in
-    let start : start_behind version kind (fields_in version order kind content) ≡ tail_start version kind (12 + length q.octets) = ap (start_behind version kind) a.1 ∙ ap (tail_start version kind) q.place in
-    (kind_same, record { told = a.0.0; values = p.0; fields = q.octets; tail = tail; parts = q.front; spelled = q.spelled; are_fields = both.0; made = both.1 }, start)
-
-pub content_found : FieldLaws → (version : Version) (order : Order) (kind : Kind) (content : List ℕ) (m : Message) → message_of version order kind content ≡ Ok m → (kind ≡ kind_of m) × IsContent version order m content
-content_found laws version order kind content m e =
-    let p = content_and_start laws version order kind content m e in
-    (p.0, p.1)
+    (kind_same, record { told = a.0.0; values = p.0; fields = q.octets; tail = tail; parts = q.front; spelled = q.spelled; are_fields = both.0; made = both.1 })
 
 -- the fields of a message with this content are read
 content_read : FieldLaws → (version : Version) (order : Order) (m : Message) (content : List ℕ) (is : IsContent version order m content) → fields_in version order (kind_of m) content ≡ Ok (is.told, after (front_of order content) is.fields is.tail)
@@ -161,40 +150,6 @@ unfolding message_of
 content_only laws version order m content is = rw (content_read laws version order m content is) is.made
 
 -- what it keeps begins behind the fields
-start_only : FieldLaws → (version : Version) (order : Order) (m : Message) (content : List ℕ) (is : IsContent version order m content) → start_of version order (kind_of m) content ≡ tail_start version (kind_of m) (12 + length is.fields)
+pub start_only : FieldLaws → (version : Version) (order : Order) (m : Message) (content : List ℕ) (is : IsContent version order m content) → start_of version order (kind_of m) content ≡ tail_start version (kind_of m) (12 + length is.fields)
 unfolding start_of
 start_only laws version order m content is = rw (content_read laws version order m content is) refl
-
--- ---- messages of streams
-
--- a whole message holds a message
-whole_is : (place : ℕ) (header : Header) (start : ℕ) (read : Result Message FrameFault) (framed : Framed) → whole place header start read ≡ Ok (Some framed)
-    → (m : Message) × (read ≡ Ok m) × (framed ≡ record { place = place; version = header.version; order = header.order; size = header.size; start = start; message = m })
-whole_is place header start (Ok m) framed e = (m, refl, cc)
-whole_is place header start (Err fault) framed e = absurd cc
-
--- and is that of its content
-pub framed_found : FieldLaws → WholeIsFramed
-framed_found laws place header content framed e =
-    let w = whole_is place header (start_by header content) (message_by header content) framed e in
-    let c = content_and_start laws header.version header.order header.kind content w.0 w.1 in
-    subst (λ (f : Framed). IsFramed place header content f) (sym w.2) (record {
-      place_is = refl;
-      version_is = refl;
-      order_is = refl;
-      size_is = refl;
-      kind_is = c.0;
-      is_content = c.1;
-      start_is = c.2;
-    })
-
--- what is so of a content is the whole message
-pub framed_only : FieldLaws → FramedIsWhole
-framed_only laws place header content framed is =
-    let v = header.version in
-    let order = header.order in
-    let m = framed.message in
-    let read : message_by header content ≡ Ok m = ap (λ (k : Kind). message_of v order k content) is.kind_is ∙ content_only laws v order m content is.is_content in
-    let at : ℕ = 12 + length is.is_content.fields in
-    let start : start_by header content ≡ framed.start = ap (λ (k : Kind). start_of v order k content) is.kind_is ∙ start_only laws v order m content is.is_content ∙ ap (λ (k : Kind). tail_start v k at) (sym is.kind_is) ∙ sym is.start_is in
-    rw (read, start, ← is.place_is, ← is.version_is, ← is.order_is, ← is.size_is) refl

@@ -4,21 +4,20 @@ use Rattle.std.specs.Prelude.{◌≢◌, ◌||◌, slice_index, IfErr}
 use Rattle.std.specs.List.{starts_with}
 use Rattle.std.proofs.lemmas.Bool.{ltb-true, ltb-false, le-ltb, lt-ltb, cases_lt}
 use Rattle.std.proofs.lemmas.Bool.Decides.{Decides-eqb}
-use Rattle.std.proofs.lemmas.List.{take_at, drop_at, drop-append-le, take-append-le, get_or_append_left, get_or_past, length-append, length-drop}
+use Rattle.std.proofs.lemmas.List.{drop-append-le, take-append-le, get_or_append_left, get_or_past, length-append, length-drop}
 use Rattle.std.proofs.lemmas.Slice.Eq.{starts_is}
 use Rattle.cdr_values.specs.Reading.{◌>>=◌}
 use Rattle.giop_frames.specs.declared.fault.FrameFault.{FrameFault}
-use Rattle.giop_frames.specs.declared.fault.FrameFault.TheVariants.{BadMagic, BadVersion, BadType, BadFragment, Short}
+use Rattle.giop_frames.specs.declared.fault.FrameFault.TheVariants.{BadMagic, BadVersion, BadType, BadFragment, Short, TooLarge}
 use Rattle.giop_frames.specs.declared.fault.FrameFault.TheVariants as faults
 use Rattle.giop_frames.specs.declared.header.Header.{Header}
 use Rattle.giop_frames.specs.declared.layout.Version.{Version}
 use Rattle.giop_frames.specs.declared.message.Message.{Message}
 use Rattle.giop_frames.specs.Fault.{Fails, Finds}
-use Rattle.giop_frames.specs.Header.{magic, version_at, version_octets, type_octet, is_fragment, header_at, header_of}
+use Rattle.giop_frames.specs.Header.{magic, size_at, version_at, version_octets, is_fragment, header_at, header_of}
 use Rattle.giop_frames.specs.Decode.{IsRefusedForGood, decoded}
-use Rattle.giop_frames.specs.Stream.{Part, IsStreamPart, may_be_part, part_at, part_header_at}
-use Rattle.giop_frames.proofs.Headers.{header_long, header_only}
-use Rattle.giop_frames.proofs.Holding.{part_found}
+use Rattle.giop_frames.specs.Limits.{size_limit}
+use Rattle.giop_frames.proofs.Headers.{header_long}
 
 -- ---- faults of steps
 
@@ -27,7 +26,7 @@ abbrev failed : {A : Type 0} → FrameFault → Result A FrameFault
 failed fault = Err fault
 
 -- results that failed alike have one fault
-pub err_is : {A : Type 0} (f g : FrameFault) → failed {A = A} f ≡ failed g → f ≡ g
+err_is : {A : Type 0} (f g : FrameFault) → failed {A = A} f ≡ failed g → f ≡ g
 err_is f g e = cc
 
 -- a test that failed, or what followed it
@@ -39,28 +38,6 @@ guard_err false d r f e = inr (refl, e)
 bind_err : {A B : Type 0} (r : Result A FrameFault) (f : A → Result B FrameFault) (fault : FrameFault) → (r >>= f) ≡ Err fault → (r ≡ Err fault) ⊎ ((x : A) × (r ≡ Ok x) × (f x ≡ Err fault))
 bind_err (Ok x) f fault e = inr (x, refl, e)
 bind_err {A} {B} (Err d) f fault e = inl (ap (failed {A = A}) (err_is {A = B} d fault e))
-
--- ---- a part that stands in front
-
--- a part is found, whatever follows it
-pub part_only : (versions : List Version) → (p : Part) (octets rest : List ℕ) → IsStreamPart versions p octets → part_at versions (octets ++ rest) ≡ Ok (p, rest)
-unfolding part_at part_header_at
-part_only versions p octets rest is =
-    let h = p.header in
-    let w = is.part in
-    let front : List ℕ = magic ++ (version_octets h.version ++ (w.flags ∷ type_octet h.kind ∷ w.size)) in
-    let size : length front ≡ 12 = omega (arith, w.sized.size) in
-    let all : length octets ≡ 12 + h.size = omega (arith, ap length w.parts, length-append front p.content, size, w.counted) in
-    let behind : octets ++ rest ≡ front ++ (p.content ++ rest) = ap (λ (x : List ℕ). x ++ rest) w.parts ∙ append_assoc front p.content rest in
-    let content : take h.size (drop 12 (octets ++ rest)) ≡ p.content = ap (λ (x : List ℕ). take h.size (drop 12 x)) behind ∙ ap (take h.size) (drop_at front (p.content ++ rest) 12 size) ∙ take_at p.content rest h.size w.counted in
-    let long : ltb (length (octets ++ rest)) (12 + h.size) ≡ false = le-ltb _ _ (omega (arith, all, length-append octets rest)) in
-    rw (header_only versions h p.content octets rest is.admitted w, is.may_be, long, content, drop_at octets rest (12 + h.size) all) refl
-
--- a part that is found is found with more octets too
-pub part_stays : (versions : List Version) → (octets more : List ℕ) (p : Part) (rest : List ℕ) → part_at versions octets ≡ Ok (p, rest) → part_at versions (octets ++ more) ≡ Ok (p, rest ++ more)
-part_stays versions octets more p rest e =
-    let f = part_found versions octets p rest e in
-    ap (part_at versions) (ap (λ (x : List ℕ). x ++ more) f.parts ∙ append_assoc f.front rest more) ∙ part_only versions p f.front (rest ++ more) f.is_part
 
 -- ---- tests of the octets in front
 
@@ -115,7 +92,7 @@ header_of_same (Some version) octets more long =
     let all : ltb (length (octets ++ more)) 12 ≡ false = le-ltb _ _ (omega (arith, long, length-append octets more)) in
     rw (flags, kind, size, all, le-ltb (length octets) 12 long) refl
 
-header_same : (versions : List Version) (octets more : List ℕ) → 12 ≤ length octets → header_at versions (octets ++ more) ≡ header_at versions octets
+pub header_same : (versions : List Version) (octets more : List ℕ) → 12 ≤ length octets → header_at versions (octets ++ more) ≡ header_at versions octets
 unfolding header_at
 header_same versions octets more long =
     let first : take 4 (octets ++ more) ≡ take 4 octets = take-append-le 4 octets more (omega arith) in
@@ -180,7 +157,7 @@ behind_stays versions octets more fault (Some version) is e whole other m =
     ]
 
 -- a header's fault that is found stays found
-header_stays : (versions : List Version) (octets more : List ℕ) (fault : FrameFault) → header_at versions octets ≡ Err fault → fault ≢ Short → header_at versions (octets ++ more) ≡ Err fault
+pub header_stays : (versions : List Version) (octets more : List ℕ) (fault : FrameFault) → header_at versions octets ≡ Err fault → fault ≢ Short → header_at versions (octets ++ more) ≡ Err fault
 unfolding header_at
 header_stays versions octets more fault e other =
     elim (guard_err (lacks magic (take 4 octets)) BadMagic _ fault e) [
@@ -188,25 +165,31 @@ header_stays versions octets more fault e other =
       | inr a ↦ behind_stays versions octets more fault (version_at versions (take 2 (drop 4 octets))) refl a.1 e other a.0
     ]
 
--- a fault of a part's header stays
-part_header_stays : (versions : List Version) → (octets more : List ℕ) (fault : FrameFault) → part_header_at versions octets ≡ Err fault → fault ≢ Short → part_header_at versions (octets ++ more) ≡ Err fault
-unfolding part_header_at
-part_header_stays versions octets more fault e other =
-    elim (bind_err (header_at versions octets) (λ h. cond (not (may_be_part h)) (Err BadFragment) (Ok h)) fault e) [
-      | inl a ↦ rw (header_stays versions octets more fault a other) refl
-      | inr a ↦ rw (header_same versions octets more (header_long versions octets a.0 a.1), a.1) a.2
+-- a header of which octets are wanting has fewer than twelve
+short_of : (found : Option Version) (octets : List ℕ) → header_of found octets ≡ Err Short → length octets < 12
+short_of None octets e =
+    elim (guard_err (ltb 4 (length octets)) BadVersion (Err Short) Short e) [
+      | inl a ↦ let h : BadVersion ≡ Short = a.1 in absurd cc
+      | inr a ↦ omega (arith, ltb-false _ _ a.0)
+    ]
+short_of (Some version) octets e =
+    elim (guard_err (ltb 7 (slice_index octets 7)) BadType _ Short e) [
+      | inl a ↦ let h : BadType ≡ Short = a.1 in absurd cc
+      | inr a ↦ elim (guard_err (ltb (length octets) 12) Short _ Short a.1) [
+        | inl b ↦ ltb-true _ _ b.0
+        | inr b ↦ elim (guard_err (ltb size_limit (size_at octets)) (TooLarge (size_at octets)) _ Short b.1) [
+          | inl c ↦ let h : TooLarge (size_at octets) ≡ Short = c.1 in absurd cc
+          | inr c ↦ absurd (let h = c.1 in cc)
+        ]
+      ]
     ]
 
--- a fault of a part stays
-pub fault_stays : (versions : List Version) → (octets more : List ℕ) (fault : FrameFault) → part_at versions octets ≡ Err fault → fault ≢ Short → part_at versions (octets ++ more) ≡ Err fault
-unfolding part_at
-fault_stays versions octets more fault e other =
-    elim (bind_err (part_header_at versions octets) _ fault e) [
-      | inl a ↦ rw (part_header_stays versions octets more fault a other) refl
-      | inr a ↦ elim (guard_err (ltb (length octets) (12 + a.0.size)) Short _ fault a.2) [
-        | inl b ↦ absurd (other (sym b.1))
-        | inr b ↦ absurd (let no = b.1 in cc)
-      ]
+pub header_short : (versions : List Version) (octets : List ℕ) → header_at versions octets ≡ Err Short → length octets < 12
+unfolding header_at
+header_short versions octets e =
+    elim (guard_err (lacks magic (take 4 octets)) BadMagic _ Short e) [
+      | inl a ↦ let h : BadMagic ≡ Short = a.1 in absurd cc
+      | inr a ↦ short_of (version_at versions (take 2 (drop 4 octets))) octets a.1
     ]
 
 -- ---- a message in one part

@@ -10,16 +10,7 @@ pub mod Appended
 pub mod Putting
 pub mod Refused
 pub mod Canonical
-pub mod Numbered
 pub mod Followed
 pub mod Walking
 pub mod Near
-pub mod Finished
-pub mod Judging
-pub mod Holding
 pub mod Further
-pub mod Cuts
-pub mod Joining
-pub mod Belonging
-pub mod Ending
-pub mod Kept

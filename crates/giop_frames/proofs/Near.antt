@@ -26,8 +26,7 @@ use Rattle.giop_frames.specs.declared.walk.Walk.{Walk}
 use Rattle.giop_frames.specs.Fault.{fault_of}
 use Rattle.giop_frames.specs.declared.message.Message.{Message}
 use Rattle.giop_frames.specs.Layout.{Fields, blank, kept_tail, layout, message_with}
-use Rattle.giop_frames.specs.Content.{field_at, fields_at, front_of, indexed_at, key_at, message_behind, message_of, target_at}
-use Rattle.giop_frames.specs.Stream.{message_by}
+use Rattle.giop_frames.specs.Content.{field_at, fields_at, front_of, indexed_at, key_at, message_behind, message_by, message_of, target_at}
 use Rattle.giop_frames.specs.Walk.{IsAsFar, IsDone, IsNear, IsWalked, MakesStep, ReadsTagged, fields_by, step_at}
 use Rattle.giop_frames.proofs.Given.{err_is, failed}
 use Rattle.giop_frames.proofs.Walking.{all_walked}

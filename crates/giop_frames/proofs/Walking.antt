@@ -1,5 +1,5 @@
 -- A step of a walk leaves what follows to the next step.
-use Rattle.std.proofs.Common.{◌≡◌, ℕ, zero, suc, ◌+◌, ◌-◌, ◌<◌, ◌≤◌, arith, Bool, true, false, cond, ltb, List, [], ◌∷◌, ◌++◌, length, take, drop, set, map, get_or, take_all, Option, Some, None, Result, Ok, Err, refl, sym, ap, subst, ◌∙◌, append_assoc}
+use Rattle.std.proofs.Common.{◌≡◌, ℕ, zero, suc, ◌+◌, ◌-◌, ◌<◌, ◌≤◌, arith, List, [], ◌∷◌, ◌++◌, length, take, drop, set, map, get_or, take_all, Option, Some, None, Result, Ok, Err, refl, sym, ap, subst, ◌∙◌, append_assoc}
 use Rattle.std.proofs.lemmas.Bool.{le-ltb}
 use Rattle.std.proofs.lemmas.List.{append-nil, drop-drop, drop_at, take_at, drop-append-le, length-append, length-drop, take_more_set, map_push}
 use Rattle.cdr_values.specs.declared.order.Order.{Order}
@@ -8,11 +8,7 @@ use Rattle.cdr_values.specs.Reading.{Reading, ◌>>=◌, octet_at, ushort_at, ul
 use Rattle.cdr_values.specs.Sequence.{each_at, sequence_at}
 use Rattle.cdr_values.specs.Tagged.{reference_at, tagged_at}
 use Rattle.cdr_values.specs.Laws.{ReadingLaws}
-use Rattle.cdr_values.specs.declared.fault.CdrFault.TheVariants as cdr
 use Rattle.giop_frames.specs.declared.fault.FrameFault.{FrameFault}
-use Rattle.giop_frames.specs.declared.fault.FrameFault.TheVariants as faults
-use Rattle.giop_frames.specs.declared.header.Kind.{Kind}
-use Rattle.giop_frames.specs.declared.header.Kind.TheVariants as kinds
 use Rattle.giop_frames.specs.declared.header.Header.{Header}
 use Rattle.giop_frames.specs.declared.layout.Field.{Field}
 use Rattle.giop_frames.specs.declared.layout.Field.TheVariants as fields
@@ -22,18 +18,14 @@ use Rattle.giop_frames.specs.declared.found.Found.{Found}
 use Rattle.giop_frames.specs.declared.walk.Step.{Step}
 use Rattle.giop_frames.specs.declared.walk.Step.TheVariants as steps
 use Rattle.giop_frames.specs.declared.walk.Walk.{Walk}
-use Rattle.giop_frames.specs.declared.message.Message.{Message}
 use Rattle.giop_frames.specs.declared.message.ServiceContext.{ServiceContext}
 use Rattle.giop_frames.specs.declared.message.Target.{Target}
 use Rattle.giop_frames.specs.declared.message.Target.TheVariants.{Reference}
 use Rattle.giop_frames.specs.Fault.{fault_of, too_long}
-use Rattle.giop_frames.specs.Header.{is_fragment}
 use Rattle.giop_frames.specs.Layout.{Fields, kept_tail, message_with, tail_start}
-use Rattle.giop_frames.specs.Stream.{Judgement, Unfinished, joined, message_by, so_far, start_by, whole}
-use Rattle.giop_frames.specs.StreamInside.{limited_so_far}
-use Rattle.giop_frames.specs.Content.{as_target, telling_target, key_at, profile_at, indexed_at, target_at, context_at, field_at, fields_at, message_of, start_of}
-use Rattle.giop_frames.specs.Walk.{FindsOctets, FindsTagged, GoesOn, IsBehind, IsDone, IsWalked, StandsBefore, StandsIn, context_of, fields_by, followed, left_at, standing, step_at, telling_contexts, told_by, walk_left, wants_octets}
-use Rattle.giop_frames.specs.Limits.{context_limit, key_limit, profile_limit, size_limit}
+use Rattle.giop_frames.specs.Content.{as_target, telling_target, key_at, profile_at, indexed_at, target_at, context_at, field_at, fields_at, message_by, message_of, start_by, start_of}
+use Rattle.giop_frames.specs.Walk.{FindsOctets, FindsTagged, GoesOn, IsBehind, IsDone, IsWalked, StandsBefore, StandsIn, context_of, fields_by, followed, left_at, standing, step_at, telling_contexts, told_by, walk_left}
+use Rattle.giop_frames.specs.Limits.{context_limit, key_limit, profile_limit}
 use Rattle.giop_frames.proofs.Given.{reading_is}
 use Rattle.giop_frames.proofs.Followed.{here, further_on, kept, passed}
 
@@ -459,16 +451,6 @@ step_fails header content w step r fault is at stood e =
     walked_now header content w is ∙ ap (λ (n : Option Step). left_at n w.fields.now told (standing header.order content w.place)) at ∙ ap (λ (q : Reading). left_at (Some step) w.fields.now told q) (sym stood)
     ∙ ap (λ (x : Result (Fields × Reading) FrameFault). x >>= λ next. fields_at w.fields.now next.0 next.1) (e told)
 
--- a walk is one of more octets, too
-pub walked_on : (header : Header) (content octets : List ℕ) (w : Walk) → IsWalked header content w → IsWalked header (content ++ octets) w
-walked_on header content octets w is = record {
-  behind_header = is.behind_header;
-  within = omega (arith, is.within, length-append content octets);
-  room = is.room;
-  same = λ more.
-      subst (λ (x : List ℕ). fields_by header x ≡ left_at w.step w.fields.now (told_by x w.found) (standing header.order x w.place)) (sym (append_assoc content octets more)) (is.same (octets ++ more));
-}
-
 -- ---- the message
 
 -- where no field is left, the fields tell what was found
@@ -490,87 +472,3 @@ start_walked header content w is done = rw (all_walked header content w is done)
 pub message_fails : (header : Header) (content : List ℕ) (fault : FrameFault) → fields_by header content ≡ Err fault → message_by header content ≡ Err fault
 unfolding message_of
 message_fails header content fault e = rw e refl
-
--- ---- a message whose octets are still coming
-
--- where the fields are whole, nothing is wrong so far
-pub so_far_whole : (order : Order) (kind : Kind) (told : Fields) (tail : List ℕ) (m : Result Message FrameFault) → is_fragment kind ≡ false → m ≡ message_with order kind told tail → so_far m ≡ Ok None
-so_far_whole order kinds.Request told tail m first e = rw e refl
-so_far_whole order kinds.Reply told tail m first e = rw e refl
-so_far_whole order kinds.CancelRequest told tail m first e = rw e refl
-so_far_whole order kinds.LocateRequest told tail m first e = rw e refl
-so_far_whole order kinds.LocateReply told tail m first e = rw e refl
-so_far_whole order kinds.CloseConnection told tail m first e = rw e refl
-so_far_whole order kinds.MessageError told tail m first e = rw e refl
-so_far_whole order kinds.Fragment told tail m first e = absurd cc
-
--- the same of a walk that found no fault
-pub so_far_done : (header : Header) (content : List ℕ) (w : Walk) → is_fragment header.kind ≡ false → IsWalked header content w → IsDone w → so_far (message_by header content) ≡ Ok None
-so_far_done header content w first is done =
-    so_far_whole header.order header.kind (told_by content w.found) (kept_tail header.version header.kind w.place (drop (w.place - 12) content)) (message_by header content) first (message_walked header content w is done)
-
--- want of octets is no fault so far
-wanting : (fault : FrameFault) → wants_octets fault ≡ true → so_far (Err fault) ≡ Ok None
-wanting (faults.Body place (cdr.Short at)) e = refl
-wanting (faults.Body place (cdr.BadBoolean at)) e = absurd cc
-wanting (faults.Body place (cdr.BadString at)) e = absurd cc
-wanting (faults.Body place (cdr.BadOrder at)) e = absurd cc
-wanting (faults.Body place (cdr.TooLong at length)) e = absurd cc
-wanting (faults.Body place cdr.Memory) e = absurd cc
-wanting faults.BadMagic e = absurd cc
-wanting faults.BadVersion e = absurd cc
-wanting faults.BadType e = absurd cc
-wanting (faults.TooLarge n) e = absurd cc
-wanting faults.BadFragment e = absurd cc
-wanting faults.Short e = absurd cc
-wanting faults.NotWritten e = absurd cc
-wanting faults.Memory e = absurd cc
-
-pub so_far_wants : (m : Result Message FrameFault) (fault : FrameFault) → m ≡ Err fault → wants_octets fault ≡ true → so_far m ≡ Ok None
-so_far_wants m fault e wants = rw e (wanting fault wants)
-
--- any other fault is one
-failing : (fault : FrameFault) → wants_octets fault ≡ false → so_far (Err fault) ≡ Err fault
-failing (faults.Body place (cdr.Short at)) e = absurd cc
-failing (faults.Body place (cdr.BadBoolean at)) e = refl
-failing (faults.Body place (cdr.BadString at)) e = refl
-failing (faults.Body place (cdr.BadOrder at)) e = refl
-failing (faults.Body place (cdr.TooLong at length)) e = refl
-failing (faults.Body place cdr.Memory) e = refl
-failing faults.BadMagic e = refl
-failing faults.BadVersion e = refl
-failing faults.BadType e = refl
-failing (faults.TooLarge n) e = refl
-failing faults.BadFragment e = refl
-failing faults.Short e = refl
-failing faults.NotWritten e = refl
-failing faults.Memory e = refl
-
-pub so_far_fails : (m : Result Message FrameFault) (fault : FrameFault) → m ≡ Err fault → wants_octets fault ≡ false → so_far m ≡ Err fault
-so_far_fails m fault e wants = rw e (failing fault wants)
-
--- what octets say that are no more than a message may have
-pub limited_is : (header : Header) (octets content : List ℕ) (answer : Judgement) → octets ≡ content → length octets ≤ size_limit → so_far (message_by header octets) ≡ answer → limited_so_far header content ≡ answer
-limited_is header octets content answer same few e = subst (λ (x : List ℕ). limited_so_far header x ≡ answer) same (rw (le-ltb size_limit (length octets) few) e)
-
--- a refusal
-abbrev judged_bad : FrameFault → Judgement
-judged_bad fault = Err fault
-
--- what fails so far is a fault of the whole
-failed_so_far : (d fault : FrameFault) (wants : Bool) → wants_octets d ≡ wants → so_far (Err d) ≡ Err fault → judged_bad d ≡ Err fault
-failed_so_far d fault true w e =
-    let both = sym (wanting d w) ∙ e in
-    absurd cc
-failed_so_far d fault false w e = sym (failing d w) ∙ e
-
-last_fails : (b : Bool) (large : FrameFault) (m : Result Message FrameFault) (place start : ℕ) (header : Header) (fault : FrameFault)
-    → cond b (Err large) (so_far m) ≡ Err fault → cond b (Err large) (whole place header start m) ≡ Err fault
-last_fails true large m place start header fault e = e
-last_fails false large (Ok m) place start header fault e = absurd cc
-last_fails false large (Err d) place start header fault e = failed_so_far d fault (wants_octets d) refl e
-
-pub joined_fails : (octets : List ℕ) (u : Unfinished) (fault : FrameFault) → limited_so_far u.header (u.content ++ octets) ≡ Err fault → joined false octets u ≡ Err fault
-joined_fails octets u fault e =
-    let content = u.content ++ octets in
-    last_fails (ltb size_limit (length content)) (faults.TooLarge (length content)) (message_by u.header content) u.place (start_by u.header content) u.header fault e

@@ -8,6 +8,7 @@ use Rattle.cdr_values.specs.Tagged.{reference_at, tagged_at}
 use Rattle.giop_frames.specs.declared.fault.FrameFault.{FrameFault}
 use Rattle.giop_frames.specs.declared.fault.FrameFault.TheVariants.{BadType}
 use Rattle.giop_frames.specs.declared.header.Kind.{Kind}
+use Rattle.giop_frames.specs.declared.header.Header.{Header}
 use Rattle.giop_frames.specs.declared.layout.Version.{Version}
 use Rattle.giop_frames.specs.declared.layout.Field.{Field}
 use Rattle.giop_frames.specs.declared.layout.Field.TheVariants as fields
@@ -94,3 +95,11 @@ start_behind version kind (Err fault) = 0
 -- the same of a message of this kind with this content
 unfoldable pub start_of : Version → Order → Kind → List ℕ → ℕ
 start_of version order kind content = start_behind version kind (fields_in version order kind content)
+
+-- the message of a part with this header whose content this is
+abbrev pub message_by : Header → List ℕ → Result Message FrameFault
+message_by header content = message_of header.version header.order header.kind content
+
+-- the offset modulo 8 at which what it keeps behind its fields begins
+abbrev pub start_by : Header → List ℕ → ℕ
+start_by header content = start_of header.version header.order header.kind content

@@ -1,61 +1,59 @@
--- What holds of all octets: a message is spelled in one way, and a stream is cut in one way.
-use Rattle.std.specs.Prelude.{◌≡◌, ◌≤◌, ◌+◌, ℕ, true, List, ◌++◌, length, Some, Ok}
+-- What holds of all octets: a header and a message are spelled in one way.
+use Rattle.std.specs.Prelude.{◌≡◌, ◌≢◌, ◌≤◌, ◌<◌, ◌+◌, ℕ, List, ◌++◌, length, take, Ok, Err}
+use Rattle.std.specs.List.{Contains}
 use Rattle.cdr_values.specs.declared.order.Order.{Order}
 use Rattle.giop_frames.specs.declared.fault.FrameFault.{FrameFault}
-use Rattle.giop_frames.specs.declared.framed.Framed.{Framed}
+use Rattle.giop_frames.specs.declared.fault.FrameFault.TheVariants.{Short}
 use Rattle.giop_frames.specs.declared.header.Kind.{Kind}
 use Rattle.giop_frames.specs.declared.layout.Version.{Version}
 use Rattle.giop_frames.specs.declared.layout.Version.TheVariants.{V1_2}
 use Rattle.giop_frames.specs.declared.message.Message.{Message}
 use Rattle.giop_frames.specs.declared.header.Header.{Header}
-use Rattle.giop_frames.specs.Header.{is_fragment}
+use Rattle.giop_frames.specs.Limits.{size_limit}
+use Rattle.giop_frames.specs.Header.{IsPart, content_behind, header_at}
 use Rattle.giop_frames.specs.Layout.{tail_start}
 use Rattle.giop_frames.specs.Message.{IsContent, IsMessage, kind_of}
-use Rattle.giop_frames.specs.Content.{message_of}
-use Rattle.giop_frames.specs.Stream.{Part, Splits, IsCut, IsRefused, IsStream, IsWhole, continuing, going_on, id_of, numbered, says, unfinished, whole_by}
+use Rattle.giop_frames.specs.Content.{message_of, start_of}
+
+-- a header of one of these versions that is read stands in front of its content, where that is whole
+abbrev pub HeaderStands : Type 0
+HeaderStands =
+    (versions : List Version) (octets : List ℕ) (h : Header) → header_at versions octets ≡ Ok h → 12 + h.size ≤ length octets
+    → Contains versions h.version × IsPart h (content_behind h octets) (take (12 + h.size) octets)
+
+-- a header that stands in front is read where its version is admitted, whatever follows its content
+abbrev pub HeaderIsRead : Type 0
+HeaderIsRead =
+    (versions : List Version) (h : Header) (content octets rest : List ℕ) → Contains versions h.version
+    → IsPart h content octets → header_at versions (octets ++ rest) ≡ Ok h
+
+-- what twelve octets say of a header they say whatever follows them
+abbrev pub HeaderIsSame : Type 0
+HeaderIsSame =
+    (versions : List Version) (octets more : List ℕ) → 12 ≤ length octets
+    → header_at versions (octets ++ more) ≡ header_at versions octets
+
+-- a fault of a header that isn't want of octets is found whatever octets follow
+abbrev pub HeaderIsRefused : Type 0
+HeaderIsRefused =
+    (versions : List Version) (octets more : List ℕ) (fault : FrameFault) → header_at versions octets ≡ Err fault
+    → fault ≢ Short → header_at versions (octets ++ more) ≡ Err fault
+
+-- headers are read exactly where they stand
+pub record HeaderLaws : Type 0 where
+  pub found : HeaderStands
+  pub only : HeaderIsRead
+  pub same : HeaderIsSame
+  pub stays : HeaderIsRefused
+  pub long : (versions : List Version) (octets : List ℕ) (h : Header) → header_at versions octets ≡ Ok h → 12 ≤ length octets
+  pub small : (versions : List Version) (octets : List ℕ) (h : Header) → header_at versions octets ≡ Ok h → h.size ≤ size_limit
+  pub short : (versions : List Version) (octets : List ℕ) → header_at versions octets ≡ Err Short → length octets < 12
 
 -- no octets that are a message in one part begin others that are one, and no octets are two such messages
 abbrev pub NoMessageBeginsAnother : Type 0
 NoMessageBeginsAnother =
     (versions : List Version) (m n : Message) (a b x y : List ℕ) → IsMessage versions m a → IsMessage versions n b
     → a ++ x ≡ b ++ y → (a ≡ b) × (m ≡ n)
-
--- octets are a stream of messages in one way
-abbrev pub IsCutInOneWay : Type 0
-IsCutInOneWay =
-    (versions : List Version) (messages others : List Framed) (rest more octets : List ℕ) → IsStream versions messages rest octets
-    → IsStream versions others more octets → (messages ≡ others) × (rest ≡ more)
-
--- octets, and these octets with more behind them, are refused at one place only
-abbrev pub IsRefusedInOneWay : Type 0
-IsRefusedInOneWay =
-    (versions : List Version) (messages others : List Framed) (place elsewhere : ℕ) (fault another : FrameFault) (octets more : List ℕ)
-    → IsRefused versions messages place fault octets → IsRefused versions others elsewhere another (octets ++ more)
-    → (messages ≡ others) × (place ≡ elsewhere) × (fault ≡ another)
-
--- octets that are refused are refused with more of them too
-abbrev pub RefusalGoesOn : Type 0
-RefusalGoesOn =
-    (versions : List Version) (messages : List Framed) (place : ℕ) (fault : FrameFault) (octets more : List ℕ)
-    → IsRefused versions messages place fault octets → IsRefused versions messages place fault (octets ++ more)
-
--- octets that are refused are no stream, whatever follows them
-abbrev pub RefusedIsNoStream : Type 0
-RefusedIsNoStream =
-    (versions : List Version) (messages others : List Framed) (place : ℕ) (fault : FrameFault) (rest octets more : List ℕ)
-    → IsRefused versions messages place fault octets → IsStream versions others rest (octets ++ more) → ⊥
-
--- octets don't end both between messages and inside one
-abbrev pub WholeIsNotCut : Type 0
-WholeIsNotCut =
-    (versions : List Version) (messages others : List Framed) (place : ℕ) (octets : List ℕ) → IsWhole versions messages octets
-    → IsCut versions others place octets → ⊥
-
--- octets that end inside a message end at one place
-abbrev pub IsCutOffInOneWay : Type 0
-IsCutOffInOneWay =
-    (versions : List Version) (messages others : List Framed) (place elsewhere : ℕ) (octets : List ℕ) → IsCut versions messages place octets
-    → IsCut versions others elsewhere octets → (messages ≡ others) × (place ≡ elsewhere)
 
 -- the message that reading a content gives has this content
 abbrev pub ReadIsContent : Type 0
@@ -69,42 +67,12 @@ ContentIsRead =
     (version : Version) (order : Order) (kind : Kind) (content : List ℕ) (m : Message) → kind ≡ kind_of m
     → IsContent version order m content → message_of version order kind content ≡ Ok m
 
--- the unfinished message of a request_id is told by the parts of that request_id alone
-abbrev pub JoinsByRequestId : Type 0
-JoinsByRequestId =
-    (versions : List Version) (octets : List ℕ) (parts : List Part) (messages : List Framed) (rest : List ℕ)
-    → Splits versions octets parts messages rest
-    → (id : ℕ) → numbered id (unfinished parts) ≡ going_on id parts
-
--- a Fragment goes on with that message
-abbrev pub FragmentGoesOn : Type 0
-FragmentGoesOn =
-    (versions : List Version) (octets : List ℕ) (parts : List Part) (messages : List Framed) (rest : List ℕ)
-    → Splits versions octets parts messages rest
-    → (p : Part) → is_fragment p.header.kind ≡ true → 4 ≤ length p.content
-    → says parts p ≡ continuing p (going_on (id_of p) parts)
-
--- The message of a stream with this content, joined of its parts, whose first part has this place and header: what the
--- header says, a message by its fields, and where what it keeps behind them begins.
-pub record IsFramed (place : ℕ) (header : Header) (content : List ℕ) (framed : Framed) : Type 0 where
-  pub place_is : framed.place ≡ place
-  pub version_is : framed.version ≡ header.version
-  pub order_is : framed.order ≡ header.order
-  pub size_is : framed.size ≡ header.size
-  pub kind_is : header.kind ≡ kind_of framed.message
-  pub is_content : IsContent header.version header.order framed.message content
-  pub start_is : framed.start ≡ tail_start header.version header.kind (12 + length is_content.fields)
-
--- a message that is whole is so, and what is so is the whole message
-abbrev pub WholeIsFramed : Type 0
-WholeIsFramed =
-    (place : ℕ) (header : Header) (content : List ℕ) (framed : Framed)
-    → whole_by place header content ≡ Ok (Some framed) → IsFramed place header content framed
-
-abbrev pub FramedIsWhole : Type 0
-FramedIsWhole =
-    (place : ℕ) (header : Header) (content : List ℕ) (framed : Framed) → IsFramed place header content framed
-    → whole_by place header content ≡ Ok (Some framed)
+-- what a message keeps begins behind the fields of its content
+abbrev pub StartIsBehindFields : Type 0
+StartIsBehindFields =
+    (version : Version) (order : Order) (kind : Kind) (content : List ℕ) (m : Message) → kind ≡ kind_of m
+    → (is : IsContent version order m content)
+    → start_of version order kind content ≡ tail_start version kind (12 + length is.fields)
 
 -- in version 1.2 the body of a message of this kind begins at a multiple of 8
 abbrev pub BeginsAtEight : Kind → Type 0

@@ -6,12 +6,7 @@ pub mod Message
 pub mod Content
 pub mod ContentInside
 pub mod Decode
-pub mod Stream
-pub mod SeveralParts
-pub mod StreamInside
 pub mod Walk
-pub mod Held
-pub mod HeldInside
 pub mod Sizes
 pub mod Encode
 pub mod EncodeInside

@@ -1,6 +1,6 @@
 -- Walking over the fields of a message whose octets are still coming: what it means that a walk goes on where it stood
 -- (our profile).
-use Rattle.std.specs.Prelude.{◌≡◌, ℕ, ◌+◌, ◌-◌, ◌*◌, ◌^◌, ◌<◌, ◌≤◌, Bool, true, false, List, [], ◌++◌, length, take, drop, map, Option, Some, None, Result, Ok, Err, IfErr, IfOk}
+use Rattle.std.specs.Prelude.{◌≡◌, ℕ, ◌+◌, ◌-◌, ◌*◌, ◌^◌, ◌<◌, ◌≤◌, List, [], ◌++◌, length, take, drop, map, Option, Some, None, Result, Ok, Err, IfErr, IfOk}
 use Rattle.cdr_values.specs.declared.order.Order.{Order}
 use Rattle.cdr_values.specs.declared.fault.CdrFault.{CdrFault}
 use Rattle.cdr_values.specs.declared.fault.CdrFault.TheVariants as cdr
@@ -170,11 +170,6 @@ ReadsTagged r (Ok found) s = FindsTagged found.0 found.1 r s
 ReadsTagged r (Err fault) s = (tagged_at fault_of r ≡ Err fault) × IsNear r.place fault
 
 -- ---- a walk
-
--- a field is cut off
-abbrev pub wants_octets : FrameFault → Bool
-wants_octets (Body place (cdr.Short at)) = true
-wants_octets fault = false
 
 -- what is left of the fields
 abbrev pub left_at : Option Step → List Field → Fields → Reading → Result (Fields × Reading) FrameFault

@@ -2,7 +2,7 @@ ghost use Rattle.std.specs.Prelude.{◌≡◌, ◌≤◌, ◌<◌, ◌^◌, leng
 ghost use Rattle.giop_frames.specs.Limits.{size_limit};
 ghost use Rattle.giop_frames.specs.Fault.{Finds};
 ghost use Rattle.giop_frames.specs.Layout.{kept_tail, message_with, tail_start};
-ghost use Rattle.giop_frames.specs.Stream.{message_by, start_by};
+ghost use Rattle.giop_frames.specs.Content.{message_by, start_by};
 ghost use Rattle.giop_frames.specs.Walk.{IsWalked, context_of, message_found, spanned, target_of, told_by};
 
 use crate::fault::FrameFault;

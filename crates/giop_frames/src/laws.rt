@@ -1,5 +1,5 @@
 ghost use Rattle.giop_frames.specs.ContentInside.{FieldLaws};
-ghost use Rattle.giop_frames.specs.Laws.{BeginsAtEight, ContentIsRead, FragmentGoesOn, FramedIsWhole, IsCutInOneWay, IsCutOffInOneWay, IsRefusedInOneWay, JoinsByRequestId, NoMessageBeginsAnother, ReadIsContent, RefusalGoesOn, RefusedIsNoStream, WholeIsFramed, WholeIsNotCut};
+ghost use Rattle.giop_frames.specs.Laws.{BeginsAtEight, ContentIsRead, HeaderLaws, NoMessageBeginsAnother, ReadIsContent, StartIsBehindFields};
 
 use crate::fault::FrameFault;
 use crate::header::Kind;
@@ -15,6 +15,12 @@ pub fn fields_are_read_exactly()
     sequences_are_exact::<ServiceContext, FrameFault>();
 }
 
+/// A law: a header is read exactly where it stands in front of its content, and what twelve octets say of one, and each
+/// fault but want of octets, they say whatever follows.
+pub fn headers_are_read_exactly()
+    ensures { HeaderLaws }
+{}
+
 /// A law: no octets that are a message in one part begin others that are one, and no octets are two such messages.
 pub fn no_message_begins_another()
     ensures { NoMessageBeginsAnother }
@@ -22,45 +28,12 @@ pub fn no_message_begins_another()
     fields_are_read_exactly();
 }
 
-/// A law: octets are a stream of messages in one way.
-pub fn a_stream_is_cut_in_one_way()
-    ensures { IsCutInOneWay }
-{}
-
-/// A law: what is refused stays refused however the octets go on, at the same place, behind the same messages and for
-/// the same reason.
-pub fn a_refusal_stays()
-    ensures refused { IsRefusedInOneWay }
-    ensures goes_on { RefusalGoesOn }
-    ensures no_stream { RefusedIsNoStream }
-{}
-
-/// A law: octets end between messages or inside one, and not both; and inside one message at one place.
-pub fn octets_end_in_one_way()
-    ensures not_both { WholeIsNotCut }
-    ensures one_end { IsCutOffInOneWay }
-{}
-
-/// A law: reading a content gives a message exactly where the octets are that message's content.
+/// A law: reading a content gives a message exactly where the octets are that message's content; and where what the
+/// message keeps behind its fields begins is told by how long they are.
 pub fn a_message_is_its_content()
     ensures found { ReadIsContent }
     ensures only { ContentIsRead }
-{
-    fields_are_read_exactly();
-}
-
-/// A law: the unfinished message of a request_id is told by the parts of that request_id alone, whatever parts stand
-/// between them; and it is the one with which a Fragment of that request_id goes on.
-pub fn fragments_join_by_request_id()
-    ensures joins { JoinsByRequestId }
-    ensures goes_on { FragmentGoesOn }
-{}
-
-/// A law: a stream's joined octets are whole as a message exactly where they are by their fields that message's, with
-/// what the header of its first part says; its `start` is where what it keeps behind the fields begins.
-pub fn a_framed_message_is_its_content()
-    ensures found { WholeIsFramed }
-    ensures only { FramedIsWhole }
+    ensures start { StartIsBehindFields }
 {
     fields_are_read_exactly();
 }

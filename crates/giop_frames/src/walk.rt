@@ -1,4 +1,4 @@
-ghost use Rattle.std.specs.Prelude.{◌≡◌, ◌+◌, ◌<◌, ◌≤◌, ℕ, List, [], length, IfErr, OnOk, None, Some, Ok, Err};
+ghost use Rattle.std.specs.Prelude.{◌≡◌, ◌+◌, ◌<◌, ◌≤◌, ℕ, List, [], length, IfErr, IsOk, OnOk, None, Some, Ok, Err};
 ghost use Rattle.cdr_values.specs.Reading.{octets_at, string_at};
 ghost use Rattle.giop_frames.specs.Limits.{context_limit, size_limit};
 ghost use Rattle.giop_frames.specs.Layout.{Fields};
@@ -67,6 +67,7 @@ impl Walk {
         ensures far { IsAsFar header content.now self.new }
         ensures forward { self.old.place ≤ self.new.place }
         ensures done { OnOk result (IsDone self.new) }
+        ensures whole { OnOk result (IsOk (fields_by header content.now)) }
         ensures fault { IfErr result (λ fault. fields_by header content.now ≡ Err fault) }
     {
         let start = self.place as usize - HEADER_LENGTH;

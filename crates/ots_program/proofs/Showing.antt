@@ -6,12 +6,12 @@ use Rattle.std.proofs.lemmas.List.Concat.{flat_map-append}
 use Rattle.std.proofs.Math.Seq.{take-append-add}
 use Rattle.giop_frames.specs.declared.fault.FrameFault.{FrameFault}
 use Rattle.giop_frames.specs.declared.fault.FrameFault.TheVariants as faults
-use Rattle.giop_frames.specs.declared.framed.Framed.{Framed}
+use Rattle.giop_streams.specs.declared.framed.Framed.{Framed}
 use Rattle.giop_frames.specs.declared.layout.Version.{Version}
-use Rattle.giop_frames.specs.Stream.{IsBegun, IsCut, IsRefused, IsWhole, Splits, Unfinished, unfinished, part_at, part_header_at}
+use Rattle.giop_streams.specs.Stream.{IsBegun, IsCut, IsRefused, IsWhole, Splits, Unfinished, unfinished, part_at, part_header_at}
 use Rattle.giop_frames.specs.Header.{header_at, profile_versions}
-use Rattle.giop_frames.specs.Held.{Held, HasCome, HasGivenFramed, Holds, IsRefusedAtPlace, IsUnfinished, place_by, place_of}
-use Rattle.giop_frames.specs.Laws.{RefusalGoesOn}
+use Rattle.giop_streams.specs.Held.{Held, HasCome, HasGivenFramed, Holds, IsRefusedAtPlace, IsUnfinished, place_by, place_of}
+use Rattle.giop_streams.specs.Laws.{RefusalGoesOn}
 use Rattle.ots_outside.specs.Sink.{Takes, TakesPart}
 use Rattle.ots_outside.specs.Source.{Gives}
 use Rattle.ots_program.specs.declared.status.Status.{Status}

@@ -5,7 +5,7 @@ use Rattle.std.specs.Fmt.{decimal}
 use Rattle.hex.specs.Hex.{encode_lower}
 use Rattle.cdr_values.specs.declared.order.Order.{Order}
 use Rattle.cdr_values.specs.declared.order.Order.TheVariants.{Big, Little}
-use Rattle.giop_frames.specs.declared.framed.Framed.{Framed}
+use Rattle.giop_streams.specs.declared.framed.Framed.{Framed}
 use Rattle.giop_frames.specs.declared.message.Message.{Message}
 use Rattle.giop_frames.specs.declared.message.Message.TheVariants as messages
 use Rattle.giop_frames.specs.declared.message.Reply.{Reply}

@@ -2,9 +2,9 @@
 use Rattle.std.specs.Prelude.{◌≡◌, ◌⊎◌, ℕ, List, ◌++◌, take, Option, Some, IfSome}
 use Rattle.giop_frames.specs.declared.fault.FrameFault.{FrameFault}
 use Rattle.giop_frames.specs.declared.fault.FrameFault.TheVariants.{Short}
-use Rattle.giop_frames.specs.declared.framed.Framed.{Framed}
+use Rattle.giop_streams.specs.declared.framed.Framed.{Framed}
 use Rattle.giop_frames.specs.Header.{profile_versions}
-use Rattle.giop_frames.specs.Stream.{IsBegun, IsCut, IsRefused, IsWhole}
+use Rattle.giop_streams.specs.Stream.{IsBegun, IsCut, IsRefused, IsWhole}
 use Rattle.ots_program.specs.declared.status.Status.{Status}
 use Rattle.ots_program.specs.declared.status.Status.TheVariants as statuses
 use Rattle.ots_program.specs.MessageLine.{message_lines}

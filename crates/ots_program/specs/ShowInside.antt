@@ -2,10 +2,10 @@
 use Rattle.std.specs.Prelude.{◌≡◌, ℕ, List, ◌++◌, Option, None, IfSome, Err}
 use Rattle.giop_frames.specs.declared.fault.FrameFault.{FrameFault}
 use Rattle.giop_frames.specs.declared.fault.FrameFault.TheVariants.{Short, Memory}
-use Rattle.giop_frames.specs.declared.framed.Framed.{Framed}
+use Rattle.giop_streams.specs.declared.framed.Framed.{Framed}
 use Rattle.giop_frames.specs.Header.{profile_versions}
-use Rattle.giop_frames.specs.Stream.{IsBegun, IsCut, IsRefused, IsWhole, part_at}
-use Rattle.giop_frames.specs.Held.{Held, Holds}
+use Rattle.giop_streams.specs.Stream.{IsBegun, IsCut, IsRefused, IsWhole, part_at}
+use Rattle.giop_streams.specs.Held.{Held, Holds}
 use Rattle.ots_outside.specs.Sink.{Takes}
 use Rattle.ots_program.specs.declared.status.Status.{Status}
 use Rattle.ots_program.specs.declared.status.Status.TheVariants as statuses

@@ -5,7 +5,8 @@ ghost use Rattle.ots_program.specs.MessageLine.{behind_fields, contexts_word, ke
 ghost use Rattle.ots_program.specs.MessageLineInside.{Adds, KeepsFront};
 
 use cdr_values::Order;
-use giop_frames::{Framed, Message, Reply, Request, ServiceContext, Target};
+use giop_frames::{Message, Reply, Request, ServiceContext, Target};
+use giop_streams::Framed;
 use itoa::Buffer;
 use std::alloc::{AllocError, Global};
 

@@ -1,6 +1,6 @@
 ghost use Rattle.std.specs.Prelude.{◌≡◌, ◌≢◌, ◌≤◌, ◌++◌, [], length, None, Err, IfErr, OnErr, OnOk};
-ghost use Rattle.giop_frames.specs.Stream.{part_at};
-ghost use Rattle.giop_frames.specs.Held.{place_of};
+ghost use Rattle.giop_streams.specs.Stream.{part_at};
+ghost use Rattle.giop_streams.specs.Held.{place_of};
 ghost use Rattle.ots_outside.specs.Source.{HasRisen};
 ghost use Rattle.ots_program.specs.Answers.{HasReadFault, HasWriteFault, IsDoneAtEnd};
 ghost use Rattle.ots_program.specs.Show.{Shows};
@@ -13,7 +13,8 @@ use crate::input::{PIECE, Pieces};
 use crate::message_line::write_message_line;
 use crate::output::write_out;
 use crate::status::Status;
-use giop_frames::{FrameFault, Framed, Stream, a_refusal_stays};
+use giop_frames::FrameFault;
+use giop_streams::{Framed, Stream, a_refusal_stays};
 use ots_outside::Sink;
 use std::alloc::Global;
 use std::sync::Wait;

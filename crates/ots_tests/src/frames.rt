@@ -2,7 +2,8 @@
 ghost use Rattle.std.specs.Prelude.{◌≤◌, ◌+◌, IfOk, length};
 
 use cdr_values::Order;
-use giop_frames::{FrameFault, Framed, Kind, Message, Stream};
+use giop_frames::{FrameFault, Kind, Message};
+use giop_streams::{Framed, Stream};
 use std::alloc::Global;
 use std::process::Abort;
 use std::test::Fail;

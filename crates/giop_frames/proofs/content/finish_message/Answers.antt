@@ -2,7 +2,7 @@ use Rattle.std.proofs.Common.{◌≡◌, ◌∙◌, ap, sym}
 use Rattle.std.proofs.lemmas.Result.{err_from_is_err_and}
 use Rattle.giop_frames.specs.declared.message.Message.{Message}
 use Rattle.giop_frames.specs.Layout.{kept_tail, message_with}
-use Rattle.giop_frames.specs.Stream.{message_by}
+use Rattle.giop_frames.specs.Content.{message_by}
 use Rattle.giop_frames.specs.Walk.{told_by}
 use Rattle.giop_frames.proofs.Loops.{fails_from, fails_on, told_from, told_memory, told_ok, told_on}
 use Rattle.giop_frames.proofs.Near.{message_found}

@@ -1,6 +1,6 @@
 use Rattle.std.proofs.Common.{refl, sym, ap, ◌∙◌, arith}
-use Rattle.giop_frames.specs.Held.{Held}
-use Rattle.giop_frames.specs.Stream.{part_at}
+use Rattle.giop_streams.specs.Held.{Held}
+use Rattle.giop_streams.specs.Stream.{part_at}
 use Rattle.ots_program.proofs.Showing.{nothing_partial, read_to_end, showing_broke, showing_ended, showing_failed, showing_more, showing_start}
 use Rattle.ots_program.proofs.show.show_messages.Goals as goal
 

@@ -1,7 +1,7 @@
 use Rattle.std.proofs.Common.{◌≡◌, Err, None}
 use Rattle.std.specs.Prelude.{IfSome}
 use Rattle.giop_frames.specs.declared.fault.FrameFault.TheVariants.{Short}
-use Rattle.giop_frames.specs.Stream.{part_at}
+use Rattle.giop_streams.specs.Stream.{part_at}
 use Rattle.ots_program.proofs.Showing.{Showing}
 use Rattle.ots_program.proofs.show.show_messages.Given as goal
 

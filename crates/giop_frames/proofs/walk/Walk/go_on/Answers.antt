@@ -1,8 +1,8 @@
 use Rattle.std.proofs.Common.{◌≡◌, ◌∙◌, ℕ, ap, refl, sym, subst, None, Some, arith}
 use Rattle.std.proofs.lemmas.Result.{err_from_is_err_and}
 use Rattle.cdr_values.specs.Reading.{Reading}
-use Rattle.giop_frames.specs.Walk.{IsNear, standing}
-use Rattle.giop_frames.proofs.Walking.{stands, step_fails, walked_before, walked_behind}
+use Rattle.giop_frames.specs.Walk.{IsDone, IsNear, standing}
+use Rattle.giop_frames.proofs.Walking.{all_walked, stands, step_fails, walked_before, walked_behind}
 use Rattle.giop_frames.proofs.Near.{far_done, far_stuck}
 use Rattle.giop_frames.proofs.walk.Walk.go_on.Goals as goal
 
@@ -77,6 +77,17 @@ returns-clause-walked c = walked_before c.args.header c.args.content.now c.field
 
 pub returns-clause-done : goal.returns-clause-done
 returns-clause-done c = record { step = c.in_default.ensures.step; fields = c.in_default.ensures.ended refl }
+
+pub returns-in_err-self-clause-whole : goal.returns-in_err-self-clause-whole
+returns-in_err-self-clause-whole c =
+    let p = err_from_is_err_and c.from_residual.result c.from_residual.ensures.1 in
+    rw p.1 tt
+
+pub returns-clause-whole : goal.returns-clause-whole
+returns-clause-whole c =
+    let walked = walked_before c.args.header c.args.content.now c.fields.self c.next_step.new.self None c.fields.invariant.walked c.in_default.ensures in
+    let done : IsDone c.next_step.new.self = record { step = c.in_default.ensures.step; fields = c.in_default.ensures.ended refl } in
+    rw (all_walked c.args.header c.args.content.now c.next_step.new.self walked done) refl
 
 pub returns-clause-fault : goal.returns-clause-fault
 returns-clause-fault c = tt

@@ -1,4 +1,0 @@
-use Rattle.giop_frames.proofs.parts.behind_id.Goals as goal
-
-pub returns : goal.returns
-returns c = c.behind.ensures

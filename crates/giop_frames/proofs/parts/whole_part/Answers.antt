@@ -1,4 +1,0 @@
-use Rattle.giop_frames.proofs.parts.whole_part.Goals as goal
-
-pub returns-in-Ok-2-clause-refused : goal.returns-in-Ok-2-clause-refused
-returns-in-Ok-2-clause-refused c = tt

@@ -1,0 +1,33 @@
+-- The last octets of a message.
+use Rattle.std.proofs.Common.{◌≡◌, ℕ, ◌≤◌, List, length, Result, Ok, Err, Some, refl, subst, ◌∙◌}
+use Rattle.std.specs.Prelude.{IfErr, IfOk, OnErr}
+use Rattle.std.proofs.lemmas.Bool.{le-ltb}
+use Rattle.giop_frames.specs.declared.fault.FrameFault.{FrameFault}
+use Rattle.giop_frames.specs.declared.fault.FrameFault.TheVariants as faults
+use Rattle.giop_streams.specs.declared.framed.Framed.{Framed}
+use Rattle.giop_frames.specs.declared.header.Header.{Header}
+use Rattle.giop_frames.specs.Fault.{Fails, Finds}
+use Rattle.giop_frames.specs.Limits.{size_limit}
+use Rattle.giop_streams.specs.Stream.{Judgement, whole_by}
+use Rattle.giop_streams.specs.StreamInside.{limited_whole}
+use Rattle.giop_streams.proofs.Results.{fails_on}
+
+-- a content that is short enough says what the message does
+pub limited_whole_is : (place : ℕ) (header : Header) (octets content : List ℕ) → octets ≡ content → length octets ≤ size_limit → limited_whole place header content ≡ whole_by place header octets
+limited_whole_is place header octets content same few = subst (λ (x : List ℕ). limited_whole place header x ≡ whole_by place header octets) same (rw (le-ltb size_limit (length octets) few) refl)
+
+pub whole_says : (result : Result Framed FrameFault) (read limited : Judgement) → limited ≡ read → Finds (λ framed. Some framed) result read → IfOk result (λ framed. limited ≡ Ok (Some framed))
+whole_says (Ok framed) read limited same finds = same ∙ finds
+whole_says (Err fault) read limited same finds = tt
+
+pub whole_refused : (result : Result Framed FrameFault) (read limited : Judgement) → limited ≡ read → Finds (λ framed. Some framed) result read → IfErr result (λ fault. Fails fault limited)
+whole_refused (Ok framed) read limited same finds = tt
+whole_refused (Err fault) read limited same finds = fails_on fault read limited (λ e. same ∙ e) finds
+
+pub short_memory : (result : Result Framed FrameFault) (content : List ℕ) → length content ≤ size_limit → IfErr result (λ fault. fault ≡ faults.Memory → length content ≤ size_limit)
+short_memory (Ok framed) content few = tt
+short_memory (Err fault) content few = λ e. few
+
+pub where_refused : {X : Type 0} (result : Result Framed FrameFault) → X → OnErr result X
+where_refused (Ok framed) x = tt
+where_refused (Err fault) x = x

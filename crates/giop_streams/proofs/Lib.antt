@@ -1,0 +1,13 @@
+pub mod Results
+pub mod Numbered
+pub mod SoFar
+pub mod Finished
+pub mod Judging
+pub mod Holding
+pub mod Staying
+pub mod Cuts
+pub mod Joining
+pub mod Belonging
+pub mod Ending
+pub mod Kept
+pub mod FramedContent

@@ -1,0 +1,31 @@
+use Rattle.std.proofs.Common.{◌≡◌, ◌++◌, ◌∙◌, ℕ, List, ap, refl, sym}
+use Rattle.std.proofs.lemmas.Result.{err_from_is_err_and}
+use Rattle.giop_frames.specs.Content.{message_by}
+use Rattle.giop_streams.specs.Stream.{begun_as, part_of, so_far}
+use Rattle.giop_streams.specs.StreamInside.{limited_so_far}
+use Rattle.giop_streams.proofs.Results.{fails_on}
+use Rattle.giop_streams.proofs.SoFar.{limited_is}
+use Rattle.giop_streams.proofs.unfinished.Unfinished.new.Goals as goal
+
+pub go_so_far-requires-clause-walked : goal.go_so_far-requires-clause-walked
+go_so_far-requires-clause-walked c = c.new-walk.ensures.walked c.new-octets.result.items
+
+pub returns-in_err-go_so_far-clause-refused : goal.returns-in_err-go_so_far-clause-refused
+returns-in_err-go_so_far-clause-refused c =
+    let h = c.args.header in
+    let content = c.args.content.now in
+    let is : limited_so_far h content ≡ so_far (message_by h content) = limited_is h content content _ refl c.requires.content refl in
+    let p = err_from_is_err_and c.from_residual.result c.from_residual.ensures.1 in
+    rw (p.1, p.2) (fails_on c.in_err-go_so_far.field-0.0 (limited_so_far h content) (so_far (message_by h content)) (λ e. sym is ∙ e) (rw c.new-octets.ensures.items at c.in_err-go_so_far.ensures.refused))
+
+pub returns-clause-begun : goal.returns-clause-begun
+returns-clause-begun c =
+    let joined = c.in_ok-go_so_far.ensures.joined ∙ ap (λ (x : List ℕ). x ++ c.args.content.now) c.new-octets.ensures.items in
+    ap (λ (x : List ℕ). begun_as c.args.id c.args.place (part_of c.args.header x)) joined
+
+pub returns-clause-sound : goal.returns-clause-sound
+returns-clause-sound c =
+    let h = c.args.header in
+    let content = c.args.content.now in
+    let is : limited_so_far h content ≡ so_far (message_by h content) = limited_is h content content _ refl c.requires.content refl in
+    sym is ∙ (rw c.new-octets.ensures.items at c.in_ok-go_so_far.ensures.says)

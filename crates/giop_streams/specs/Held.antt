@@ -1,0 +1,133 @@
+-- What a stream holds back between two calls, of a stream of messages (CORBA, GIOP Message Formats, Fragment Message).
+use Rattle.std.specs.Prelude.{◌≡◌, ◌≢◌, ◌⊎◌, ◌<◌, ◌≤◌, ◌+◌, ℕ, true, false, List, [], ◌∷◌, ◌++◌, length, drop, Option, Some, None, IfSome, IsSome, IsSomeAnd, Result, Ok, Err, IfOk, IsOk, OnErr, OnOk}
+use Rattle.std.specs.List.{AllByRecursion}
+use Rattle.giop_frames.specs.declared.fault.FrameFault.{FrameFault}
+use Rattle.giop_frames.specs.declared.fault.FrameFault.TheVariants.{Short, Memory}
+use Rattle.giop_streams.specs.declared.framed.Framed.{Framed}
+use Rattle.giop_frames.specs.declared.layout.Version.{Version}
+use Rattle.giop_frames.specs.declared.message.Message.{Message}
+use Rattle.giop_frames.specs.Limits.{size_limit}
+use Rattle.giop_streams.specs.Limits.{unfinished_limit}
+use Rattle.giop_frames.specs.Fault.{IfRefused}
+use Rattle.giop_frames.specs.Header.{is_fragment}
+use Rattle.giop_frames.specs.Content.{message_by}
+use Rattle.giop_streams.specs.Stream.{Part, Unfinished, IsRefused, IsStream, Splits, Refuses, earliest, id_of, numbered, offset, part_at, unfinished}
+
+-- the versions that it admits, the unfinished messages, the octets of no whole part yet and their offset in the stream,
+-- the refusal that is answered for good, and how many octets its buffer has
+pub record Held : Type 0 where
+  pub versions : List Version
+  pub unfinished : List Unfinished
+  pub place : ℕ
+  pub rest : List ℕ
+  pub refused : Option FrameFault
+  pub kept : ℕ
+
+-- what a stream of these versions holds of which nothing has come
+abbrev pub nothing_of : List Version → Held
+nothing_of versions = record {
+  versions = versions;
+  unfinished = [];
+  place = 0;
+  rest = [];
+  refused = None;
+  kept = 0;
+}
+
+-- no unfinished message is longer than a message may be, and there are at most 8
+pub record AreShort (messages : List Unfinished) : Type 0 where
+  pub few : length messages ≤ unfinished_limit
+  pub short : AllByRecursion (λ u. length u.content ≤ size_limit) messages
+
+-- what a stream holds is bounded: its unfinished messages, and in its buffer the octets of parts that were taken, of
+-- which it has at most as many as of no whole part (our profile)
+pub record IsBounded (h : Held) : Type 0 where
+  pub unfinished_are : AreShort h.unfinished
+  pub held : length h.rest ≤ h.kept
+  pub taken : h.kept ≤ length h.rest + length h.rest
+
+-- Of a stream of these versions and octets these messages were given, and this is held back.
+pub record Holds (versions : List Version) (octets : List ℕ) (messages : List Framed) (h : Held) : Type 0 where
+  pub parts : List Part
+  pub versions_are : h.versions ≡ versions
+  pub splits : Splits versions octets parts messages h.rest
+  pub unfinished_are : h.unfinished ≡ unfinished parts
+  pub place_is : h.place ≡ offset parts
+  pub refused : IfSome h.refused (Refuses versions parts h.rest)
+
+-- the offset of the earliest message that isn't given; after a refusal, of the part that is refused
+abbrev pub place_by : ℕ → Option FrameFault → List Unfinished → ℕ
+place_by place (Some fault) messages = place
+place_by place None messages = earliest place messages
+
+abbrev pub place_of : Held → ℕ
+place_of h = place_by h.place h.refused h.unfinished
+
+-- octets are held that were not given as a message yet
+abbrev pub IsUnfinished : Held → Type 0
+IsUnfinished h = (h.unfinished ≢ []) ⊎ (h.rest ≢ [])
+
+-- these octets came to a stream
+abbrev pub HasCome : List ℕ → Held → Held → Type 0
+HasCome piece old new =
+    (versions : List Version) (octets : List ℕ) (messages : List Framed) → Holds versions octets messages old
+    → Holds versions (octets ++ piece) messages new
+
+-- a stream gave this message, with what the header of its first part says
+abbrev pub HasGivenFramed : Framed → Held → Held → Type 0
+HasGivenFramed framed old new =
+    (versions : List Version) (octets : List ℕ) (messages : List Framed) → Holds versions octets messages old
+    → Holds versions octets (messages ++ framed ∷ []) new
+
+-- a stream gave this message
+abbrev pub HasGiven : Message → Held → Held → Type 0
+HasGiven m old new = (framed : Framed) × (framed.message ≡ m) × HasGivenFramed framed old new
+
+-- a stream gave no message, and lost nothing
+abbrev pub HasKept : Held → Held → Type 0
+HasKept old new = (versions : List Version) (octets : List ℕ) (messages : List Framed) → Holds versions octets messages old
+    → Holds versions octets messages new
+
+-- a stream gave no message, since there is none but what it gave
+abbrev pub HasGivenAll : Held → Held → Type 0
+HasGivenAll old new =
+    (versions : List Version) (octets : List ℕ) (messages : List Framed) → Holds versions octets messages old
+    → Holds versions octets messages new × IsStream versions messages new.rest octets
+
+-- the part at a stream's place is refused
+abbrev pub IsRefusedAtPlace : Held → Held → FrameFault → Type 0
+IsRefusedAtPlace old new fault =
+    (versions : List Version) (octets : List ℕ) (messages : List Framed) → Holds versions octets messages old
+    → IsRefused versions messages new.place fault octets
+
+-- a message with the octets of this Fragment is no longer than a message may be
+abbrev pub IsJoinedBy : Part → Unfinished → Type 0
+IsJoinedBy p first = length (first.content ++ drop 4 p.content) ≤ size_limit
+
+-- beside these unfinished messages memory may be wanted for this part: for a message in one part in which no fault is
+-- found, for a first part whose request_id is free and for whose message there is room, and for a Fragment of a message
+-- whose joined octets are not too many
+pub record MayWantMemory (messages : List Unfinished) (p : Part) : Type 0 where
+  pub whole : is_fragment p.header.kind ≡ false → p.header.more ≡ false → IsOk (message_by p.header p.content)
+  pub room : is_fragment p.header.kind ≡ false → p.header.more ≡ true → length messages < unfinished_limit
+  pub free : is_fragment p.header.kind ≡ false → p.header.more ≡ true → numbered (id_of p) messages ≡ None
+  pub goes_on : is_fragment p.header.kind ≡ true → IsSomeAnd (numbered (id_of p) messages) (IsJoinedBy p)
+
+-- memory may be wanted for the whole part at a stream's place
+abbrev pub WantsMemory : Held → Type 0
+WantsMemory h = (p : Part) × (behind : List ℕ) × (part_at h.versions h.rest ≡ Ok (p, behind)) × MayWantMemory h.unfinished p
+
+-- A call asked for the next message: it was given so, or there is none, or a part is refused. A refusal is answered for
+-- good, and loses nothing. Want of memory is answered only where memory may be wanted.
+pub record GivesNext {X : Type 0} (Gave : X → Held → Held → Type 0) (result : Result (Option X) FrameFault)
+    (old new : Held) : Type 0 where
+  pub message : IfOk result (λ found. IfSome found (λ m. Gave m old new))
+  pub nothing : result ≡ Ok None → HasGivenAll old new
+  pub refused : IfRefused result (IsRefusedAtPlace old new)
+  pub keeps : OnErr result (HasKept old new)
+  pub memory : old.refused ≡ None → result ≡ Err Memory → WantsMemory new
+  pub remembered : IfRefused result (λ fault. new.refused ≡ Some fault)
+  pub again : IfSome old.refused (λ fault. (result ≡ Err fault) × (new ≡ old))
+  pub accepts : OnOk result (new.refused ≡ None)
+  pub partial : result ≡ Ok None → part_at new.versions new.rest ≡ Err Short
+  pub shorter : IfOk result (λ found. IsSome found → length new.rest < length old.rest)

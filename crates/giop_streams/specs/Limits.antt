@@ -1,0 +1,10 @@
+-- How much a stream of messages has at most (our profile).
+use Rattle.std.specs.Prelude.{ℕ}
+
+-- the octets of a part, its header included, of which one octet is still to come
+abbrev pub partial_limit : ℕ
+partial_limit = 65547
+
+-- the unfinished messages of a stream
+abbrev pub unfinished_limit : ℕ
+unfinished_limit = 8

@@ -1,0 +1,216 @@
+ghost use Rattle.std.specs.Prelude.{◌≡◌, ◌≢◌, ◌↔◌, ◌+◌, ◌<◌, ◌≤◌, ◌^◌, [], length, drop, Option, None, Some, Ok, Err, IfSome, IsTrue, OnErr, OnOk};
+ghost use Rattle.giop_frames.specs.Fault.{IfRefused};
+ghost use Rattle.giop_streams.specs.Held.{Held, Holds, GivesNext, nothing_of, HasCome, HasGiven, HasGivenFramed, IsBounded, IsUnfinished, place_of};
+ghost use Rattle.giop_frames.specs.Header.{profile_versions};
+ghost use Rattle.giop_streams.specs.Limits.{partial_limit};
+ghost use Rattle.giop_streams.specs.Stream.{part_at};
+ghost use Rattle.giop_streams.specs.HeldInside.{IsMostlyHeld, Takes, remembering};
+
+use crate::framed::Framed;
+use crate::parts::{content_of, judge, whole_part};
+use crate::unfinished::Unfinished;
+use giop_frames::{
+    FrameFault, HEADER_LENGTH, Message, Version, behind, headers_are_read_exactly, profile_versions,
+};
+use std::alloc::Global;
+use std::marker::Model;
+
+/// Messages of a stream of octets that comes in pieces, with fragments of up to 8 unfinished messages. Contracts see the
+/// versions that it admits, and what it holds back: the unfinished messages, the octets of no whole part yet and their
+/// offset, and the refusal that it answers for good.
+#[derive(Drop)]
+pub struct Stream {
+    alloc: Global,
+    versions: &'static [Version],
+    messages: Vec<Unfinished>,
+    buffer: Vec<u8>,
+    start: usize,
+    place: u64,
+    refused: Option<FrameFault>,
+}
+
+impl Model for Stream {
+    ghost use Rattle.std.specs.Prelude.{◌≤◌, length, drop};
+    ghost use Rattle.giop_streams.specs.Held.{AreShort, Held};
+    ghost use Rattle.giop_streams.specs.HeldInside.{IsMostlyHeld};
+
+    ghost Value = { Held };
+
+    ghost view = { λ s. record {
+      versions = s.versions.now;
+      unfinished = s.messages.items;
+      place = s.place;
+      rest = drop s.start s.buffer.items;
+      refused = s.refused;
+      kept = length s.buffer.items;
+    } };
+
+    ghost invariant = { λ s. IsMostlyHeld s.start s.buffer.items × AreShort s.messages.items };
+}
+
+/// What a stream found at its place.
+enum Taken {
+    /// No whole part.
+    Nothing,
+    /// A part of a message that isn't whole yet.
+    Piece,
+    /// The last part of a message.
+    Whole(Framed),
+}
+
+impl Stream {
+    /// A stream of messages of version 1.2, of which nothing has come.
+    pub fn new(alloc: Global) -> Stream
+        ensures holds { Holds profile_versions [] [] result }
+        ensures nothing { result ≡ nothing_of profile_versions }
+    {
+        Stream::of(alloc, profile_versions())
+    }
+
+    /// A stream of messages of these versions, of which nothing has come.
+    pub fn of(alloc: Global, versions: &'static [Version]) -> Stream
+        ensures holds { Holds versions.now [] [] result }
+        ensures nothing { result ≡ nothing_of versions.now }
+    {
+        Stream {
+            alloc,
+            versions,
+            messages: Vec::new(alloc),
+            buffer: Vec::new(alloc),
+            start: 0,
+            place: 0,
+            refused: None,
+        }
+    }
+
+    /// These octets have come. It needs no memory where there are none.
+    pub fn feed(&mut self, piece: &[u8]) -> Result<(), FrameFault>
+        ensures ok { OnOk result (HasCome piece.now self.old self.new) }
+        ensures err { OnErr result (self.new ≡ self.old) }
+        ensures refused { IfRefused result (λ fault. self.old.refused ≡ Some fault) }
+        ensures again { IfSome self.old.refused (λ fault. result ≡ Err fault) }
+        ensures accepts { OnOk result (self.new.refused ≡ None) }
+        ensures nothing { self.old.refused ≡ None → OnErr result (piece.now ≢ []) }
+    {
+        if let Some(fault) = self.refused {
+            return Err(fault);
+        }
+        if piece.is_empty() {
+            return Ok(());
+        }
+        self.buffer.extend_from_slice(piece)?;
+        Ok(())
+    }
+
+    /// The next message that is whole, in the order of last parts.
+    pub fn next(&mut self) -> Result<Option<Message>, FrameFault>
+        ensures { GivesNext HasGiven result self.old self.new }
+    {
+        let Some(framed) = self.next_framed()? else {
+            return Ok(None);
+        };
+        Ok(Some(framed.message))
+    }
+
+    /// The next message that is whole, in the order of last parts, with what the header of its first part says. A
+    /// refusal other than want of memory is answered for good. BadFragment is a part with the "more fragments" bit
+    /// whose type comes in one part, or whose length isn't a multiple of 8; a type that isn't in the version; a Fragment
+    /// whose request_id is that of no unfinished message; and a first part with the bit whose request_id is that of an
+    /// unfinished message, or which would be the ninth.
+    pub fn next_framed(&mut self) -> Result<Option<Framed>, FrameFault>
+        ensures { GivesNext HasGivenFramed result self.old self.new }
+    {
+        headers_are_read_exactly();
+        if let Some(fault) = self.refused {
+            return Err(fault);
+        }
+        loop {
+            match self.take_part() {
+                Ok(Taken::Nothing) => return Ok(None),
+                Ok(Taken::Piece) => {}
+                Ok(Taken::Whole(framed)) => return Ok(Some(framed)),
+                Err(fault) => {
+                    self.remember(fault);
+                    return Err(fault);
+                }
+            }
+        }
+    }
+
+    /// The offset of the first part of the earliest message that isn't given; after a refusal, that of the part that is
+    /// refused. At most 2^64 - 1.
+    pub fn place(&self) -> u64
+        ensures { result ≡ place_of self.now }
+    {
+        match (self.refused, self.messages.first()) {
+            (None, Some(first)) => first.place(),
+            _ => self.place,
+        }
+    }
+
+    /// Whether octets are held that were not given as a message. Once `next` has given nothing, these are octets of
+    /// messages that aren't whole.
+    pub fn unfinished(&self) -> bool
+        ensures { IsTrue result ↔ IsUnfinished self.now }
+    {
+        !self.messages.is_empty() || !behind(&self.buffer, self.start).is_empty()
+    }
+
+    /// How many octets its buffer has: those that are held of no whole part, and at most as many of parts that were
+    /// taken. The joined octets of unfinished messages are beside it.
+    pub fn kept(&self) -> usize
+        ensures same { result ≡ self.now.kept }
+        ensures bounded { IsBounded self.now }
+        ensures partial { part_at self.now.versions self.now.rest ≡ Err FrameFault.Short
+            → result ≤ partial_limit + partial_limit }
+    {
+        headers_are_read_exactly();
+        self.buffer.len()
+    }
+
+    /// A refusal other than want of memory is answered for good.
+    fn remember(&mut self, fault: FrameFault)
+        ensures { self.new ≡ remembering self.old fault }
+    {
+        if fault != FrameFault::Memory {
+            self.refused = Some(fault);
+        }
+    }
+
+    /// Takes the part at its place, where it is whole.
+    fn take_part(&mut self) -> Result<Taken, FrameFault>
+        requires { self.old.refused ≡ None }
+        ensures { Takes self.old result self.new }
+    {
+        let rest = behind(&self.buffer, self.start);
+        let Some(header) = whole_part(self.versions, rest)? else {
+            return Ok(Taken::Nothing);
+        };
+        let content = content_of(header, rest);
+        let framed = judge(self.alloc, &mut self.messages, self.place, header, content)?;
+        let length = HEADER_LENGTH + header.size as usize;
+        self.start = give_back(&mut self.buffer, self.start + length);
+        self.place = self.place.saturating_add(length as u64);
+        let Some(framed) = framed else {
+            return Ok(Taken::Piece);
+        };
+        Ok(Taken::Whole(framed))
+    }
+}
+
+/// Gives the front of a buffer back, where it is the larger part. So each octet that is moved stands for one that is
+/// given back. The answer is how many octets of that front are left.
+fn give_back(buffer: &mut Vec<u8>, taken: usize) -> usize
+    requires { taken ≤ length buffer.old.items }
+    ensures held { drop result buffer.new.items ≡ drop taken buffer.old.items }
+    ensures mostly { IsMostlyHeld result buffer.new.items }
+{
+    if taken <= buffer.len() - taken {
+        return taken;
+    }
+    let held = buffer.len() - taken;
+    let (front, back) = buffer.split_at_mut(taken);
+    front[..held].copy_from_slice(back);
+    buffer.truncate(held);
+    0
+}

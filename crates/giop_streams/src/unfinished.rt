@@ -1,0 +1,234 @@
+ghost use Rattle.std.specs.Prelude.{◌≡◌, ◌≢◌, ◌<◌, ◌≤◌, ◌++◌, true, false, IfErr, IfOk, OnErr, OnOk, Ok, Err, None, Some, length, take, vec_capacity};
+ghost use Rattle.giop_frames.specs.Limits.{size_limit};
+ghost use Rattle.giop_frames.specs.Fault.{Fails};
+ghost use Rattle.giop_frames.specs.Header.{is_fragment};
+ghost use Rattle.giop_frames.specs.Walk.{IsAsFar, IsWalked};
+ghost use Rattle.giop_streams.specs.StreamInside.{wants_octets, WantsRoom, limited_so_far, limited_whole};
+ghost use Rattle.giop_frames.specs.Content.{message_by};
+ghost use Rattle.giop_streams.specs.Stream.{begun_as, joined, part_of, so_far, with_more};
+
+use crate::framed::{Framed, finish_framed};
+use cdr_values::CdrFault;
+use giop_frames::{FrameFault, Header, SIZE_LIMIT, Walk};
+use std::alloc::Global;
+use std::marker::Model;
+
+/// A message whose last part hasn't come. Contracts see its request_id, the place and the header of its first part, and
+/// its octets so far, joined.
+#[derive(Drop)]
+pub struct Unfinished {
+    id: u32,
+    place: u64,
+    header: Header,
+    content: Vec<u8>,
+    /// How far a walk has come over its fields: as far as its octets go.
+    walk: Walk,
+}
+
+impl Model for Unfinished {
+    ghost use Rattle.std.specs.Prelude.{◌≡◌, false};
+    ghost use Rattle.giop_frames.specs.Header.{is_fragment};
+    ghost use Rattle.giop_streams.specs.Stream.{Unfinished as Message};
+    ghost use Rattle.giop_frames.specs.Walk.{IsAsFar, IsWalked};
+
+    ghost Value = { Message };
+
+    ghost view = { λ u. record { id = u.id; place = u.place; header = u.header; content = u.content.items } };
+
+    ghost invariant = { λ u.
+        (is_fragment u.header.kind ≡ false)
+        × IsWalked u.header u.content.items u.walk
+        × IsAsFar u.header u.content.items u.walk };
+}
+
+impl Unfinished {
+    /// A message of which this is the first part.
+    pub fn new(
+        alloc: Global,
+        id: u32,
+        place: u64,
+        header: Header,
+        content: &[u8],
+    ) -> Result<Unfinished, FrameFault>
+        requires content { length content.now ≤ size_limit }
+        requires first { is_fragment header.kind ≡ false }
+        ensures begun { IfOk result (λ begun. begun ≡ begun_as id place (part_of header content.now)) }
+        ensures sound { OnOk result (so_far (message_by header content.now) ≡ Ok None) }
+        ensures refused { IfErr result (λ fault. Fails fault (so_far (message_by header content.now))) }
+    {
+        let mut octets = Vec::new(alloc);
+        let mut walk = Walk::new(header);
+        go_so_far(&mut walk, header, &mut octets, content)?;
+        Ok(Unfinished {
+            id,
+            place,
+            header,
+            content: octets,
+            walk,
+        })
+    }
+
+    /// Its request_id.
+    pub fn id(&self) -> u32
+        ensures { result ≡ self.now.id }
+    {
+        self.id
+    }
+
+    /// The offset of its first part.
+    pub fn place(&self) -> u64
+        ensures { result ≡ self.now.place }
+    {
+        self.place
+    }
+
+    /// More octets of it have come, and not the last ones.
+    pub fn go_on(&mut self, octets: &[u8]) -> Result<(), FrameFault>
+        requires content { length self.old.content ≤ size_limit }
+        requires octets { length octets.now ≤ size_limit }
+        ensures says { OnOk result (joined true octets.now self.old ≡ Ok None) }
+        ensures after { OnOk result (self.new ≡ with_more octets.now self.old) }
+        ensures short { length self.new.content ≤ size_limit }
+        ensures refused { IfErr result (λ fault. Fails fault (joined true octets.now self.old)) }
+        ensures memory { IfErr result (λ fault. fault ≡ FrameFault.Memory →
+            length (self.old.content ++ octets.now) ≤ size_limit) }
+        ensures err { OnErr result (self.new ≡ self.old) }
+    {
+        let mut walk = self.walk;
+        go_so_far(&mut walk, self.header, &mut self.content, octets)?;
+        self.walk = walk;
+        Ok(())
+    }
+
+    /// Its last octets have come.
+    pub fn finish(&mut self, alloc: Global, octets: &[u8]) -> Result<Framed, FrameFault>
+        requires content { length self.old.content ≤ size_limit }
+        requires octets { length octets.now ≤ size_limit }
+        ensures says { IfOk result (λ framed. joined false octets.now self.old ≡ Ok (Some framed)) }
+        ensures refused { IfErr result (λ fault. Fails fault (joined false octets.now self.old)) }
+        ensures memory { IfErr result (λ fault. fault ≡ FrameFault.Memory →
+            length (self.old.content ++ octets.now) ≤ size_limit) }
+        ensures err { OnErr result (self.new ≡ self.old) }
+    {
+        let before = self.content.len();
+        let finished = finish_joined(
+            alloc,
+            self.place,
+            self.header,
+            self.walk,
+            &mut self.content,
+            octets,
+        );
+        self.content.truncate(before);
+        finished
+    }
+}
+
+/// The last octets of a message have come behind its content, and a walk that stood where octets were wanting goes on
+/// over them. The content has them behind it then, or is as it was.
+fn finish_joined(
+    alloc: Global,
+    place: u64,
+    header: Header,
+    mut walk: Walk,
+    content: &mut Vec<u8>,
+    octets: &[u8],
+) -> Result<Framed, FrameFault>
+    requires content { length content.old.items ≤ size_limit }
+    requires octets { length octets.now ≤ size_limit }
+    requires first { is_fragment header.kind ≡ false }
+    requires walked { IsWalked header content.old.items walk }
+    requires far { IsAsFar header content.old.items walk }
+    ensures says { IfOk result (λ framed.
+        limited_whole place header (content.old.items ++ octets.now) ≡ Ok (Some framed)) }
+    ensures refused { IfErr result (λ fault.
+        Fails fault (limited_whole place header (content.old.items ++ octets.now))) }
+    ensures memory { IfErr result (λ fault. fault ≡ FrameFault.Memory →
+        length (content.old.items ++ octets.now) ≤ size_limit) }
+    ensures front { take (length content.old.items) content.new.items ≡ content.old.items }
+{
+    go_so_far(&mut walk, header, content, octets)?;
+    finish_framed(alloc, place, header, content, walk)
+}
+
+/// More octets of a message have come behind its content, and a walk that stood where octets were wanting goes on over
+/// them. That octets are wanting still is no fault; after one the content is as it was. A message has at most 65,536
+/// octets (our profile).
+fn go_so_far(
+    walk: &mut Walk,
+    header: Header,
+    content: &mut Vec<u8>,
+    octets: &[u8],
+) -> Result<(), FrameFault>
+    requires content { length content.old.items ≤ size_limit }
+    requires octets { length octets.now ≤ size_limit }
+    requires first { is_fragment header.kind ≡ false }
+    requires walked { IsWalked header content.old.items walk.old }
+    requires far { IsAsFar header content.old.items walk.old }
+    ensures joined { OnOk result (content.new.items ≡ content.old.items ++ octets.now) }
+    ensures short { length content.new.items ≤ size_limit }
+    ensures walked { OnOk result (IsWalked header content.new.items walk.new) }
+    ensures far { OnOk result (IsAsFar header content.new.items walk.new) }
+    ensures says { OnOk result (limited_so_far header (content.old.items ++ octets.now) ≡ Ok None) }
+    ensures refused { IfErr result (λ fault. Fails fault (limited_so_far header (content.old.items ++ octets.now))) }
+    ensures memory { IfErr result (λ fault. fault ≡ FrameFault.Memory →
+        WantsRoom (vec_capacity content.old) content.old.items octets.now) }
+    ensures err { OnErr result (content.new.items ≡ content.old.items) }
+{
+    let before = content.len();
+    join(content, octets)?;
+    if let Err(fault) = walk_so_far(walk, header, content) {
+        content.truncate(before);
+        return Err(fault);
+    }
+    Ok(())
+}
+
+/// Appends more octets of a message to its content, which then has at most 65,536 (our profile).
+fn join(content: &mut Vec<u8>, octets: &[u8]) -> Result<(), FrameFault>
+    requires content { length content.old.items ≤ size_limit }
+    requires octets { length octets.now ≤ size_limit }
+    ensures joined { OnOk result (content.new.items ≡ content.old.items ++ octets.now) }
+    ensures short { length content.new.items ≤ size_limit }
+    ensures refused { (header : Header) → IfErr result (λ fault.
+        Fails fault (limited_so_far header (content.old.items ++ octets.now))) }
+    ensures memory { IfErr result (λ fault. fault ≡ FrameFault.Memory →
+        WantsRoom (vec_capacity content.old) content.old.items octets.now) }
+    ensures err { OnErr result (content.new.items ≡ content.old.items) }
+{
+    let joined = content.len() + octets.len();
+    if joined > SIZE_LIMIT {
+        return Err(FrameFault::TooLarge(joined as u32));
+    }
+    content.extend_from_slice(octets)?;
+    Ok(())
+}
+
+/// A walk goes on over a content behind which more octets are to come: that octets are wanting is no fault.
+fn walk_so_far(walk: &mut Walk, header: Header, content: &[u8]) -> Result<(), FrameFault>
+    requires short { length content.now ≤ size_limit }
+    requires first { is_fragment header.kind ≡ false }
+    requires walked { IsWalked header content.now walk.old }
+    ensures walked { IsWalked header content.now walk.new }
+    ensures far { IsAsFar header content.now walk.new }
+    ensures says { OnOk result (so_far (message_by header content.now) ≡ Ok None) }
+    ensures refused { IfErr result (λ fault. so_far (message_by header content.now) ≡ Err fault) }
+    ensures memory { IfErr result (λ fault. fault ≢ FrameFault.Memory) }
+{
+    match walk.go_on(header, content) {
+        Err(fault) if !wants_octets(fault) => Err(fault),
+        _ => Ok(()),
+    }
+}
+
+fn wants_octets(fault: FrameFault) -> bool
+    ensures { result ≡ wants_octets fault }
+{
+    matches!(
+        fault,
+        FrameFault::Body {
+            cdr: CdrFault::Short(_),
+            ..
+        }
+    )
+}
