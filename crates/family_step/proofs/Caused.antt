@@ -1,5 +1,5 @@
 -- The cause of what the journal answered in a step.
-use Rattle.std.proofs.Common.{◌≡◌, ◌∙◌, ◌⊎◌, inl, inr, refl, sym, ap, subst, ℕ, Bool, List, [], ◌∷◌, ◌++◌, Option, Some, None}
+use Rattle.std.proofs.Common.{◌≡◌, ◌∙◌, ◌⊎◌, inl, inr, refl, sym, ap, subst, ℕ, Bool, false, List, [], ◌∷◌, ◌++◌, Option, Some, None}
 use Rattle.std.specs.Prelude.{IfSome}
 use Rattle.std.proofs.lemmas.List.{append-nil, append_cancel_left}
 use Rattle.ots_model.specs.declared.completion.Stood.{Stood}
@@ -12,7 +12,7 @@ use Rattle.coordinator.specs.Laws.{HistoriesGrowByEntries, entry_made}
 use Rattle.coordinator.specs.Step.{family_step}
 use Rattle.coordinator.specs.declared.event.Event.{Event}
 use Rattle.coordinator.specs.declared.said.Entry.{Entry}
-use Rattle.family_step.specs.Asking.{EntryIsCaused, HasCausedStep, IsCaused, stood_by}
+use Rattle.family_step.specs.Asking.{EntryIsCaused, HasCausedStep, IsCaused, is_full, stood_by}
 
 module _ (wants : Bool) (told : Option DiskState) (before after : ℕ) where
   -- a refusal of the journal
@@ -33,6 +33,15 @@ module _ (wants : Bool) (told : Option DiskState) (before after : ℕ) where
   done_caused was later (BadRecord place) cause = cause
   done_caused was later LivesSpent cause = absurd cause
   done_caused was later Memory cause = cause
+
+  -- a Done has room
+  pub done_roomy : (fault : JournalFault) → IsReadFault wants told before after fault → is_full fault ≡ false
+  done_roomy DiskFault cause = refl
+  done_roomy (Full used need) cause = absurd cause
+  done_roomy (BadHeader place) cause = refl
+  done_roomy (BadRecord place) cause = refl
+  done_roomy LivesSpent cause = refl
+  done_roomy Memory cause = refl
 
   -- what the entry says is what the journal answered
   stood_in_front : List Entry → Option Stood

@@ -110,6 +110,18 @@ abbrev pub EntryIsCaused : Bool → Option DiskState → ℕ → ℕ → List En
 EntryIsCaused wants told before after entries later =
     (entry : Entry) → later ≡ entries ++ entry ∷ [] → IfSome entry.stood (IsCaused wants told before after)
 
+-- want of room is a fault of an append
+abbrev pub is_full : JournalFault → Bool
+is_full (Full used need) = true
+is_full _ = false
+
+-- the Done of the record at this place was refused, but not for want of room: its decision left some
+pub record IsRefusedDone {D : Type 0} (told : D → Option DiskState) (faults : D → ℕ) (place : ℕ) (before after : JournalState D) (stood : Stood) : Type 0 where
+  pub fault : JournalFault
+  pub left : IsRefusedAppend told before (Done place) after fault
+  pub stood_is : stood ≡ stood_by fault (faults before.disk) (faults after.disk)
+  pub roomy : is_full fault ≡ false
+
 -- it was appended, and stands at this place
 pub record IsRecorded {D : Type 0} (told : D → Option DiskState) (r : JournalRecord) (before after : JournalState D) (stood : Stood) : Type 0 where
   pub place : ℕ
@@ -124,7 +136,7 @@ pub record IsClosed {D : Type 0} (told : D → Option DiskState) (place : ℕ) (
 -- the journal was asked for this
 abbrev pub IsAnswered : {D : Type 0} → (D → Option DiskState) → (D → ℕ) → Wanted → JournalState D → JournalState D → Stood → Type 0
 IsAnswered told faults (Appends item) before after stood = IsRecorded told item before after stood ⊎ IsRefused told faults item before after stood
-IsAnswered told faults (WritesDone place) before after stood = IsClosed told place before after stood ⊎ IsRefused told faults (Done place) before after stood
+IsAnswered told faults (WritesDone place) before after stood = IsClosed told place before after stood ⊎ IsRefusedDone told faults place before after stood
 IsAnswered told faults Rereads before after stood = ⊥
 
 -- it was asked for what is wanted, and for nothing else

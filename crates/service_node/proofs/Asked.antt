@@ -16,7 +16,7 @@ use Rattle.recovery_coord.specs.declared.held.Held.{Held}
 use Rattle.coordinator.specs.declared.effect.Effect.{Effect}
 use Rattle.coordinator.specs.declared.effect.Effect.TheVariants as effects
 use Rattle.coordinator.specs.NodeCalls.{done_told, records_with}
-use Rattle.family_step.specs.Asking.{IsCaused, stood_by}
+use Rattle.family_step.specs.Asking.{IsCaused, is_full, stood_by}
 use Rattle.service_node.specs.Journaling.{HasConcluded, kept_after, still_stands}
 
 -- ---- the journal was asked
@@ -46,6 +46,14 @@ caused_by wants o a b (BadHeader at) cause = cause
 caused_by wants o a b (BadRecord at) cause = cause
 caused_by wants o a b LivesSpent cause = absurd cause
 caused_by wants o a b Memory cause = cause
+
+roomy_by : (wants : Bool) (o : Option DiskState) (a b : ℕ) (fault : JournalFault) → IsReadFault wants o a b fault → is_full fault ≡ false
+roomy_by wants o a b DiskFault cause = refl
+roomy_by wants o a b (Full used need) cause = absurd cause
+roomy_by wants o a b (BadHeader at) cause = refl
+roomy_by wants o a b (BadRecord at) cause = refl
+roomy_by wants o a b LivesSpent cause = refl
+roomy_by wants o a b Memory cause = refl
 
 module _ {D : Type 0} (wants : Bool) (told : D → Option DiskState) (counts : D → ℕ) (before after : JournalState D) (held mid later : Recoveries) (place : ℕ) (failed : Bool) (happened : List Effect) where
   all : (rs : List Held) → failed ≡ before.failed → mid ≡ record held { records = rs }
@@ -77,7 +85,7 @@ module _ {D : Type 0} (wants : Bool) (told : D → Option DiskState) (counts : D
       record {
         stood = Some (stood_by r.0 a b);
         caused = caused_by wants (told after.disk) a b r.0 r.1.1;
-        asked = inr (record { fault = r.0; left = r.1.0; stood_is = refl });
+        asked = inr (record { fault = r.0; left = r.1.0; stood_is = refl; roomy = roomy_by wants (told after.disk) a b r.0 r.1.1 });
         later_is = all held.records same mid_is later_is
             ∙ ap (λ (xs : List Held). record held { records = kept_after before.failed after.found xs }) (sym (refused_records place r.0 a b held.records));
         happened_is = happened_is ∙ sym (refused_told place r.0 a b);

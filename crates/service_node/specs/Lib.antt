@@ -4,3 +4,4 @@ pub mod Journaling
 pub mod Applying
 pub mod Crashes
 pub mod Ticking
+pub mod Given

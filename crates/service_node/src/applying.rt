@@ -11,6 +11,7 @@ ghost use Rattle.family_step.specs.Asking.{is_reread};
 ghost use Rattle.service_node.specs.Applying as applying;
 ghost use Rattle.service_node.specs.Applying.{HasSteppedAt, HasSteppedIn, IsApplied, IsUnapplied, IsUnmovedAt};
 ghost use Rattle.service_node.specs.Crashes.{IsCrashSafe};
+ghost use Rattle.service_node.specs.Given.{node_makes};
 ghost use Rattle.service_node.specs.NodeState.{shown};
 
 use crate::answers::retold_answer;
@@ -28,15 +29,15 @@ use recovery_coord::{Outbox, Recovered};
 impl<D: Disk> Node<D> {
     /// A call on the object with this key: a step of its family, where that is in its slot, else what the records
     /// answer alone. The step asks the journal for what is wanted in it, before its word goes out. It is NoResources
-    /// where the family's history has no room. Memory is taken before anything happens. No call tells a family yet that
-    /// the journal was read again.
+    /// where the family's history has no room. Memory is taken before anything happens. The event is none that a node
+    /// tells its families itself. No call tells a family yet that the journal was read again.
     pub fn apply(
         &mut self,
         key: &ObjectKey,
         event: &Event,
         out: &mut Outbox,
     ) -> Result<StepAnswer, NodeFault>
-        requires given { is_reread (event.now).act ≡ false }
+        requires given { node_makes (event.now).act ≡ false }
         ensures applied { IsApplied D.wants_memory D.told D.faults key.now event.entry.now self.old self.new
             result out.old.words out.new.words
             ⊎ IsUnapplied key.now event.entry.now self.old self.new result out.old.words out.new.words }
@@ -129,8 +130,8 @@ fn step_family<D: Disk>(
     out: &mut Outbox,
 ) -> Result<StepAnswer, NodeFault>
     requires given { is_reread (event.now).act ≡ false }
-    ensures stepped { IfOk result (λ answer. HasSteppedIn D.wants_memory D.told D.faults (family.old).family event.entry.now
-        journal.old journal.new recovered.old recovered.new (family.new).family
+    ensures stepped { IfOk result (λ answer. HasSteppedIn D.wants_memory D.told D.faults (family.old).family
+        event.entry.now journal.old journal.new recovered.old recovered.new (family.new).family
         answer out.old.words out.new.words) }
     ensures fits { IfOk result (λ answer. history.has_room ((family.old).family).entries event.entry.now ≡ true) }
     ensures key { ((family.new).family).key ≡ ((family.old).family).key }
@@ -159,8 +160,9 @@ fn step_reserved<D: Disk>(
     requires reserved { (family.old).ready ≡ Some event.now }
     requires given { is_reread (event.now).act ≡ false }
     requires room { 0 < out.old.room }
-    ensures stepped { HasSteppedIn D.wants_memory D.told D.faults (family.old).family event.entry.now journal.old journal.new
-        recovered.old recovered.new (family.new).family result out.old.words out.new.words }
+    ensures stepped { HasSteppedIn D.wants_memory D.told D.faults (family.old).family event.entry.now
+        journal.old journal.new recovered.old recovered.new (family.new).family
+        result out.old.words out.new.words }
     ensures later { D.faults journal.old.disk ≤ D.faults journal.new.disk }
     ensures key { ((family.new).family).key ≡ ((family.old).family).key }
 {

@@ -19,6 +19,13 @@ impl<D: Disk> Node<D> {
         &self.journal
     }
 
+    /// The life that it is in.
+    pub fn life(&self) -> u32
+        ensures { result ≡ nodes.life self.now.node }
+    {
+        self.journal.life()
+    }
+
     /// The records whose families are gone, as they are told again.
     pub fn records(&self) -> &[Held]
         ensures { result.now ≡ (self.now.node).recovered }

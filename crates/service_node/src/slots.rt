@@ -114,8 +114,9 @@ impl Slots {
     ) -> Result<StepAnswer, NodeFault>
         requires there { IsSome (nodes.family_in self.old slot) }
         requires given { is_reread (event.now).act ≡ false }
-        ensures stepped { IfOk result (λ answer. HasSteppedAt D.wants_memory D.told D.faults slot event.entry.now self.old self.new
-            journal.old journal.new recovered.old recovered.new answer out.old.words out.new.words) }
+        ensures stepped { IfOk result (λ answer. HasSteppedAt D.wants_memory D.told D.faults slot event.entry.now
+            self.old self.new journal.old journal.new recovered.old recovered.new
+            answer out.old.words out.new.words) }
         ensures unmoved { IfErr result (λ fault. IsUnmovedAt slot event.entry.now self.old self.new
             journal.old journal.new recovered.old recovered.new fault out.old.words out.new.words) }
         ensures sure { journal.old.failed ≡ false → journal.old.doubted ≡ None }
