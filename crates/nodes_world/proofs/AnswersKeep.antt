@@ -36,8 +36,8 @@ use Rattle.coordinator.specs.Moves.{◌▹◌, shows, completes_as}
 use Rattle.coordinator.specs.Phases.{has_parent_ended}
 use Rattle.coordinator.specs.Step.{Stepped, acted, answered, entered, family_step, goes_on_at, hears, hears_call, hears_for}
 use Rattle.family_laws.specs.LawsOfTelling.{HasVote}
-use Rattle.nodes_world.specs.AgreementSteps.{is_asking, is_asking_errand, is_asking_round}
 use Rattle.nodes_world.specs.Deliveries.{answer_event, heard_in}
+use Rattle.nodes_world.specs.AgreementInside.{is_asking, is_asking_errand, is_asking_round}
 use Rattle.nodes_world.proofs.KnownSeats.{as_long}
 use Rattle.nodes_world.proofs.RulesKeep.{ArePartiesOf, IsKept, IsRegisteredTo, IsTidy, Rule, completes_keep, due_set, either_keeps, goes_on_keep, kept_itself, only_keeps, then_keeps}
 use Rattle.nodes_world.proofs.StepsKeep.{StepKeeps, entered_keeps, marks_keep}

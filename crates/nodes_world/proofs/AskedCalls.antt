@@ -1,7 +1,8 @@
 -- While a participant is asked, no outcome is fixed, and it hasn't answered; and a call that isn't at the decision hears no vote.
-use Rattle.std.proofs.Common.{◌≡◌, ◌⊎◌, inl, inr, ℕ, ◌&&◌, Bool, true, false, not, is_none, is_some, if◌then◌else◌, List, [], slice_get, Contains, Option, Some, None, refl, sym, ap, subst, ◌∙◌}
+use Rattle.std.proofs.Common.{◌≡◌, ◌⊎◌, inl, inr, ℕ, ◌<◌, ◌&&◌, Bool, true, false, not, is_none, is_some, if◌then◌else◌, List, [], slice_get, Contains, Option, Some, None, refl, sym, ap, subst, ◌∙◌}
 use Rattle.std.specs.Option.{option_map}
 use Rattle.ots_model.specs.declared.completion.CallNumber.{CallNumber}
+use Rattle.ots_model.specs.declared.completion.Stood.{Stood}
 use Rattle.ots_model.specs.declared.completion.Vote.{Vote}
 use Rattle.ots_model.specs.declared.tree.Heard.{Heard}
 use Rattle.ots_model.specs.declared.tree.Heard.TheVariants as hears_words
@@ -32,9 +33,8 @@ use Rattle.coordinator.specs.Hearing.{decision_record, hears_at, settles, told, 
 use Rattle.coordinator.specs.Laws.{IsThere}
 use Rattle.coordinator.specs.Moves.{Moved, only, ◌▹◌}
 use Rattle.coordinator.specs.Step.{Stepped, acted, answered, entered, family_step, goes_on_at, hears, hears_call, hears_for, Appends, WritesDone, wanted_by}
-use Rattle.family_laws.specs.Sound.{IsInStage, IsSoundFamily}
-use Rattle.nodes_world.specs.AgreementInside.{IsNotBefore}
-use Rattle.nodes_world.specs.AgreementSteps.{is_asking, is_asking_errand, is_asking_round}
+use Rattle.family_laws.specs.Sound.{IsInStage, IsOfSub, IsSoundFamily}
+use Rattle.nodes_world.specs.AgreementInside.{IsNotBefore, is_asking, is_asking_errand, is_asking_round}
 use Rattle.nodes_world.specs.Deliveries.{answer_event, heard_in}
 use Rattle.nodes_world.proofs.AnswersKeep.{HearsNoVote, NoVoteAt}
 use Rattle.nodes_world.proofs.StepIs.{FamilyLaws}
@@ -210,6 +210,22 @@ module _ (f : Family) (o : Outward) (answer : Said) (now : ℕ) (waits : waiting
       let heard = laws.votes.told f (answer_event o said.Plain now) None number vote sound (subst (λ (xs : List Effect). Contains xs (effects.Voted number vote)) alike among) in
       no_vote_in heard.number vote heard.answer
 
+  -- what a step leaves of the completion, whatever the journal answers
+  abbrev left_by : Option Stood → Moved → Standing
+  left_by stood m = (m ▹ settles stood ▹ goes_on_at (waiting_for f o.number)).family.completion
+
+  step_leaves : (stood : Option Stood) (said_so : Said) → (family_step f (answer_event o said_so now) stood).family.completion ≡ left_by stood (hears o.number (heard_in said_so) f)
+  unfolding family_step acted answered entered
+  step_leaves stood said_so = ap (λ (x : Option ℕ). (if is_none x then quiet_step else entered f (answer_event o said_so now) stood (acted (answer_event o said_so now) stood f)).family.completion) waits
+    where
+      quiet_step : Stepped
+      quiet_step = record { family = f; said = said.Plain; words = []; finished = []; effects = [] }
+
+  -- it leaves the same, whatever the answer is
+  pub deaf_leaves : (stood : Option Stood) (instead : Said)
+      → (family_step f (answer_event o answer now) stood).family.completion ≡ (family_step f (answer_event o instead now) stood).family.completion
+  deaf_leaves stood instead = step_leaves stood answer ∙ ap (left_by stood) (heard_alike (heard_in instead)) ∙ sym (step_leaves stood instead)
+
   -- and the journal is asked for nothing
   pub deaf_wants : stages.wants_decision f.completion ≡ false → stages.outcome f.completion ≡ None → wanted_by (hears o.number (heard_in answer) f).family ≡ None
   deaf_wants settled open_yet = by (stages.wants_decision g.completion) (wants_done g) (ap stages.wants_decision same_completion ∙ settled)
@@ -223,3 +239,25 @@ module _ (f : Family) (o : Outward) (answer : Said) (now : ℕ) (waits : waiting
       by true u is not_done = absurd cc
       by false true is not_done = absurd cc
       by false false is not_done = refl
+
+-- ---- an answer by which nobody votes
+
+-- the word that is out asks nobody, or it isn't of the call of the top-level transaction
+abbrev pub NobodyVotes : Family → ℕ → Type 0
+NobodyVotes f b = (is_asking f.completion ≡ false) ⊎ (0 < b)
+
+-- the call that waits is at no synchronization; that of a subtransaction tells its own resources, or those below
+pub nobody_hears : (f : Family) (b : ℕ) → NobodyVotes f b → IsSoundFamily f → ((c : Call) → call_at f b ≡ Some c → IsNotBefore c.leg) → NoVoteAt f (call_at f b)
+nobody_hears f b nobody sound legs = by (call_at f b) refl
+  where
+    by_leg : (leg : Leg) → IsNotBefore leg → (0 < b → IsOfSub leg) → NobodyVotes f b → HearsNoVote leg f
+    by_leg Below never of nobody = tt
+    by_leg Own never of nobody = tt
+    by_leg (Before so_many) never of nobody = absurd never
+    by_leg Deciding never of (inl not_asked) = not_asked
+    by_leg Deciding never of (inr less) = absurd (of less)
+    by_leg (After so_many) never of nobody = tt
+
+    by : (o : Option Call) → call_at f b ≡ o → NoVoteAt f o
+    by None at = tt
+    by (Some c) at = by_leg c.leg (legs c at) (λ less. ((sound.under_way b c at).sub less).of_sub) nobody

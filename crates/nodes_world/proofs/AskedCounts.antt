@@ -36,8 +36,8 @@ use Rattle.coordinator.specs.Laws.{IsThere}
 use Rattle.coordinator.specs.Moves.{◌▹◌, completes_as, fixed_now}
 use Rattle.coordinator.specs.Step.{Stepped, acted, answered, entered, family_step, goes_on_at, hears, hears_call, hears_for}
 use Rattle.family_laws.specs.LawsOfTelling.{HasVote, IsVoted, rows_told}
-use Rattle.nodes_world.specs.AgreementSteps.{is_asking}
 use Rattle.nodes_world.specs.Deliveries.{answer_event, heard_in}
+use Rattle.nodes_world.specs.AgreementInside.{is_asking}
 use Rattle.nodes_world.proofs.AnswersKeep.{goes_on_keeps}
 use Rattle.nodes_world.proofs.AskedCalls.{IsAskedOf, asked_of}
 use Rattle.nodes_world.proofs.AskedKeeps as keep
@@ -51,7 +51,7 @@ use Rattle.nodes_world.proofs.StepsKeep.{StepKeeps}
 -- ---- the vote counts
 
 -- what holds of one of a list in which one was set holds of one that was there, or of that one
-any_set_cases : (P : Party → Type 0) (ps : List Party) (i : ℕ) (q : Party) → Any P (slice_set ps i q) → Any P ps ⊎ P q
+pub any_set_cases : (P : Party → Type 0) (ps : List Party) (i : ℕ) (q : Party) → Any P (slice_set ps i q) → Any P ps ⊎ P q
 any_set_cases P ps i q any = go ps i any.0 any.1 any.2 any.3 any.4
   where
     here : (x : Party) (ys : List Party) → P x → Any P (x ∷ ys)

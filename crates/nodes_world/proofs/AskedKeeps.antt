@@ -36,8 +36,8 @@ use Rattle.coordinator.specs.Hearing.{hears_at, inner_number, record_place, told
 use Rattle.coordinator.specs.Laws.{IsThere}
 use Rattle.coordinator.specs.Moves.{shows, completes_as}
 use Rattle.coordinator.specs.Step.{hears, hears_call, hears_for}
-use Rattle.nodes_world.specs.AgreementSteps.{is_asking}
 use Rattle.nodes_world.specs.Deliveries.{heard_in}
+use Rattle.nodes_world.specs.AgreementInside.{is_asking}
 use Rattle.nodes_world.proofs.AnswersKeep.{all_set}
 use Rattle.nodes_world.proofs.AskedCalls.{IsAskedOf, asked_of}
 use Rattle.nodes_world.proofs.AskedVotes.{no_vote_comes, votes_stay}
@@ -151,7 +151,12 @@ no_place : (stood : Option Stood) (reread : Option (Option ℕ)) → stood ≡ N
 no_place None reread none = refl
 no_place (Some x) reread none = absurd cc
 
--- no record stands then
+-- no record stands while one is asked
+pub asked_late : (s : Standing) → IsThere s → is_asking s ≡ true → stages.record_place s ≡ None
+asked_late (Waiting room) there asks = refl
+asked_late (UnderWay k) there asks = no_place k.stood k.reread (not_stood k there (asked_of k there asks))
+
+-- nor once it has answered
 pub answer_late : (s : Standing) → IsThere s → is_asking s ≡ true → (n : CallNumber) (h : ParticipantHeard) → stages.record_place (stages.after_answer n h s) ≡ None
 answer_late (Waiting room) there asks n h = refl
 answer_late (UnderWay k) there asks n h =

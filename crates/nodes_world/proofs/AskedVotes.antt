@@ -13,7 +13,7 @@ use Rattle.two_phase.specs.declared.party.Stage.{Stage as Round}
 use Rattle.two_phase.proofs.Answered.{heard_is}
 use Rattle.coordinator.specs.Laws.{IsThere}
 use Rattle.family_laws.specs.LawsOfTelling.{HasVote, IsVoted}
-use Rattle.nodes_world.specs.AgreementSteps.{is_asking}
+use Rattle.nodes_world.specs.AgreementInside.{is_asking}
 use Rattle.nodes_world.proofs.AnswersKeep.{any_back, any_set}
 use Rattle.nodes_world.proofs.AskedCalls.{IsAskedOf, asked_of}
 

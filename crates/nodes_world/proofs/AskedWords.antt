@@ -19,9 +19,8 @@ use Rattle.coordinator.specs.declared.call.Leg.TheVariants.{Deciding}
 use Rattle.coordinator.specs.Closing.{notice_of}
 use Rattle.coordinator.specs.Family.{Family, Call, call_at, has_out, is_own_number, waiting_for}
 use Rattle.coordinator.specs.Moves.{Notice}
-use Rattle.nodes_world.specs.AgreementInside.{IsNumberedBy, asking_notice, decides_out, notice_out, out_at}
+use Rattle.nodes_world.specs.AgreementInside.{AsksOne, IsNumberedBy, decides_out, notice_at, notice_out, out_at, is_asking}
 use Rattle.coordinator.specs.Laws.{IsThere}
-use Rattle.nodes_world.specs.AgreementSteps.{is_asking}
 use Rattle.nodes_world.proofs.AskedCalls.{IsAskedOf, asked_of}
 
 -- the first call has that word out
@@ -39,7 +38,7 @@ first_out (x ∷ calls) serial c first at =
     let passes = position-Some (has_out serial) (x ∷ calls) 0 x first in
     out_serial c.out serial (sym (ap (has_out serial) at) ∙ passes.1)
 
-first_waits : (f : Family) (n : CallNumber) (c : Call) → waiting_for f n ≡ Some 0 → call_at f 0 ≡ Some c → c.out ≡ Some n.serial
+pub first_waits : (f : Family) (n : CallNumber) (c : Call) → waiting_for f n ≡ Some 0 → call_at f 0 ≡ Some c → c.out ≡ Some n.serial
 unfolding waiting_for
 first_waits f n c waits at = by (is_own_number f n) waits
   where
@@ -64,16 +63,16 @@ own_number f n waits = by (is_own_number f n) refl waits
 abbrev pub asked_notice : (k : Course) → IsAskedOf k → Notice
 asked_notice k asked = record { word = course.first_word (course.decides_alone k); registration = asked.party.index; to = asked.party.to }
 
-notice_is : (k : Course) (asked : IsAskedOf k) → notice_out (UnderWay k) ≡ Some (asked_notice k asked)
+notice_is : (k : Course) (asked : IsAskedOf k) → notice_out (UnderWay k) ≡ Some (AsksOne (asked_notice k asked))
 notice_is k asked =
-    ap (λ (o : Option Errand). option_and_then (asking_notice k) o) asked.out
-    ∙ ap (λ (r : Round). asking_notice k (record asked.errand { stage = r })) asked.round
-    ∙ ap (λ (o : Option Party). option_map (λ (p : Party). record { word = course.first_word (course.decides_alone k); registration = p.index; to = p.to }) o) asked.there
+    ap (λ (o : Option Errand). option_and_then (notice_at k) o) asked.out
+    ∙ ap (λ (r : Round). notice_at k (record asked.errand { stage = r })) asked.round
+    ∙ ap (λ (o : Option Party). option_map (λ (p : Party). AsksOne (record { word = course.first_word (course.decides_alone k); registration = p.index; to = p.to })) o) asked.there
 
 pub asked_word : (f : Family) (o : Outward) (c : Call) → IsNumberedBy f o → waiting_for f o.number ≡ Some 0 → call_at f 0 ≡ Some c → c.leg ≡ Deciding
     → (k : Course) → f.completion ≡ UnderWay k → (asked : IsAskedOf k) → asked_notice k asked ≡ notice_of o
 asked_word f o c numbered waits at decides k going asked =
-    numbered.out (asked_notice k asked)
+    numbered.out (AsksOne (asked_notice k asked))
     (ap decides_out at ∙ ap (λ (leg : Leg). out_at leg c.out) decides ∙ first_waits f o.number c waits at)
     (ap notice_out going ∙ notice_is k asked)
 

@@ -105,7 +105,7 @@ module _ (w : World) (told : List Told) (k : Known w told) where
         not_both_kinds (thing w x.name) at.0 x.key (ap (thing w) same ∙ at.1) (referred_named w told k to x refers)
 
     -- one that takes part in it was told rollback only where that is its outcome
-    part_back : (r : Registration) (x : NamedKey) → Contains (participants 0 f.ballots) r → referred w r.to ≡ Some x
+    pub part_back : (r : Registration) (x : NamedKey) → Contains (participants 0 f.ballots) r → referred w r.to ≡ Some x
         → IsToldRollback x.name (lines_of told) → IsBack (stages.outcome f.completion)
     part_back r x among refers back =
         let known_family = k.families key f there in

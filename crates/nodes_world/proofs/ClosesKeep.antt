@@ -23,8 +23,8 @@ use Rattle.coordinator.specs.Hearing.{closes, decided, hears_at, inner_number, i
 use Rattle.coordinator.specs.Moves.{Moved, only, ◌▹◌, completes_as, fixed_now}
 use Rattle.coordinator.specs.Phases.{has_parent_ended}
 use Rattle.coordinator.specs.Step.{Stepped, acted, answered, entered, family_step, goes_on_at, hears, hears_call, hears_for}
-use Rattle.nodes_world.specs.AgreementSteps.{is_asking}
 use Rattle.nodes_world.specs.Deliveries.{answer_event, heard_in}
+use Rattle.nodes_world.specs.AgreementInside.{is_asking}
 use Rattle.nodes_world.proofs.AnswersKeep.{HearsNoVote, NoVoteAt, hears_keeps, in_call, no_effects, no_voter, outcome_stays}
 use Rattle.nodes_world.proofs.RulesKeep.{IsTidy, Rule, either_keeps, goes_on_keep, only_keeps, shows_keep, then_keeps}
 use Rattle.nodes_world.proofs.StepsKeep.{StepKeeps, entered_keeps}

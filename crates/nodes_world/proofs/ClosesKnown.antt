@@ -1,5 +1,5 @@
 -- What is known of a world is known once an answer was heard by which nobody votes, and the family's own Done was asked of the journal.
-use Rattle.std.proofs.Common.{◌≡◌, inl, inr, ℕ, ◌≤◌, ◌-◌, ◌==◌, Bool, true, false, IsTrue, if◌then◌else◌, List, [], ◌∷◌, ◌++◌, append_assoc, append-nil, slice_get, slice_set, Contains, Option, Some, None, refl, sym, ap, subst, ◌∙◌, arith}
+use Rattle.std.proofs.Common.{◌≡◌, inl, inr, ℕ, ◌≤◌, ◌==◌, true, false, IsTrue, List, [], ◌∷◌, ◌++◌, append_assoc, append-nil, slice_get, slice_set, Contains, Option, Some, None, refl, sym, ap, subst, ◌∙◌, arith}
 use Rattle.std.specs.Prelude.{Ok}
 use Rattle.std.specs.List.{AllByRecursion, filter_map}
 use Rattle.std.specs.Option.{option_and_then}
@@ -18,19 +18,18 @@ use Rattle.two_phase.specs.Stages as stages
 use Rattle.coordinator.specs.declared.effect.Effect.{Effect}
 use Rattle.coordinator.specs.declared.effect.Effect.TheVariants as effects
 use Rattle.coordinator.specs.declared.event.Event.{Event}
-use Rattle.coordinator.specs.declared.node.NodeFault.TheVariants as faults
 use Rattle.coordinator.specs.declared.said.Entry.{Entry}
 use Rattle.coordinator.specs.declared.said.Said.{Said}
 use Rattle.coordinator.specs.Family.{Family}
 use Rattle.coordinator.specs.Moves.{fixed_now}
 use Rattle.coordinator.specs.History.{has_room}
 use Rattle.coordinator.specs.Node.{Node, family_in, family_of, is_of, with_family}
-use Rattle.coordinator.specs.NodeCalls.{Applied, answer_of, applied_by, applies, call_wants, family_for, journaled, refuses, retold_answer, steps_to, wanted_by}
+use Rattle.coordinator.specs.NodeCalls.{Applied, answer_of, applies, call_wants, family_for, journaled, steps_to}
 use Rattle.coordinator.specs.Step.{Stepped, Wanted, Appends, WritesDone, Rereads, family_step, hears, wanted}
 use Rattle.family_laws.specs.HeldRecords.{WasHeld}
 use Rattle.family_laws.specs.LawsOfTelling.{decided_in}
 use Rattle.family_laws.specs.OwnDecisions.{HasDecision, KeepsDecisions, NodesKeepDecisions}
-use Rattle.nodes_world.specs.Agreement.{FollowsDisk, IsHeldWhole, records_at}
+use Rattle.nodes_world.specs.Agreement.{IsHeldWhole, records_at}
 use Rattle.nodes_world.specs.AgreementInside.{Known, FamilyIsKnown, HasMessage, edge_at, journal_end}
 use Rattle.nodes_world.specs.Deliveries.{answer_event, heard_in}
 use Rattle.nodes_world.specs.Disks.{Stop}
@@ -39,24 +38,24 @@ use Rattle.nodes_world.specs.Happenings.{Cast, all_effect_lines, all_finished_li
 use Rattle.nodes_world.specs.Journals.{Asked, Answers, Stops, asks, records_on}
 use Rattle.nodes_world.specs.Laws.{AskingLeaves, CanAsk, CrashLeaves, IsInOrder}
 use Rattle.nodes_world.specs.Nodes.{answer_told, applied_at, cast_by, crashes, crashes_seat, entries_of, heard_lines, steps_by, steps_node, stopped_at}
-use Rattle.nodes_world.specs.Objects.{family_key, place_of, service_at}
+use Rattle.nodes_world.specs.Objects.{family_key, service_at}
 use Rattle.nodes_world.specs.Told as tell
 use Rattle.nodes_world.specs.Told.{Told}
-use Rattle.nodes_world.specs.World.{World, Seat, OfNode, family_at, node_at, referred, with_disk, with_seat, with_server}
-use Rattle.nodes_world.proofs.CallKnown.{for_key, key_slot, slot_key, tidy_of}
+use Rattle.nodes_world.specs.World.{World, Seat, OfNode, family_at, referred, with_disk, with_seat, with_server}
+use Rattle.nodes_world.proofs.CallKnown.{for_key, slot_key, tidy_of}
 use Rattle.nodes_world.proofs.ClosesKeep.{IsMark, MarkAlone}
 use Rattle.nodes_world.proofs.ClosesShut.{is_standing, own_decision, shut, shut_node, shut_keeps, written_keeps}
+use Rattle.nodes_world.proofs.ComesTo.{ComesTo, comes_to}
 use Rattle.nodes_world.proofs.CompletesKnown.{JournalLaws, can_close, wanted_more}
 use Rattle.nodes_world.proofs.DoneKnown.{GoesOn, added, gone_on_known, is_done_line}
 use Rattle.nodes_world.proofs.Edges.{edge_held, edge_is, end_grows}
 use Rattle.nodes_world.proofs.EffectsSame.{effects_same}
 use Rattle.nodes_world.proofs.Going.{get_set, on_seat_twice, set_twice}
 use Rattle.nodes_world.proofs.KnownAlike.{referred_by}
-use Rattle.nodes_world.proofs.KnownFamilies.{family_found, same_parts}
+use Rattle.nodes_world.proofs.KnownFamilies.{family_found}
 use Rattle.nodes_world.proofs.KnownLines.{lines_of}
 use Rattle.nodes_world.proofs.KnownSeats.{seat_names_kept}
 use Rattle.nodes_world.proofs.KnownTelling.{IsOne}
-use Rattle.nodes_world.proofs.KnownWorlds.{node_there}
 use Rattle.nodes_world.proofs.LoadedLines.{all_both}
 use Rattle.nodes_world.proofs.RulesKeep.{kept_itself}
 use Rattle.nodes_world.proofs.StepIs.{FamilyLaws, StepIs, entry_cases, keeps_is, kept_step, speaks_of}
@@ -104,84 +103,30 @@ module _ (laws : FamilyLaws) (journals : JournalLaws) (nodes : NodesKeepDecision
   abbrev asked : Option Wanted
   asked = Some (WritesDone done)
 
-  retold : retold_answer e.act ≡ None
-  retold = ap (λ (b : Bool). if b then Some (record { number = o.number; heard = heard_in answer }) else None) family
-
-  own_place : place_of key ≡ place
-  own_place = omega arith
-
-  applied_is : (stood : Option Stood) → applies key e stood n ≡ steps_to n f e stood (family_step f e stood)
-  unfolding applies
-  applied_is stood =
-      ap (λ (x : Option Family). applied_by x key e stood n) (for_key key e n retold ∙ of)
-      ∙ ap (λ (b : Bool). if b then steps_to n f e stood (family_step f e stood) else refuses faults.NoResources n) room
-
-  wants_it : call_wants key e n ≡ asked
-  unfolding call_wants
-  wants_it = ap (λ (x : Option Family). wanted_by x e n) (for_key key e n retold ∙ of) ∙ ap (λ (b : Bool). if b then wanted f e else None) room ∙ wants
-
-  slot : (family_in n.families key.slot ≡ Some f) × IsTrue (is_of key f)
-  slot = key_slot key n f of
-
-  parts : (key.service ≡ f.key.service) × (key.life ≡ f.key.life) × (key.slot ≡ f.key.slot) × (key.generation ≡ f.key.generation)
-  parts = same_parts key.service key.life key.slot key.generation f.key.service f.key.life f.key.slot f.key.generation slot.1
-
-  at_place : place_of f.key ≡ place
-  at_place = ap (λ (x : ℕ). x - 1) (sym parts.0) ∙ own_place
-
-  slotted : family_in n.families f.key.slot ≡ Some f
-  slotted = subst (λ (x : ℕ). family_in n.families x ≡ Some f) parts.2 slot.0
-
-  found_here : family_at w key ≡ Some f
-  found_here = family_found w key f (record { seat = s; node = n; there = ap (slice_get w.seats) own_place ∙ there; up = up; slotted = slot.0; own = slot.1 })
-
-  -- ---- its journal
-
-  node_up : node_at w place ≡ Some n
-  node_up = node_there w place s n there up
-
-  disk_follows : FollowsDisk place s n
-  disk_follows = k.disks.follows place s n there up
+  comes : ComesTo w place now o answer s n f (WritesDone done)
+  comes = comes_to w place now o answer s n f (WritesDone done) there up family of room wants told k
 
   abbrev rs : List JournalRecord
-  rs = disk_follows.records
-
-  held : records_at w place ≡ Some rs
-  held = ap (λ (x : Option Seat). option_and_then (λ (y : Seat). records_on (service_at place) y.disk) x) there ∙ disk_follows.held
-
-  order : IsInOrder (service_at place) s.disk rs
-  order = (k.nodes place n node_up).order s rs there held
-
-  found : n.found ≡ found_in rs
-  found = disk_follows.found
-
-  asked_is : asks (call_wants key e n) n.service n.found s.disk s.stop ≡ asks asked (service_at place) (found_in rs) s.disk s.stop
-  asked_is =
-      ap (λ (x : Option Wanted). asks x n.service n.found s.disk s.stop) wants_it
-      ∙ ap (λ (x : ℕ). asks asked x n.found s.disk s.stop) disk_follows.service
-      ∙ ap (λ (x : Found). asks asked (service_at place) x s.disk s.stop) found
+  rs = comes.rs
 
   -- its decision stands, and isn't told again
-  sound : KeepsDecisions (edge_at w place) n
-  sound = (k.nodes place n node_up).sound
-
   decision : HasDecision n f done
-  decision = nodes.closes (edge_at w place) f.key.slot done f e n sound slotted wants
+  decision = nodes.closes (edge_at w place) f.key.slot done f e n comes.sound comes.slotted wants
 
   can : CanAsk asked (found_in rs)
-  can = can_close place rs s.disk order decision.stood (subst (λ (x : Found). Contains x.standing decision.stood) found decision.there)
+  can = can_close place rs s.disk comes.order decision.stood (subst (λ (x : Found). Contains x.standing decision.stood) comes.found decision.there)
       (own_decision f decision.stood.item decision.own) done decision.at
 
   -- ---- the family remembers that it asked
 
   known_f : FamilyIsKnown w (lines_of told) f
-  known_f = k.families key f found_here
+  known_f = k.families key f comes.there
 
   asks_is : StepIs w f (shut f) [] []
   asks_is = record {
     key = refl;
     sound = known_f.sound;
-    tidy = tidy_of w told k key f found_here;
+    tidy = tidy_of w told k key f comes.there;
     turn = tt;
     rows = refl;
     registrations = refl;
@@ -206,7 +151,7 @@ module _ (laws : FamilyLaws) (journals : JournalLaws) (nodes : NodesKeepDecision
 
   -- the node in which it does
   abbrev n1 : Node
-  n1 = shut_node n f slotted (edge_at w place) sound
+  n1 = shut_node n f comes.slotted (edge_at w place) comes.sound
 
   abbrev s1 : Seat
   s1 = record s { server = OfNode (Some n1) }
@@ -216,13 +161,13 @@ module _ (laws : FamilyLaws) (journals : JournalLaws) (nodes : NodesKeepDecision
 
   known_1 : Known w1 told
   known_1 = subst (Known w1) (append-nil told)
-      (step_known w place s n f (shut f) there up slotted at_place told k key found_here (cast_of f) (record { key = refl; registrations = refl }) [] [] asks_is [] [] (shut_keeps n f slotted (edge_at w place) sound) known_f.came)
+      (step_known w place s n f (shut f) there up comes.slotted comes.at_place told k key comes.there (cast_of f) (record { key = refl; registrations = refl }) [] [] asks_is [] [] (shut_keeps n f comes.slotted (edge_at w place) comes.sound) known_f.came)
 
   there_1 : slice_get w1.seats place ≡ Some s1
   there_1 = get_set w.seats place s s1 there
 
   held_1 : records_at w1 place ≡ Some rs
-  held_1 = ap (λ (x : Option Seat). option_and_then (λ (y : Seat). records_on (service_at place) y.disk) x) there_1 ∙ disk_follows.held
+  held_1 = ap (λ (x : Option Seat). option_and_then (λ (y : Seat). records_on (service_at place) y.disk) x) there_1 ∙ comes.reads
 
   -- ---- it answers
 
@@ -235,7 +180,7 @@ module _ (laws : FamilyLaws) (journals : JournalLaws) (nodes : NodesKeepDecision
     g = step.family
 
     leaves : AskingLeaves (service_at place) rs asked stood disk
-    leaves = journals.keep asked (service_at place) rs s.disk s.stop stood disk stop order can answered_so
+    leaves = journals.keep asked (service_at place) rs s.disk s.stop stood disk stop comes.order can answered_so
 
     more : (x : Option ℕ) × (leaves.more ≡ added x)
     more = wanted_more done leaves.more leaves.asked
@@ -248,7 +193,7 @@ module _ (laws : FamilyLaws) (journals : JournalLaws) (nodes : NodesKeepDecision
     m = record n { found = journaled asked stood n.found }
 
     found_then : m.found ≡ found_in (rs ++ added more.0)
-    found_then = ap (journaled asked stood) found ∙ leaves.found ∙ ap (λ (x : List JournalRecord). found_in (rs ++ x)) more.1
+    found_then = ap (journaled asked stood) comes.found ∙ leaves.found ∙ ap (λ (x : List JournalRecord). found_in (rs ++ x)) more.1
 
     whole : (h : Held) → Contains n.recovered h → IsHeldWhole n h
     whole h c = (k.disks.decisions place s n there up).whole h c
@@ -263,13 +208,13 @@ module _ (laws : FamilyLaws) (journals : JournalLaws) (nodes : NodesKeepDecision
     edge = journal_end (rs ++ added more.0)
 
     grows : edge_at w place ≤ edge
-    grows = subst (λ (i : ℕ). i ≤ edge) (sym (edge_is w place rs held)) (end_grows rs (added more.0))
+    grows = subst (λ (i : ℕ). i ≤ edge) (sym (edge_is w place rs comes.held)) (end_grows rs (added more.0))
 
     sound_now : KeepsDecisions edge (with_family g m)
     sound_now =
-        subst (KeepsDecisions edge) (ap (λ (a : Applied). a.node) (applied_is stood) ∙ node_now)
-        (nodes.called (edge_at w place) edge key e stood n grows (λ item at is so. absurd (not_appended (sym wants_it ∙ is)))
-        (λ x at called is so. absurd (not_read (sym wants_it ∙ is))) sound)
+        subst (KeepsDecisions edge) (ap (λ (a : Applied). a.node) (comes.applied stood) ∙ node_now)
+        (nodes.called (edge_at w place) edge key e stood n grows (λ item at is so. absurd (not_appended (sym comes.wants ∙ is)))
+        (λ x at called is so. absurd (not_read (sym comes.wants ∙ is))) comes.sound)
       where
         not_appended : {item : JournalRecord} → asked ≡ Some (Appends item) → ⊥
         not_appended same = cc
@@ -298,7 +243,7 @@ module _ (laws : FamilyLaws) (journals : JournalLaws) (nodes : NodesKeepDecision
           generation = refl;
           families = refl;
           found = found_then;
-          sound = written_keeps n f slotted (edge_at w place) sound done stood decision sound_now.sound.order edge grows;
+          sound = written_keeps n f comes.slotted (edge_at w place) comes.sound done stood decision sound_now.sound.order edge grows;
           was = was;
           whole = whole_now;
         })
@@ -326,16 +271,16 @@ module _ (laws : FamilyLaws) (journals : JournalLaws) (nodes : NodesKeepDecision
         ∙ journals.read (service_at place) disk.reads (rs ++ added more.0) order_then.stands
 
     slotted_v : family_in m1.families f.key.slot ≡ Some (shut f)
-    slotted_v = seats.in_own_slot n f (shut f) refl slotted
+    slotted_v = seats.in_own_slot n f (shut f) refl comes.slotted
 
     found_v : family_at v key ≡ Some (shut f)
     found_v = family_found v key (shut f) (record {
       seat = left;
       node = m1;
-      there = ap (slice_get v.seats) own_place ∙ there_v;
+      there = ap (slice_get v.seats) comes.own_place ∙ there_v;
       up = refl;
-      slotted = ap (family_in m1.families) parts.2 ∙ slotted_v;
-      own = slot.1;
+      slotted = ap (family_in m1.families) comes.same_slot ∙ slotted_v;
+      own = comes.slot.1;
     })
 
     same_key : g.key ≡ f.key
@@ -393,7 +338,7 @@ module _ (laws : FamilyLaws) (journals : JournalLaws) (nodes : NodesKeepDecision
     gone : Known (requests_all place step.words u).world ((told ++ lines) ++ (requests_all place step.words u).lines)
     gone =
         subst (λ (c : Node). Known (requests_all place step.words (then_with c)).world ((told ++ lines) ++ (requests_all place step.words (then_with c)).lines)) one_node
-        (words_gone v place left m1 (shut f) g there_v refl slotted_v at_place told known_v key found_v (cast_of g)
+        (words_gone v place left m1 (shut f) g there_v refl slotted_v comes.at_place told known_v key found_v (cast_of g)
         (record { key = same_key; registrations = (keeps stood).registrations }) step.effects step.words
         step_is g.entries step.finished (edge_held v place (rs ++ added more.0) (with_family g m1) records_v (subst (KeepsDecisions edge) (sym one_node) sound_now)) entries_came)
 
@@ -401,11 +346,11 @@ module _ (laws : FamilyLaws) (journals : JournalLaws) (nodes : NodesKeepDecision
 
     for_now : family_for key e (steps_to n f e stood step).node ≡ Some g
     for_now =
-        for_key key e (steps_to n f e stood step).node retold
+        for_key key e (steps_to n f e stood step).node comes.retold
         ∙ ap (family_of key) node_now
         ∙ slot_key key (with_family g m) g
-        (ap (family_in (with_family g m).families) (parts.2 ∙ ap (λ (x : ObjectKey). x.slot) (sym same_key)) ∙ seats.in_own_slot m f g same_key slotted)
-        (subst (λ (x : ObjectKey). IsTrue (is_of key (record g { key = x }))) (sym same_key) slot.1)
+        (ap (family_in (with_family g m).families) (comes.same_slot ∙ ap (λ (x : ObjectKey). x.slot) (sym same_key)) ∙ seats.in_own_slot m f g same_key comes.slotted)
+        (subst (λ (x : ObjectKey). IsTrue (is_of key (record g { key = x }))) (sym same_key) comes.slot.1)
 
     refers : (to : List ℕ) → referred v to ≡ referred w to
     refers to = referred_by w1 v to refl (seat_names_kept w1 place s1 left there_1 refl) ∙ referred_by w w1 to refl (seat_names_kept w place s s1 there refl)
@@ -435,7 +380,7 @@ module _ (laws : FamilyLaws) (journals : JournalLaws) (nodes : NodesKeepDecision
     answered_known =
         let here : Known (requests_all place step.words u).world (told ++ (([] ++ lines) ++ (requests_all place step.words u).lines)) =
         subst (Known (requests_all place step.words u).world) (append_assoc told lines (requests_all place step.words u).lines) gone in
-        subst (λ (a : Applied). Known (applied_at place key e n disk stop a w).done.world (told ++ (applied_at place key e n disk stop a w).done.lines)) (sym (applied_is stood))
+        subst (λ (a : Applied). Known (applied_at place key e n disk stop a w).done.world (told ++ (applied_at place key e n disk stop a w).done.lines)) (sym (comes.applied stood))
         (subst (λ (x : World). Known (requests_all place step.words x).world (told ++ (([] ++ said_lines) ++ (requests_all place step.words x).lines))) (sym world_now)
         (subst (λ (ls : List Told). Known (requests_all place step.words u).world (told ++ (([] ++ ls) ++ (requests_all place step.words u).lines))) (sym lines_now) here))
 
@@ -443,7 +388,7 @@ module _ (laws : FamilyLaws) (journals : JournalLaws) (nodes : NodesKeepDecision
 
   module _ (image : List ℕ) (stops : asks asked (service_at place) (found_in rs) s.disk s.stop ≡ Stops image) where
     crash : CrashLeaves (service_at place) rs asked image
-    crash = journals.stop asked (service_at place) rs s.disk s.stop image order can stops
+    crash = journals.stop asked (service_at place) rs s.disk s.stop image comes.order can stops
 
     left_more : (x : Option ℕ) × IsInOrder (service_at place) (at_first image) (rs ++ added x)
     left_more = elim crash.leaves [
@@ -466,11 +411,11 @@ module _ (laws : FamilyLaws) (journals : JournalLaws) (nodes : NodesKeepDecision
 
     stopped_known : Known (stopped_at place key e n image w).done.world (told ++ (stopped_at place key e n image w).done.lines)
     stopped_known =
-        subst (λ (x : Option Family). Known (crashes place image w).world (told ++ (heard_lines w x e ++ (crashes place image w).lines))) (sym (for_key key e n retold ∙ of))
+        subst (λ (x : Option Family). Known (crashes place image w).world (told ++ (heard_lines w x e ++ (crashes place image w).lines))) (sym (for_key key e n comes.retold ∙ of))
         (subst (λ (d : happen.Done). Known d.world (told ++ (heard_then ++ d.lines))) (sym crash_is)
         (subst (λ (x : World). Known x (told ++ (heard_then ++ tell.Down s.name ∷ [])))
         (sym (on_seat_twice place (λ (x : Seat). record x { disk = at_first image; stop = None }) (λ (x : Seat). record x { server = OfNode None }) w s there))
-        (gone_on_known journals.grow journals.read w place s n told there up k rs held left_more.0 (at_first image) left_more.1 None None nothing_up
+        (gone_on_known journals.grow journals.read w place s n told there up k rs comes.held left_more.0 (at_first image) left_more.1 None None nothing_up
         (heard_then ++ tell.Down s.name ∷ []) down_lines)))
 
   by_asked : (a : Asked) → asks asked (service_at place) (found_in rs) s.disk s.stop ≡ a
@@ -479,4 +424,4 @@ module _ (laws : FamilyLaws) (journals : JournalLaws) (nodes : NodesKeepDecision
   by_asked (Stops image) is = stopped_known image is
 
   pub closed_known : Known (steps_node (Some n) s place key e w).done.world (told ++ (steps_node (Some n) s place key e w).done.lines)
-  closed_known = by_asked (asks (call_wants key e n) n.service n.found s.disk s.stop) (sym asked_is)
+  closed_known = by_asked (asks (call_wants key e n) n.service n.found s.disk s.stop) (sym comes.asks_so)

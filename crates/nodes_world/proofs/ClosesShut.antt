@@ -9,17 +9,15 @@ use Rattle.decision_journal.specs.declared.journal.Standing.{Standing}
 use Rattle.decision_journal.specs.declared.record.JournalRecord.{JournalRecord}
 use Rattle.decision_journal.specs.declared.record.JournalRecord.TheVariants.{Life, Decision, Done, Prepared, CellsPrepared, CellsOutcome, CellsOnePhase}
 use Rattle.recovery_coord.specs.declared.held.Held.{Held}
-use Rattle.two_phase.specs.Stages as stages
 use Rattle.coordinator.specs.Family.{Family}
 use Rattle.coordinator.specs.Node.{Node, family_in, with_family}
 use Rattle.coordinator.specs.NodeCalls.{journaled}
-use Rattle.coordinator.specs.NodeParts.{IsInSlot}
 use Rattle.coordinator.specs.Step.{WritesDone}
-use Rattle.family_laws.specs.Sound.{IsSoundFamily}
 use Rattle.family_laws.specs.OwnDecisions.{HasDecision, IsUnclosed, KeepsDecisions, StandsAt}
-use Rattle.family_laws.specs.SoundNode.{AreInOrder, HasFamilyOf, IsDecisionOf, IsSoundNode}
+use Rattle.family_laws.specs.SoundNode.{AreInOrder, IsDecisionOf, IsSoundNode}
 use Rattle.nodes_world.proofs.DoneKnown.{stands_still}
 use Rattle.nodes_world.proofs.KnownFamilies.{all_at}
+use Rattle.nodes_world.proofs.SameRecords.{as_far_keeps}
 use Rattle.nodes_world.proofs.SoundNodes.{all_of}
 use Rattle.nodes_world.proofs.StepSeats as seats
 
@@ -95,55 +93,10 @@ same_or_not a b = grind arith
 inner : {A : Type 0} {a b : A} → Some a ≡ Some b → a ≡ b
 inner e = cc
 
-shut_own : (f : Family) (r : JournalRecord) → IsDecisionOf f r → IsDecisionOf (shut f) r
-shut_own f (Decision in_life slot generation by asked regs) own = own
-shut_own f (Life in_life) own = own
-shut_own f (Done named) own = own
-shut_own f (Prepared in_life slot generation recovery regs) own = own
-shut_own f (CellsPrepared in_life number recovery puts) own = own
-shut_own f (CellsOutcome named how) own = own
-shut_own f (CellsOnePhase in_life number puts) own = own
-
 module _ (n : Node) (f : Family) (slotted : family_in n.families f.key.slot ≡ Some f) (edge : ℕ)
     (keeps : KeepsDecisions edge n) where
   abbrev pub shut_node : Node
   shut_node = with_family (shut f) n
-
-  -- a family is the one in its slot, or another one
-  by_slot : (P : ℕ → Family → Type 0) → P f.key.slot (shut f) → ((slot : ℕ) (h : Family) → family_in n.families slot ≡ Some h → P slot h) → (slot : ℕ) (h : Family)
-      → family_in shut_node.families slot ≡ Some h → P slot h
-  by_slot P own others slot h at = elim (seats.slot_cases n f (shut f) refl slotted slot h at) [
-    | inl here ↦ subst (λ (i : ℕ). P i h) (sym here.0) (subst (P f.key.slot) (sym here.1) own)
-    | inr other ↦ others slot h other.1
-  ]
-
-  kept_slot : (slot : ℕ) (h : Family) → IsInSlot n slot h → IsInSlot shut_node slot h
-  kept_slot slot h was = record { of_service = was.of_service; of_life = was.of_life; own_slot = was.own_slot; given = was.given }
-
-  own_there : IsInSlot shut_node f.key.slot (shut f) × IsSoundFamily (shut f)
-  own_there =
-      let was = keeps.sound.families f.key.slot f slotted in
-      (record { of_service = was.0.of_service; of_life = was.0.of_life; own_slot = was.0.own_slot; given = was.0.given }, was.1)
-
-  family_of_it : (x : Standing) → HasFamilyOf n.families x → HasFamilyOf shut_node.families x
-  family_of_it x has = elim (same_or_not has.slot f.key.slot) [
-    | inl here ↦
-        let is : f ≡ has.family = inner (sym slotted ∙ ap (family_in n.families) (sym here) ∙ has.there) in
-        record {
-          slot = f.key.slot;
-          family = shut f;
-          there = seats.in_own_slot n f (shut f) refl slotted;
-          own = shut_own f x.item (subst (λ (y : Family). IsDecisionOf y x.item) (sym is) has.own);
-          decided = ap (λ (y : Family). stages.record_place y.completion) is ∙ has.decided;
-        }
-    | inr other ↦ record {
-      slot = has.slot;
-      family = has.family;
-      there = seats.in_other_slot n f (shut f) refl slotted has.slot other ∙ has.there;
-      own = has.own;
-      decided = has.decided;
-    }
-  ]
 
   not_unclosed : {place : ℕ} {A : Type 0} → IsUnclosed (shut f) place → A
   not_unclosed u = absurd (no u.unasked)
@@ -151,41 +104,9 @@ module _ (n : Node) (f : Family) (slotted : family_in n.families f.key.slot ≡ 
       no : {x : Stood} → Some x ≡ None → ⊥
       no e = cc
 
-  own_then : (slot : ℕ) (h : Family) → family_in shut_node.families slot ≡ Some h → (x : Standing) → Contains n.found.standing x
-      → stages.record_place h.completion ≡ Some x.place → IsDecisionOf h x.item
-  own_then = by_slot (λ (slot : ℕ) (h : Family). (x : Standing) → Contains n.found.standing x → stages.record_place h.completion ≡ Some x.place → IsDecisionOf h x.item)
-      (λ x c at. shut_own f x.item (keeps.own f.key.slot f x slotted c at)) (λ slot h at x c decided. keeps.own slot h x at c decided)
-
-  unclosed_then : (slot : ℕ) (h : Family) → family_in shut_node.families slot ≡ Some h → (place : ℕ) → IsUnclosed h place → HasDecision shut_node h place
-  unclosed_then = by_slot (λ (slot : ℕ) (h : Family). (place : ℕ) → IsUnclosed h place → HasDecision shut_node h place)
-      (λ place u. not_unclosed u)
-      (λ slot h at place u. let was = keeps.unclosed slot place h at u in
-      record { stood = was.stood; there = was.there; at = was.at; own = was.own; untold = was.untold })
-
-  sound_shut : IsSoundNode shut_node
-  sound_shut = record {
-    slots = as_long n.families f.key.slot (Some (shut f)) ∙ keeps.sound.slots;
-    families = by_slot (λ (slot : ℕ) (h : Family). IsInSlot shut_node slot h × IsSoundFamily h) own_there
-        (λ slot h at. let was = keeps.sound.families slot h at in (kept_slot slot h was.0, was.1));
-    last = keeps.sound.last;
-    numbers = keeps.sound.numbers;
-    order = keeps.sound.order;
-    decisions = λ x c is. elim (keeps.sound.decisions x c is) [ inl held ↦ inl held | inr has ↦ inr (family_of_it x has) ];
-  }
-
-  decided_then : (slot : ℕ) (h : Family) → family_in shut_node.families slot ≡ Some h → (place : ℕ) → stages.record_place h.completion ≡ Some place → place < edge
-  decided_then = by_slot (λ (slot : ℕ) (h : Family). (place : ℕ) → stages.record_place h.completion ≡ Some place → place < edge)
-      (λ place at. keeps.decided f.key.slot place f slotted at) (λ slot h at place decided. keeps.decided slot place h at decided)
-
   pub shut_keeps : KeepsDecisions edge shut_node
-  shut_keeps = record {
-    sound = sound_shut;
-    before = keeps.before;
-    decided = λ slot place h at is. decided_then slot h at place is;
-    own = λ slot h x at c decided. own_then slot h at x c decided;
-    held = keeps.held;
-    unclosed = λ slot place h at u. unclosed_then slot h at place u;
-  }
+  shut_keeps = as_far_keeps n f (shut f) slotted edge keeps
+      (record { key = refl; sound = (keeps.sound.families f.key.slot f slotted).1; places = refl; unclosed = λ place u. not_unclosed u })
 
   -- ---- its Done is written
 
@@ -225,7 +146,7 @@ module _ (n : Node) (f : Family) (slotted : family_in n.families f.key.slot ≡ 
 
     sound_written : IsSoundNode written_node
     sound_written =
-        let was = sound_shut in
+        let was = shut_keeps.sound in
         record {
           slots = was.slots;
           families = λ slot h at. let in_it = was.families slot h at in
@@ -241,8 +162,8 @@ module _ (n : Node) (f : Family) (slotted : family_in n.families f.key.slot ≡ 
       sound = sound_written;
       before = all_of (λ (x : Standing). x.place < later) written_node.found.standing
           (λ x c. let b = all_at (λ (y : Standing). y.place < edge) n.found.standing x keeps.before (was_standing done stood n.found x c) in omega (arith, b, grows));
-      decided = λ slot place h at is. let b = decided_then slot h at place is in omega (arith, b, grows);
-      own = λ slot h x at c decided. own_then slot h at x (was_standing done stood n.found x c) decided;
+      decided = λ slot place h at is. let b = shut_keeps.decided slot place h at is in omega (arith, b, grows);
+      own = λ slot h x at c decided. shut_keeps.own slot h x at (was_standing done stood n.found x c) decided;
       held = held_still;
       unclosed = λ slot place h at u. unclosed_still slot h at place u;
     }

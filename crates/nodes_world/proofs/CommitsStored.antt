@@ -72,7 +72,7 @@ stored_by w request x r h states.ChoseCommit there is voted not_dropped = absurd
 stored_by w request x r h states.ChoseRollback there is voted not_dropped = absurd voted
 stored_by w request x r h states.Forgotten there is voted not_dropped = absurd voted
 
-stored : (w : World) (told : List Told) → Known w told → (nth place : ℕ) (o : Outward) (x : NamedKey) → IsWord w nth place o → o.word ≡ words.Commit
+pub stored : (w : World) (told : List Told) → Known w told → (nth place : ℕ) (o : Outward) (x : NamedKey) → IsWord w nth place o → o.word ≡ words.Commit
     → referred w o.to ≡ Some x → IsStored (obeys (nth + 1) o w).world x.key
 unfolding obeys
 stored w told k nth place o x word commit refers =

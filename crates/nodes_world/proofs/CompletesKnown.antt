@@ -261,6 +261,9 @@ module _ (laws : JournalLaws) (nodes : NodesKeepDecisions) (stood_law : HeldReco
   can : CanAsk wanted (found_in rs)
   can = can_close place rs s.disk order stands.stood (subst (λ (f : Found). Contains f.standing stands.stood) found stands.stands) decision done at_done
 
+  pub can_now : CanAsk wanted n.found
+  can_now = subst (CanAsk wanted) (sym found) can
+
   asked_is : asks (call_wants key e n) n.service n.found s.disk s.stop ≡ asks wanted (service_at place) (found_in rs) s.disk s.stop
   asked_is =
       ap (λ (x : Option Wanted). asks x n.service n.found s.disk s.stop) call_wants_it

@@ -33,8 +33,7 @@ use Rattle.coordinator.specs.Node.{Node, family_in}
 use Rattle.coordinator.specs.NodeParts.{IsInSlot, IsWhole}
 use Rattle.coordinator.specs.Step.{Appends, hears}
 use Rattle.family_laws.specs.Sound.{HasParties, called}
-use Rattle.nodes_world.specs.AgreementInside.{Known, FamilyIsKnown}
-use Rattle.nodes_world.specs.AgreementSteps.{is_asking}
+use Rattle.nodes_world.specs.AgreementInside.{Known, FamilyIsKnown, is_asking}
 use Rattle.nodes_world.specs.Laws.{CanAsk}
 use Rattle.nodes_world.specs.Told.{Told}
 use Rattle.nodes_world.specs.World.{World, Seat, OfNode, family_at}
@@ -203,12 +202,12 @@ module _ (w : World) (told : List Told) (k : Known w told) (key : ObjectKey) (f 
 
 -- ---- the record that is asked for where the last vote is heard
 
-same_index : (round : Round) (h : ParticipantHeard) (p : Party) → (course.heard_at round h p).index ≡ p.index
+pub same_index : (round : Round) (h : ParticipantHeard) (p : Party) → (course.heard_at round h p).index ≡ p.index
 same_index rounds.Asking h p = refl
 same_index rounds.Telling h p = refl
 same_index rounds.Forgetting h p = refl
 
-map_set : {B : Type 0} (g : Party → B) (ps : List Party) (i : ℕ) (p q : Party) → slice_get ps i ≡ Some p → g q ≡ g p → map g (slice_set ps i q) ≡ map g ps
+pub map_set : {B : Type 0} (g : Party → B) (ps : List Party) (i : ℕ) (p q : Party) → slice_get ps i ≡ Some p → g q ≡ g p → map g (slice_set ps i q) ≡ map g ps
 map_set g [] i p q there same = refl
 map_set g (x ∷ ps) zero p q there same = ap (λ u. u ∷ map g ps) (same ∙ sym (ap g (inner there)))
   where
@@ -216,7 +215,7 @@ map_set g (x ∷ ps) zero p q there same = ap (λ u. u ∷ map g ps) (same ∙ s
     inner e = cc
 map_set g (x ∷ ps) (suc i) p q there same = ap (λ us. g x ∷ us) (map_set g ps i p q there same)
 
-heard_parties : (some : List Registration) (s : Standing) → IsThere s → is_asking s ≡ true → (n : CallNumber) (h : ParticipantHeard) → HasParties s some
+pub heard_parties : (some : List Registration) (s : Standing) → IsThere s → is_asking s ≡ true → (n : CallNumber) (h : ParticipantHeard) → HasParties s some
     → HasParties (stages.after_answer n h s) some
 heard_parties some (Waiting room) there asks n h parties = tt
 heard_parties some (UnderWay k) there asks n h parties =
@@ -236,7 +235,7 @@ module _ (causes : OutcomesHaveCauses) (f : Family) (n : CallNumber) (h : Heard)
   same_caller [] is = absurd cc
   same_caller (x ∷ calls) is = ap (option_and_then (λ (y : Call). y.caller)) (sym is)
 
-  heard_key : (hears n h f).family.key ≡ f.key
+  pub heard_key : (hears n h f).family.key ≡ f.key
   unfolding told_participant completes_as
   heard_key = heard_by causes f n h c waits at decides there asks (λ (g : Family). g.key ≡ f.key) refl
 

@@ -11,7 +11,6 @@ use Rattle.decision_journal.specs.Journal.{Holds, StandsFor, found_in}
 use Rattle.decision_journal.specs.Laws.{IsSettled}
 use Rattle.decision_journal.specs.Loading.{LoadsAreSafe, loaded, next_life}
 use Rattle.decision_journal.specs.declared.record.JournalRecord.{JournalRecord}
-use Rattle.decision_journal.specs.declared.record.JournalRecord.TheVariants.{Decision}
 use Rattle.coordinator.specs.Node.{Node, load}
 use Rattle.coordinator.specs.NodeSlots.{creates}
 use Rattle.coordinator.specs.declared.event.Act.TheVariants as acts
@@ -26,6 +25,7 @@ use Rattle.nodes_world.specs.declared.thing.Thing.{Thing}
 use Rattle.nodes_world.specs.declared.thing.Thing.TheVariants as things
 use Rattle.nodes_world.specs.AgreementInside.{Known}
 use Rattle.nodes_world.specs.AgreementSteps.{Goes, IsAlike, by_alike, by_begin, by_call, by_calling, by_crash, by_end, by_hearing, by_load, by_node, by_receipt, by_register, by_sub, by_tick, by_touch, by_word, kept_seat}
+use Rattle.nodes_world.specs.Asking.{IsOfLife}
 use Rattle.nodes_world.specs.Clients.{begins_at, begun_with, call_event, created, creates_sub, is_registered, registered, registered_if, registering, registers_at}
 use Rattle.nodes_world.specs.Deliveries.{hears_answer, is_waited_for}
 use Rattle.nodes_world.specs.Ends.{drawn_once, with_end, with_fresh}
@@ -45,11 +45,6 @@ use Rattle.nodes_world.proofs.KnownLoad.{held_as}
 use Rattle.nodes_world.proofs.KnownSeats.{set_at}
 use Rattle.nodes_world.proofs.LoadedDisks.{load_leaves}
 use Rattle.nodes_world.proofs.LoadedLives.{life_fits}
-
--- a record that is a decision is one of this life
-abbrev pub IsOfLife : ℕ → JournalRecord → Type 0
-IsOfLife now (Decision life slot generation by asked regs) = life ≡ now
-IsOfLife now _ = Unit {0}
 
 -- the disk of a seat reads what it read, or further records behind that
 pub data RecordsGoOn (place : ℕ) (s later : Seat) : Type 0 where
@@ -88,24 +83,25 @@ inner e = cc
 
 -- ---- what changes nothing that is known
 
-alike_same : (w v : World) → IsAlike w v → DisksSame w v
+pub alike_same : (w v : World) → IsAlike w v → DisksSame w v
 alike_same w v alike = record {
   names = λ name x is. ap (λ (ns : List (List ℕ × Thing)). thing_in ns name) alike.names ∙ is;
   seats = λ place s there.
       let at = map_get kept_seat w.seats v.seats place s (sym alike.seats) there in
       record { seat = at.0; there = at.1; name = ap (λ (x : Seat). x.name) at.2; reads = ap (λ (x : Seat). x.disk.reads) at.2 };
+  back = λ place t there. let at = map_get kept_seat v.seats w.seats place t alike.seats there in inl (at.0, at.1);
 }
 
 -- ---- nodes and ends
 
-seated_same : (name : List ℕ) (server : Server) (w : World) → DisksSame w (with_named_seat name server w)
-seated_same name server w = same_then w (with_new_seat (new_seat name server) w) _ (new_seat_same (new_seat name server) w) (name_same name _ _)
+pub seated_same : (name : List ℕ) (server : Server) (w : World) → DisksSame w (with_named_seat name server w)
+seated_same name server w = same_then w (with_new_seat (new_seat name server) w) _ (new_seat_same (new_seat name server) w refl) (name_same name _ _)
 
-made_end_same : (name : List ℕ) (w : World) → DisksSame w (makes_end name w).world
+pub made_end_same : (name : List ℕ) (w : World) → DisksSame w (makes_end name w).world
 unfolding makes_end
 made_end_same name w = seated_same name (OfEnd (Some new_end)) w
 
-crash_same : (w : World) (place : ℕ) (s : Seat) → slice_get w.seats place ≡ Some s → DisksSame w (crashes_seat place s.disk.reads s w).world
+pub crash_same : (w : World) (place : ℕ) (s : Seat) → slice_get w.seats place ≡ Some s → DisksSame w (crashes_seat place s.disk.reads s w).world
 crash_same w place s there =
     let down : Seat → Seat = λ x. record x { disk = at_first s.disk.reads; stop = None } in
     same_then w (on_seat place down w) _
@@ -153,7 +149,7 @@ load_goes grow safe read w told place s rs k there down held lacks =
 
 -- ---- transactions
 
-begin_same : (w : World) (place : ℕ) (name : List ℕ) (seconds : ℕ) (s : Seat) (n : Node) → DisksSame w (begins_at place name seconds s (Some n) w).world
+pub begin_same : (w : World) (place : ℕ) (name : List ℕ) (seconds : ℕ) (s : Seat) (n : Node) → DisksSame w (begins_at place name seconds s (Some n) w).world
 begin_same w place name seconds s n = by (creates s.clock seconds n).answer
   where
     by : (answer : Result ObjectKey NodeFault) → DisksSame w (begun_with place name s.name (creates s.clock seconds n).node answer w).world
@@ -162,14 +158,14 @@ begin_same w place name seconds s n = by (creates s.clock seconds n).answer
         (server_same place (OfNode (Some (creates s.clock seconds n).node)) w) (name_same name (things.Transaction key) _)
     by (Err fault) = same_self w
 
-quiet_sub : (parent : ObjectKey) (message now : ℕ) → IsQuietEvent (call_event message parent acts.CreateSubtransaction now)
+pub quiet_sub : (parent : ObjectKey) (message now : ℕ) → IsQuietEvent (call_event message parent acts.CreateSubtransaction now)
 quiet_sub parent message now = quiet_by (call_event message parent acts.CreateSubtransaction now) refl (λ f. refl)
 
 created_same : (parent : ObjectKey) (name : List ℕ) (answer : Said) (v : World) → DisksSame v (created parent name answer v).world
 created_same parent name (said.Made branch) v = name_same name _ v
 created_same parent name _ v = same_self v
 
-sub_same : (w : World) (parent : ObjectKey) (name : List ℕ) → DisksSame w (creates_sub parent name w).world
+pub sub_same : (w : World) (parent : ObjectKey) (name : List ℕ) → DisksSame w (creates_sub parent name w).world
 unfolding creates_sub
 sub_same w parent name = calls_same parent acts.CreateSubtransaction (created parent name) (quiet_sub parent) (created_same parent name) w
 
@@ -186,7 +182,7 @@ registered_same manner key end transaction name answer v = by (is_registered man
     by true = same_then v (with_end (place_of key) (with_fresh key) v) _ (end_same (place_of key) (with_fresh key) v) (name_same name (things.Resource key) _)
     by false = same_self v
 
-register_same : (w : World) (manner : Manner) (transaction : ObjectKey) (place : ℕ) (name : List ℕ) (s : Seat) (e : FlatEnd)
+pub register_same : (w : World) (manner : Manner) (transaction : ObjectKey) (place : ℕ) (name : List ℕ) (s : Seat) (e : FlatEnd)
     → DisksSame w (registers_at manner transaction place s (Some e) name w).world
 register_same w manner transaction place name s e =
     let key = resource_key manner place (e.drawn + 1) in

@@ -1,5 +1,5 @@
 -- Steps that ask no journal leave each seat its name and what its disk reads, and each name what it names.
-use Rattle.std.proofs.Common.{◌≡◌, inl, inr, ℕ, Bool, true, false, is_some, if◌then◌else◌, List, [], ◌∷◌, slice_get, Option, Some, None, refl, sym, ap, subst, ◌∙◌}
+use Rattle.std.proofs.Common.{◌≡◌, ◌⊎◌, inl, inr, ℕ, Bool, true, false, is_some, if◌then◌else◌, List, [], ◌∷◌, slice_get, Option, Some, None, refl, sym, ap, subst, ◌∙◌}
 use Rattle.std.specs.Prelude.{Result}
 use Rattle.ior_refs.specs.declared.key.ObjectKey.{ObjectKey}
 use Rattle.ots_model.specs.declared.line.ResourceState.{ResourceState}
@@ -44,11 +44,17 @@ pub record IsSameAt (v : World) (place : ℕ) (s : Seat) : Type 0 where
 pub record DisksSame (w v : World) : Type 0 where
   pub names : (name : List ℕ) (x : Thing) → thing w name ≡ Some x → thing v name ≡ Some x
   pub seats : (place : ℕ) (s : Seat) → slice_get w.seats place ≡ Some s → IsSameAt v place s
+  -- a seat was there, or its disk is new
+  pub back : (place : ℕ) (t : Seat) → slice_get v.seats place ≡ Some t → ((s : Seat) × (slice_get w.seats place ≡ Some s)) ⊎ (t.disk.reads ≡ [])
+
+inner : {A : Type 0} {x y : A} → Some x ≡ Some y → x ≡ y
+inner e = cc
 
 pub same_self : (w : World) → DisksSame w w
 same_self w = record {
   names = λ name x is. is;
   seats = λ place s there. record { seat = s; there = there; name = refl; reads = refl };
+  back = λ place t there. inl (t, there);
 }
 
 pub same_then : (a b c : World) → DisksSame a b → DisksSame b c → DisksSame a c
@@ -58,12 +64,16 @@ same_then a b c first later = record {
       let one = first.seats place s there in
       let two = later.seats place one.seat one.there in
       record { seat = two.seat; there = two.there; name = two.name ∙ one.name; reads = two.reads ∙ one.reads };
+  back = λ place t there. elim (later.back place t there) [
+    | inl (s, at) ↦ elim (first.back place s at) [
+      | inl was ↦ inl was
+      | inr new ↦ let two = later.seats place s at in inr (ap (λ (y : Seat). y.disk.reads) (inner (sym there ∙ two.there)) ∙ two.reads ∙ new)
+    ]
+    | inr new ↦ inr new
+  ];
 }
 
 -- ---- the changes of which all are made
-
-inner : {A : Type 0} {x y : A} → Some x ≡ Some y → x ≡ y
-inner e = cc
 
 pub seat_same : (place : ℕ) (s later : Seat) (w : World) → slice_get w.seats place ≡ Some s → later.name ≡ s.name → later.disk.reads ≡ s.disk.reads
     → DisksSame w (with_seat place later w)
@@ -74,6 +84,10 @@ seat_same place s later w there name reads = record {
         let is : s ≡ t = inner (sym there ∙ ap (slice_get w.seats) (sym here.0) ∙ at) in
         record { seat = later; there = here.1; name = name ∙ ap (λ (y : Seat). y.name) is; reads = reads ∙ ap (λ (y : Seat). y.disk.reads) is }
     | inr other ↦ record { seat = t; there = other ∙ at; name = refl; reads = refl }
+  ];
+  back = λ p t at. elim (set_at w.seats place s later p there) [
+    | inl here ↦ inl (s, ap (slice_get w.seats) here.0 ∙ there)
+    | inr other ↦ inl (t, sym other ∙ at)
   ];
 }
 
@@ -106,20 +120,26 @@ pub sent_same : (m : Message) (w : World) → DisksSame w (with_sent m w)
 sent_same m w = record {
   names = λ name x is. is;
   seats = λ place s there. record { seat = s; there = there; name = refl; reads = refl };
+  back = λ place t there. inl (t, there);
 }
 
 pub name_same : (name : List ℕ) (x : Thing) (w : World) → DisksSame w (with_name name x w)
 name_same name x w = record {
   names = λ other y is. thing_kept w.names ((name, x) ∷ []) other y is;
   seats = λ place s there. record { seat = s; there = there; name = refl; reads = refl };
+  back = λ place t there. inl (t, there);
 }
 
-pub new_seat_same : (s : Seat) (w : World) → DisksSame w (with_new_seat s w)
-new_seat_same s w = record {
+pub new_seat_same : (s : Seat) (w : World) → s.disk.reads ≡ [] → DisksSame w (with_new_seat s w)
+new_seat_same s w empty = record {
   names = λ name x is. is;
   seats = λ place t there. elim (push_at w.seats s place) [
     | inl here ↦ absurd (no (sym here.1 ∙ there))
     | inr other ↦ record { seat = t; there = other ∙ there; name = refl; reads = refl }
+  ];
+  back = λ place t there. elim (push_at w.seats s place) [
+    | inl here ↦ inr (ap (λ (y : Seat). y.disk.reads) (inner (sym there ∙ here.2)) ∙ empty)
+    | inr other ↦ inl (t, sym other ∙ there)
   ];
 }
   where

@@ -33,14 +33,13 @@ use Rattle.nodes_world.specs.AgreementInside.{Known, DisksAreKnown, IsHeldAs, Is
 use Rattle.nodes_world.specs.Journals.{records_on}
 use Rattle.nodes_world.specs.Laws.{IsInOrder, RecordsAreRead}
 use Rattle.nodes_world.specs.Objects.{place_of, service_at}
-use Rattle.nodes_world.specs.Told as tell
 use Rattle.nodes_world.specs.Told.{Told, known}
 use Rattle.nodes_world.specs.World.{World, Seat, Server, OfNode, end_in, family_at, node_at, node_in, with_seat}
 use Rattle.nodes_world.proofs.Deeds.{node_is_up}
 use Rattle.nodes_world.proofs.Edges.{edge_held}
 use Rattle.nodes_world.proofs.Going.{get_set}
 use Rattle.nodes_world.proofs.KnownLines.{among_back, among_turned, lines_of}
-use Rattle.nodes_world.proofs.KnownTelling.{IsOne, TellsOn, allowed_on, is_bare, tells_on}
+use Rattle.nodes_world.proofs.KnownTelling.{IsOne, TellsOn, allowed_on, each_as, is_bare, tells_on}
 use Rattle.nodes_world.proofs.KnownWorlds.{Follows, Frame, WasUp, follows_self, framed_known, is_mark, node_there}
 use Rattle.nodes_world.proofs.KnownAlike.{referred_by, resources_by}
 use Rattle.nodes_world.proofs.KnownSeats.{ends_kept, seat_names_kept, seats_kept, set_at}
@@ -54,13 +53,13 @@ abbrev pub added : Option ℕ → List JournalRecord
 added None = []
 added (Some named) = Done named ∷ []
 
-more_placed : (gate : ℕ) (rs more : List JournalRecord) → (further : List Standing) × (placed gate (rs ++ more) ≡ placed gate rs ++ further)
+pub more_placed : (gate : ℕ) (rs more : List JournalRecord) → (further : List Standing) × (placed gate (rs ++ more) ≡ placed gate rs ++ further)
 more_placed gate [] more = (placed gate more, refl)
 more_placed gate (x ∷ rs) more =
     let at = more_placed (gate + length (record_octets x)) rs more in
     (at.0, ap (λ (ss : List Standing). record { place = gate; item = x } ∷ ss) at.1)
 
-any_more : (P : Standing → Type 0) (xs ys : List Standing) → Any P xs → Any P (xs ++ ys)
+pub any_more : (P : Standing → Type 0) (xs ys : List Standing) → Any P xs → Any P (xs ++ ys)
 any_more P xs ys (i, x, within, at, is) = let there = Contains-append_left xs ys x (i, within, at) in (there.0, x, there.1, there.2, is)
 
 only_done : (more : Option ℕ) (r : JournalRecord) → Contains (added more) r → (named : ℕ) × (Done named ≡ r)
@@ -140,26 +139,12 @@ abbrev pub is_done_line : Line → Bool
 is_done_line (lines.Done name) = true
 is_done_line _ = false
 
-bare_one : (t : Told) → IsOne is_done_line t → IsOne is_bare t
-bare_one (tell.Known (lines.Done name)) one = refl
-bare_one (tell.Known line) one = absurd cc
-bare_one (tell.RolledBack transaction reason) one = one
-bare_one (tell.RolledBackBy transaction reason synchronization) one = one
-bare_one (tell.Down server) one = tt
-bare_one (tell.Aware resource transaction end) one = tt
-bare_one (tell.Called message operation transaction) one = tt
-bare_one (tell.Answered message answer) one = tt
-bare_one (tell.Sent message operation registration) one = tt
-bare_one (tell.Back message request answer) one = tt
-bare_one (tell.Dropped message) one = tt
-bare_one (tell.Marked transaction) one = tt
-bare_one (tell.Doubted transaction) one = tt
-bare_one (tell.Refused word answer) one = tt
-bare_one (tell.Journal server octets) one = tt
+done_bare : (line : Line) → is_done_line line ≡ true → is_bare line ≡ true
+done_bare (lines.Done name) is = refl
+done_bare _ is = absurd cc
 
 each_bare : (some : List Told) → AllByRecursion (IsOne is_done_line) some → AllByRecursion (IsOne is_bare) some
-each_bare [] all = tt
-each_bare (t ∷ others) (one, all) = (bare_one t one, each_bare others all)
+each_bare = each_as is_done_line is_bare done_bare
 
 inner : {A : Type 0} (x y : A) → Some x ≡ Some y → x ≡ y
 inner x y e = cc

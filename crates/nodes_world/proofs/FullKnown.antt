@@ -1,5 +1,5 @@
 -- What is known of a world is known once a node has heard the last vote of a family, and its journal had no room for the decision.
-use Rattle.std.proofs.Common.{◌≡◌, inl, inr, ℕ, ◌+◌, ◌-◌, ◌==◌, Bool, true, false, nat_le, length, if◌then◌else◌, ◌⊎◌, IsTrue, List, [], ◌++◌, append_assoc, slice_get, Contains, Option, Some, None, refl, sym, ap, subst, ◌∙◌, arith}
+use Rattle.std.proofs.Common.{◌≡◌, inl, inr, ℕ, ◌+◌, ◌==◌, Bool, true, false, nat_le, length, if◌then◌else◌, ◌⊎◌, IsTrue, List, [], ◌++◌, append_assoc, slice_get, Contains, Option, Some, None, refl, sym, ap, subst, ◌∙◌, arith}
 use Rattle.std.specs.Prelude.{Ok}
 use Rattle.ior_refs.specs.declared.key.ObjectKey.{ObjectKey}
 use Rattle.ots_model.specs.declared.completion.Stood.{Stood}
@@ -12,34 +12,38 @@ use Rattle.decision_journal.specs.declared.record.JournalRecord.{JournalRecord}
 use Rattle.ots_outside.specs.Disk.{DiskState}
 use Rattle.recovery_coord.specs.Limits.{retold_slot}
 use Rattle.coordinator.specs.declared.event.Event.{Event}
-use Rattle.coordinator.specs.declared.node.NodeFault.TheVariants as faults
 use Rattle.coordinator.specs.declared.said.Entry.{Entry}
 use Rattle.coordinator.specs.declared.said.Said.{Said}
 use Rattle.coordinator.specs.Family.{Family}
 use Rattle.coordinator.specs.History.{has_room}
 use Rattle.coordinator.specs.Node.{Node, family_in, family_of, is_of, with_family}
-use Rattle.coordinator.specs.NodeCalls.{Applied, answer_of, applied_by, applies, call_wants, family_for, journaled, refuses, retold_answer, steps_to, wanted_by}
+use Rattle.coordinator.specs.NodeCalls.{Applied, answer_of, applies, family_for, journaled, steps_to}
 use Rattle.coordinator.specs.Step.{Stepped, Wanted, Appends, family_step, wanted}
 use Rattle.family_laws.specs.OwnDecisions.{KeepsDecisions, NodesKeepDecisions}
 use Rattle.nodes_world.specs.AgreementInside.{Known, HasMessage, edge_at}
-use Rattle.nodes_world.specs.Deliveries.{answer_event, heard_in}
-use Rattle.nodes_world.specs.AgreementSteps.{IsWritten}
+use Rattle.nodes_world.specs.Deliveries.{answer_event}
 use Rattle.nodes_world.specs.Disks.{Stop, Struck, Whole, Broken, strikes}
 use Rattle.nodes_world.specs.Limits.{area_limit}
 use Rattle.nodes_world.specs.Happenings.{all_effect_lines, all_finished_lines, cast_of, requests_all}
-use Rattle.nodes_world.specs.Journals.{Asked, Answers, append_strokes, answered_by, asks, asks_by, records_on}
+use Rattle.nodes_world.specs.Journals.{Asked, Answers, Stops, append_strokes, answered_by, asks, asks_by, records_on}
 use Rattle.nodes_world.specs.Nodes.{answer_told, applied_at, cast_by, entries_of, steps_by, steps_node}
-use Rattle.nodes_world.specs.Objects.{family_key, place_of}
+use Rattle.nodes_world.specs.Objects.{family_key}
 use Rattle.nodes_world.specs.Told.{Told}
-use Rattle.nodes_world.specs.World.{World, Seat, OfNode, family_at}
+use Rattle.nodes_world.specs.World.{World, Seat, OfNode}
 use Rattle.nodes_world.proofs.CallKnown as call
 use Rattle.nodes_world.proofs.CallKnown.{for_key, key_slot, slot_key}
-use Rattle.nodes_world.proofs.KnownFamilies.{family_found, same_parts}
+use Rattle.nodes_world.proofs.ComesTo.{ComesTo, comes_to}
 use Rattle.nodes_world.proofs.StepIs.{FamilyLaws, StepIs, entry_cases}
 use Rattle.nodes_world.proofs.StepSeats as seats
 use Rattle.nodes_world.proofs.StepWhole.{words_gone}
 
 -- ---- what the journal answers
+
+-- it writes what it is asked for: it tells that the record stands, or the node goes down meanwhile
+abbrev pub IsWritten : Asked → Type 0
+IsWritten (Answers (Some (answers.Stands place)) disk stop) = Unit {0}
+IsWritten (Stops image) = Unit {0}
+IsWritten _ = ⊥
 
 struck_written : (x : Struck) (place : ℕ) → IsWritten (answered_by (answers.Stands place) x)
 struck_written (Whole disk stop) place = tt
@@ -95,52 +99,24 @@ module _ (laws : FamilyLaws) (nodes : NodesKeepDecisions) (w : World) (place now
   abbrev g : Family
   g = step.family
 
-  retold : retold_answer e.act ≡ None
-  retold = ap (λ (b : Bool). if b then Some (record { number = o.number; heard = heard_in answer }) else None) family
-
-  own_place : place_of key ≡ place
-  own_place = omega arith
-
-  applied_is : applies key e stood n ≡ steps_to n f e stood step
-  unfolding applies
-  applied_is =
-      ap (λ (x : Option Family). applied_by x key e stood n) (for_key key e n retold ∙ of)
-      ∙ ap (λ (b : Bool). if b then steps_to n f e stood step else refuses faults.NoResources n) room
-
-  wants_it : call_wants key e n ≡ Some (Appends item)
-  unfolding call_wants
-  wants_it = ap (λ (x : Option Family). wanted_by x e n) (for_key key e n retold ∙ of) ∙ ap (λ (b : Bool). if b then wanted f e else None) room ∙ wants
-
-  slot : (family_in n.families key.slot ≡ Some f) × IsTrue (is_of key f)
-  slot = key_slot key n f of
-
-  parts : (key.service ≡ f.key.service) × (key.life ≡ f.key.life) × (key.slot ≡ f.key.slot) × (key.generation ≡ f.key.generation)
-  parts = same_parts key.service key.life key.slot key.generation f.key.service f.key.life f.key.slot f.key.generation slot.1
-
-  at_place : place_of f.key ≡ place
-  at_place = ap (λ (x : ℕ). x - 1) (sym parts.0) ∙ own_place
-
-  slotted : family_in n.families f.key.slot ≡ Some f
-  slotted = subst (λ (x : ℕ). family_in n.families x ≡ Some f) parts.2 slot.0
-
-  found_here : family_at w key ≡ Some f
-  found_here = family_found w key f (record { seat = s; node = n; there = ap (slice_get w.seats) own_place ∙ there; up = up; slotted = slot.0; own = slot.1 })
+  comes : ComesTo w place now o answer s n f (Appends item)
+  comes = comes_to w place now o answer s n f (Appends item) there up family of room wants told k
 
   node_now : (steps_to n f e stood step).node ≡ with_family g n
   node_now = ap (λ (x : Option Wanted). with_family g (record n { found = journaled x stood n.found })) wants
 
   sound_now : KeepsDecisions (edge_at w place) (with_family g n)
   sound_now =
-      subst (KeepsDecisions (edge_at w place)) (ap (λ (a : Applied). a.node) applied_is ∙ node_now)
+      subst (KeepsDecisions (edge_at w place)) (ap (λ (a : Applied). a.node) (comes.applied stood) ∙ node_now)
       (nodes.called (edge_at w place) (edge_at w place) key e stood n (omega arith) (λ other at is so. absurd (not_standing so))
-      (λ x at called is so. absurd (not_standing so)) (call.node_sound w place s n there up told k))
+      (λ x at called is so. absurd (not_standing so)) comes.sound)
     where
       not_standing : {at : ℕ} → stood ≡ Some (answers.Stands at) → ⊥
       not_standing is = cc
 
   entries_came : (x : Entry) (r : RetryKey) → Contains g.entries x → x.event.key ≡ Some r → HasMessage w r
   entries_came x r among by = elim (entry_cases laws f e stood x among) [
-    | inl was ↦ (k.families key f found_here).came x r was by
+    | inl was ↦ (k.families key f comes.there).came x r was by
     | inr new ↦ absurd (no (ap (λ (y : Event). y.key) (sym new) ∙ by))
   ]
     where
@@ -149,11 +125,11 @@ module _ (laws : FamilyLaws) (nodes : NodesKeepDecisions) (w : World) (place now
 
   for_now : family_for key e (steps_to n f e stood step).node ≡ Some g
   for_now =
-      for_key key e (steps_to n f e stood step).node retold
+      for_key key e (steps_to n f e stood step).node comes.retold
       ∙ ap (family_of key) node_now
       ∙ slot_key key (with_family g n) g
-      (ap (family_in (with_family g n).families) (parts.2 ∙ ap (λ (x : ObjectKey). x.slot) (sym stepped.key)) ∙ seats.in_own_slot n f g stepped.key slotted)
-      (subst (λ (x : ObjectKey). IsTrue (is_of key (record g { key = x }))) (sym stepped.key) slot.1)
+      (ap (family_in (with_family g n).families) (comes.same_slot ∙ ap (λ (x : ObjectKey). x.slot) (sym stepped.key)) ∙ seats.in_own_slot n f g stepped.key comes.slotted)
+      (subst (λ (x : ObjectKey). IsTrue (is_of key (record g { key = x }))) (sym stepped.key) comes.slot.1)
 
   abbrev lines : List Told
   lines = all_effect_lines w (cast_of g) step.effects ++ all_finished_lines g.entries step.finished
@@ -165,22 +141,22 @@ module _ (laws : FamilyLaws) (nodes : NodesKeepDecisions) (w : World) (place now
   lines_now = ap (λ (x : Option Family). answer_told w (cast_by x e n) (entries_of x) (Ok (answer_of f step))) for_now
 
   abbrev v : World
-  v = seats.v w place s n f g there up stepped.key slotted at_place
+  v = seats.v w place s n f g there up stepped.key comes.slotted comes.at_place
 
   world_now : call.put w place s n there up (steps_to n f e stood step).node ≡ v
   world_now = ap (call.put w place s n there up) node_now ∙ call.seated w place s n there up (with_family g n)
 
   full_applied : Known (applied_at place key e n s.disk s.stop (applies key e stood n) w).done.world (told ++ (applied_at place key e n s.disk s.stop (applies key e stood n) w).done.lines)
   full_applied =
-      let gone = words_gone w place s n f g there up slotted at_place told k key found_here (cast_of g) (record { key = stepped.key; registrations = stepped.registrations })
+      let gone = words_gone w place s n f g there up comes.slotted comes.at_place told k key comes.there (cast_of g) (record { key = stepped.key; registrations = stepped.registrations })
       step.effects step.words stepped g.entries step.finished sound_now entries_came in
       let here : Known (requests_all place step.words v).world (told ++ (([] ++ lines) ++ (requests_all place step.words v).lines)) =
       subst (Known (requests_all place step.words v).world) (append_assoc told lines (requests_all place step.words v).lines) gone in
-      subst (λ (a : Applied). Known (applied_at place key e n s.disk s.stop a w).done.world (told ++ (applied_at place key e n s.disk s.stop a w).done.lines)) (sym applied_is)
+      subst (λ (a : Applied). Known (applied_at place key e n s.disk s.stop a w).done.world (told ++ (applied_at place key e n s.disk s.stop a w).done.lines)) (sym (comes.applied stood))
       (subst (λ (x : World). Known (requests_all place step.words x).world (told ++ (([] ++ said_lines) ++ (requests_all place step.words x).lines))) (sym world_now)
       (subst (λ (ls : List Told). Known (requests_all place step.words v).world (told ++ (([] ++ ls) ++ (requests_all place step.words v).lines))) (sym lines_now) here))
 
   pub full_known : Known (steps_node (Some n) s place key e w).done.world (told ++ (steps_node (Some n) s place key e w).done.lines)
   full_known =
       subst (λ (a : Asked). Known (steps_by a place key e n w).done.world (told ++ (steps_by a place key e n w).done.lines))
-      (sym (ap (λ (x : Option Wanted). asks x n.service n.found s.disk s.stop) wants_it ∙ asked)) full_applied
+      (sym (ap (λ (x : Option Wanted). asks x n.service n.found s.disk s.stop) comes.wants ∙ asked)) full_applied

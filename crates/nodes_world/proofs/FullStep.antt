@@ -25,8 +25,8 @@ use Rattle.coordinator.specs.Hearing.{closes, decided, doubts_by, settles, wants
 use Rattle.coordinator.specs.Laws.{IsThere}
 use Rattle.coordinator.specs.Moves.{Moved, only, ◌▹◌, completes_as}
 use Rattle.coordinator.specs.Step.{family_step, hears}
-use Rattle.nodes_world.specs.AgreementSteps.{is_asking}
 use Rattle.nodes_world.specs.Deliveries.{answer_event, heard_in}
+use Rattle.nodes_world.specs.AgreementInside.{is_asking}
 use Rattle.nodes_world.proofs.AskedCounts.{settles_counts, step_from}
 use Rattle.nodes_world.proofs.AskedKeeps.{completion_then, plain_cause}
 use Rattle.nodes_world.proofs.RulesKeep.{ArePartiesOf, IsKept, IsTidy, Rule, completes_keep, kept_itself, only_keeps, then_keeps}

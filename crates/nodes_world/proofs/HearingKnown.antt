@@ -1,5 +1,5 @@
 -- What is known of a world is known once an answer was heard for which nobody waits, or that is for a record.
-use Rattle.std.proofs.Common.{◌≡◌, ◌⊎◌, inl, inr, ℕ, zero, suc, ◌+◌, ◌-◌, ◌<◌, ◌==◌, Bool, true, false, is_none, is_some, if◌then◌else◌, List, [], ◌∷◌, ◌++◌, map, append-nil, slice_get, slice_set, Contains, Option, Some, None, refl, sym, ap, subst, ◌∙◌, arith}
+use Rattle.std.proofs.Common.{◌≡◌, inl, inr, ℕ, zero, suc, ◌+◌, ◌-◌, ◌==◌, Bool, true, false, is_none, is_some, if◌then◌else◌, List, [], ◌∷◌, ◌++◌, map, append-nil, slice_get, slice_set, Contains, Option, Some, None, refl, sym, ap, subst, ◌∙◌, arith}
 use Rattle.std.specs.Prelude.{Ok}
 use Rattle.std.specs.Option.{option_and_then, option_map}
 use Rattle.ior_refs.specs.declared.key.ObjectKey.{ObjectKey}
@@ -19,10 +19,9 @@ use Rattle.ots_model.specs.declared.tree.Heard.TheVariants as hears_words
 use Rattle.ots_model.specs.Heard.{of_participant}
 use Rattle.ots_model.specs.declared.completion.Heard.TheVariants as participants
 use Rattle.family_laws.specs.LawsOfTelling.{IsHeardVote}
-use Rattle.family_laws.specs.Sound.{IsOfSub, IsSoundFamily}
+use Rattle.family_laws.specs.Sound.{IsSoundFamily}
 use Rattle.coordinator.specs.declared.event.Act.TheVariants as acts
-use Rattle.coordinator.specs.declared.call.Leg.{Leg}
-use Rattle.coordinator.specs.declared.call.Leg.TheVariants.{Below, Own, Before, Deciding, After}
+use Rattle.coordinator.specs.declared.call.Leg.TheVariants.{Deciding}
 use Rattle.coordinator.specs.declared.effect.Effect.{Effect}
 use Rattle.coordinator.specs.declared.effect.Effect.TheVariants as effects
 use Rattle.coordinator.specs.declared.event.Event.{Event}
@@ -40,8 +39,8 @@ use Rattle.family_laws.specs.OwnDecisions.{KeepsDecisions, NodesKeepDecisions}
 use Rattle.nodes_world.specs.declared.message.Content.TheVariants as contents
 use Rattle.nodes_world.specs.declared.message.Message.{Message}
 use Rattle.nodes_world.specs.Agreement.{IsWord}
-use Rattle.nodes_world.specs.AgreementInside.{Known, HasMessage, IsNotBefore, FamilyIsKnown, edge_at, IsNumberedBy}
-use Rattle.nodes_world.specs.AgreementSteps.{NodeStepsStayKnown, StaysKnown, is_asking, kept_message}
+use Rattle.nodes_world.specs.AgreementInside.{Known, HasMessage, IsNotBefore, FamilyIsKnown, edge_at, IsNumberedBy, is_asking}
+use Rattle.nodes_world.specs.AgreementSteps.{StaysKnown, kept_message}
 use Rattle.nodes_world.specs.Deliveries.{answer_event, heard_in, hears_answer, is_waited_for}
 use Rattle.nodes_world.specs.Happenings.{changes}
 use Rattle.nodes_world.specs.Journals.{Asked, asks, Answers, records_on}
@@ -56,7 +55,7 @@ use Rattle.nodes_world.proofs.KnownSeats.{set_at}
 use Rattle.two_phase.specs.Stages as stages
 use Rattle.decision_journal.specs.declared.record.JournalRecord.{JournalRecord}
 use Rattle.coordinator.specs.Hearing.{decision_record, record_place, wants_done, settles}
-use Rattle.nodes_world.proofs.AnswersKeep.{HearsNoVote, NoVoteAt, answer_by, answer_keeps, hears_keeps, no_voter}
+use Rattle.nodes_world.proofs.AnswersKeep.{NoVoteAt, answer_by, answer_keeps, hears_keeps, no_voter}
 use Rattle.nodes_world.proofs.KnownFamilies.{family_found, same_parts}
 use Rattle.nodes_world.proofs.KnownLines.{lines_of}
 use Rattle.nodes_world.proofs.CallKnown as call
@@ -66,7 +65,7 @@ use Rattle.nodes_world.proofs.CompletesKnown as complete
 use Rattle.nodes_world.proofs.CompletesKnown.{JournalLaws}
 use Rattle.nodes_world.proofs.CallKnown.{for_key, nothing_asked, tidy_of}
 use Rattle.nodes_world.proofs.AskedKeeps.{IsNoVote, asked_keeps, asked_no_done, vote_or_not}
-use Rattle.nodes_world.proofs.AskedCalls.{call_cases, deaf_no_vote, deaf_tells_no_vote, deaf_wants, nothing_fixed}
+use Rattle.nodes_world.proofs.AskedCalls.{NobodyVotes, nobody_hears, call_cases, deaf_no_vote, deaf_tells_no_vote, deaf_wants, nothing_fixed}
 use Rattle.nodes_world.proofs.RulesKeep.{IsTidy, Rule}
 use Rattle.nodes_world.proofs.StepIs.{FamilyLaws, keeps_is, StepIs}
 use Rattle.nodes_world.proofs.StepsKeep.{StepKeeps, quiet_keeps}
@@ -76,6 +75,7 @@ use Rattle.nodes_world.proofs.AskedWords.{own_number, vote_not_alone}
 use Rattle.nodes_world.proofs.VotedStep.{voted_is, none_wanted, settles_nothing, vote_heard}
 use Rattle.nodes_world.proofs.FullKnown.{asked_cases, full_known}
 use Rattle.nodes_world.proofs.FullStep.{settled_full, full_decides}
+use Rattle.nodes_world.proofs.DecidedKnown.{decided_known}
 use Rattle.nodes_world.proofs.DecisionFits.{heard_fits}
 
 -- ---- a stale answer
@@ -96,7 +96,7 @@ stale_wants f o answer now none =
 
 -- ---- an answer that comes to a node
 
-module _ (laws : FamilyLaws) (journals : JournalLaws) (nodes : NodesKeepDecisions) (stood : HeldRecordsStood) (others : NodeStepsStayKnown) (w : World) (nth place reply now : ℕ) (o : Outward) (back : Message)
+module _ (laws : FamilyLaws) (journals : JournalLaws) (nodes : NodesKeepDecisions) (stood : HeldRecordsStood) (w : World) (nth place reply now : ℕ) (o : Outward) (back : Message)
     (answer : Said) (s : Seat) (n : Node) (word : IsWord w nth place o) (replied : slice_get w.messages reply ≡ Some back)
     (says : back.content ≡ contents.Reply (nth + 1) answer) (there : slice_get w.seats place ≡ Some s) (up : s.server ≡ OfNode (Some n)) where
   abbrev key : ObjectKey
@@ -166,16 +166,13 @@ module _ (laws : FamilyLaws) (journals : JournalLaws) (nodes : NodesKeepDecision
 
     -- a call waits for it, and nobody votes by it
     module _ (f : Family) (is : family_of key n ≡ Some f) (room : has_room f.entries e ≡ true) (b : ℕ) (waits : waiting_for f o.number ≡ Some b) where
-      abbrev NobodyVotes : Type 0
-      NobodyVotes = (is_asking f.completion ≡ false) ⊎ (0 < b)
-
       same_answer : (number : CallNumber) (h : Heard) → e.act ≡ acts.Answer number h → o.number ≡ number
       same_answer number h same = cc
 
       inner : {x y : ℕ} → Some x ≡ Some y → x ≡ y
       inner same = cc
 
-      no_votes : NobodyVotes → IsSoundFamily f → (stood : Option Stood) (number : ℕ) (vote : Vote) → Contains (family_step f e stood).effects (effects.Voted number vote) → ⊥
+      no_votes : NobodyVotes f b → IsSoundFamily f → (stood : Option Stood) (number : ℕ) (vote : Vote) → Contains (family_step f e stood).effects (effects.Voted number vote) → ⊥
       no_votes (inl not_asked) sound stood number vote among =
           let heard = laws.votes.told f e stood number vote sound among in
           no (sym (no_voter f.completion not_asked) ∙ heard.asked)
@@ -192,21 +189,10 @@ module _ (laws : FamilyLaws) (journals : JournalLaws) (nodes : NodesKeepDecision
           let slot = call.key_slot key n f is in
           family_found w key f (record { seat = s; node = n; there = ap (slice_get w.seats) own_place ∙ there; up = up; slotted = slot.0; own = slot.1 })
 
-      -- the call that waits is at no synchronization; that of a subtransaction tells its own resources, or those below
-      no_vote_at : NobodyVotes → (told : List Told) → Known w told → (x : Option Call) → call_at f b ≡ x → NoVoteAt f x
-      no_vote_at nobody told k None at = tt
-      no_vote_at nobody told k (Some c) at = by_leg c.leg (known.legs b c at) (λ less. ((known.sound.under_way b c at).sub less).of_sub) nobody
-        where
-          known : FamilyIsKnown w (lines_of told) f
-          known = k.families key f found_here
-
-          by_leg : (leg : Leg) → IsNotBefore leg → (0 < b → IsOfSub leg) → NobodyVotes → HearsNoVote leg f
-          by_leg Below never of nobody = tt
-          by_leg Own never of nobody = tt
-          by_leg (Before so_many) never of nobody = absurd never
-          by_leg Deciding never of (inl not_asked) = not_asked
-          by_leg Deciding never of (inr less) = absurd (of less)
-          by_leg (After so_many) never of nobody = tt
+      no_vote_at : NobodyVotes f b → (told : List Told) → Known w told → NoVoteAt f (call_at f b)
+      no_vote_at nobody told k =
+          let known = k.families key f found_here in
+          nobody_hears f b nobody known.sound (known.legs b)
 
       -- nothing is asked of the journal, and nobody votes
       hears_by : wanted f e ≡ None → (IsSoundFamily f → (number : ℕ) (vote : Vote) → Contains (family_step f e None).effects (effects.Voted number vote) → ⊥)
@@ -221,9 +207,9 @@ module _ (laws : FamilyLaws) (journals : JournalLaws) (nodes : NodesKeepDecision
           (keeps_is laws f e None (votes_none sound) sound (keeps (tidy_of w told k key f found_here) told k)
           (answer_asks f o answer now b None waits (λ c at. (k.families key f found_here).legs b c at) (k.families key f found_here).ready)) same))
 
-      hears_on : NobodyVotes → wanted f e ≡ None → StaysKnown w (steps_node (Some n) s place key e w).done
+      hears_on : NobodyVotes f b → wanted f e ≡ None → StaysKnown w (steps_node (Some n) s place key e w).done
       hears_on nobody none =
-          hears_by none (λ whole. no_votes nobody whole None) (λ tidy told k. answer_keeps f o answer now b waits (no_vote_at nobody told k (call_at f b) refl) tidy)
+          hears_by none (λ whole. no_votes nobody whole None) (λ tidy told k. answer_keeps f o answer now b waits (no_vote_at nobody told k) tidy)
 
       abbrev heard_family : Family
       heard_family = (hears o.number (heard_in answer) f).family
@@ -233,10 +219,10 @@ module _ (laws : FamilyLaws) (journals : JournalLaws) (nodes : NodesKeepDecision
       wanted_is = ap (λ (x : Option ℕ). if is_some x then wanted_after heard_family else None) waits
 
       -- the family's own Done is wanted
-      closes_own : NobodyVotes → (done : ℕ) → wanted f e ≡ Some (WritesDone done) → StaysKnown w (steps_node (Some n) s place key e w).done
+      closes_own : NobodyVotes f b → (done : ℕ) → wanted f e ≡ Some (WritesDone done) → StaysKnown w (steps_node (Some n) s place key e w).done
       closes_own nobody done wants told k =
           let known = k.families key f found_here in
-          let so = no_vote_at nobody told k (call_at f b) refl in
+          let so = no_vote_at nobody told k in
           closed_known laws journals nodes w place now o answer s n f done there up family is room wants told k
           (λ stood. closing_keeps f o answer now stood b waits so known.settled (tidy_of w told k key f found_here))
           (λ stood. answer_asks f o answer now b stood waits (λ c at. known.legs b c at) known.ready) (no_votes nobody known.sound) (hears_alone o.number (heard_in answer) b f waits so)
@@ -249,10 +235,10 @@ module _ (laws : FamilyLaws) (journals : JournalLaws) (nodes : NodesKeepDecision
       own_done false true None r item none asks_for = absurd cc
       own_done false false x r item none asks_for = absurd cc
 
-      by_wanted : NobodyVotes → (x : Option Wanted) → wanted f e ≡ x → StaysKnown w (steps_node (Some n) s place key e w).done
+      by_wanted : NobodyVotes f b → (x : Option Wanted) → wanted f e ≡ x → StaysKnown w (steps_node (Some n) s place key e w).done
       by_wanted nobody None none = hears_on nobody none
       by_wanted nobody (Some item) asks_for = λ told k.
-          let rule = hears_keeps o.number (heard_in answer) b f waits (no_vote_at nobody told k (call_at f b) refl) (tidy_of w told k key f found_here) in
+          let rule = hears_keeps o.number (heard_in answer) b f waits (no_vote_at nobody told k) (tidy_of w told k key f found_here) in
           let done = own_done (stages.wants_decision heard_family.completion) (wants_done heard_family) (record_place heard_family.completion) (decision_record heard_family) item
           (rule.kept.wants (k.families key f found_here).settled) (sym wanted_is ∙ asks_for) in
           closes_own nobody done.0 (asks_for ∙ ap (λ (x : Wanted). Some x) done.1) told k
@@ -325,6 +311,14 @@ module _ (laws : FamilyLaws) (journals : JournalLaws) (nodes : NodesKeepDecision
           first at decides asking (prepared vote votes told k) None (settles_nothing heard_family)
           (answer_asks f o answer now 0 None first (λ d under. known.legs 0 d under) known.ready) (sym wanted_is ∙ none))) same)) told k
 
+      -- a decision is wanted, where it is asked for
+      a_decision_wanted : (t u : Bool) (x : Option ℕ) (r item : JournalRecord)
+          → (if t then Some (Appends r) else if u then option_map WritesDone x else None) ≡ Some (Appends item) → t ≡ true
+      a_decision_wanted true u x r item is = refl
+      a_decision_wanted false true (Some done) r item is = absurd cc
+      a_decision_wanted false true None r item is = absurd cc
+      a_decision_wanted false false x r item is = absurd cc
+
       -- the last vote comes, and there is no room for the decision
       asked_by_full : waiting_for f o.number ≡ Some 0 → is_asking f.completion ≡ true → (c : Call) → call_at f 0 ≡ Some c → c.leg ≡ Deciding
           → (vote : Vote) → answer ≡ said.Voted vote → (item : JournalRecord) → wanted f e ≡ Some (Appends item) → (used need : ℕ)
@@ -339,13 +333,6 @@ module _ (laws : FamilyLaws) (journals : JournalLaws) (nodes : NodesKeepDecision
           (settled_full laws.causes f o answer now c first at decides known.sound.completion.there asking vote (vote_heard answer vote votes) used need decides_now)
           (full_decides laws.causes f o answer now c first at decides known.sound.completion.there asking vote (vote_heard answer vote votes) used need decides_now
           (tidy_of w told k key f found_here)))
-        where
-          a_decision_wanted : (t u : Bool) (x : Option ℕ) (r item : JournalRecord)
-              → (if t then Some (Appends r) else if u then option_map WritesDone x else None) ≡ Some (Appends item) → t ≡ true
-          a_decision_wanted true u x r item is = refl
-          a_decision_wanted false true (Some done) r item is = absurd cc
-          a_decision_wanted false true None r item is = absurd cc
-          a_decision_wanted false false x r item is = absurd cc
 
       -- what is asked of the journal is the decision, where it isn't the Done
       a_decision : (item : Wanted) (t u : Bool) (x : Option ℕ) (r : JournalRecord) → u ≡ false
@@ -384,8 +371,10 @@ module _ (laws : FamilyLaws) (journals : JournalLaws) (nodes : NodesKeepDecision
               let follows = k.disks.follows place s n there up in
               elim (asked_cases (decision_record heard_family) n.service follows.records n.found s.disk s.stop (ap (λ (x : ℕ). records_on x s.disk) follows.service ∙ follows.held)) [
                 | inl written ↦
-                    others.asked w nth place reply now o back answer s n f c vote (decision_record heard_family) word replied says votes there up family is room first at decides asking
-                    (alone_no_vote first asking c at decides vote votes told k) wants can written told k
+                    decided_known laws journals nodes w nth place reply now o back answer s n f c vote (decision_record heard_family) word replied says votes there up family is room first at decides
+                    asking wants
+                    (a_decision_wanted (stages.wants_decision heard_family.completion) (wants_done heard_family) (record_place heard_family.completion) (decision_record heard_family)
+                    (decision_record heard_family) (sym wanted_is ∙ wants)) refl can told k (word_numbered first told k) (prepared vote votes told k) written
                 | inr (used, need, full) ↦ asked_by_full first asking c at decides vote votes (decision_record heard_family) wants used need full told k
               ]
 
@@ -503,12 +492,12 @@ map_set g (z ∷ xs) zero x y there same = ap (λ u. u ∷ map g xs) (same ∙ s
     inner e = cc
 map_set g (z ∷ xs) (suc i) x y there same = ap (λ us. g z ∷ us) (map_set g xs i x y there same)
 
-pub known_hearing : (laws : FamilyLaws) (journals : JournalLaws) (nodes : NodesKeepDecisions) (stood : HeldRecordsStood) (others : NodeStepsStayKnown) (w : World) (request from reply : ℕ) (o : Outward)
+pub known_hearing : (laws : FamilyLaws) (journals : JournalLaws) (nodes : NodesKeepDecisions) (stood : HeldRecordsStood) (w : World) (request from reply : ℕ) (o : Outward)
     (m back : Message) (answer : Said) (s : Seat) → slice_get w.messages (request - 1) ≡ Some m → m.content ≡ contents.Request from o
     → slice_get w.messages reply ≡ Some back → back.content ≡ contents.Reply request answer → slice_get w.seats from ≡ Some s → is_waited_for w m from o ≡ true
     → StaysKnown w (hears_answer (request - 1) m from o answer s w)
 unfolding steps
-known_hearing laws journals nodes stood others w request from reply o m back answer s at is replied says there waits told k =
+known_hearing laws journals nodes stood w request from reply o m back answer s at is replied says there waits told k =
     stays_then w (changes u) (λ (x : World). (steps from (family_key from o.number) (answer_event o answer s.clock) x).done) alike came told k
   where
     taken : Message
@@ -546,7 +535,7 @@ known_hearing laws journals nodes stood others w request from reply o m back ans
 
     at_node : (x : Option Node) → node_in s.server ≡ x → StaysKnown u (steps_node x s from (family_key from o.number) (answer_event o answer s.clock) u).done
     at_node (Some n) up =
-        heard_known laws journals nodes stood others u (request - 1) from reply s.clock o replied_then.0 answer s n word replied_then.1 replied_then.2 there (node_up s.server n up)
+        heard_known laws journals nodes stood u (request - 1) from reply s.clock o replied_then.0 answer s n word replied_then.1 replied_then.2 there (node_up s.server n up)
     at_node None up = nothing_came
 
     came : StaysKnown u (steps from (family_key from o.number) (answer_event o answer s.clock) u).done

@@ -1,50 +1,34 @@
 -- An answer that is heard leaves what a disk reads, or the record behind it that its node has asked of its journal; where a crash
 -- comes inside that too.
-use Rattle.std.proofs.Common.{◌≡◌, true, inl, inr, ℕ, ◌-◌, List, [], ◌∷◌, ◌++◌, slice_get, Option, Some, None, refl, sym, ap, subst, ◌∙◌, append-nil}
+use Rattle.std.proofs.Common.{◌≡◌, ◌⊎◌, true, inl, inr, ℕ, ◌-◌, List, [], ◌∷◌, ◌++◌, slice_get, Option, Some, None, refl, sym, ap, subst, ◌∙◌, append-nil}
 use Rattle.std.specs.List.{AllByRecursion}
 use Rattle.std.specs.Option.{option_and_then}
 use Rattle.ior_refs.specs.declared.key.ObjectKey.{ObjectKey}
 use Rattle.ots_model.specs.declared.completion.Stood.{Stood}
-use Rattle.ots_model.specs.declared.tree.Outward.{Outward}
 use Rattle.ots_outside.specs.Disk.{DiskState, at_first}
 use Rattle.decision_journal.specs.Journal.{Found, found_in}
 use Rattle.decision_journal.specs.declared.record.JournalRecord.{JournalRecord}
-use Rattle.coordinator.specs.Node.{Node, life}
+use Rattle.coordinator.specs.Node.{Node}
 use Rattle.coordinator.specs.NodeCalls.{Applied, applies, call_wants}
 use Rattle.coordinator.specs.Step.{Wanted, Appends, Rereads, WritesDone}
 use Rattle.coordinator.specs.declared.event.Event.{Event}
-use Rattle.coordinator.specs.declared.said.Said.{Said}
-use Rattle.nodes_world.specs.declared.message.Content.TheVariants as contents
-use Rattle.nodes_world.specs.declared.message.Message.{Message}
 use Rattle.nodes_world.specs.Agreement.{records_at}
-use Rattle.nodes_world.specs.AgreementInside.{Known}
-use Rattle.nodes_world.specs.Deliveries.{answer_event, is_waited_for}
+use Rattle.nodes_world.specs.Asking.{HearingsMayAsk, IsOfLife, MayAsk}
+use Rattle.nodes_world.specs.Deliveries.{answer_event}
 use Rattle.nodes_world.specs.Disks.{Stop}
 use Rattle.nodes_world.specs.Happenings as happenings
 use Rattle.nodes_world.specs.Happenings.{requests_all}
 use Rattle.nodes_world.specs.Journals.{Asked, Answers, Stops, asks, records_on}
-use Rattle.nodes_world.specs.Laws.{AreWanted, AskedJournalsKeep, AskedJournalsStop, CanAsk, IsInOrder, IsWanted, RecordsAreRead}
+use Rattle.nodes_world.specs.Laws.{AreWanted, AskedJournalsKeep, AskedJournalsStop, CanAsk, CrashLeaves, IsInOrder, IsWanted, RecordsAreRead}
 use Rattle.nodes_world.specs.Nodes.{Stepping, crashes, crashes_seat, no_step, steps, steps_by, steps_node}
 use Rattle.nodes_world.specs.Objects.{family_key, service_at}
-use Rattle.nodes_world.specs.Told.{Told}
 use Rattle.nodes_world.specs.World.{World, Seat, OfNode, node_in, with_message, with_seat}
-use Rattle.nodes_world.proofs.DisksGoOn.{DisksGoOn, HearingsGoOn, IsOfLife, RecordsGoOn, more, same, same_goes}
+use Rattle.nodes_world.proofs.DisksGoOn.{DisksGoOn, HearingsGoOn, RecordsGoOn, more, same, same_goes}
 use Rattle.nodes_world.proofs.DisksSame.{DisksSame, requests_all_same, same_self}
 use Rattle.nodes_world.proofs.Going.{node_up, on_seat_twice}
 use Rattle.nodes_world.proofs.KnownSeats.{set_at}
 use Rattle.nodes_world.proofs.KnownWorlds.{node_there}
-
--- what is asked of a journal may be asked; a decision is one of this life
-pub record MayAsk (wanted : Option Wanted) (n : Node) : Type 0 where
-  pub can : CanAsk wanted n.found
-  pub own : (item : JournalRecord) → wanted ≡ Some (Appends item) → IsOfLife (life n) item
-
--- what a node asks that hears an answer may be asked
-abbrev pub HearingsMayAsk : Type 0
-HearingsMayAsk = (w : World) (told : List Told) (request from reply : ℕ) (o : Outward) (m back : Message) (answer : Said) (s : Seat) (n : Node)
-    → Known w told → slice_get w.messages (request - 1) ≡ Some m → m.content ≡ contents.Request from o → slice_get w.messages reply ≡ Some back
-    → back.content ≡ contents.Reply request answer → slice_get w.seats from ≡ Some s → s.server ≡ OfNode (Some n) → is_waited_for w m from o ≡ true
-    → MayAsk (call_wants (family_key from o.number) (answer_event o answer s.clock) n) n
+use Rattle.nodes_world.proofs.SeatSwaps.{requests_seats}
 
 inner : {A : Type 0} {x y : A} → Some x ≡ Some y → x ≡ y
 inner e = cc
@@ -164,6 +148,58 @@ module _ (keep : AskedJournalsKeep) (stop : AskedJournalsStop) (read : RecordsAr
       by : (a : Asked) → asks wanted n.service n.found s.disk s.stop ≡ a → DisksGoOn w (steps_by a place k e n w).done.world
       by (Answers stood disk next) is = answered_goes stood disk next is
       by (Stops image) is = stopped_goes image is
+
+  -- what the disks of seats hold then
+  abbrev HasMore : ℕ → Seat → Type 0
+  HasMore p t = (p ≡ place) × (behind : List JournalRecord) × (records_on (service_at place) t.disk ≡ Some (rs ++ behind)) × AreWanted wanted behind
+
+  turned_records : (later : Seat) (behind : List JournalRecord) → records_on (service_at place) later.disk ≡ Some (rs ++ behind) → AreWanted wanted behind
+      → (p : ℕ) (t : Seat) → slice_get (with_seat place later w).seats p ≡ Some t → (slice_get w.seats p ≡ Some t) ⊎ HasMore p t
+  turned_records later behind holds are p t at = elim (set_at w.seats place s later p there) [
+    | inl here ↦ inr (here.0, behind, subst (λ (y : Seat). records_on (service_at place) y.disk ≡ Some (rs ++ behind)) (inner (sym here.1 ∙ at)) holds, are)
+    | inr other ↦ inl (sym other ∙ at)
+  ]
+
+  answered_records : (stood : Option Stood) (disk : DiskState) (next : Option Stop) → asks wanted n.service n.found s.disk s.stop ≡ Answers stood disk next
+      → (p : ℕ) (t : Seat) → slice_get (steps_by (Answers stood disk next) place k e n w).done.world.seats p ≡ Some t → (slice_get w.seats p ≡ Some t) ⊎ HasMore p t
+  answered_records stood disk next is p t at =
+      let leaves = keep wanted (service_at place) rs s.disk s.stop stood disk next order can (sym asked_is ∙ is) in
+      let a : Applied = applies k e stood n in
+      let first : Seat → Seat = λ x. record x { disk = disk; stop = next } in
+      let second : Seat → Seat = λ x. record x { server = OfNode (Some a.node) } in
+      turned_records (second (first s)) leaves.more (read (service_at place) disk.reads (rs ++ leaves.more) leaves.order.stands) leaves.asked p t
+      (ap (λ (ss : List Seat). slice_get ss p) (sym (requests_seats place a.words _ ∙ ap (λ (x : World). x.seats) (on_seat_twice place first second w s there))) ∙ at)
+
+  stopped_records : (image : List ℕ) → asks wanted n.service n.found s.disk s.stop ≡ Stops image
+      → (p : ℕ) (t : Seat) → slice_get (steps_by (Stops image) place k e n w).done.world.seats p ≡ Some t → (slice_get w.seats p ≡ Some t) ⊎ HasMore p t
+  unfolding crashes
+  stopped_records image is p t at = elim (left.leaves) [
+    | inl old ↦ turned_records later [] (read (service_at place) image (rs ++ []) (subst (IsInOrder (service_at place) (at_first image)) (sym (append-nil rs)) old).stands) tt p t down
+    | inr new ↦ turned_records later (left.item ∷ []) (read (service_at place) image (rs ++ left.item ∷ []) new.stands) left.asked p t down
+  ]
+    where
+      left : CrashLeaves (service_at place) rs wanted image
+      left = stop wanted (service_at place) rs s.disk s.stop image order can (sym asked_is ∙ is)
+
+      later : Seat
+      later = record s { disk = at_first image; stop = None; server = OfNode None }
+
+      down : slice_get (with_seat place later w).seats p ≡ Some t
+      down =
+          let first : Seat → Seat = λ x. record x { disk = at_first image; stop = None } in
+          let second : Seat → Seat = λ x. record x { server = OfNode None } in
+          let world = ap (λ (o : Option Seat). (elim o as (λ _. happenings.Done) [ Some x ↦ crashes_seat place image x w | None ↦ happenings.nothing w ]).world) there
+          ∙ on_seat_twice place first second w s there in
+          ap (λ (x : World). slice_get x.seats p) (sym world) ∙ at
+
+  -- of a seat then the disk is as it was, or has what was wanted behind its records
+  pub node_records : (p : ℕ) (t : Seat) → slice_get (steps_node (Some n) s place k e w).done.world.seats p ≡ Some t → (slice_get w.seats p ≡ Some t) ⊎ HasMore p t
+  node_records = by (asks wanted n.service n.found s.disk s.stop) refl
+    where
+      by : (a : Asked) → asks wanted n.service n.found s.disk s.stop ≡ a
+          → (p : ℕ) (t : Seat) → slice_get (steps_by a place k e n w).done.world.seats p ≡ Some t → (slice_get w.seats p ≡ Some t) ⊎ HasMore p t
+      by (Answers stood disk next) is = answered_records stood disk next is
+      by (Stops image) is = stopped_records image is
 
 -- ---- an answer
 

@@ -1,5 +1,5 @@
 -- What is known of names, and of what is allowed, once a top-level transaction has its name.
-use Rattle.std.proofs.Common.{◌≡◌, inl, inr, ℕ, Bool, List, [], ◌∷◌, ◌++◌, Some, None, sym, ap, subst, ◌∙◌}
+use Rattle.std.proofs.Common.{◌≡◌, inl, inr, ℕ, ◌<◌, Bool, List, [], ◌∷◌, ◌++◌, Some, None, sym, ap, subst, ◌∙◌}
 use Rattle.std.proofs.lemmas.List.Elements.{Contains-push_cases}
 use Rattle.ior_refs.specs.declared.key.ObjectKey.{ObjectKey}
 use Rattle.ots_model.specs.Safe.{Stands, IsRegistered}
@@ -23,7 +23,7 @@ use Rattle.ots_model.specs.declared.line.ResourceState.{ResourceState}
 
 -- a name that was free is given to the top-level transaction of a key that no name had
 module _ (w : World) (name node : List ℕ) (key : ObjectKey) (seats : List Seat) (told : List Told) (free : thing w name ≡ None) (k : Known w told)
-    (fresh : (other : List ℕ) → IsTransaction w other key → ⊥) (kind : key.kind ≡ coordinator_kind) (top : key.index ≡ 0) where
+    (fresh : (other : List ℕ) → IsTransaction w other key → ⊥) (kind : key.kind ≡ coordinator_kind) (top : key.index ≡ 0) (service : 0 < key.service) where
   abbrev own : Thing
   own = things.Transaction key
 
@@ -92,6 +92,12 @@ module _ (w : World) (name node : List ℕ) (key : ObjectKey) (seats : List Seat
     | inr new ↦ subst (λ (x : ObjectKey). x.kind ≡ coordinator_kind) (own_key t new.1) kind
   ]
 
+  services_begun : (n : List ℕ) (t : ObjectKey) → IsTransaction v n t → 0 < t.service
+  services_begun n t is = elim (thing_cases w.names name own n (things.Transaction t) is) [
+    | inl was ↦ k.names.services n t was
+    | inr new ↦ subst (λ (x : ObjectKey). 0 < x.service) (own_key t new.1) service
+  ]
+
   tops_begun : (n at : List ℕ) → Stands (lines.Top n at) (line ∷ h) → (t : ObjectKey) × IsTransaction v n t × (t.index ≡ 0)
   tops_begun n at (inl e) = (key, subst (λ (x : List ℕ). thing v x ≡ Some own) (name_of e) given, top)
     where
@@ -127,6 +133,7 @@ module _ (w : World) (name node : List ℕ) (key : ObjectKey) (seats : List Seat
     once = once_begun;
     transactions = transactions_begun;
     kinds = kinds_begun;
+    services = services_begun;
     tops = tops_begun;
     subs = λ n above s.
         let was = k.names.subs n above (was_sub n above s) in

@@ -1,5 +1,5 @@
 -- A top-level transaction is made: what is known stays known.
-use Rattle.std.proofs.Common.{◌≡◌, ◌⊎◌, ℕ, Bool, true, false, cond, List, [], ◌∷◌, ◌++◌, slice_get, slice_set, Contains, Option, Some, None, refl, sym, ap, subst}
+use Rattle.std.proofs.Common.{◌≡◌, ◌⊎◌, ℕ, ◌<◌, Bool, true, false, cond, List, [], ◌∷◌, ◌++◌, slice_get, slice_set, Contains, Option, Some, None, refl, sym, ap, subst, arith}
 use Rattle.std.specs.Prelude.{nat_lt, Ok}
 use Rattle.ior_refs.specs.declared.key.ObjectKey.{ObjectKey}
 use Rattle.ots_model.specs.declared.line.Line.TheVariants as lines
@@ -71,12 +71,15 @@ module _ (stays : NodesKeepDecisions) (stood : HeldRecordsStood) (w : World) (pl
     follows = let was = k.disks.follows place s n there up in
         record { service = was.service; records = was.records; held = was.held; found = was.found; settled = was.settled }
 
+    served : 0 < key.service
+    served = let is = follows.service in omega (arith, is)
+
     fresh : (other : List ℕ) → IsTransaction w other key → ⊥
     fresh = parts.fresh_key w place name deadline slot s n c told there up free k refl refl refl sound holds
 
     made_known : Known v later
     made_known = record {
-      names = names_begun w name s.name key (slice_set w.seats place left) told free k fresh refl refl
+      names = names_begun w name s.name key (slice_set w.seats place left) told free k fresh refl refl served
           (λ r. resources_begun w place name key s n c told there up free k r);
       seats = seats_begun w place name key s n c told there up free k;
       disks = disks_begun w place name key s n c told there up free k (node_whole place c follows.service sound.sound whole) follows
@@ -100,7 +103,7 @@ module _ (stays : NodesKeepDecisions) (stood : HeldRecordsStood) (w : World) (pl
       transactions = parts.transactions_begun w place name deadline slot s n c told there up free k refl refl refl sound holds;
       nodes = parts.nodes_begun w place name deadline slot s n c told there up free k refl refl refl sound holds;
       counted = parts.counted_begun w place name deadline slot s n c told there up free k refl refl refl sound holds;
-      allowed = allowed_begun w name s.name key (slice_set w.seats place left) told free k fresh refl refl;
+      allowed = allowed_begun w name s.name key (slice_set w.seats place left) told free k fresh refl refl served;
     }
 
     begun_known : Known (begun_with place name s.name c (Ok key) w).world (told ++ (begun_with place name s.name c (Ok key) w).lines)

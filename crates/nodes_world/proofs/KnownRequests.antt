@@ -267,6 +267,7 @@ module _ (w : World) (told : List Told) (k : Known w told) (place : ℕ) (o : Ou
     once = k.names.once;
     transactions = λ name key named. (named, made_on name (k.names.transactions name key named).1);
     kinds = k.names.kinds;
+    services = k.names.services;
     tops = λ name node s. k.names.tops name node (back _ refl s);
     subs = λ name above s. k.names.subs name above (back _ refl s);
     ended = λ name committed s. k.names.ended name committed (back _ refl s);

@@ -178,24 +178,28 @@ allowed_on told (t ∷ others) (one, rest) all =
     subst (λ (x : List Told). AreAllowed (lines_of x)) (append_assoc told (t ∷ []) others)
     (allowed_on (told ++ t ∷ []) others rest (allowed_one told t one all))
 
--- ---- plain lines
+-- ---- lines of one kind are of another
+
+one_as : (a b : Line → Bool) → ((line : Line) → a line ≡ true → b line ≡ true) → (t : Told) → IsOne a t → IsOne b t
+one_as a b same (tell.Known line) one = same line one
+one_as a b same (tell.RolledBack transaction reason) one = one
+one_as a b same (tell.RolledBackBy transaction reason synchronization) one = one
+one_as a b same (tell.Down server) one = tt
+one_as a b same (tell.Aware resource transaction end) one = tt
+one_as a b same (tell.Called message operation transaction) one = tt
+one_as a b same (tell.Answered message answer) one = tt
+one_as a b same (tell.Sent message operation registration) one = tt
+one_as a b same (tell.Back message request answer) one = tt
+one_as a b same (tell.Dropped message) one = tt
+one_as a b same (tell.Marked transaction) one = tt
+one_as a b same (tell.Doubted transaction) one = tt
+one_as a b same (tell.Refused word answer) one = tt
+one_as a b same (tell.Journal server octets) one = tt
+
+pub each_as : (a b : Line → Bool) → ((line : Line) → a line ≡ true → b line ≡ true) → (some : List Told) → AllByRecursion (IsOne a) some
+    → AllByRecursion (IsOne b) some
+each_as a b same [] all = tt
+each_as a b same (t ∷ others) (one, all) = (one_as a b same t one, each_as a b same others all)
 
 pub each_bare : (some : List Told) → AllByRecursion (IsOne is_plain) some → AllByRecursion (IsOne is_bare) some
-each_bare [] all = tt
-each_bare (t ∷ others) (one, all) = (by t one, each_bare others all)
-  where
-    by : (t : Told) → IsOne is_plain t → IsOne is_bare t
-    by (tell.Known line) one = plain_bare line one
-    by (tell.RolledBack transaction reason) one = one
-    by (tell.RolledBackBy transaction reason synchronization) one = one
-    by (tell.Down server) one = tt
-    by (tell.Aware resource transaction end) one = tt
-    by (tell.Called message operation transaction) one = tt
-    by (tell.Answered message answer) one = tt
-    by (tell.Sent message operation registration) one = tt
-    by (tell.Back message request answer) one = tt
-    by (tell.Dropped message) one = tt
-    by (tell.Marked transaction) one = tt
-    by (tell.Doubted transaction) one = tt
-    by (tell.Refused word answer) one = tt
-    by (tell.Journal server octets) one = tt
+each_bare = each_as is_plain is_bare plain_bare

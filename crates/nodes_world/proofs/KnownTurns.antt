@@ -163,6 +163,7 @@ module _ (w v : World) (told later : List Told) (k : Known w told) (x : NamedKey
     once = λ name named among. to_v name named (k.names.once name named (subst (λ ns. Contains ns (name, named)) t.names among));
     transactions = λ name key named. (named, made_on name (k.names.transactions name key (to_w name _ named)).1);
     kinds = λ name key named. k.names.kinds name key (to_w name _ named);
+    services = λ name key named. k.names.services name key (to_w name _ named);
     tops = λ name node s. let at = k.names.tops name node (back _ refl s) in (at.0, to_v name _ at.1, at.2);
     subs = λ name above s.
         let at = k.names.subs name above (back _ refl s) in

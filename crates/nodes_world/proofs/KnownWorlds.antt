@@ -80,7 +80,7 @@ unfolding node_at
 node_there w place s n there up = ap (λ (o : Option Seat). option_and_then (λ (x : Seat). node_in x.server) o) there ∙ ap node_in up
 
 -- a decision that is recorded is by a record
-recorded_is : (outcome : ToldOutcome (List ℕ)) → is_recorded outcome ≡ true → outcome ≡ told_outcomes.Commit Record
+pub recorded_is : (outcome : ToldOutcome (List ℕ)) → is_recorded outcome ≡ true → outcome ≡ told_outcomes.Commit Record
 recorded_is (told_outcomes.Commit grounds.Record) is = refl
 recorded_is (told_outcomes.Commit grounds.OnePhase) is = absurd cc
 recorded_is (told_outcomes.Commit grounds.Nobody) is = absurd cc
@@ -118,7 +118,7 @@ pub record Frame (w v : World) (told later : List Told) : Type 0 where
   pub counted : EndsHaveCounted w → EndsHaveCounted v
 
 -- what is said of names in one list of lines is said in another, where its lines are there, but for these
-abbrev AreBareBack : List Line → List Line → Type 0
+abbrev pub AreBareBack : List Line → List Line → Type 0
 AreBareBack b a = (line : Line) → is_bare line ≡ false → Stands line b → Stands line a
 
 family_bare : (b a : List Line) (t : List ℕ) → AreBareBack b a → IsFamily t b → IsFamily t a
@@ -130,7 +130,7 @@ joined_bare b a t _ m (safe.IsJoined.own family) = safe.IsJoined.own (family_bar
 joined_bare b a t _ m (safe.IsJoined.committed u parent done sub above) =
     safe.IsJoined.committed u parent (m _ refl done) (m _ refl sub) (joined_bare b a t parent m above)
 
-part_bare : (b a : List Line) (g t : List ℕ) → AreBareBack b a → TakesPart g t b → TakesPart g t a
+pub part_bare : (b a : List Line) (g t : List ℕ) → AreBareBack b a → TakesPart g t b → TakesPart g t a
 part_bare b a g t m (u, registered, joined) = (u, (registered.0, m _ refl registered.1), joined_bare b a t u m joined)
 
 abbrev pub NamedOnce : World → Type 0
@@ -193,6 +193,7 @@ module _ (w v : World) (told later : List Told) (f : Frame w v told later) (k : 
     once = once;
     transactions = λ name key named. (named, made_on name (k.names.transactions name key (f.transaction_back name key named)).1);
     kinds = λ name key named. k.names.kinds name key (f.transaction_back name key named);
+    services = λ name key named. k.names.services name key (f.transaction_back name key named);
     tops = λ name node s. let at = k.names.tops name node (back _ refl s) in (at.0, f.transaction_on name at.0 at.1, at.2);
     subs = λ name above s. let at = k.names.subs name above (back _ refl s) in
         (at.0, at.1, f.transaction_on name at.0 at.2, f.transaction_on above at.1 at.3, at.4, at.5);

@@ -36,7 +36,7 @@ abbrev pub is_recorded_decision : Line → Bool
 is_recorded_decision (lines.Decide name (told_outcomes.Commit Record)) = true
 is_recorded_decision _ = false
 
-pub all_both : (P : Told → Type 0) (xs ys : List Told) → AllByRecursion P xs → AllByRecursion P ys → AllByRecursion P (xs ++ ys)
+pub all_both : {A : Type 0} (P : A → Type 0) (xs ys : List A) → AllByRecursion P xs → AllByRecursion P ys → AllByRecursion P (xs ++ ys)
 all_both P [] ys all also = also
 all_both P (x ∷ xs) ys (one, all) also = (one, all_both P xs ys all also)
 

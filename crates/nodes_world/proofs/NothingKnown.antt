@@ -13,6 +13,7 @@ nothing_known = record {
     once = λ name named among. absurd (none_there among.1);
     transactions = λ name key is. absurd cc;
     kinds = λ name key is. absurd cc;
+    services = λ name key is. absurd cc;
     tops = λ name node stands. absurd stands;
     subs = λ name above stands. absurd stands;
     ended = λ name committed stands. absurd stands;

@@ -1,17 +1,15 @@
 -- The words of a family are numbered in order: no two that go out together have the same number, and none has one that went out before.
-use Rattle.std.proofs.Common.{◌≡◌, ◌⊎◌, inl, inr, ℕ, ◌+◌, ◌<◌, ◌≤◌, List, [], ◌∷◌, length, Contains, Option, Some, None, refl, ap, sym, ◌∙◌, arith}
+use Rattle.std.proofs.Common.{◌≡◌, ◌⊎◌, inl, inr, ℕ, ◌+◌, ◌<◌, ◌≤◌, List, [], ◌∷◌, length, Contains, Option, Some, None, refl, ap, subst, sym, ◌∙◌, arith}
 use Rattle.std.specs.List.{AllByRecursion}
 use Rattle.std.proofs.lemmas.List.Elements.{Contains-append_right}
 use Rattle.ior_refs.specs.declared.key.ObjectKey.{ObjectKey}
 use Rattle.ots_model.specs.declared.completion.CallNumber.{CallNumber}
 use Rattle.ots_model.specs.declared.tree.Outward.{Outward}
-use Rattle.coordinator.specs.Closing.{notice_of}
 use Rattle.coordinator.specs.Family.{Family, Call, call_at}
-use Rattle.coordinator.specs.Moves.{Notice}
 use Rattle.coordinator.specs.declared.call.Leg.{Leg}
 use Rattle.coordinator.specs.declared.call.Leg.TheVariants.{Below, Own, Before, Deciding, After}
 use Rattle.family_laws.specs.LawsOfTelling.{AreNumberedFrom}
-use Rattle.nodes_world.specs.AgreementInside.{AreReady, IsNumberedBy, IsWithin, decides_out, notice_out, out_at}
+use Rattle.nodes_world.specs.AgreementInside.{AreReady, Awaited, IsAwaited, IsNumberedBy, IsWithin, decides_out, notice_out, out_at}
 use Rattle.nodes_world.proofs.RowsEnd.{first_or_later}
 use Rattle.nodes_world.proofs.RulesAsk.{HasWord}
 
@@ -102,7 +100,7 @@ ready_within f number ready is = by (call_at f 0) refl is
 
 -- what a step of a family leaves: the calls are ready, and where one waits at the decision, it did so before or for one of these words
 abbrev pub GoesOnAsking : Family → Family → List Outward → Type 0
-GoesOnAsking f g some = (number : ℕ) (n : Notice) → decides_out (call_at g 0) ≡ Some number → notice_out g.completion ≡ Some n
+GoesOnAsking f g some = (number : ℕ) (n : Awaited) → decides_out (call_at g 0) ≡ Some number → notice_out g.completion ≡ Some n
     → ((decides_out (call_at f 0) ≡ Some number) × (notice_out f.completion ≡ Some n)) ⊎ HasWord some number n
 
 -- a word that went out before is numbered by the family that the step leaves
@@ -128,6 +126,6 @@ newly_numbered f g some o asks numbered ready ready_then among within = record {
         let low = ready_within f o.number.serial ready waited in
         let above = numbered_above f.key f.serial some o numbered among in
         absurd (omega (arith, low, above))
-    | inr (p, among_p, same, is) ↦ sym is ∙ ap notice_of (one_number f.key f.serial some p o numbered among_p among same)
+    | inr (p, among_p, same, is) ↦ subst (IsAwaited notice) (one_number f.key f.serial some p o numbered among_p among same) is
   ];
 }

@@ -20,6 +20,7 @@ use Rattle.nodes_world.specs.declared.thing.Thing.{Thing}
 use Rattle.nodes_world.specs.Agreement.{IsClosed, IsDecided, IsOutlived, IsRolledBack, IsTransaction, OutcomesLast, ReachedOutcomesLast, by_known, by_other, by_synchronization, has_record, is_decision_of, outlived, records_at, rolled_back}
 use Rattle.nodes_world.specs.AgreementInside.{Known}
 use Rattle.nodes_world.specs.AgreementSteps.{Goes, GoesOn, StepsStayKnown, further, still}
+use Rattle.nodes_world.specs.Asking.{IsOfLife}
 use Rattle.nodes_world.specs.Happenings.{after}
 use Rattle.nodes_world.specs.Happenings as happenings
 use Rattle.nodes_world.specs.Journals.{records_in, records_on}
@@ -28,7 +29,7 @@ use Rattle.nodes_world.specs.Objects.{place_of, service_at}
 use Rattle.nodes_world.specs.Step.{carried_out}
 use Rattle.nodes_world.specs.Told.{Told, known}
 use Rattle.nodes_world.specs.World.{World, Seat, OfNode, seat_name, thing}
-use Rattle.nodes_world.proofs.DisksGoOn.{DisksGoOn, HearingsGoOn, IsOfLife, RecordsGoOn, disks_go, more, same}
+use Rattle.nodes_world.proofs.DisksGoOn.{DisksGoOn, HearingsGoOn, RecordsGoOn, disks_go, more, same}
 use Rattle.nodes_world.proofs.Delivered.{reached_delivered}
 use Rattle.nodes_world.proofs.GoingOn.{deeds_go}
 use Rattle.nodes_world.proofs.KnownLines.{in_front}

@@ -7,7 +7,7 @@ use Rattle.resource_end.specs.declared.state.State.{State}
 use Rattle.resource_end.specs.declared.state.State.TheVariants as states
 use Rattle.nodes_world.specs.Told.{Told, known}
 use Rattle.nodes_world.specs.World.{World}
-use Rattle.nodes_world.specs.Agreement.{IsKnown, StatesFollow, VotesAreBound, DonesAreComplete, ReachedDonesAreComplete, ReachedIsKnown}
+use Rattle.nodes_world.specs.Agreement.{IsKnown, StatesFollow, VotesAreBound, ReachedIsKnown}
 use Rattle.nodes_world.specs.AgreementInside.{Known}
 use Rattle.nodes_world.specs.AgreementSteps.{StepsStayKnown}
 use Rattle.nodes_world.proofs.KnownLines.{among_back, among_turned, lines_of}
@@ -35,8 +35,8 @@ follows_in_order told states.ChoseCommit name is = is
 follows_in_order told states.ChoseRollback name is = is
 follows_in_order told states.Forgotten name is = is
 
-pub known_together : (w : World) (told : List Told) → Known w told → VotesAreBound w → DonesAreComplete w → IsKnown w told
-known_together w told k bound dones = record {
+pub known_together : (w : World) (told : List Told) → Known w told → VotesAreBound w → IsKnown w told
+known_together w told k bound = record {
   keys = k.names.keys;
   lives = k.disks.rise;
   disks = k.disks.follows;
@@ -52,7 +52,6 @@ known_together w told k bound dones = record {
   rollbacks = k.rollbacks;
   votes = bound;
   given = k.votes;
-  dones = dones;
   states = λ name key r named at. follows_in_order told r.state name (k.resources name key r named at).follows;
   shown = λ name key r named at.
       let is = k.resources name key r named at in
@@ -62,8 +61,8 @@ known_together w told k bound dones = record {
       };
 }
 
--- so all of it is known of every world that is reached, where each Done there is complete
-pub reached_is_known : StepsStayKnown → ReachedDonesAreComplete → ReachedIsKnown
-reached_is_known keeps dones w told reached =
+-- so all of it is known of every world that is reached
+pub reached_is_known : StepsStayKnown → ReachedIsKnown
+reached_is_known keeps w told reached =
     let k : Known w told = known_reached keeps w told reached in
-    known_together w told k (votes_are_bound w told k) (dones w told reached)
+    known_together w told k (votes_are_bound w told k)

@@ -14,7 +14,7 @@ use Rattle.two_phase.specs.declared.party.Party.{Party}
 use Rattle.two_phase.specs.declared.party.Stage.{Stage as Round}
 use Rattle.two_phase.specs.declared.party.Stage.TheVariants as rounds
 use Rattle.two_phase.proofs.Stays.{goes}
-use Rattle.nodes_world.specs.AgreementSteps.{is_asking_round}
+use Rattle.nodes_world.specs.AgreementInside.{is_asking_round}
 use Rattle.nodes_world.proofs.AnswersKeep.{other_answer, same_gathered}
 use Rattle.nodes_world.proofs.AskedCalls.{IsAskedOf}
 
@@ -27,7 +27,7 @@ either_late true x c then_late late = then_late refl
 either_late false x c then_late late = late
 
 -- one that hasn't answered hasn't consented
-not_yet : (p : Party) → p.ballot ≡ None → has_consented p ≡ false
+pub not_yet : (p : Party) → p.ballot ≡ None → has_consented p ≡ false
 not_yet p unheard = ap (λ (b : Option ParticipantHeard). has_consented (record p { ballot = b })) unheard
 
 pub some_not : (ps : List Party) (i : ℕ) (p : Party) → slice_get ps i ≡ Some p → has_consented p ≡ false → list_all has_consented ps ≡ false

@@ -187,6 +187,7 @@ module _ (law : SameOctetsSameKey) (w : World) (place : ℕ) (name : List ℕ) (
     once = made.once_now law w place name manner s e told there up free k room few;
     transactions = λ t x is. made_on t x is (k.names.transactions t x (trans_back t x is));
     kinds = λ t x is. k.names.kinds t x (trans_back t x is);
+    services = λ t x is. k.names.services t x (trans_back t x is);
     tops = λ t node stands. let at = k.names.tops t node stands in (at.0, trans_on t at.0 at.1, at.2);
     subs = λ t above stands. let at = k.names.subs t above stands in (at.0, at.1, trans_on t at.0 at.2, trans_on above at.1 at.3, at.4, at.5);
     ended = λ t committed stands. let at = k.names.ended t committed stands in (at.0, trans_on t at.0 at.1, at.2);

@@ -250,6 +250,7 @@ module _ (w : World) (place : ℕ) (s : Seat) (n : Node) (f g : Family) (there :
     once = k.names.once;
     transactions = λ t x is. made_on t x (k.names.transactions t x is);
     kinds = k.names.kinds;
+    services = k.names.services;
     tops = λ t node x. k.names.tops t node (back _ refl x);
     subs = λ t above x. k.names.subs t above (back _ refl x);
     ended = λ t how x. k.names.ended t how (back _ refl x);

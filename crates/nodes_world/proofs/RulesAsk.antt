@@ -5,6 +5,7 @@ use Rattle.std.proofs.lemmas.List.Elements.{Contains-append_left, Contains-appen
 use Rattle.std.specs.Option.{option_and_then, option_map}
 use Rattle.ots_model.specs.declared.completion.Receipt.{Receipt}
 use Rattle.ots_model.specs.declared.tree.Outcome.{Outcome}
+use Rattle.ots_model.specs.declared.tree.Outcome.TheVariants as outcomes
 use Rattle.ots_model.specs.declared.tree.Outward.{Outward}
 use Rattle.ots_model.specs.declared.tree.Reason.{Reason}
 use Rattle.ots_model.specs.declared.tree.Reason.TheVariants as reasons
@@ -34,19 +35,19 @@ use Rattle.coordinator.specs.Closing.{asked_of, asking, rolling_back, begun, beg
 use Rattle.coordinator.specs.Running.{duty_notice, tells_first, commits_up, own_ends, own_duties, tells_own, passes_top, passes, ends_below, duties_below, sweeps_next, sweeps, is_held, tells_after, by_leg, runs, runs_call, goes_on}
 use Rattle.coordinator.specs.Phases.{is_marked}
 use Rattle.family_laws.specs.Sound.{called}
-use Rattle.nodes_world.specs.AgreementInside.{AreReady, IsBare, IsWithin, asking_notice, decides_out, notice_out, out_at}
+use Rattle.nodes_world.specs.AgreementInside.{AreReady, AsksOne, Awaited, IsAwaited, IsBare, IsOutcomeWord, IsWithin, TellsOne, decides_out, notice_at, notice_out, out_at}
 use Rattle.nodes_world.proofs.RulesKeep.{called_set}
 
 -- a word with this serial number, and of which that is the notice
-abbrev pub HasWord : List Outward → ℕ → Notice → Type 0
-HasWord words serial n = (o : Outward) × Contains words o × (o.number.serial ≡ serial) × (notice_of o ≡ n)
+abbrev pub HasWord : List Outward → ℕ → Awaited → Type 0
+HasWord words serial a = (o : Outward) × Contains words o × (o.number.serial ≡ serial) × IsAwaited a o
 
 -- The calls are ready to go on. Where the call of the top-level transaction then waits at the decision, and the completion asks, it
 -- did so before, for the same word, or that goes out now.
 pub record AreAsked (serial : ℕ) (calls : List (Option Call)) (s : Standing) (m : Moved) : Type 0 where
   pub ready : AreReady m.family.serial m.family.calls
   pub grows : serial ≤ m.family.serial
-  pub out : (number : ℕ) (n : Notice) → decides_out (called m.family.calls 0) ≡ Some number → notice_out m.family.completion ≡ Some n
+  pub out : (number : ℕ) (n : Awaited) → decides_out (called m.family.calls 0) ≡ Some number → notice_out m.family.completion ≡ Some n
       → ((decides_out (called calls 0) ≡ Some number) × (notice_out s ≡ Some n)) ⊎ HasWord m.words number n
 
 abbrev pub Asks : Family → Moved → Type 0
@@ -192,7 +193,7 @@ completes_ask later f (inl none) ready = record {
   out = λ number n waits asks. absurd (no n (sym none ∙ asks));
 }
   where
-    no : (n : Notice) → None ≡ Some n → ⊥
+    no : (n : Awaited) → None ≡ Some n → ⊥
     no n e = cc
 completes_ask later f (inr same) ready = record {
   ready = ready;
@@ -232,35 +233,57 @@ rests_ask c (Some fixed) f idle = afterwards_ask 0 c fixed f
 rests_ask c None f idle = waits_ask 0 c f idle
 
 -- the next word of a completion is the one that it has out then
-next_asks : (k : Course) (o : Outward) → course.next_word k ≡ Some o → (n : Notice) → notice_out (UnderWay (course.after_next k)) ≡ Some n → n ≡ notice_of o
+next_asks : (k : Course) (o : Outward) → course.next_word k ≡ Some o → (a : Awaited) → notice_out (UnderWay (course.after_next k)) ≡ Some a → IsAwaited a o
 unfolding course.next_word
-next_asks k o next n asks = by (is_some k.out) next asks
+next_asks k o next a waits = by (is_some k.out) next waits
   where
-    by_party : (p : Option Party) → option_map (course.outward k (course.first_word (course.decides_alone k))) p ≡ Some o
-        → option_map (λ (x : Party). record { word = course.first_word (course.decides_alone k); registration = x.index; to = x.to }) p ≡ Some n → n ≡ notice_of o
-    by_party (Some p) goes is = sym (inner is) ∙ ap notice_of (inner_word goes)
-      where
-        inner : {x y : Notice} → Some x ≡ Some y → x ≡ y
-        inner e = cc
+    inner : {A : Type 0} {x y : A} → Some x ≡ Some y → x ≡ y
+    inner e = cc
 
-        inner_word : {x y : Outward} → Some x ≡ Some y → x ≡ y
-        inner_word e = cc
-    by_party None goes is = absurd cc
+    asked : (p : Option Party) → option_map (course.outward k (course.first_word (course.decides_alone k))) p ≡ Some o
+        → option_map (λ (x : Party). AsksOne (record { word = course.first_word (course.decides_alone k); registration = x.index; to = x.to })) p ≡ Some a → IsAwaited a o
+    asked (Some p) goes is = subst (λ (x : Awaited). IsAwaited x o) (inner is) (ap notice_of (inner goes))
+    asked None goes is = absurd cc
+
+    outcome_word : (x : Option Outcome) → IsOutcomeWord (course.outcome_word x)
+    outcome_word (Some (outcomes.Commit basis)) = tt
+    outcome_word (Some (outcomes.Rollback reason)) = tt
+    outcome_word (Some outcomes.Unknown) = tt
+    outcome_word None = tt
+
+    told : (p : Option Party) → option_map (course.outward k (course.outcome_word (course.outcome k))) p ≡ Some o
+        → option_map (λ (x : Party). TellsOne x.index x.to) p ≡ Some a → IsAwaited a o
+    told (Some p) goes is = subst (λ (x : Awaited). IsAwaited x o) (inner is) (
+      ap (λ (x : Outward). x.registration) (inner goes),
+      ap (λ (x : Outward). x.to) (inner goes),
+      subst (λ (x : Outward). IsOutcomeWord x.word) (inner goes) (outcome_word (course.outcome k)),
+    )
+    told None goes is = absurd cc
 
     by_round : (round : Round) (place : ℕ) → option_map (course.outward k (course.word_of k round)) (slice_get k.parties place) ≡ Some o
-        → asking_notice (record k { out = course.errand k }) (record { stage = round; place = place }) ≡ Some n → n ≡ notice_of o
-    by_round rounds.Asking place goes is = by_party (slice_get k.parties place) goes is
-    by_round rounds.Telling place goes is = absurd cc
+        → notice_at (record k { out = course.errand k }) (record { stage = round; place = place }) ≡ Some a → IsAwaited a o
+    by_round rounds.Asking place goes is = asked (slice_get k.parties place) goes is
+    by_round rounds.Telling place goes is = told (slice_get k.parties place) goes is
     by_round rounds.Forgetting place goes is = absurd cc
 
-    by_errand : (e : Option Errand) → option_and_then (course.outward_of k) e ≡ Some o → option_and_then (asking_notice (record k { out = course.errand k })) e ≡ Some n → n ≡ notice_of o
+    by_errand : (e : Option Errand) → option_and_then (course.outward_of k) e ≡ Some o → option_and_then (notice_at (record k { out = course.errand k })) e ≡ Some a
+        → IsAwaited a o
     by_errand (Some e) goes is = by_round e.stage e.place goes is
     by_errand None goes is = absurd cc
 
     by : (t : Bool) → (if t then None else option_and_then (course.outward_of k) (course.errand k)) ≡ Some o
-        → notice_out (UnderWay (if t then k else record k { out = course.errand k })) ≡ Some n → n ≡ notice_of o
+        → notice_out (UnderWay (if t then k else record k { out = course.errand k })) ≡ Some a → IsAwaited a o
     by true goes is = absurd cc
     by false goes is = by_errand (course.errand k) goes is
+
+-- the word that a family sends so is awaited as that of its completion
+awaited_so : (a : Awaited) (o p : Outward) → notice_of p ≡ notice_of o → IsAwaited a o → IsAwaited a p
+awaited_so (AsksOne notice) o p same is = is ∙ sym same
+awaited_so (TellsOne registration to) o p same (index, reference, word) = (
+  index ∙ sym (ap (λ (n : Notice). n.registration) same),
+  reference ∙ sym (ap (λ (n : Notice). n.to) same),
+  subst IsOutcomeWord (sym (ap (λ (n : Notice). n.word) same)) word,
+)
 
 sent_asks : (k : Course) (o : Outward) → course.next_word k ≡ Some o → (c : Call) (f : Family) → IsBare c.leg c.left
     → AskRule (record f { completion = UnderWay k }) (sends 0 c (notice_of o) o.receipt (record f { completion = UnderWay (course.after_next k) }))
@@ -270,7 +293,7 @@ sent_asks k o next c f bare ready = record {
   grows = omega arith;
   out = λ number n waits asks. elim (first_or_none f.calls) [
     | inl none ↦ absurd (no number (sym (ap decides_out none) ∙ waits))
-    | inr new ↦ inr (sent, (0, omega arith, refl), serial_of c.leg number (sym (ap decides_out new) ∙ waits), sym (next_asks k o next n asks))
+    | inr new ↦ inr (sent, (0, omega arith, refl), serial_of c.leg number (sym (ap decides_out new) ∙ waits), awaited_so n o sent refl (next_asks k o next n asks))
   ];
 }
   where

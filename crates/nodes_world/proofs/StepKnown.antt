@@ -1,5 +1,5 @@
 -- What is known of the lines, words and resources of a world once a family has gone on by a step.
-use Rattle.std.proofs.Common.{◌≡◌, ◌⊎◌, inl, inr, ℕ, ◌<◌, ◌≤◌, Bool, false, IsTrue, is_some, List, ◌++◌, slice_get, Contains, Option, Some, None, refl, sym, ap, subst, ◌∙◌, arith}
+use Rattle.std.proofs.Common.{◌≡◌, ◌⊎◌, inl, inr, ℕ, ◌<◌, ◌≤◌, Bool, true, false, IsTrue, is_some, List, ◌++◌, slice_get, Contains, Option, Some, None, refl, sym, ap, subst, ◌∙◌, arith}
 use Rattle.ior_refs.specs.declared.key.ObjectKey.{ObjectKey}
 use Rattle.ots_model.specs.Safe.{Stands, IsRegistered}
 use Rattle.ots_model.specs.declared.completion.Ground.{Ground}
@@ -24,17 +24,17 @@ use Rattle.coordinator.specs.Node.{Node, family_in, is_of, life}
 use Rattle.coordinator.specs.Phases.{is_before}
 use Rattle.family_laws.specs.LawsOfTelling.{rows_told}
 use Rattle.nodes_world.specs.declared.thing.Thing.TheVariants as things
-use Rattle.nodes_world.specs.Agreement.{HasSent, IsTransaction, StatesFollow, VotesWereGiven, is_decision_of, HasGiven}
-use Rattle.nodes_world.specs.AgreementInside.{Known, FamiliesAreKnown, FamilyIsKnown, HasAnswered, HasMessage, IsBranch, IsMade, NamesAreTold, OutcomeIsTold, ResourceIsKnown, ResourcesAreKnown, SeatsAreNamed, WordsAreTold, IsNumberedBy}
+use Rattle.nodes_world.specs.Agreement.{HasSent, IsTransaction, VotesWereGiven, is_decision_of, HasGiven}
+use Rattle.nodes_world.specs.AgreementInside.{Known, FamiliesAreKnown, FamilyIsKnown, HasMessage, IsBranch, IsMade, NamesAreTold, OutcomeIsTold, ResourcesAreKnown, SeatsAreNamed, WordsAreTold, IsNumberedBy}
 use Rattle.nodes_world.specs.Happenings.{Cast, all_effect_lines, all_finished_lines}
 use Rattle.nodes_world.specs.Objects.{place_of}
 use Rattle.nodes_world.specs.Told as tell
 use Rattle.nodes_world.specs.Told.{Told, known}
-use Rattle.nodes_world.specs.World.{World, Seat, OfNode, FlatResource, family_at, referred, resource_at, NamedKey}
+use Rattle.nodes_world.specs.World.{World, Seat, OfNode, family_at, referred, resource_at, NamedKey}
 use Rattle.nodes_world.proofs.KnownLines.{AreAmong, among_back, among_turned, lines_of}
 use Rattle.nodes_world.proofs.KnownFamilies.{is_own, same_of_branch, participant_of, all_at}
-use Rattle.nodes_world.proofs.KnownRequests.{follows_kept, unvoted_kept, voted_kept}
 use Rattle.nodes_world.proofs.KnownSeats.{seats_kept, set_cases}
+use Rattle.nodes_world.proofs.SeatKept.{family_kept, is_of_others, resources_kept}
 use Rattle.nodes_world.proofs.EffectsTold.{TellsEffects, branch_named, effects_told_on, is_effect}
 use Rattle.nodes_world.proofs.EffectsSay.{Says}
 use Rattle.nodes_world.proofs.StepEnds.{line_cases, not_top}
@@ -46,6 +46,13 @@ use Rattle.nodes_world.proofs.NamedVotes.{one_index, who_is}
 use Rattle.nodes_world.proofs.RulesKeep.{registered_of}
 use Rattle.resource_votes.specs.Ballots.{participants}
 use Rattle.resource_votes.specs.declared.registration.Registration.{Registration}
+
+no_effect : (line : Line) → is_of_others line ≡ true → is_effect line ≡ false
+no_effect (lines.Reg resource transaction end) is = refl
+no_effect (lines.Sub transaction above) is = refl
+no_effect (lines.Send message word resource) is = refl
+no_effect (lines.State resource state) is = refl
+no_effect _ is = absurd cc
 
 module _ (w : World) (place : ℕ) (s : Seat) (n : Node) (f g : Family) (there : slice_get w.seats place ≡ Some s) (up : s.server ≡ OfNode (Some n))
     (slotted : family_in n.families f.key.slot ≡ Some f) (at_place : place_of f.key ≡ place) (told : List Told) (k : Known w told) (key : ObjectKey)
@@ -109,6 +116,7 @@ module _ (w : World) (place : ℕ) (s : Seat) (n : Node) (f g : Family) (there :
     once = k.names.once;
     transactions = λ name of named. made_on name of (k.names.transactions name of named);
     kinds = k.names.kinds;
+    services = k.names.services;
     tops = λ name node x. k.names.tops name node (back _ refl x);
     subs = λ name above x. k.names.subs name above (back _ refl x);
     ended = ended_now;
@@ -202,28 +210,11 @@ module _ (w : World) (place : ℕ) (s : Seat) (n : Node) (f g : Family) (there :
 
   -- ---- resources
 
-  answered_on : (name : List ℕ) (vote : Vote) → HasAnswered w name vote → HasAnswered v name vote
-  answered_on name vote (nth, from, reply, o, r, m, word, prepare, leads, named, at, says) =
-      (nth, from, reply, o, r, m, word, prepare, refers o.to ∙ leads, named, at, says)
-
-  answered_back : (name : List ℕ) (vote : Vote) → HasAnswered v name vote → HasAnswered w name vote
-  answered_back name vote (nth, from, reply, o, r, m, word, prepare, leads, named, at, says) =
-      (nth, from, reply, o, r, m, word, prepare, sym (refers o.to) ∙ leads, named, at, says)
-
-  resource_now : (name : List ℕ) (r : FlatResource) → ResourceIsKnown w (lines_of told) name r → ResourceIsKnown v (lines_of more) name r
-  resource_now name r was = record {
-    commit = λ a. voted_kept r.state name _ _ on (was.commit (answered_back name _ a));
-    read_only = λ a. was.read_only (answered_back name _ a);
-    rollback = λ a. was.rollback (answered_back name _ a);
-    none = λ no. unvoted_kept r.state name _ _ on (was.none (λ vote a. no vote (answered_on name vote a)));
-    applied = (λ x. was.applied.0 (back _ refl x), λ e. on _ (was.applied.1 e));
-    undone = (λ x. was.undone.0 (back _ refl x), λ e. on _ (was.undone.1 e));
-    follows = follows_kept r.state name _ _ on
-        (λ undone sent. (subst (λ x. StatesFollow x name (lines_of told)) undone was.follows) (sent.0, back _ refl sent.1)) was.follows;
-  }
+  back_others : (line : Line) → is_of_others line ≡ true → Stands line (lines_of more) → Stands line (lines_of told)
+  back_others line other x = back line (no_effect line other) x
 
   pub resources_now : ResourcesAreKnown v (lines_of more)
-  resources_now name of r named at = resource_now name r (k.resources name of r named (sym (resources of) ∙ at))
+  resources_now = resources_kept w place (seats.left w place s n f g there up is.key slotted at_place) told more refers resources on back_others k.resources
 
   -- ---- families
 
@@ -278,44 +269,20 @@ module _ (w : World) (place : ℕ) (s : Seat) (n : Node) (f g : Family) (there :
     outcome_stays (Some outcomes.Unknown) was = λ x. was (outcome_was Record x)
 
     other_family : FamilyIsKnown v (lines_of more) h
-    other_family = record {
-      sound = theirs.sound;
-      name = theirs.name;
-      of_name = theirs.of_name;
-      top = theirs.top;
-      branches = theirs.branches;
-      no_further = theirs.no_further;
-      parents = λ t above b p branch higher.
-          let was = theirs.parents t above b p branch higher in
-          (λ x. was.0 (back _ refl x), λ e. on _ (was.1 e));
-      ends = λ t b how branch below.
-          let was = theirs.ends t b how branch below in
-          (λ x. was.0 (end_was t b how branch x), λ e. on _ (was.1 e));
-      registrations = λ x t b branch.
-          let was = theirs.registrations x t b branch in (
-            λ y. let l = was.0 (y.0, back _ refl y.1) in (l.0, l.1, l.2, l.3, l.4, refers l.1.to ∙ l.5, l.6),
-            λ l. let y = was.1 (l.0, l.1, l.2, l.3, l.4, sym (refers l.1.to) ∙ l.5, l.6) in (y.0, on _ y.1),
-          );
-      own = λ r object t among leads registered. theirs.own r object t among (sym (refers r.to) ∙ leads) (registered.0, back _ refl registered.1);
-      numbered = theirs.numbered;
-      unsynchronized = theirs.unsynchronized;
-      named = λ r among. ap is_some (refers r.to) ∙ theirs.named r among;
-      apart = theirs.apart;
-      within = theirs.within;
-      came = theirs.came;
-      dues = theirs.dues;
-      legs = theirs.legs;
-      ready = theirs.ready;
-      few = theirs.few;
-      settled = theirs.settled;
-      votes = λ number vote r object among numbered leads.
-          let was = theirs.votes number vote r object among numbered (sym (refers r.to) ∙ leads) in
-          (λ e. on _ (was.0 e), λ x. was.1 (vote_was object.name vote r object among (sym (refers r.to) ∙ leads) refl x));
-      outcome = outcome_stays (stages.outcome h.completion) theirs.outcome;
-      recorded =
-          let same = seats.has_now w place s n f g there up is.key slotted at_place (place_of h.key) (is_decision_of h.key) in
-          (λ has. theirs.recorded.0 (sym same ∙ has), λ e. same ∙ theirs.recorded.1 e);
-    }
+    other_family =
+        family_kept w place (seats.left w place s n f g there up is.key slotted at_place) told more refers resources on back_others h h.completion theirs
+        (record {
+          sound = theirs.sound;
+          settled = theirs.settled;
+          ends = end_was;
+          votes = λ number vote r object among numbered leads.
+              let was = theirs.votes number vote r object among numbered leads in
+              (λ e. on _ (was.0 e), λ x. was.1 (vote_was object.name vote r object among leads refl x));
+          outcome = outcome_stays (stages.outcome h.completion) theirs.outcome;
+          recorded =
+              let same = seats.has_now w place s n f g there up is.key slotted at_place (place_of h.key) (is_decision_of h.key) in
+              (λ has. theirs.recorded.0 (sym same ∙ has), λ e. same ∙ theirs.recorded.1 e);
+        })
 
   pub families_now : ((e : Entry) (r : RetryKey) → Contains g.entries e → e.event.key ≡ Some r → HasMessage w r) → FamiliesAreKnown v (lines_of more)
   families_now came of h at = elim (seats.families_now w place s n f g there up is.key slotted at_place of h at) [

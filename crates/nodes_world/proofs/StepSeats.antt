@@ -21,7 +21,7 @@ use Rattle.nodes_world.proofs.KnownSeats.{disks_kept, ends_kept, seat_names_kept
 same_or_not : (a b : ℕ) → (a ≡ b) ⊎ (a ≢ b)
 same_or_not a b = grind arith
 
-other_place : {A : Type 0} (xs : List A) (i j : ℕ) (y : A) → j ≢ i → slice_get (slice_set xs i y) j ≡ slice_get xs j
+pub other_place : {A : Type 0} (xs : List A) (i j : ℕ) (y : A) → j ≢ i → slice_get (slice_set xs i y) j ≡ slice_get xs j
 other_place [] i j y other = refl
 other_place (z ∷ xs) zero zero y other = absurd (other refl)
 other_place (z ∷ xs) zero (suc j) y other = refl

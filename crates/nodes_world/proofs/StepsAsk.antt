@@ -37,13 +37,13 @@ use Rattle.coordinator.specs.Family.{Family, Aim, Call, Commits, RollsBack, call
 use Rattle.coordinator.specs.Closing.{begins, rolling_back}
 use Rattle.coordinator.specs.Hearing.{answers_doubt, closes, decided, done_effects, doubts_by, hears_at, inner_number, is_markable, is_plain, marks, marks_parent, settles, told, told_commit, told_end, told_participant, vote_effects, wants_done}
 use Rattle.coordinator.specs.History.{kept_for, repeated}
-use Rattle.coordinator.specs.Moves.{Moved, Notice, only, ◌▹◌, shows, completes_as}
+use Rattle.coordinator.specs.Moves.{Moved, only, ◌▹◌, shows, completes_as}
 use Rattle.coordinator.specs.Phases.{column, is_open, has_parent_ended}
 use Rattle.coordinator.specs.Running.{runs}
 use Rattle.coordinator.specs.Table.{Acted, new_call, on_branch, on_terminator, has_terminator, has_branch, creates_by, creates_in, creates_subtransaction, gets_terminator, marks_only, registers, registers_aware, registers_resource, registers_synchronization, with_sub, rolls_back_top, rolls_back_sub, rolls_back, begins_commit, unless_orphan, commits_in, commits, rolls_back_in, rolls_back_asked, replays}
 use Rattle.coordinator.specs.Step.{has_timed_out, times_out, ticks, acts_on, acted, answered, goes_on_at, hears, hears_call, hears_for, is_silent, Stepped, quiet, entered, step_by, family_step}
 use Rattle.family_laws.specs.Sound.{called}
-use Rattle.nodes_world.specs.AgreementInside.{AreReady, IsBare, IsNotBefore, IsWithin, asking_notice, decides_out, notice_out}
+use Rattle.nodes_world.specs.AgreementInside.{AreReady, Awaited, IsBare, IsNotBefore, IsWithin, decides_out, notice_at, notice_out}
 use Rattle.nodes_world.specs.Deliveries.{answer_event, heard_in}
 use Rattle.nodes_world.proofs.RulesAsk.{AskRule, HasWord, IsIdle, completes_ask, either_asks, goes_on_ask, only_asks, rolls_ask, runs_ask, same_asks, set_asks, shows_ask, then_asks}
 use Rattle.nodes_world.proofs.RulesKeep.{called_set}
@@ -52,7 +52,7 @@ use Rattle.nodes_world.proofs.StepsKeep.{is_steady}
 -- what a step leaves
 pub record StepAsks (f : Family) (s : Stepped) : Type 0 where
   pub ready : AreReady s.family.serial s.family.calls
-  pub out : (number : ℕ) (n : Notice) → decides_out (called s.family.calls 0) ≡ Some number → notice_out s.family.completion ≡ Some n
+  pub out : (number : ℕ) (n : Awaited) → decides_out (called s.family.calls 0) ≡ Some number → notice_out s.family.completion ≡ Some n
       → ((decides_out (called f.calls 0) ≡ Some number) × (notice_out f.completion ≡ Some n)) ⊎ HasWord s.words number n
 
 -- ---- what begins
@@ -248,7 +248,7 @@ own_number n = all (n.life == n.life) (n.slot == n.slot) (n.generation == n.gene
     all : (a b c d : Bool) → a ≡ true → b ≡ true → c ≡ true → d ≡ true → (a && b && c && d) ≡ true
     all a b c d e f g h = rw (e, f, g, h) refl
 
-heard_quiet : (h : ParticipantHeard) (f : Family) (n : CallNumber) (s : Standing) → notice_out (stages.after_answer (inner_number f s n) h s) ≡ None
+pub heard_quiet : (h : ParticipantHeard) (f : Family) (n : CallNumber) (s : Standing) → notice_out (stages.after_answer (inner_number f s n) h s) ≡ None
 heard_quiet h f n (Waiting room) = refl
 heard_quiet h f n (UnderWay k) = by k.out refl
   where
@@ -259,7 +259,7 @@ heard_quiet h f n (UnderWay k) = by k.out refl
     by : (o : Option Errand) → k.out ≡ o
         → notice_out (UnderWay (elim o as (λ _. Course) [ Some e ↦ if k.number.life == k.number.life && k.number.slot == k.number.slot && k.number.generation == k.number.generation && k.number.serial == k.number.serial then course.answered h k e else k | None ↦ k ])) ≡ None
     by (Some e) out = own e _ (own_number k.number)
-    by None out = ap (λ (o : Option Errand). option_and_then (asking_notice k) o) out
+    by None out = ap (λ (o : Option Errand). option_and_then (notice_at k) o) out
 
 participant_ask : (n : CallNumber) (h : Heard) (f : Family) → AskRule f (told_participant n h f)
 unfolding told_participant

@@ -1,4 +1,4 @@
--- Each step keeps what is known, where that does in which an answer comes to a node; agreement follows.
+-- Each step keeps what is known of a world.
 use Rattle.std.proofs.Common.{◌≡◌, inl, inr, ℕ, List, append-nil, Some, refl, sym, subst}
 use Rattle.ior_refs.specs.declared.key.ObjectKey.{ObjectKey}
 use Rattle.ots_model.specs.SafeByLine.{AllowedIsSafe}
@@ -8,16 +8,14 @@ use Rattle.nodes_world.proofs.CompletesKnown.{JournalLaws}
 use Rattle.nodes_world.specs.World.{World, FlatResource, resource_at, thing}
 use Rattle.nodes_world.specs.Happenings.{changes}
 use Rattle.nodes_world.specs.Ends.{put_into, refusing, with_resource_at}
-use Rattle.nodes_world.specs.Agreement.{Agreement, RunsAreSafe}
 use Rattle.nodes_world.specs.AgreementInside.{Known}
-use Rattle.nodes_world.specs.AgreementSteps.{IsTouched, by_put, by_refusal, NodeStepsStayKnown, StaysKnown, StepsStayKnown}
+use Rattle.nodes_world.specs.AgreementSteps.{IsTouched, by_put, by_refusal, StaysKnown, StepsStayKnown}
 use Rattle.nodes_world.proofs.KnownAlike.{known_alike, known_receipt}
 use Rattle.nodes_world.proofs.KnownCalling.{known_calling}
 use Rattle.nodes_world.proofs.KnownMakings.{known_end, known_node}
 use Rattle.nodes_world.proofs.KnownSeats.{known_crash}
 use Rattle.nodes_world.proofs.KnownTouch.{touch_known}
 use Rattle.nodes_world.proofs.LoadedLives.{known_loading}
-use Rattle.nodes_world.proofs.Reaching.{agreement, runs_are_safe}
 use Rattle.nodes_world.proofs.WordKnown.{word_known}
 use Rattle.family_laws.specs.OwnDecisions.{NodesKeepDecisions}
 use Rattle.family_laws.specs.HeldRecords.{HeldRecordsStood}
@@ -39,8 +37,8 @@ known_touch w name key r _ named was (by_refusal may) told k =
     subst (Known (with_resource_at key (refusing r) w)) (sym (append-nil told))
     (touch_known w told k name key r (refusing r) named was refl may (inr refl))
 
-pub steps_stay_known : AllowedIsSafe → JournalLaws → LoadsAreSafe → NodesKeepDecisions → HeldRecordsStood → SameOctetsSameKey → FamilyLaws → NodeStepsStayKnown → StepsStayKnown
-steps_stay_known allowed journals safe sound stood keys families nodes = record {
+pub steps_stay_known : AllowedIsSafe → JournalLaws → LoadsAreSafe → NodesKeepDecisions → HeldRecordsStood → SameOctetsSameKey → FamilyLaws → StepsStayKnown
+steps_stay_known allowed journals safe sound stood keys families = record {
   alike = known_alike;
   receipt = known_receipt;
   node = known_node;
@@ -54,13 +52,6 @@ steps_stay_known allowed journals safe sound stood keys families nodes = record 
   register = λ w manner transaction place name s e at up free may few. known_register families sound keys w manner transaction place name s e at up free few;
   touch = known_touch;
   word = λ w nth place o is told k. word_known w told k allowed nth place o is;
-  hearing = known_hearing families journals sound stood nodes;
+  hearing = known_hearing families journals sound stood;
   tick = known_tick families sound stood;
 }
-
--- so agreement rests on the steps of nodes
-pub nodes_agree : AllowedIsSafe → JournalLaws → LoadsAreSafe → NodesKeepDecisions → HeldRecordsStood → SameOctetsSameKey → FamilyLaws → NodeStepsStayKnown → Agreement
-nodes_agree allowed journals safe sound stood keys families nodes = agreement (steps_stay_known allowed journals safe sound stood keys families nodes) allowed
-
-pub runs_agree : AllowedIsSafe → JournalLaws → LoadsAreSafe → NodesKeepDecisions → HeldRecordsStood → SameOctetsSameKey → FamilyLaws → NodeStepsStayKnown → RunsAreSafe
-runs_agree allowed journals safe sound stood keys families nodes = runs_are_safe (nodes_agree allowed journals safe sound stood keys families nodes)

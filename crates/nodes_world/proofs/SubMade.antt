@@ -176,6 +176,15 @@ module _ (w : World) (place : ℕ) (s : Seat) (n : Node) (f g : Family) (there :
     | inr new ↦ ap (λ (y : ObjectKey). y.kind) (sym new.1) ∙ kind
   ]
 
+  services_now : (t : List ℕ) (x : ObjectKey) → IsTransaction v t x → 0 < x.service
+  services_now t x is = elim (trans_cases t x is) [
+    | inl was ↦ k.names.services t x was
+    | inr new ↦
+        let own_parts = same_parts own_key.service own_key.life own_key.slot own_key.generation f.key.service f.key.life f.key.slot f.key.generation of in
+        let theirs = k.families key f found in
+        subst (λ (y : ObjectKey). 0 < y.service) new.1 (subst (λ (y : ℕ). 0 < y) (sym own_parts.0) (k.names.services theirs.name f.key theirs.of_name))
+  ]
+
   -- the key of its parent is its own, but for the index
   parent_key : record own_key { index = branch.0.index } ≡ branch.0
   parent_key =
@@ -232,6 +241,7 @@ module _ (w : World) (place : ℕ) (s : Seat) (n : Node) (f g : Family) (there :
     once = once_now;
     transactions = transactions_now;
     kinds = kinds_now;
+    services = services_now;
     tops = λ t node x. let at = k.names.tops t node (back _ refl x) in (at.0, thing_on t (things.Transaction at.0) at.1, at.2);
     subs = subs_now;
     ended = λ t how x. let at = k.names.ended t how (back _ refl x) in (at.0, thing_on t (things.Transaction at.0) at.1, at.2);

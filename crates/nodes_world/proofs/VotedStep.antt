@@ -29,8 +29,7 @@ use Rattle.family_laws.specs.Sound.{HasParties, IsSoundFamily}
 use Rattle.nodes_world.specs.declared.message.Content.TheVariants as contents
 use Rattle.nodes_world.specs.declared.message.Message.{Message}
 use Rattle.nodes_world.specs.Agreement.{IsWord}
-use Rattle.nodes_world.specs.AgreementInside.{IsNumberedBy}
-use Rattle.nodes_world.specs.AgreementSteps.{is_asking}
+use Rattle.nodes_world.specs.AgreementInside.{IsNumberedBy, is_asking}
 use Rattle.nodes_world.specs.Deliveries.{answer_event, heard_in}
 use Rattle.nodes_world.specs.World.{World, referred}
 use Rattle.nodes_world.proofs.AskedCalls.{asked_of, nothing_fixed}
@@ -51,13 +50,13 @@ unfolding heard_in
 vote_heard answer vote votes = ap (λ (x : Said). of_participant (heard_in x)) votes
 
 -- the registration that is asked, to which the word went that is answered
-record IsAskedAs (f : Family) (o : Outward) : Type 0 where
-  r : Registration
-  there : Contains (participants 0 f.ballots) r
-  voter : stages.voter f.completion ≡ Some r.index
-  reference : r.to ≡ o.to
+pub record IsAskedAs (f : Family) (o : Outward) : Type 0 where
+  pub r : Registration
+  pub there : Contains (participants 0 f.ballots) r
+  pub voter : stages.voter f.completion ≡ Some r.index
+  pub reference : r.to ≡ o.to
 
-asked_as : (f : Family) (o : Outward) (c : Call) → IsNumberedBy f o → waiting_for f o.number ≡ Some 0 → call_at f 0 ≡ Some c → c.leg ≡ Deciding
+pub asked_as : (f : Family) (o : Outward) (c : Call) → IsNumberedBy f o → waiting_for f o.number ≡ Some 0 → call_at f 0 ≡ Some c → c.leg ≡ Deciding
     → stages.decides_alone f.completion ≡ false → (s : Standing) → f.completion ≡ s → IsThere s → is_asking s ≡ true → HasParties s (participants 0 f.ballots) → IsAskedAs f o
 asked_as f o c numbered waits at decides alone (Waiting room) going there asks parties = absurd cc
 asked_as f o c numbered waits at decides alone (UnderWay k) going there asks parties =

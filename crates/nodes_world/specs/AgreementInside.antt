@@ -34,6 +34,7 @@ use Rattle.two_phase.specs.Stages as stages
 use Rattle.two_phase.specs.Stages.{Standing as Completion, Waiting, Going as UnderWay}
 use Rattle.two_phase.specs.declared.party.Errand.{Errand}
 use Rattle.two_phase.specs.declared.party.Party.{Party}
+use Rattle.two_phase.specs.declared.party.Stage.{Stage as Round}
 use Rattle.two_phase.specs.declared.party.Stage.TheVariants as rounds
 use Rattle.decision_journal.specs.Journal.{Holds, first_gate, found_in}
 use Rattle.decision_journal.specs.Laws.{IsSettled}
@@ -89,6 +90,7 @@ pub record NamesAreTold (w : World) (h : List Line) : Type 0 where
   pub once : (name : List ℕ) (named : Thing) → Contains w.names (name, named) → thing w name ≡ Some named
   pub transactions : (name : List ℕ) (key : ObjectKey) → IsTransaction w name key → IsMade w h name key
   pub kinds : (name : List ℕ) (key : ObjectKey) → IsTransaction w name key → key.kind ≡ coordinator_kind
+  pub services : (name : List ℕ) (key : ObjectKey) → IsTransaction w name key → 0 < key.service
   pub tops : (name node : List ℕ) → Stands (lines.Top name node) h → (key : ObjectKey) × IsTransaction w name key × (key.index ≡ 0)
   pub subs : (name above : List ℕ) → Stands (lines.Sub name above) h
       → (key : ObjectKey) × (higher : ObjectKey) × IsTransaction w name key × IsTransaction w above higher × (0 < key.index)
@@ -173,17 +175,45 @@ abbrev pub IsNamedBy : Outward → Standing → Type 0
 IsNamedBy o s = (s.place ≡ o.number.generation)
     × Any (λ (r : Named). (r.index ≡ o.number.serial) × (r.reference ≡ o.to)) (registrations_of s.item)
 
--- the notice of the word by which a completion asks a participant, while that is out
-abbrev pub asking_notice : Course → Errand → Option Notice
-asking_notice c e = elim e.stage [
-  | rounds.Asking ↦ option_map (λ (p : Party). record { word = first_word (decides_alone c); registration = p.index; to = p.to }) (slice_get c.parties e.place)
-  | rounds.Telling ↦ None
+-- the word that is out asks a participant, to prepare or to commit alone
+abbrev pub is_asking_round : Round → Bool
+is_asking_round rounds.Asking = true
+is_asking_round rounds.Telling = false
+is_asking_round rounds.Forgetting = false
+
+abbrev pub is_asking_errand : Option Errand → Bool
+is_asking_errand (Some e) = is_asking_round e.stage
+is_asking_errand None = false
+
+abbrev pub is_asking : Completion → Bool
+is_asking (Waiting room) = false
+is_asking (UnderWay c) = is_asking_errand c.out
+
+-- the word for which a completion waits: one by which it asks a participant, or one by which it tells one with this number the outcome
+pub data Awaited : Type 0 where
+  AsksOne : (notice : Notice) → Awaited
+  TellsOne : (registration : ℕ) (to : List ℕ) → Awaited
+
+abbrev pub notice_at : Course → Errand → Option Awaited
+notice_at c e = elim e.stage [
+  | rounds.Asking ↦ option_map (λ (p : Party). AsksOne (record { word = first_word (decides_alone c); registration = p.index; to = p.to })) (slice_get c.parties e.place)
+  | rounds.Telling ↦ option_map (λ (p : Party). TellsOne p.index p.to) (slice_get c.parties e.place)
   | rounds.Forgetting ↦ None
 ]
 
-abbrev pub notice_out : Completion → Option Notice
+abbrev pub notice_out : Completion → Option Awaited
 notice_out (Waiting room) = None
-notice_out (UnderWay c) = option_and_then (asking_notice c) c.out
+notice_out (UnderWay c) = option_and_then (notice_at c) c.out
+
+-- the outcome is told by one of these
+abbrev pub IsOutcomeWord : Word → Type 0
+IsOutcomeWord words.Commit = Unit {0}
+IsOutcomeWord words.Rollback = Unit {0}
+IsOutcomeWord _ = ⊥
+
+abbrev pub IsAwaited : Awaited → Outward → Type 0
+IsAwaited (AsksOne notice) o = notice ≡ notice_of o
+IsAwaited (TellsOne registration to) o = (registration ≡ o.registration) × (to ≡ o.to) × IsOutcomeWord o.word
 
 -- the serial number of the word that a call at the decision has out
 abbrev pub out_at : Leg → Option ℕ → Option ℕ
@@ -198,10 +228,10 @@ decides_out (Some c) = out_at c.leg c.out
 decides_out None = None
 
 -- A word of a family has a number that the family has given. Where the call at the decision waits for it while a participant is asked,
--- it is the word that asks that one.
+-- or told the outcome, it is the word that went to that one.
 pub record IsNumberedBy (f : Family) (o : Outward) : Type 0 where
   pub within : o.number.serial ≤ f.serial
-  pub out : (notice : Notice) → decides_out (call_at f 0) ≡ Some o.number.serial → notice_out f.completion ≡ Some notice → notice ≡ notice_of o
+  pub out : (a : Awaited) → decides_out (call_at f 0) ≡ Some o.number.serial → notice_out f.completion ≡ Some a → IsAwaited a o
 
 pub record WordsAreTold (w : World) (h : List Line) : Type 0 where
   pub named : WordsAreNamed w

@@ -1,52 +1,38 @@
 -- The steps of which all that a script does is made, each with the lines that it tells. What is known of a world is kept by each of
 -- them; so it is known of every world that a script reaches (our profile).
-use Rattle.std.specs.Prelude.{◌≡◌, ℕ, ◌+◌, ◌-◌, ◌==◌, ◌&&◌, ◌≤◌, Bool, true, false, List, [], ◌∷◌, ◌++◌, map, slice_get, length, IsTrue, Option, Some, None, is_some}
+use Rattle.std.specs.Prelude.{◌≡◌, ℕ, ◌+◌, ◌-◌, ◌&&◌, ◌≤◌, Bool, true, false, List, [], ◌∷◌, ◌++◌, map, slice_get, length, IsTrue, Some, None, is_some}
 use Rattle.std.specs.List.{AllByRecursion}
 use Rattle.ior_refs.specs.declared.key.ObjectKey.{ObjectKey}
 use Rattle.ots_model.specs.Limits.{name_limit}
-use Rattle.ots_model.specs.declared.completion.Stood.TheVariants as answers
-use Rattle.ots_model.specs.declared.completion.Vote.{Vote}
 use Rattle.ots_model.specs.declared.line.Line.TheVariants as lines
 use Rattle.ots_model.specs.declared.tree.Outward.{Outward}
 use Rattle.ots_world.specs.declared.script.ScriptEvent.{ScriptEvent}
 use Rattle.decision_journal.specs.declared.record.JournalRecord.{JournalRecord}
-use Rattle.two_phase.specs.Stages as stages
-use Rattle.two_phase.specs.Stages.{Standing, Waiting, Going as UnderWay}
-use Rattle.two_phase.specs.declared.party.Errand.{Errand}
-use Rattle.two_phase.specs.declared.party.Stage.{Stage as Round}
-use Rattle.two_phase.specs.declared.party.Stage.TheVariants as rounds
-use Rattle.recovery_coord.specs.Limits.{retold_slot}
-use Rattle.coordinator.specs.Step.{Appends, wanted}
-use Rattle.coordinator.specs.Family.{Family, Call, call_at, waiting_for}
-use Rattle.coordinator.specs.History.{has_room}
-use Rattle.coordinator.specs.Node.{Node, family_of}
-use Rattle.coordinator.specs.declared.call.Leg.TheVariants.{Deciding}
+use Rattle.coordinator.specs.Node.{Node}
 use Rattle.coordinator.specs.declared.event.Act.{Act}
 use Rattle.coordinator.specs.declared.event.Act.TheVariants as acts
 use Rattle.coordinator.specs.declared.said.Said.{Said}
-use Rattle.coordinator.specs.declared.said.Said.TheVariants as said
 use Rattle.nodes_world.specs.declared.deed.Deed.{Deed}
 use Rattle.nodes_world.specs.declared.deed.Manner.{Manner}
 use Rattle.nodes_world.specs.declared.message.Content.{Content}
 use Rattle.nodes_world.specs.declared.message.Content.TheVariants as contents
 use Rattle.nodes_world.specs.declared.message.Message.{Message}
 use Rattle.nodes_world.specs.declared.thing.Thing.TheVariants as things
-use Rattle.nodes_world.specs.Journals.{records_on, Asked, Answers, Stops, asks}
-use Rattle.nodes_world.specs.Objects.{family_key, place_of, service_at}
+use Rattle.nodes_world.specs.Journals.{records_on}
+use Rattle.nodes_world.specs.Objects.{place_of, service_at}
 use Rattle.nodes_world.specs.Told.{Told, Known as Line, RolledBack, RolledBackBy, operation_of}
 use Rattle.nodes_world.specs.World.{World, Seat, OfNode, OfEnd, FlatEnd, FlatResource, next_message, resource_at, thing, transaction_name, with_sent}
 use Rattle.nodes_world.specs.Happenings.{Done, after, changes, client_message, nothing, tells}
-use Rattle.nodes_world.specs.Nodes.{crashes_seat, steps, steps_node, ticks_node}
+use Rattle.nodes_world.specs.Nodes.{crashes_seat, steps, ticks_node}
 use Rattle.nodes_world.specs.Ends.{closed_by, obeys, put_into, refusing, with_resource_at}
 use Rattle.nodes_world.specs.Clients.{begins_at, call_event, called_line, creates_sub, registers_at}
-use Rattle.nodes_world.specs.Deliveries.{answer_event, hears_answer, is_waited_for}
+use Rattle.nodes_world.specs.Deliveries.{hears_answer, is_waited_for}
 use Rattle.nodes_world.specs.Lives.{loads, makes_end, with_named_seat}
 use Rattle.nodes_world.specs.Resolve.{may_register, resolve}
 use Rattle.nodes_world.specs.Step.{carried_out, is_full, lacks_life, limit_before}
 use Rattle.nodes_world.specs.Agreement.{IsWord, GoesOnFrom, Reaches, names_fit}
 use Rattle.nodes_world.specs.AgreementInside.{Known}
 use Rattle.nodes_world.specs.Changes.{CallsAreDelivered}
-use Rattle.nodes_world.specs.Laws.{CanAsk}
 
 -- ---- worlds of which the same is known
 
@@ -186,36 +172,3 @@ pub record StepsStayKnown : Type 0 where
       → StaysKnown w (hears_answer (request - 1) m from o answer s w)
   pub tick : (w : World) (place : ℕ) (s : Seat) (n : Node) → slice_get w.seats place ≡ Some s → s.server ≡ OfNode (Some n)
       → StaysKnown w (ticks_node place s.clock n w)
-
--- the word that is out asks a participant, to prepare or to commit alone
-abbrev pub is_asking_round : Round → Bool
-is_asking_round rounds.Asking = true
-is_asking_round rounds.Telling = false
-is_asking_round rounds.Forgetting = false
-
-abbrev pub is_asking_errand : Option Errand → Bool
-is_asking_errand (Some e) = is_asking_round e.stage
-is_asking_errand None = false
-
-abbrev pub is_asking : Standing → Bool
-is_asking (Waiting room) = false
-is_asking (UnderWay c) = is_asking_errand c.out
-
--- the journal writes what it is asked for: it tells that the record stands, or the node goes down meanwhile
-abbrev pub IsWritten : Asked → Type 0
-IsWritten (Answers (Some (answers.Stands place)) disk stop) = Unit {0}
-IsWritten (Stops image) = Unit {0}
-IsWritten _ = ⊥
-
--- that of which it is still to be shown: one kind of answers for which a call of a family waits
-pub record NodeStepsStayKnown : Type 0 where
-  -- the last vote: the call is at the decision, and the journal has room for it
-  pub asked : (w : World) (nth place reply now : ℕ) (o : Outward) (back : Message) (answer : Said) (s : Seat) (n : Node) (f : Family) (c : Call) (vote : Vote)
-      (item : JournalRecord)
-      → IsWord w nth place o → slice_get w.messages reply ≡ Some back → back.content ≡ contents.Reply (nth + 1) answer → answer ≡ said.Voted vote
-      → slice_get w.seats place ≡ Some s → s.server ≡ OfNode (Some n) → o.number.slot == retold_slot ≡ false
-      → family_of (family_key place o.number) n ≡ Some f → has_room f.entries (answer_event o answer now) ≡ true
-      → waiting_for f o.number ≡ Some 0 → call_at f 0 ≡ Some c → c.leg ≡ Deciding → is_asking f.completion ≡ true
-      → stages.decides_alone f.completion ≡ false → wanted f (answer_event o answer now) ≡ Some (Appends item)
-      → CanAsk (Some (Appends item)) n.found → IsWritten (asks (Some (Appends item)) n.service n.found s.disk s.stop)
-      → StaysKnown w (steps_node (Some n) s place (family_key place o.number) (answer_event o answer now) w).done

@@ -20,4 +20,5 @@ pub mod AgreementSteps
 pub mod StandingDecisions
 pub mod OverForGood
 pub mod Laws
+pub mod Asking
 pub mod Plays

@@ -1,17 +1,19 @@
 // Laws of the definitions: these functions do nothing, and their contracts are the laws.
-ghost use Rattle.nodes_world.specs.Agreement.{Agreement, ReachedDonesAreComplete, ReachedIsKnown, ReadNamesFit, RunsAreSafe};
-ghost use Rattle.nodes_world.specs.AgreementSteps.{DeedsGo, NodeStepsStayKnown, ReachedCallsAreDelivered};
+ghost use Rattle.nodes_world.specs.Agreement.{Agreement, ReachedIsKnown, ReachedOutcomesLast, ReadNamesFit, RunsAreSafe};
+ghost use Rattle.nodes_world.specs.AgreementSteps.{DeedsGo, ReachedCallsAreDelivered, StepsStayKnown};
+ghost use Rattle.nodes_world.specs.Asking.{HearingsMayAsk};
 ghost use Rattle.nodes_world.specs.Changes.{DeedsAreChanges};
 ghost use Rattle.nodes_world.specs.Laws.{AppendsGoThrough, AppendsStrike, AskedJournalsKeep, AskedJournalsStop, RecordsAreRead, StoppedAppendsAreSafe, WhatIsLeftIsAnImage};
-ghost use Rattle.nodes_world.specs.OverForGood.{CommitsAreStored, ResourcesStay};
+ghost use Rattle.nodes_world.specs.OverForGood.{AnsweredCommitsAreStored, ClosedFamiliesAreStored, CommitsAreStored, ResourcesStay, ToldParticipantsAreStored};
 ghost use Rattle.nodes_world.specs.Plays.{WorldsPlay};
 ghost use Rattle.nodes_world.specs.StandingDecisions.{RestartsTellAgain, StandingIsTold, ToldIsRecorded};
 
-use coordinator::{family_outcomes_stay, histories_grow_by_entries};
+use coordinator::{families_step_rightly, family_outcomes_stay, histories_grow_by_entries};
 use decision_journal::{appends_are_safe, bodies_are_read, journals_grow, loads_are_safe};
 use family_laws::{
-    families_end_in_turn, families_number_words, families_stay_sound, families_tell_outcomes,
-    families_tell_votes, families_words_rest, held_records_stood, nodes_keep_decisions,
+    families_close_last, families_end_in_turn, families_hear_outcomes_answered,
+    families_number_words, families_stay_sound, families_tell_outcomes, families_tell_votes,
+    families_words_rest, held_records_stood, nodes_keep_decisions,
 };
 use ior_refs::same_octets_same_key;
 use ots_model::allowed_lines_are_safe;
@@ -88,11 +90,23 @@ pub fn names_that_are_read_fit()
     ensures { ReadNamesFit }
 {}
 
-/// The lines of every script are safe, if what is known of a world stays known where a vote is heard by which a family asks the
-/// journal for its decision, and the journal has room for it. Of all other steps that is shown.
-pub fn agreement_rests_on_node_steps()
-    ensures agreement { NodeStepsStayKnown → Agreement }
-    ensures runs { NodeStepsStayKnown → RunsAreSafe }
+/// Where what is known of a world holds, what a node asks of its journal when it hears an answer may be asked: a decision of the life
+/// in which the node is, which can be written as a record, or the Done of a decision that stands.
+pub fn hearings_may_ask()
+    ensures { HearingsMayAsk }
+{
+    journals_grow();
+    records_are_read();
+    asked_journals_stay_in_order();
+    completes_once();
+    nodes_keep_decisions();
+    held_records_stood();
+    tree_outcomes_have_causes();
+}
+
+/// What is known of a world stays known by each step of which deeds are made.
+pub fn steps_stay_known()
+    ensures { StepsStayKnown }
 {
     allowed_lines_are_safe();
     journals_grow();
@@ -112,81 +126,62 @@ pub fn agreement_rests_on_node_steps()
     histories_grow_by_entries();
     tree_outcomes_have_causes();
     same_octets_same_key();
+}
+
+/// The lines of every script are safe: those that are told on the way to each world that it reaches, and all those of a run.
+pub fn reached_lines_are_safe()
+    ensures agreement { Agreement }
+    ensures runs { RunsAreSafe }
+{
+    allowed_lines_are_safe();
+    steps_stay_known();
 }
 
 /// Where a node is up, a line tells each decision that stands in its journal; a restart tells each one again that stands on the disk;
-/// and no decision is told but one whose record the disk of its node holds. This rests on what is still to be shown for agreement.
+/// and no decision is told but one whose record the disk of its node holds.
 pub fn decisions_outlive_crashes()
-    ensures told { NodeStepsStayKnown → StandingIsTold }
-    ensures again { NodeStepsStayKnown → RestartsTellAgain }
-    ensures recorded { NodeStepsStayKnown → ToldIsRecorded }
+    ensures told { StandingIsTold }
+    ensures again { RestartsTellAgain }
+    ensures recorded { ToldIsRecorded }
 {
-    allowed_lines_are_safe();
+    journals_grow();
+    steps_stay_known();
+}
+
+/// Whatever a line that passes no limit does in a world that a script reaches, a family that is decided stays so, and so does one
+/// that is closed: rolled back, or undecided when a later life began.
+pub fn outcomes_last()
+    ensures { ReachedOutcomesLast }
+{
     journals_grow();
     loads_are_safe();
     records_are_read();
     asked_journals_stay_in_order();
-    completes_once();
-    nodes_keep_decisions();
-    held_records_stood();
-    families_stay_sound();
-    families_end_in_turn();
-    families_words_rest();
-    families_number_words();
-    families_tell_outcomes();
-    families_tell_votes();
-    family_outcomes_stay();
-    histories_grow_by_entries();
-    tree_outcomes_have_causes();
-    same_octets_same_key();
+    hearings_may_ask();
+    steps_stay_known();
 }
 
-/// What is known together of a world holds of each one that a script reaches, if beside what is still to be shown for agreement each
-/// Done is complete there: the decision that it names is over for all whom it names.
+/// What is known together of a world holds of each one that a script reaches: no family is both decided and closed, numbers and keys
+/// name one thing each, records rest on votes, and the other parts.
 pub fn reached_worlds_are_known()
-    ensures { NodeStepsStayKnown → ReachedDonesAreComplete → ReachedIsKnown }
+    ensures { ReachedIsKnown }
 {
-    allowed_lines_are_safe();
-    journals_grow();
-    loads_are_safe();
-    records_are_read();
-    asked_journals_stay_in_order();
-    completes_once();
-    nodes_keep_decisions();
-    held_records_stood();
-    families_stay_sound();
-    families_end_in_turn();
-    families_words_rest();
-    families_number_words();
-    families_tell_outcomes();
-    families_tell_votes();
-    family_outcomes_stay();
-    histories_grow_by_entries();
-    tree_outcomes_have_causes();
-    same_octets_same_key();
+    steps_stay_known();
 }
 
-/// In each world that a script reaches, a resource that obeys commit has stored its updates then. This rests on what is still to be
-/// shown for agreement.
+/// In each world that a script reaches, a resource that obeys commit has stored its updates then; so has each one that has answered
+/// commit, and each participant that counts as told of a family that is committed by a record. Where a family that hears an answer
+/// asks for the Done of its own decision, so has each resource that this names.
 pub fn commits_are_stored()
-    ensures { NodeStepsStayKnown → CommitsAreStored }
+    ensures obeyed { CommitsAreStored }
+    ensures answered { AnsweredCommitsAreStored }
+    ensures told { ToldParticipantsAreStored }
+    ensures closed { ClosedFamiliesAreStored }
 {
-    allowed_lines_are_safe();
-    journals_grow();
-    loads_are_safe();
-    records_are_read();
-    asked_journals_stay_in_order();
-    completes_once();
-    nodes_keep_decisions();
-    held_records_stood();
-    families_stay_sound();
-    families_end_in_turn();
-    families_words_rest();
+    steps_stay_known();
+    families_step_rightly();
+    families_hear_outcomes_answered();
     families_number_words();
-    families_tell_outcomes();
-    families_tell_votes();
-    family_outcomes_stay();
-    histories_grow_by_entries();
+    families_close_last();
     tree_outcomes_have_causes();
-    same_octets_same_key();
 }

@@ -1,26 +1,20 @@
+use Rattle.nodes_world.proofs.ClosesStored.{closed_are_stored}
 use Rattle.nodes_world.proofs.CommitsStored.{commits_are_stored}
-use Rattle.nodes_world.proofs.StepsKnown.{steps_stay_known}
+use Rattle.nodes_world.proofs.StoredAnswers.{answered_are_stored}
+use Rattle.nodes_world.proofs.ToldStored.{told_are_stored}
 use Rattle.nodes_world.proofs.laws.commits_are_stored.Goals as goal
 
-pub returns : goal.returns
-returns c = λ nodes.
-    commits_are_stored
-    (steps_stay_known c.allowed_lines_are_safe.ensures
-    (record {
-      grow = c.journals_grow.ensures;
-      read = c.records_are_read.ensures;
-      keep = c.asked_journals_stay_in_order.ensures.keep;
-      stop = c.asked_journals_stay_in_order.ensures.stop;
-      complete = c.completes_once.ensures;
-    }) c.loads_are_safe.ensures c.nodes_keep_decisions.ensures c.held_records_stood.ensures c.same_octets_same_key.ensures
-    (record {
-      sound = c.families_stay_sound.ensures;
-      turns = c.families_end_in_turn.ensures;
-      rest = c.families_words_rest.ensures;
-      numbers = c.families_number_words.ensures;
-      outcomes = c.families_tell_outcomes.ensures;
-      votes = c.families_tell_votes.ensures;
-      stay = c.family_outcomes_stay.ensures;
-      grow = c.histories_grow_by_entries.ensures;
-      causes = c.tree_outcomes_have_causes.ensures;
-    }) nodes)
+pub returns-clause-obeyed : goal.returns-clause-obeyed
+returns-clause-obeyed c = commits_are_stored c.steps_stay_known.ensures
+
+pub returns-clause-answered : goal.returns-clause-answered
+returns-clause-answered c = answered_are_stored c.steps_stay_known.ensures
+
+pub returns-clause-told : goal.returns-clause-told
+returns-clause-told c =
+    told_are_stored c.families_step_rightly.ensures c.families_hear_outcomes_answered.ensures c.families_number_words.ensures c.steps_stay_known.ensures
+
+pub returns-clause-closed : goal.returns-clause-closed
+returns-clause-closed c =
+    closed_are_stored c.tree_outcomes_have_causes.ensures c.families_close_last.ensures c.families_step_rightly.ensures c.families_hear_outcomes_answered.ensures
+    c.families_number_words.ensures c.steps_stay_known.ensures

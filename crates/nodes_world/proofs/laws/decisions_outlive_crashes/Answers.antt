@@ -1,72 +1,11 @@
-use Rattle.nodes_world.proofs.StepsKnown.{steps_stay_known}
 use Rattle.nodes_world.proofs.StandingTold.{restarts_tell_again, standing_is_told, told_is_recorded}
 use Rattle.nodes_world.proofs.laws.decisions_outlive_crashes.Goals as goal
 
 pub returns-clause-told : goal.returns-clause-told
-returns-clause-told c = λ nodes.
-    standing_is_told
-    (steps_stay_known c.allowed_lines_are_safe.ensures
-    (record {
-      grow = c.journals_grow.ensures;
-      read = c.records_are_read.ensures;
-      keep = c.asked_journals_stay_in_order.ensures.keep;
-      stop = c.asked_journals_stay_in_order.ensures.stop;
-      complete = c.completes_once.ensures;
-    }) c.loads_are_safe.ensures c.nodes_keep_decisions.ensures c.held_records_stood.ensures c.same_octets_same_key.ensures
-    (record {
-      sound = c.families_stay_sound.ensures;
-      turns = c.families_end_in_turn.ensures;
-      rest = c.families_words_rest.ensures;
-      numbers = c.families_number_words.ensures;
-      outcomes = c.families_tell_outcomes.ensures;
-      votes = c.families_tell_votes.ensures;
-      stay = c.family_outcomes_stay.ensures;
-      grow = c.histories_grow_by_entries.ensures;
-      causes = c.tree_outcomes_have_causes.ensures;
-    }) nodes)
+returns-clause-told c = standing_is_told c.steps_stay_known.ensures
 
 pub returns-clause-again : goal.returns-clause-again
-returns-clause-again c = λ nodes.
-    restarts_tell_again
-    (steps_stay_known c.allowed_lines_are_safe.ensures
-    (record {
-      grow = c.journals_grow.ensures;
-      read = c.records_are_read.ensures;
-      keep = c.asked_journals_stay_in_order.ensures.keep;
-      stop = c.asked_journals_stay_in_order.ensures.stop;
-      complete = c.completes_once.ensures;
-    }) c.loads_are_safe.ensures c.nodes_keep_decisions.ensures c.held_records_stood.ensures c.same_octets_same_key.ensures
-    (record {
-      sound = c.families_stay_sound.ensures;
-      turns = c.families_end_in_turn.ensures;
-      rest = c.families_words_rest.ensures;
-      numbers = c.families_number_words.ensures;
-      outcomes = c.families_tell_outcomes.ensures;
-      votes = c.families_tell_votes.ensures;
-      stay = c.family_outcomes_stay.ensures;
-      grow = c.histories_grow_by_entries.ensures;
-      causes = c.tree_outcomes_have_causes.ensures;
-    }) nodes) c.journals_grow.ensures
+returns-clause-again c = restarts_tell_again c.steps_stay_known.ensures c.journals_grow.ensures
 
 pub returns-clause-recorded : goal.returns-clause-recorded
-returns-clause-recorded c = λ nodes.
-    told_is_recorded
-    (steps_stay_known c.allowed_lines_are_safe.ensures
-    (record {
-      grow = c.journals_grow.ensures;
-      read = c.records_are_read.ensures;
-      keep = c.asked_journals_stay_in_order.ensures.keep;
-      stop = c.asked_journals_stay_in_order.ensures.stop;
-      complete = c.completes_once.ensures;
-    }) c.loads_are_safe.ensures c.nodes_keep_decisions.ensures c.held_records_stood.ensures c.same_octets_same_key.ensures
-    (record {
-      sound = c.families_stay_sound.ensures;
-      turns = c.families_end_in_turn.ensures;
-      rest = c.families_words_rest.ensures;
-      numbers = c.families_number_words.ensures;
-      outcomes = c.families_tell_outcomes.ensures;
-      votes = c.families_tell_votes.ensures;
-      stay = c.family_outcomes_stay.ensures;
-      grow = c.histories_grow_by_entries.ensures;
-      causes = c.tree_outcomes_have_causes.ensures;
-    }) nodes)
+returns-clause-recorded c = told_is_recorded c.steps_stay_known.ensures
