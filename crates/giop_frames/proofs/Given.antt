@@ -18,17 +18,6 @@ failed fault = Err fault
 pub err_is : {F A : Type 0} (d fault : F) → failed {A = A} d ≡ failed fault → d ≡ fault
 err_is d fault e = cc
 
--- a result either failed or did not
-pub not_failed : {A : Type 0} (x : A) (fault : FrameFault) → done x ≡ failed fault → ⊥
-not_failed x fault e = cc
-
-pub not_done : {A : Type 0} (x : A) (fault : FrameFault) → failed fault ≡ done x → ⊥
-not_done x fault e = cc
-
--- what is there is not nothing
-pub not_none : {A : Type 0} (x : A) → done (Some x) ≡ done None → ⊥
-not_none x e = cc
-
 -- results that are equal hold equal values
 pub ok_is : {A : Type 0} (x y : A) → done x ≡ done y → x ≡ y
 ok_is x y e = cc
@@ -50,11 +39,6 @@ pub field_ok : {A B : Type 0} (r : Result A CdrFault) (f : A → Result B FrameF
 field_ok (Ok x) f y e = (x, refl, e)
 field_ok (Err d) f y e = absurd cc
 
--- a field that is the message's
-pub field_is : {A : Type 0} (r : Result A CdrFault) (y : A) → field r ≡ Ok y → r ≡ Ok y
-field_is {A} (Ok x) y e = ap (λ (z : A). Ok z) (ok_is x y e)
-field_is (Err d) y e = absurd cc
-
 -- a test that did not fail
 pub guard_ok : {A : Type 0} (b : Bool) (d : FrameFault) (r : Result A FrameFault) (y : A) → cond b (Err d) r ≡ Ok y → (b ≡ false) × (r ≡ Ok y)
 guard_ok true d r y e = absurd cc
@@ -72,10 +56,3 @@ reading order place rest = record { order = order; place = place; rest = rest }
 -- a reading is its order, its place and its octets
 pub reading_is : (r s : Reading) → r.order ≡ s.order → r.place ≡ s.place → r.rest ≡ s.rest → r ≡ s
 reading_is r s o p t = ap (λ (x : Order). reading x r.place r.rest) o ∙ ap (λ (x : ℕ). reading s.order x r.rest) p ∙ ap (reading s.order s.place) t
-
--- less than what is no more
-pub less_than : (a b c : ℕ) → a < b → b ≤ c → a < c
-less_than a b c p q = omega (arith, p, q)
-
-pub no_more_than : (a b c : ℕ) → a < b → b ≤ c → a ≤ c
-no_more_than a b c p q = omega (arith, p, q)

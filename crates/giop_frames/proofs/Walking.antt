@@ -57,13 +57,6 @@ octets_found laws r s octets span e n at =
           ap (λ (k : ℕ). take k (drop span.start content)) n ∙ stands_at content front octets (s.rest ++ more) r.place span.start st.behind_header split start;
     }
 
--- they are no more than the reader went over
-pub octets_fit : ReadingLaws → (r s : Reading) (octets : List ℕ) → octets_at r ≡ Ok (octets, s) → length octets ≤ s.place
-octets_fit laws r s octets e =
-    let h = laws.octets.found r octets s e in
-    let p = h.spelled in
-    omega (arith, h.place, ap length p.parts, length-append p.padding p.bare, ap length p.is_bare.parts, length-append p.is_bare.count octets)
-
 -- the text of a string
 pub text_found : ReadingLaws → (r s : Reading) (text : List ℕ) (span : Span) → string_at r ≡ Ok (text, s) → span.length ≡ length text → span.start ≡ s.place - length text - 1 - 12 → FindsOctets string_at span r s
 text_found laws r s text span e n at =
@@ -86,14 +79,6 @@ text_found laws r s text span e n at =
           ∙ ap (λ (x : List ℕ). front ++ x) (append_assoc text nul (s.rest ++ more)) in
           ap (λ (k : ℕ). take k (drop span.start content)) n ∙ stands_at content front text behind r.place span.start st.behind_header split start;
     }
-
-pub text_fit : ReadingLaws → (r s : Reading) (text : List ℕ) → string_at r ≡ Ok (text, s) → length text + 1 ≤ s.place
-text_fit laws r s text e =
-    let h = laws.string.found r text s e in
-    let p = h.spelled in
-    let is = p.is_bare.0 in
-    let nul : List ℕ = 0 ∷ [] in
-    omega (arith, h.place, ap length p.parts, length-append p.padding p.bare, ap length is.parts, length-append is.count (text ++ nul), length-append text nul)
 
 -- ---- where a reader stands
 

@@ -1,4 +1,4 @@
--- What holds of all octets: a header and a message are spelled in one way.
+-- What holds of all octets: what they say of a header and of a message, and that no message begins another.
 use Rattle.std.specs.Prelude.{◌≡◌, ◌≢◌, ◌≤◌, ◌<◌, ◌+◌, ℕ, List, ◌++◌, length, take, Ok, Err}
 use Rattle.std.specs.List.{Contains}
 use Rattle.cdr_values.specs.declared.order.Order.{Order}

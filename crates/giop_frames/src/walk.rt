@@ -36,12 +36,12 @@ pub enum Step {
 #[derive(Clone, Copy)]
 pub struct Walk {
     /// What comes next of a field that isn't whole.
-    pub step: Option<Step>,
+    pub(crate) step: Option<Step>,
     /// The fields behind it.
-    pub fields: &'static [Field],
+    pub(crate) fields: &'static [Field],
     /// The offset at which it stands.
-    pub place: u32,
-    pub found: Found,
+    pub(crate) place: u32,
+    pub(crate) found: Found,
 }
 
 impl Walk {
