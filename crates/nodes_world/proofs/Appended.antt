@@ -40,7 +40,7 @@ use Rattle.family_laws.specs.Sound.{IsSoundFamily}
 use Rattle.nodes_world.specs.declared.thing.Thing.TheVariants as things
 use Rattle.nodes_world.specs.Disks.{Stop}
 use Rattle.nodes_world.specs.Agreement as agreed
-use Rattle.nodes_world.specs.Agreement.{CommitsAreRecorded, DecisionsAreRecorded, FollowsDisk, HasSent, HoldsDecisions, IsAlone, IsClosed, IsCutOff, IsDecided, IsHeldWhole, IsRolledBack, IsTransaction, MayBeRolledBack, NoneIsBoth, OnePhaseIsAlone, RecordsRestOnVotes, RestsOnVotes, RollbacksAreClosed, VotesWereGiven, StatesFollow, has_record, is_decision_of, names_object, recorded_key, records_at}
+use Rattle.nodes_world.specs.Agreement.{CommitsAreRecorded, DecisionsAreRecorded, FollowsDisk, HasSent, HoldsDecisions, IsAlone, IsClosed, IsCutOff, IsDecided, IsHeldWhole, IsRolledBack, IsTransaction, NoneIsBoth, OnePhaseIsAlone, RecordsRestOnVotes, RestsOnVotes, RollbacksAreClosed, VotesWereGiven, has_record, is_decision_of, names_object, recorded_key, records_at}
 use Rattle.nodes_world.specs.AgreementInside.{Known, DisksAreKnown, EndsHaveCounted, FamiliesAreKnown, FamilyIsKnown, IsBack, IsBranch, IsHeldAs, IsMade, IsNamed, IsNamedBy, IsNumberedBy, NamesAreTold, NodeIsKnown, NodesAreKnown, OutcomeIsTold, ResourcesAreKnown, RollbacksAreOutcomes, RollbacksAreTold, ToldIsOpen, TransactionsAreKnown, WordsAreTold, is_prepared, journal_end, notice_out, placed}
 use Rattle.nodes_world.specs.Journals.{records_on}
 use Rattle.nodes_world.specs.Laws.{IsInOrder, RecordsAreRead}

@@ -1,10 +1,10 @@
 -- By what is known, a new name may be made, and what is still open may be registered with and end.
-use Rattle.std.proofs.Common.{◌≡◌, ◌⊎◌, inl, inr, ℕ, zero, suc, ◌<◌, ◌==◌, Bool, true, false, cond, IsTrue, List, Option, Some, None, refl, sym, subst, arith}
+use Rattle.std.proofs.Common.{◌≡◌, ◌⊎◌, inl, inr, ℕ, ◌<◌, ◌==◌, Bool, true, false, cond, IsTrue, List, Option, Some, None, refl, sym, subst, arith}
 use Rattle.std.specs.Option.{option_map, option_map_or}
 use Rattle.std.proofs.lemmas.Bool.Decides.{nat_tests}
 use Rattle.ior_refs.specs.declared.key.ObjectKey.{ObjectKey}
 use Rattle.ots_model.specs.Safe.{IsOf}
-use Rattle.ots_model.specs.SafeByLine.{IsNew, IsOpen, CanRegister, CanEnd}
+use Rattle.ots_model.specs.SafeByLine.{IsNew, IsOpen}
 use Rattle.ots_model.specs.declared.tree.Outcome.{Outcome}
 use Rattle.ots_model.specs.declared.tree.Outcome.TheVariants as outcomes
 use Rattle.txn_tree.specs.Rows.{IsTree, parent, state, shown, is_live, is_live_branch}
@@ -20,7 +20,6 @@ use Rattle.coordinator.specs.declared.call.Stage.TheVariants.{Going, Finishing, 
 use Rattle.coordinator.specs.Family.{Family}
 use Rattle.coordinator.specs.Node.{is_of}
 use Rattle.coordinator.specs.Phases.{column, ended_phase, ending_phase, is_before, is_ending, is_open, live_column, phase, phase_by, sub_column, top_column}
-use Rattle.family_laws.specs.LawsOfSteps.{MayEnd, IsOpenParent}
 use Rattle.family_laws.specs.Sound.{IsAsking, IsWaiting, NoneLive}
 use Rattle.nodes_world.specs.AgreementInside.{Known, IsBranch}
 use Rattle.nodes_world.specs.Told.{Told}
@@ -96,11 +95,6 @@ first_parent rs b tree is p e =
     let before = parent_before b (parent rs b) p (tree.parents b (omega (arith, is, within))) e in
     omega (arith, before, is)
 
-below_parent : (early : Bool) (rs : List Row) (b : ℕ) (o : Option ℕ) → IsTree rs → parent rs b ≡ o → IsOpenParent early rs o → 0 < b
-below_parent early rs b None tree is may = absurd may
-below_parent early rs zero (Some p) tree is may = absurd (first_parent rs zero tree refl p is)
-below_parent early rs (suc b) (Some p) tree is may = omega arith
-
 -- a family that asks has nothing open
 pub not_asking : (f : Family) (s : Standing) (b : ℕ) → IsAsking s → (IsAsking s → NoneLive f.rows) → (IsTrue (is_before f.stage) → IsWaiting s) → IsOpenBranch f b → ⊥
 not_asking f (Waiting room) b asking none waits may = absurd asking
@@ -134,19 +128,3 @@ module _ (w : World) (told : List Told) (k : Known w told) where
       let commits = k.open_words.commit told_in.registration told_in.under.transaction at.1.index key f told_in.sent told_in.under.registered there other in
       let sound = (k.families key f there).sound.completion in
       not_asking f f.completion b (commits_asking f.completion commits) sound.asking sound.begun.0 may
-
-  -- a free name may be registered with a transaction that is open for it
-  pub can_register : (g t : List ℕ) (b : ℕ) (key : ObjectKey) (f : Family) → thing w g ≡ None → family_at w key ≡ Some f → IsBranch w f t b
-      → IsTrue (is_open (column f b)) → CanRegister g t (lines_of told)
-  can_register g t b key f free there branch may = record {
-    of_one = λ u registered. let at = k.names.registered g u registered in absurd (not_free (thing w g) _ at.2 free);
-    in_time = open_family t b key f there branch (open_column f b may);
-  }
-
-  -- a subtransaction may end in its turn
-  pub can_end : (t : List ℕ) (b : ℕ) (early committed : Bool) (key : ObjectKey) (f : Family) → family_at w key ≡ Some f → IsBranch w f t b
-      → MayEnd early f.rows b committed → CanEnd committed t (lines_of told)
-  can_end t b early true key f there branch may =
-      let tree = (k.families key f there).sound.lists.tree in
-      open_family t b key f there branch (inr (below_parent early f.rows b (parent f.rows b) tree refl may.1, may.0))
-  can_end t b early false key f there branch may = tt

@@ -2,7 +2,7 @@
 use Rattle.std.proofs.Common.{◌≡◌, inl, inr, ℕ, true, List, Contains, Option, Some, None, sym, ap, subst, ◌∙◌, true≢false, ⊎_elim}
 use Rattle.ior_refs.specs.declared.key.ObjectKey.{ObjectKey}
 use Rattle.ots_model.specs.Safe as safe
-use Rattle.ots_model.specs.Safe.{Stands, IsSent, IsToldCommit, IsToldRollback, IsRegistered, IsJoined, IsUpFrom, HasConsented, TakesPart}
+use Rattle.ots_model.specs.Safe.{Stands, IsToldCommit, IsToldRollback, HasConsented, TakesPart}
 use Rattle.ots_model.specs.SafeByLine.{IsCommittedBy, IsTold, CanCommit, CanCommitAlone, CanRollBack}
 use Rattle.ots_model.specs.declared.completion.Ground.TheVariants.{Record}
 use Rattle.ots_model.specs.declared.completion.Outcome.TheVariants as told_outcomes

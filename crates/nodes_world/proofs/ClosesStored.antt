@@ -1,4 +1,4 @@
--- Where a family asks for its own Done, each resource that its decision names has stored its updates.
+-- Where a family asks for its own Done, each resource that its decision names has answered commit, and has stored its updates.
 use Rattle.std.proofs.Common.{◌≡◌, ◌⊎◌, inl, inr, ℕ, zero, suc, ◌+◌, ◌==◌, ◌&&◌, ◌||◌, Bool, true, false, IsTrue, is_some, if◌then◌else◌, List, [], ◌∷◌, slice_get, slice_set, Contains, Option, Some, None, refl, sym, ap, subst, ◌∙◌, arith}
 use Rattle.std.specs.List.{Any, list_any}
 use Rattle.std.specs.Option.{option_map, option_map_or}
@@ -15,7 +15,6 @@ use Rattle.ots_model.specs.declared.completion.Heard.TheVariants as participants
 use Rattle.ots_model.specs.declared.completion.Vote.TheVariants.{VoteCommit}
 use Rattle.ots_model.specs.declared.completion.Word.TheVariants as phases
 use Rattle.ots_model.specs.declared.line.Line.TheVariants as lines
-use Rattle.ots_model.specs.declared.line.ResourceState.TheVariants as shown
 use Rattle.ots_model.specs.declared.tree.Heard.{Heard}
 use Rattle.ots_model.specs.declared.tree.Outcome.TheVariants as outcomes
 use Rattle.ots_model.specs.declared.tree.Outward.{Outward}
@@ -63,6 +62,7 @@ use Rattle.nodes_world.specs.Objects.{place_of, service_at}
 use Rattle.nodes_world.specs.OverForGood.{ClosedFamiliesAreStored, IsAt}
 use Rattle.nodes_world.specs.Told.{Told, known}
 use Rattle.nodes_world.specs.World.{World, NamedKey, family_at, node_at, referred}
+use Rattle.nodes_world.proofs.AnsweredCommits.{HasAnsweredCommit, answered_stored, replied_commit}
 use Rattle.nodes_world.proofs.AnswersKeep.{hears_keeps}
 use Rattle.nodes_world.proofs.AskedCalls.{NobodyVotes, call_cases, deaf_wants, nobody_hears, nothing_fixed}
 use Rattle.nodes_world.proofs.AskedCounts.{IsRegisteredAs, any_set_cases}
@@ -74,9 +74,10 @@ use Rattle.nodes_world.proofs.KnownFamilies.{all_at, participant_there}
 use Rattle.nodes_world.proofs.KnownLines.{among_turned, lines_of, part_among}
 use Rattle.nodes_world.proofs.KnownWords.{sent_of}
 use Rattle.nodes_world.proofs.MessagesGo.{HasContent}
+use Rattle.nodes_world.proofs.NamedVotes.{one_reference}
 use Rattle.nodes_world.proofs.Reaching.{known_reached}
 use Rattle.nodes_world.proofs.RulesKeep.{registered_of}
-use Rattle.nodes_world.proofs.StoredAnswers.{AreStored, IsStored, stored_reached}
+use Rattle.nodes_world.proofs.StoredAnswers.{stored_reached}
 use Rattle.nodes_world.proofs.ToldParties.{AreNumbered, IsTelling, IsTold, SameParties, TellsAt, becomes_same, each_of, itself_same, same_at}
 use Rattle.nodes_world.proofs.ToldReplied.{IsReplied, ToldReplied, decides, slot_found, slot_place, slot_service}
 use Rattle.nodes_world.proofs.ToldStored.{outcome_cases, replied_reached, stored_at}
@@ -108,7 +109,7 @@ same_end (Commits asked) b h f = ended (is_plain h || has_parent_ended f b)
 same_end (RollsBack says) b h f = refl
 
 -- it is as it was, or the call at the decision has heard the answer
-abbrev HeardAs : Family → CallNumber → Heard → ℕ → Standing → Type 0
+abbrev pub HeardAs : Family → CallNumber → Heard → ℕ → Standing → Type 0
 HeardAs f n h b s = (s ≡ f.completion)
     ⊎ ((c : Call) × (call_at f b ≡ Some c) × (c.leg ≡ Deciding) × (s ≡ stages.after_answer (inner_number f f.completion n) (of_participant h) f.completion))
 
@@ -132,7 +133,7 @@ heard_call (Some c) n b h f at legs = elim (heard_leg c.leg n b c h f (legs c at
 ]
 heard_call None n b h f at legs = inl refl
 
-heard_as : (f : Family) (n : CallNumber) (h : Heard) (b : ℕ) → waiting_for f n ≡ Some b → ((c : Call) → call_at f b ≡ Some c → IsNotBefore c.leg)
+pub heard_as : (f : Family) (n : CallNumber) (h : Heard) (b : ℕ) → waiting_for f n ≡ Some b → ((c : Call) → call_at f b ≡ Some c → IsNotBefore c.leg)
     → HeardAs f n h b (hears n h f).family.completion
 unfolding hears
 heard_as f n h b waits legs = subst (λ (o : Option ℕ). HeardAs f n h b (hears_for o n h f).family.completion) (sym waits) (heard_call (call_at f b) n b h f refl legs)
@@ -234,7 +235,7 @@ done_wanted false false x r done is = absurd cc
 -- ---- the family's own Done
 
 module _ (causes : OutcomesHaveCauses) (close : FamiliesCloseLast) (rightly : FamiliesStepRightly) (answered : FamiliesHearOutcomesAnswered) (numbers : FamiliesNumberWords)
-    (w : World) (told_so : List Told) (k : Known w told_so) (stored : AreStored w told_so) (replied : ToldReplied w)
+    (w : World) (told_so : List Told) (k : Known w told_so) (replied : ToldReplied w)
     (place : ℕ) (n : Node) (up : node_at w place ≡ Some n) (nth reply now : ℕ) (o : Outward) (answer : Said) (word : IsWord w nth place o)
     (back : HasContent w reply (contents.Reply (nth + 1) answer)) (slot : ℕ) (f : Family) (there : family_in n.families slot ≡ Some f)
     (b done : ℕ) (waits : waiting_for f o.number ≡ Some b) (wants : wanted f (answer_event o answer now) ≡ Some (WritesDone done)) where
@@ -365,11 +366,11 @@ module _ (causes : OutcomesHaveCauses) (close : FamiliesCloseLast) (rightly : Fa
           let own = reference f.completion refl d (subst (SameParties f.completion) is same_ones) q (i, less, at) r listed number in
           subst (IsReplied w) own (replied_then q.to told_it.0 d is (i, q, less, at, (told_it.1, refl)))
 
-  -- and has stored its updates, where the family is decided by a record
+  -- to commit, where the family is decided by a record
   module _ (commits : stages.outcome f.completion ≡ Some (outcomes.Commit Record)) where
-    voter_stored : (r : Registration) (x : NamedKey) → Contains (participants 0 f.ballots) r → referred w r.to ≡ Some x
-        → Stands (lines.Voted x.name VoteCommit) (lines_of told_so) → IsStored w told_so r.to
-    voter_stored r x among refers line = by (outcome_cases is.word.word is.outcome)
+    voter_answered : (r : Registration) (x : NamedKey) → Contains (participants 0 f.ballots) r → referred w r.to ≡ Some x
+        → Stands (lines.Voted x.name VoteCommit) (lines_of told_so) → HasAnsweredCommit w r.to
+    voter_answered r x among refers line = by (outcome_cases is.word.word is.outcome)
       where
         listed : Contains f.ballots.registrations r
         listed = all_at (Contains f.ballots.registrations) (participants 0 f.ballots) r (registered_of f 0) among
@@ -379,16 +380,16 @@ module _ (causes : OutcomesHaveCauses) (close : FamiliesCloseLast) (rightly : Fa
             let rule = hears_keeps o.number (heard_in answer) b f waits (nobody_hears f b nobody known_f.sound (known_f.legs b)) (tidy_of w told_so k f.key f found) in
             voter_replied r listed (rule.kept.voted r.index VoteCommit ((known_f.votes r.index VoteCommit r x listed refl refers).1 line))
 
-        by : (is.word.word ≡ words.Commit) ⊎ (is.word.word ≡ words.Rollback) → IsStored w told_so r.to
-        by (inl commit) = subst (IsStored w told_so) is.own (stored is.nth is.place is.reply is.word is.answer is.sent commit is.replied)
+        by : (is.word.word ≡ words.Commit) ⊎ (is.word.word ≡ words.Rollback) → HasAnsweredCommit w r.to
+        by (inl commit) = replied_commit w r.to is commit
         by (inr rolled) =
             let sent = sent_of w told_so k is.place is.word phases.Rollback x (is.nth, is.sent) (ap phase_of rolled) (ap (referred w) is.own ∙ refers) in
             absurd (subst IsBack commits (part_back w told_so k f.key f found r x among refers sent))
 
   -- each one that a decision of the family names has
-  named_stored : (rs : List JournalRecord) → records_at w place ≡ Some rs → (item : JournalRecord) → Contains rs item → (to : List ℕ) → DecidesFor item f.key to
-      → stages.outcome f.completion ≡ Some (outcomes.Commit Record) → IsStored w told_so to
-  named_stored rs held (Decision life slot_number generation retry asked regs) among to (same_life, same_slot, same_generation, named) commits =
+  named_answered : (rs : List JournalRecord) → records_at w place ≡ Some rs → (item : JournalRecord) → Contains rs item → (to : List ℕ) → DecidesFor item f.key to
+      → stages.outcome f.completion ≡ Some (outcomes.Commit Record) → HasAnsweredCommit w to
+  named_answered rs held (Decision life slot_number generation retry asked regs) among to (same_life, same_slot, same_generation, named) commits =
       let rests = k.records place life slot_number generation retry asked regs rs held among in
       let of_name : IsTransaction w rests.name f.key = subst (IsTransaction w rests.name) own_key rests.of_name in
       let one_name : rests.name ≡ known_f.name = k.names.keys rests.name known_f.name _ of_name known_f.of_name in
@@ -398,12 +399,7 @@ module _ (causes : OutcomesHaveCauses) (close : FamiliesCloseLast) (rightly : Fa
       (part_among (known told_so) (lines_of told_so) x.0.name rests.name (among_turned (known told_so)) voter.0) in
       let at = participant_there w told_so k f.key f found x.0.name part in
       let line = subst (λ (t : List ℕ). Stands (lines.Voted t VoteCommit) (lines_of told_so)) (sym at.4) (among_turned (known told_so) _ voter.1) in
-      let is = voter_stored commits at.0 at.1 at.2 at.3 line in
-      record {
-        object = x.0;
-        refers = x.1;
-        line = subst (λ (t : List ℕ). Stands (lines.State t shown.Applied) (lines_of told_so)) (ap (λ (y : NamedKey). y.name) (inner (sym is.refers ∙ at.3)) ∙ at.4) is.line;
-      }
+      subst (HasAnsweredCommit w) (one_reference w told_so k at.0.to to at.1 x.0 at.3 x.1 at.4) (voter_answered commits at.0 at.1 at.2 at.3 line)
     where
       is_there : {A : Type 0} (o : Option A) → IsTrue (is_some o) → (x : A) × (o ≡ Some x)
       is_there (Some x) is = (x, refl)
@@ -412,20 +408,20 @@ module _ (causes : OutcomesHaveCauses) (close : FamiliesCloseLast) (rightly : Fa
       own_key : recorded_key place life slot_number generation ≡ f.key
       own_key = key_is f.key (service_at place) life slot_number generation
           (k.names.kinds known_f.name f.key known_f.of_name) (sym (slot_service w told_so k place n up slot f there)) same_life same_slot same_generation known_f.top
-  named_stored rs held (Life life) among to so commits = absurd so
-  named_stored rs held (Done named) among to so commits = absurd so
-  named_stored rs held (Prepared life slot_number generation recovery regs) among to so commits = absurd so
-  named_stored rs held (CellsPrepared life number recovery puts) among to so commits = absurd so
-  named_stored rs held (CellsOutcome named how) among to so commits = absurd so
-  named_stored rs held (CellsOnePhase life number puts) among to so commits = absurd so
+  named_answered rs held (Life life) among to so commits = absurd so
+  named_answered rs held (Done named) among to so commits = absurd so
+  named_answered rs held (Prepared life slot_number generation recovery regs) among to so commits = absurd so
+  named_answered rs held (CellsPrepared life number recovery puts) among to so commits = absurd so
+  named_answered rs held (CellsOutcome named how) among to so commits = absurd so
+  named_answered rs held (CellsOnePhase life number puts) among to so commits = absurd so
 
   -- so the Done for which it asks is complete
-  pub closes_stored : (rs : List JournalRecord) → records_at w place ≡ Some rs → (to : List ℕ)
-      → list_any (λ (item : JournalRecord). is_decision_of f.key item && names_object to item) rs ≡ true → IsStored w told_so to
-  closes_stored rs held to named =
+  pub closes_answered : (rs : List JournalRecord) → records_at w place ≡ Some rs → (to : List ℕ)
+      → list_any (λ (item : JournalRecord). is_decision_of f.key item && names_object to item) rs ≡ true → HasAnsweredCommit w to
+  closes_answered rs held to named =
       let at = Any-from_list_any (λ (item : JournalRecord). is_decision_of f.key item && names_object to item) rs named in
       let item_so = both (is_decision_of f.key at.1) (names_object to at.1) at.4 in
-      named_stored rs held at.1 (at.0, at.2, at.3) to (decides_for at.1 f.key to at.4) (known_f.recorded.0 (recorded_here rs held (at.0, at.1, at.2, at.3, item_so.0)))
+      named_answered rs held at.1 (at.0, at.2, at.3) to (decides_for at.1 f.key to at.4) (known_f.recorded.0 (recorded_here rs held (at.0, at.1, at.2, at.3, item_so.0)))
     where
       recorded_here : (rs : List JournalRecord) → records_at w place ≡ Some rs → Any (λ (item : JournalRecord). is_decision_of f.key item ≡ true) rs
           → IsTrue (has_record w (place_of f.key) (is_decision_of f.key))
@@ -451,7 +447,8 @@ module _ (causes : OutcomesHaveCauses) (close : FamiliesCloseLast) (rightly : Fa
       by : (x : Option ℕ) → waiting_for f o.number ≡ x → IsAt (λ (s : State). s ≡ states.Applied) w r.key
       by (Some b) waits =
           stored_at w told_so k to r
-          (closes_stored causes close rightly answered numbers w told_so k (stored_reached keeps w told_so reached) (replied_reached rightly answered numbers keeps w told_so reached)
-          place n up nth reply now o answer word (m, at, says) slot f there b done waits wants rs held to named) refers
+          (answered_stored w told_so (stored_reached keeps w told_so reached) to
+          (closes_answered causes close rightly answered numbers w told_so k (replied_reached rightly answered numbers keeps w told_so reached)
+          place n up nth reply now o answer word (m, at, says) slot f there b done waits wants rs held to named)) refers
       by None waits =
           absurd (none (sym (ap (λ (x : Option ℕ). if is_some x then wanted_by (hears o.number (heard_in answer) f).family else None) waits) ∙ wants))

@@ -47,7 +47,7 @@ use Rattle.nodes_world.specs.AgreementInside.{Known, FamilyIsKnown, HasMessage, 
 use Rattle.nodes_world.specs.Deliveries.{answer_event, heard_in}
 use Rattle.nodes_world.specs.Disks.{Stop}
 use Rattle.nodes_world.specs.Happenings as happen
-use Rattle.nodes_world.specs.Happenings.{Cast, all_effect_lines, all_finished_lines, branch_name, cast_of, decided_lines, effect_lines, requests_all}
+use Rattle.nodes_world.specs.Happenings.{Cast, all_effect_lines, all_finished_lines, cast_of, decided_lines, effect_lines, requests_all}
 use Rattle.nodes_world.specs.Journals.{Asked, Answers, Stops, asks, records_on}
 use Rattle.nodes_world.specs.Laws.{AreWanted, AskingLeaves, CanAsk, CrashLeaves, IsInOrder}
 use Rattle.nodes_world.specs.Nodes.{answer_told, applied_at, cast_by, crashes, crashes_seat, entries_of, heard_lines, steps_by, steps_node, stopped_at}

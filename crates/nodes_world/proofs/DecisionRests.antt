@@ -80,13 +80,13 @@ behind_one : {A : Type 0} (x : A) (xs : List A) (y : A) → Contains xs y → Co
 behind_one x xs y c = Contains-append_right (x ∷ []) xs y c
 
 -- one that the record names has voted commit
-record IsNamedIn (ps : List Party) (x : Named) : Type 0 where
-  p : Party
-  there : Contains ps p
-  commits : has_voted_commit p ≡ true
-  same : recorded p ≡ x
+pub record IsNamedIn (ps : List Party) (x : Named) : Type 0 where
+  pub p : Party
+  pub there : Contains ps p
+  pub commits : has_voted_commit p ≡ true
+  pub same : recorded p ≡ x
 
-named_from : (ps : List Party) (x : Named) → Contains (map recorded (filter has_voted_commit ps)) x → IsNamedIn ps x
+pub named_from : (ps : List Party) (x : Named) → Contains (map recorded (filter has_voted_commit ps)) x → IsNamedIn ps x
 named_from [] x c = let l = c.1 in absurd (omega (arith, l))
 named_from (p ∷ ps) x c = by (λ later. named_from ps x later) (has_voted_commit p) refl c
   where

@@ -36,7 +36,7 @@ use Rattle.nodes_world.specs.World.{World, Seat, Server, is_free, OfNode, OfEnd,
 use Rattle.nodes_world.specs.Happenings.{Done, ◌▹◌, changes, client_message, nothing}
 use Rattle.nodes_world.specs.Nodes.{Stepping, crashes, steps, ticks_node}
 use Rattle.nodes_world.specs.Ends as end
-use Rattle.nodes_world.specs.Ends.{closed_by, drawn_once, hears_only, obeys, obeys_as, obeys_row, obeys_word, puts, put_into, refuses_to, refusing, told_word, with_end, with_fresh}
+use Rattle.nodes_world.specs.Ends.{closed_by, drawn_once, obeys, obeys_as, obeys_word, puts, put_into, refuses_to, refusing, told_word, with_end, with_fresh}
 use Rattle.nodes_world.specs.Clients.{acts_at, answer_only, answered_with, begins, begins_at, begun_with, call_event, calls, created, creates_sub, is_registered, registered, registered_if, registers, registers_at, registers_object, said_in, then_answers}
 use Rattle.nodes_world.specs.Deliveries.{answer_event, comes, comes_to, delivers, flows, hears_answer, hears_if, hears_of, hears_reply, is_waited_for, lowest, reaches, receiver_of}
 use Rattle.nodes_world.specs.Lives.{crashes_now, loads, makes_end, makes_node, new_end, new_seat, restarts, stops, ticks, ticks_seat, ticks_to, with_named_seat}

@@ -11,6 +11,7 @@ use Rattle.decision_journal.specs.Journal.{Holds, StandsFor, found_in}
 use Rattle.decision_journal.specs.Laws.{IsSettled}
 use Rattle.decision_journal.specs.Loading.{LoadsAreSafe, loaded, next_life}
 use Rattle.decision_journal.specs.declared.record.JournalRecord.{JournalRecord}
+use Rattle.decision_journal.specs.declared.record.JournalRecord.TheVariants.{Decision}
 use Rattle.coordinator.specs.Node.{Node, load}
 use Rattle.coordinator.specs.NodeSlots.{creates}
 use Rattle.coordinator.specs.declared.event.Act.TheVariants as acts
@@ -25,7 +26,6 @@ use Rattle.nodes_world.specs.declared.thing.Thing.{Thing}
 use Rattle.nodes_world.specs.declared.thing.Thing.TheVariants as things
 use Rattle.nodes_world.specs.AgreementInside.{Known}
 use Rattle.nodes_world.specs.AgreementSteps.{Goes, IsAlike, by_alike, by_begin, by_call, by_calling, by_crash, by_end, by_hearing, by_load, by_node, by_receipt, by_register, by_sub, by_tick, by_touch, by_word, kept_seat}
-use Rattle.nodes_world.specs.Asking.{IsOfLife}
 use Rattle.nodes_world.specs.Clients.{begins_at, begun_with, call_event, created, creates_sub, is_registered, registered, registered_if, registering, registers_at}
 use Rattle.nodes_world.specs.Deliveries.{hears_answer, is_waited_for}
 use Rattle.nodes_world.specs.Ends.{drawn_once, with_end, with_fresh}
@@ -46,11 +46,16 @@ use Rattle.nodes_world.proofs.KnownSeats.{set_at}
 use Rattle.nodes_world.proofs.LoadedDisks.{load_leaves}
 use Rattle.nodes_world.proofs.LoadedLives.{life_fits}
 
+-- a record that is a decision is one of this life
+abbrev pub DecidesIn : ℕ → JournalRecord → Type 0
+DecidesIn now (Decision life slot generation by asked regs) = life ≡ now
+DecidesIn now _ = Unit {0}
+
 -- the disk of a seat reads what it read, or further records behind that
 pub data RecordsGoOn (place : ℕ) (s later : Seat) : Type 0 where
   same : later.disk.reads ≡ s.disk.reads → RecordsGoOn place s later
   more : (up : Option Node) (rs behind : List JournalRecord) → s.server ≡ OfNode up → records_on (service_at place) s.disk ≡ Some rs
-      → records_on (service_at place) later.disk ≡ Some (rs ++ behind) → AllByRecursion (IsOfLife (found_in rs).life) behind
+      → records_on (service_at place) later.disk ≡ Some (rs ++ behind) → AllByRecursion (DecidesIn (found_in rs).life) behind
       → RecordsGoOn place s later
 
 pub record SeatGoesOn (v : World) (place : ℕ) (s : Seat) : Type 0 where

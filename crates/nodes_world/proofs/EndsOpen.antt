@@ -2,7 +2,7 @@
 use Rattle.std.proofs.Common.{◌≡◌, ◌⊎◌, inl, inr, ℕ, zero, suc, ◌<◌, Bool, true, false, List, [], ◌∷◌, slice_set, IsTrue, Option, Some, None, refl, sym, ap, subst, ◌∙◌, arith, true≢false, ⊎_elim}
 use Rattle.std.specs.List.{AllByRecursion}
 use Rattle.ots_model.specs.Safe as safe
-use Rattle.ots_model.specs.Safe.{Stands, IsFamily, IsImported, IsOf, IsUpFrom, IsUnder, DecidesAlone, IsDecidedBy}
+use Rattle.ots_model.specs.Safe.{Stands, IsFamily, IsOf, IsUpFrom, IsUnder, DecidesAlone, IsDecidedBy}
 use Rattle.ots_model.specs.SafeByLine.{IsOpen}
 use Rattle.ots_model.specs.declared.line.Line.{Line}
 use Rattle.ots_model.specs.declared.line.Line.TheVariants as lines

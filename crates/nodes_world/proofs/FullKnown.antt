@@ -31,7 +31,7 @@ use Rattle.nodes_world.specs.Objects.{family_key}
 use Rattle.nodes_world.specs.Told.{Told}
 use Rattle.nodes_world.specs.World.{World, Seat, OfNode}
 use Rattle.nodes_world.proofs.CallKnown as call
-use Rattle.nodes_world.proofs.CallKnown.{for_key, key_slot, slot_key}
+use Rattle.nodes_world.proofs.CallKnown.{for_key, slot_key}
 use Rattle.nodes_world.proofs.ComesTo.{ComesTo, comes_to}
 use Rattle.nodes_world.proofs.StepIs.{FamilyLaws, StepIs, entry_cases}
 use Rattle.nodes_world.proofs.StepSeats as seats

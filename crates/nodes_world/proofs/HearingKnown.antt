@@ -39,7 +39,7 @@ use Rattle.family_laws.specs.OwnDecisions.{KeepsDecisions, NodesKeepDecisions}
 use Rattle.nodes_world.specs.declared.message.Content.TheVariants as contents
 use Rattle.nodes_world.specs.declared.message.Message.{Message}
 use Rattle.nodes_world.specs.Agreement.{IsWord}
-use Rattle.nodes_world.specs.AgreementInside.{Known, HasMessage, IsNotBefore, FamilyIsKnown, edge_at, IsNumberedBy, is_asking}
+use Rattle.nodes_world.specs.AgreementInside.{Known, HasMessage, FamilyIsKnown, edge_at, IsNumberedBy, is_asking}
 use Rattle.nodes_world.specs.AgreementSteps.{StaysKnown, kept_message}
 use Rattle.nodes_world.specs.Deliveries.{answer_event, heard_in, hears_answer, is_waited_for}
 use Rattle.nodes_world.specs.Happenings.{changes}
@@ -71,7 +71,7 @@ use Rattle.nodes_world.proofs.StepIs.{FamilyLaws, keeps_is, StepIs}
 use Rattle.nodes_world.proofs.StepsKeep.{StepKeeps, quiet_keeps}
 use Rattle.nodes_world.proofs.SubKnown.{stays_then}
 use Rattle.nodes_world.proofs.StepsAsk.{answer_asks, stale_asks}
-use Rattle.nodes_world.proofs.AskedWords.{own_number, vote_not_alone}
+use Rattle.nodes_world.proofs.AskedWords.{own_number}
 use Rattle.nodes_world.proofs.VotedStep.{voted_is, none_wanted, settles_nothing, vote_heard}
 use Rattle.nodes_world.proofs.FullKnown.{asked_cases, full_known}
 use Rattle.nodes_world.proofs.FullStep.{settled_full, full_decides}
@@ -275,12 +275,6 @@ module _ (laws : FamilyLaws) (journals : JournalLaws) (nodes : NodesKeepDecision
           let own = own_number f o.number first in
           let parts = same_parts key.service key.life key.slot key.generation f.key.service f.key.life f.key.slot f.key.generation (call.key_slot key n f is).1 in
           k.words.serials place o f key (nth, word) found_here own.0 own.1 own.2 (ap (λ (x : ℕ). x - 1) (sym parts.0) ∙ own_place)
-
-      alone_no_vote : waiting_for f o.number ≡ Some 0 → is_asking f.completion ≡ true → (c : Call) → call_at f 0 ≡ Some c → c.leg ≡ Deciding
-          → (vote : Vote) → answer ≡ said.Voted vote → (told : List Told) (k : Known w told) → stages.decides_alone f.completion ≡ false
-      alone_no_vote first asking c at decides vote votes told k =
-          vote_not_alone f o c (word_numbered first told k) first at decides (k.families key f found_here).sound.completion.there asking
-          (k.words.voters reply nth place back vote o replied (says ∙ ap (λ (x : Said). contents.Reply (nth + 1) x) votes) word)
 
       -- what a step is then that hears a vote
       prepared : (vote : Vote) → answer ≡ said.Voted vote → (told : List Told) → Known w told → o.word ≡ words.Prepare

@@ -8,12 +8,13 @@ use Rattle.ots_model.specs.declared.completion.Stood.{Stood}
 use Rattle.ots_outside.specs.Disk.{DiskState, at_first}
 use Rattle.decision_journal.specs.Journal.{Found, found_in}
 use Rattle.decision_journal.specs.declared.record.JournalRecord.{JournalRecord}
+use Rattle.decision_journal.specs.declared.record.JournalRecord.TheVariants.{Decision}
 use Rattle.coordinator.specs.Node.{Node}
 use Rattle.coordinator.specs.NodeCalls.{Applied, applies, call_wants}
 use Rattle.coordinator.specs.Step.{Wanted, Appends, Rereads, WritesDone}
 use Rattle.coordinator.specs.declared.event.Event.{Event}
 use Rattle.nodes_world.specs.Agreement.{records_at}
-use Rattle.nodes_world.specs.Asking.{HearingsMayAsk, IsOfLife, MayAsk}
+use Rattle.nodes_world.specs.Asking.{IsOfLife, MayAsk}
 use Rattle.nodes_world.specs.Deliveries.{answer_event}
 use Rattle.nodes_world.specs.Disks.{Stop}
 use Rattle.nodes_world.specs.Happenings as happenings
@@ -23,9 +24,10 @@ use Rattle.nodes_world.specs.Laws.{AreWanted, AskedJournalsKeep, AskedJournalsSt
 use Rattle.nodes_world.specs.Nodes.{Stepping, crashes, crashes_seat, no_step, steps, steps_by, steps_node}
 use Rattle.nodes_world.specs.Objects.{family_key, service_at}
 use Rattle.nodes_world.specs.World.{World, Seat, OfNode, node_in, with_message, with_seat}
-use Rattle.nodes_world.proofs.DisksGoOn.{DisksGoOn, HearingsGoOn, RecordsGoOn, more, same, same_goes}
+use Rattle.nodes_world.proofs.DisksGoOn.{DecidesIn, DisksGoOn, HearingsGoOn, RecordsGoOn, more, same, same_goes}
 use Rattle.nodes_world.proofs.DisksSame.{DisksSame, requests_all_same, same_self}
 use Rattle.nodes_world.proofs.Going.{node_up, on_seat_twice}
+use Rattle.nodes_world.proofs.HearingsMay.{KnownMayAsk}
 use Rattle.nodes_world.proofs.KnownSeats.{set_at}
 use Rattle.nodes_world.proofs.KnownWorlds.{node_there}
 use Rattle.nodes_world.proofs.SeatSwaps.{requests_seats}
@@ -71,15 +73,19 @@ seat_goes place s later w there name own = record {
 
 -- ---- what is asked for is of this life
 
+decides_in : (now : ℕ) (r : JournalRecord) → IsOfLife now r → DecidesIn now r
+decides_in now (Decision life slot generation by asked regs) is = is
+decides_in now _ is = absurd is
+
 wanted_life : (wanted : Option Wanted) (now : ℕ) (r : JournalRecord) → ((item : JournalRecord) → wanted ≡ Some (Appends item) → IsOfLife now item)
-    → IsWanted wanted r → IsOfLife now r
-wanted_life (Some (Appends item)) now r own is = subst (IsOfLife now) (sym is) (own item refl)
-wanted_life (Some (WritesDone place)) now r own is = subst (IsOfLife now) (sym is) tt
+    → IsWanted wanted r → DecidesIn now r
+wanted_life (Some (Appends item)) now r own is = subst (DecidesIn now) (sym is) (decides_in now item (own item refl))
+wanted_life (Some (WritesDone place)) now r own is = subst (DecidesIn now) (sym is) tt
 wanted_life (Some Rereads) now r own is = absurd is
 wanted_life None now r own is = absurd is
 
 all_wanted : (wanted : Option Wanted) (now : ℕ) (rs : List JournalRecord) → ((item : JournalRecord) → wanted ≡ Some (Appends item) → IsOfLife now item)
-    → AreWanted wanted rs → AllByRecursion (IsOfLife now) rs
+    → AreWanted wanted rs → AllByRecursion (DecidesIn now) rs
 all_wanted wanted now [] own are = tt
 all_wanted wanted now (r ∷ []) own are = (wanted_life wanted now r own are, tt)
 all_wanted wanted now (r ∷ s ∷ others) own are = absurd are
@@ -203,7 +209,7 @@ module _ (keep : AskedJournalsKeep) (stop : AskedJournalsStop) (read : RecordsAr
 
 -- ---- an answer
 
-pub hearings_go_on : AskedJournalsKeep → AskedJournalsStop → RecordsAreRead → HearingsMayAsk → HearingsGoOn
+pub hearings_go_on : AskedJournalsKeep → AskedJournalsStop → RecordsAreRead → KnownMayAsk → HearingsGoOn
 unfolding steps
 hearings_go_on keep stop read may w told request from reply o m back answer s k there is replied says seated waits =
     subst (λ (x : Option Seat). DisksGoOn w (elim x as (λ _. Stepping) [ Some t ↦ steps_node (node_in t.server) t from key e v | None ↦ no_step v ]).done.world)

@@ -1,6 +1,6 @@
 -- What a node asks of its journal when it hears an answer may be asked: a decision fits, and is of this life; a Done is of a decision
 -- that stands.
-use Rattle.std.proofs.Common.{◌≡◌, inl, inr, ℕ, zero, suc, ◌==◌, Bool, true, false, is_some, IsTrue, if◌then◌else◌, List, slice_get, Contains, Option, Some, None, refl, sym, ap, subst, ◌∙◌, arith}
+use Rattle.std.proofs.Common.{◌≡◌, inl, inr, ℕ, zero, suc, ◌-◌, ◌==◌, Bool, true, false, is_some, IsTrue, if◌then◌else◌, List, slice_get, Contains, Option, Some, None, refl, sym, ap, subst, ◌∙◌, arith}
 use Rattle.std.specs.Option.{option_and_then, option_map}
 use Rattle.ior_refs.specs.declared.key.ObjectKey.{ObjectKey}
 use Rattle.ots_model.specs.declared.tree.Outward.{Outward}
@@ -22,10 +22,13 @@ use Rattle.coordinator.specs.declared.event.Event.{Event}
 use Rattle.coordinator.specs.declared.said.Said.{Said}
 use Rattle.family_laws.specs.HeldRecords.{HeldRecordsStood}
 use Rattle.family_laws.specs.OwnDecisions.{HasDecision, NodesKeepDecisions}
+use Rattle.nodes_world.specs.declared.message.Content.TheVariants as contents
+use Rattle.nodes_world.specs.declared.message.Message.{Message}
 use Rattle.nodes_world.specs.Agreement.{FollowsDisk, records_at}
 use Rattle.nodes_world.specs.AgreementInside.{Known, FamilyIsKnown, NodeIsKnown, edge_at, is_asking}
+use Rattle.nodes_world.specs.AgreementSteps.{StepsStayKnown}
 use Rattle.nodes_world.specs.Asking.{HearingsMayAsk, IsOfLife, MayAsk}
-use Rattle.nodes_world.specs.Deliveries.{answer_event, heard_in}
+use Rattle.nodes_world.specs.Deliveries.{answer_event, heard_in, is_waited_for}
 use Rattle.nodes_world.specs.Journals.{records_on}
 use Rattle.nodes_world.specs.Laws.{CanAsk}
 use Rattle.nodes_world.specs.Objects.{family_key, place_of, service_at}
@@ -41,13 +44,21 @@ use Rattle.nodes_world.proofs.DecisionFits.{heard_fits, heard_key}
 use Rattle.nodes_world.proofs.KnownFamilies.{family_found, same_parts}
 use Rattle.nodes_world.proofs.KnownLines.{lines_of}
 use Rattle.nodes_world.proofs.KnownWorlds.{node_there}
+use Rattle.nodes_world.proofs.Reaching.{known_reached}
+
+-- where what is known of a world holds, what a node asks that hears an answer may be asked
+abbrev pub KnownMayAsk : Type 0
+KnownMayAsk = (w : World) (told : List Told) (request from reply : ℕ) (o : Outward) (m back : Message) (answer : Said) (s : Seat) (n : Node)
+    → Known w told → slice_get w.messages (request - 1) ≡ Some m → m.content ≡ contents.Request from o → slice_get w.messages reply ≡ Some back
+    → back.content ≡ contents.Reply request answer → slice_get w.seats from ≡ Some s → s.server ≡ OfNode (Some n) → is_waited_for w m from o ≡ true
+    → MayAsk (call_wants (family_key from o.number) (answer_event o answer s.clock) n) n
 
 may_nothing : (x : Option Wanted) (n : Node) → x ≡ None → MayAsk x n
 may_nothing (Some item) n none = absurd cc
-may_nothing None n none = record { can = tt; own = λ item is. absurd cc }
+may_nothing None n none = record { can = tt; own = λ item is. absurd cc; once = λ is. absurd cc }
 
 may_close : (done : ℕ) (n : Node) → CanAsk (Some (WritesDone done)) n.found → MayAsk (Some (WritesDone done)) n
-may_close done n can = record { can = can; own = λ item is. absurd cc }
+may_close done n can = record { can = can; own = λ item is. absurd cc; once = λ is. absurd cc }
 
 -- ---- what is wanted once an answer was heard
 
@@ -55,11 +66,17 @@ may_close done n can = record { can = can; own = λ item is. absurd cc }
 abbrev either_wanted : Bool → Bool → Option ℕ → JournalRecord → Option Wanted
 either_wanted t u x r = if t then Some (Appends r) else if u then option_map WritesDone x else None
 
-appended : (t u : Bool) (x : Option ℕ) (r item : JournalRecord) → either_wanted t u x r ≡ Some (Appends item) → (t ≡ true) × (item ≡ r)
+pub appended : (t u : Bool) (x : Option ℕ) (r item : JournalRecord) → either_wanted t u x r ≡ Some (Appends item) → (t ≡ true) × (item ≡ r)
 appended true u x r item is = (refl, cc)
 appended false true (Some done) r item is = absurd cc
 appended false true None r item is = absurd cc
 appended false false x r item is = absurd cc
+
+no_reread : (t u : Bool) (x : Option ℕ) (r : JournalRecord) → either_wanted t u x r ≡ Some Rereads → ⊥
+no_reread true u x r is = absurd cc
+no_reread false true (Some done) r is = absurd cc
+no_reread false true None r is = absurd cc
+no_reread false false x r is = absurd cc
 
 of_own_life : (now : ℕ) (g : Family) → g.key.life ≡ now → IsOfLife now (decision_record g)
 unfolding decision_record
@@ -155,6 +172,7 @@ module _ (causes : OutcomesHaveCauses) (journals : JournalLaws) (nodes : NodesKe
               (heard_fits causes f o.number (heard_in answer) c waits_first at leg known.sound.completion.there asking w told k key found_here known.sound.completion.parties
               place s n there up slotted);
           own = λ x same. subst (IsOfLife (life n)) (sym is_decision.1 ∙ inner same) (of_own_life (life n) g (ap (λ (x : ObjectKey). x.life) same_key ∙ in_slot.of_life));
+          once = λ same. absurd cc;
         }
           where
             waits_first : waiting_for f o.number ≡ Some 0
@@ -188,7 +206,8 @@ module _ (causes : OutcomesHaveCauses) (journals : JournalLaws) (nodes : NodesKe
       may_family None none = may_nothing None n refl
       may_family (Some (WritesDone done)) wants = may_close done n (closes done wants)
       may_family (Some (Appends item)) wants = may_append item wants
-      may_family (Some Rereads) wants = record { can = tt; own = λ item is. absurd cc }
+      may_family (Some Rereads) wants =
+          absurd (no_reread (stages.wants_decision g.completion) (wants_done g) (record_place g.completion) (decision_record g) (sym wanted_is ∙ wants))
 
     -- nobody waits for the answer
     stale : (f : Family) → waiting_for f o.number ≡ None → wanted f e ≡ None
@@ -224,6 +243,12 @@ module _ (causes : OutcomesHaveCauses) (journals : JournalLaws) (nodes : NodesKe
       by true again = to_record again (completed (life n) o.number (heard_in answer) n.recovered) refl
       by false family = to_family family (family_of key n) refl
 
-pub hearings_may_ask : OutcomesHaveCauses → JournalLaws → NodesKeepDecisions → HeldRecordsStood → HearingsMayAsk
-hearings_may_ask causes journals nodes stood w told request from reply o m back answer s n k there is replied says seated up waits =
+-- so it is where what is known of a world holds
+pub known_may_ask : OutcomesHaveCauses → JournalLaws → NodesKeepDecisions → HeldRecordsStood → KnownMayAsk
+known_may_ask causes journals nodes stood w told request from reply o m back answer s n k there is replied says seated up waits =
     may_ask causes journals nodes stood w from s.clock o answer s n seated up told k
+
+-- and in each world that a script reaches
+pub hearings_may_ask : OutcomesHaveCauses → JournalLaws → NodesKeepDecisions → HeldRecordsStood → StepsStayKnown → HearingsMayAsk
+hearings_may_ask causes journals nodes stood keeps w told request from reply o m back answer s n reached =
+    known_may_ask causes journals nodes stood w told request from reply o m back answer s n (known_reached keeps w told reached)

@@ -10,7 +10,7 @@ use Rattle.coordinator.specs.Names.{coordinator_kind}
 use Rattle.nodes_world.specs.declared.thing.Thing.{Thing}
 use Rattle.nodes_world.specs.declared.thing.Thing.TheVariants as things
 use Rattle.nodes_world.specs.Told as tell
-use Rattle.nodes_world.specs.Told.{Told, known}
+use Rattle.nodes_world.specs.Told.{Told}
 use Rattle.nodes_world.specs.World.{World, Seat, resource_at, thing, with_name}
 use Rattle.nodes_world.specs.Agreement.{IsTransaction, KeysAreOnce}
 use Rattle.nodes_world.specs.AgreementInside.{Known, IsMade, NamesAreTold}

@@ -15,7 +15,7 @@ use Rattle.family_laws.specs.OwnDecisions.{KeepsDecisions, NodesKeepDecisions}
 use Rattle.nodes_world.specs.declared.thing.Thing.TheVariants as things
 use Rattle.nodes_world.specs.Clients.{begins_at, begun_by, begun_with}
 use Rattle.nodes_world.specs.Told as tell
-use Rattle.nodes_world.specs.Told.{Told, known}
+use Rattle.nodes_world.specs.Told.{Told}
 use Rattle.nodes_world.specs.World.{World, Seat, OfNode, thing, with_name, with_seat}
 use Rattle.nodes_world.specs.Agreement.{FollowsDisk, IsHeldWhole, IsTransaction}
 use Rattle.nodes_world.specs.AgreementInside.{Known, edge_at}

@@ -5,7 +5,7 @@ use Rattle.std.specs.Option.{option_and_then, option_map, option_map_or}
 use Rattle.std.proofs.lemmas.Bool.Decides.{nat_tests}
 use Rattle.ior_refs.specs.declared.key.ObjectKey.{ObjectKey}
 use Rattle.ots_model.specs.Safe as safe
-use Rattle.ots_model.specs.Safe.{Stands, IsToldRollback, IsRegistered, IsJoined, TakesPart}
+use Rattle.ots_model.specs.Safe.{Stands, IsRegistered, IsJoined, TakesPart}
 use Rattle.ots_model.specs.SafeByLine.{IsCommittedBy}
 use Rattle.ots_model.specs.declared.completion.Ground.TheVariants.{Record}
 use Rattle.ots_model.specs.declared.line.Line.TheVariants as lines

@@ -3,7 +3,7 @@ use Rattle.std.proofs.Common.{◌≡◌, ◌⊎◌, inl, inr, ℕ, zero, suc, �
 use Rattle.std.proofs.lemmas.List.{reverse-append}
 use Rattle.std.proofs.lemmas.List.Elements.{Contains-append_left, Contains-push_cases, filter_map-append}
 use Rattle.ots_model.specs.Safe as safe
-use Rattle.ots_model.specs.Safe.{Stands, IsSent, IsRegistered, IsFamily, IsJoined, TakesPart}
+use Rattle.ots_model.specs.Safe.{Stands, IsRegistered, IsFamily, IsJoined, TakesPart}
 use Rattle.ots_model.specs.declared.completion.Word.{Word as Phase}
 use Rattle.ots_model.specs.declared.line.Line.{Line}
 use Rattle.ots_model.specs.declared.line.Line.TheVariants as lines

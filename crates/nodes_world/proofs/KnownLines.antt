@@ -4,7 +4,7 @@ use Rattle.std.proofs.lemmas.List.{reverse-append, reverse-reverse}
 use Rattle.std.proofs.lemmas.List.Elements.{Contains-append_right}
 use Rattle.ior_refs.specs.declared.key.ObjectKey.{ObjectKey}
 use Rattle.ots_model.specs.Safe as safe
-use Rattle.ots_model.specs.Safe.{Stands, IsSent, IsToldCommit, IsToldRollback, IsRegistered, IsTop, IsImported, IsFamily, IsOf, IsJoined, IsCommittedUp, IsUpFrom, TakesPart, AreSafe}
+use Rattle.ots_model.specs.Safe.{Stands, IsToldCommit, IsToldRollback, IsRegistered, IsTop, IsFamily, IsOf, IsJoined, IsCommittedUp, IsUpFrom, TakesPart}
 use Rattle.ots_model.specs.SafeByLine.{AllowedIsSafe}
 use Rattle.ots_model.specs.declared.line.Line.{Line}
 use Rattle.ots_model.specs.declared.line.Line.TheVariants as lines

@@ -24,7 +24,7 @@ use Rattle.coordinator.specs.declared.said.Said.{Said}
 use Rattle.coordinator.specs.declared.said.Said.TheVariants as said
 use Rattle.nodes_world.specs.declared.message.Content.TheVariants as contents
 use Rattle.nodes_world.specs.declared.message.Message.{Message}
-use Rattle.nodes_world.specs.Agreement.{IsOver, IsWord, StatesFollow, records_at}
+use Rattle.nodes_world.specs.Agreement.{IsWord, StatesFollow, records_at}
 use Rattle.nodes_world.specs.AgreementInside.{Known, HasAnswered, HasNotVoted, HasVotedCommit, ResourceIsKnown, EndsHaveCounted}
 use Rattle.nodes_world.specs.Happenings.{new_message}
 use Rattle.nodes_world.specs.Told as tell
@@ -126,8 +126,6 @@ pub record Obeys (h : List Line) (name : List ℕ) (s n : State) (word : Word) (
   pub rollback_now : word ≡ words.Prepare → answer ≡ said.Voted VoteRollback → n ≡ states.Undone
   pub none : (word ≡ words.Prepare → (vote : Vote) → answer ≡ said.Voted vote → ⊥) → HasNotVoted s name h → HasNotVoted n name h
   pub follows : StatesFollow n name h
-  pub over : IsOver s → IsOver n
-  pub ends : word ≡ words.Commit → IsOver n
   pub voter : (vote : Vote) → answer ≡ said.Voted vote → word ≡ words.Prepare
   pub applied_on : s ≡ states.Applied → n ≡ states.Applied
   pub applied_shown : shows ≡ Some shown.Applied → n ≡ states.Applied
@@ -198,8 +196,7 @@ module _ (w v : World) (told : List Told) (k : Known w told) (nth place : ℕ) (
   reply_back : (reply request : ℕ) (m : Message) (other : Said) → slice_get v.messages reply ≡ Some m → m.content ≡ contents.Reply request other
       → (slice_get w.messages reply ≡ Some m)
       ⊎ ((request ≤ reply) × ((i p : ℕ) × (q : Outward) × IsWord w i p q × (request ≡ i + 1)) × ((i p : ℕ) (q : Outward) → request ≡ i + 1 → IsWord w i p q
-      → (referred w q.to ≡ Some x) × (q.word ≡ words.Commit → IsOver next.state)
-      × ((vote : Vote) → other ≡ said.Voted vote → q.word ≡ words.Prepare)))
+      → (referred w q.to ≡ Some x) × ((vote : Vote) → other ≡ said.Voted vote → q.word ≡ words.Prepare)))
   reply_back reply request m other at says =
       elim (message_cases reply m at) [
         | inl there ↦ inl there
@@ -213,7 +210,6 @@ module _ (w v : World) (told : List Told) (k : Known w told) (nth place : ℕ) (
               λ i p q same word.
                   let own = word_at i p q (sym is ∙ same) word in (
                     ap (λ (z : Outward). referred w z.to) own ∙ refers_to,
-                    λ commit. b.ends (sym (ap (λ (z : Outward). z.word) own) ∙ commit),
                     λ vote voted. ap (λ (z : Outward). z.word) own ∙ b.voter vote (sym (reply_says (nth + 1) request answer other m here.1 says).1 ∙ voted),
                   ),
             )
@@ -319,7 +315,6 @@ module _ (w v : World) (told : List Told) (k : Known w told) (nth place : ℕ) (
     replies = reply_back;
     counted = c.counted;
     many = c.many;
-    over = b.over;
     known_next = obeyed_resource;
   }
     where

@@ -17,7 +17,6 @@ use Rattle.ots_model.specs.declared.tree.Outward.{Outward}
 use Rattle.ots_model.specs.declared.tree.Word.{Word}
 use Rattle.ots_model.specs.declared.tree.Word.TheVariants as words
 use Rattle.two_phase.specs.Stages as stages
-use Rattle.two_phase.specs.Stages.{Standing as Completion, Waiting, Going as UnderWay}
 use Rattle.decision_journal.specs.Journal.{first_gate, found_in}
 use Rattle.decision_journal.specs.declared.record.JournalRecord.{JournalRecord}
 use Rattle.decision_journal.specs.declared.record.Registration.{Registration as Named}
@@ -33,8 +32,8 @@ use Rattle.family_laws.specs.Sound.{IsAsking}
 use Rattle.nodes_world.specs.declared.message.Content.TheVariants as contents
 use Rattle.nodes_world.specs.declared.message.Message.{Message}
 use Rattle.nodes_world.specs.Agreement as agreed
-use Rattle.nodes_world.specs.Agreement.{HasSent, IsAlone, IsClosed, IsCutOff, IsDecided, IsOutlived, IsRolledBack, IsTransaction, IsWord, MayBeRolledBack, NumbersAreOnce, RecordsRestOnVotes, RestsOnVotes, StatesFollow, VotesWereGiven, CommitsAreRecorded, DecisionsAreRecorded, DonesAreComplete, NoneIsBoth, OnePhaseIsAlone, RollbacksAreClosed, SubtransactionsEndOnce, has_record, names_object, records_at}
-use Rattle.nodes_world.specs.AgreementInside.{Known, CompletionsAreOver, DisksAreKnown, FamiliesAreKnown, FamilyIsKnown, HasAnswered, HasHeardAll, HasNotVoted, HasVotedCommit, IsBranch, IsNamedBy, NamesAreTold, OutcomeIsTold, ResourceIsKnown, ResourcesAreKnown, SeatsAreNamed, ToldIsOpen, WordsAreTold, phase_of, placed, EndsHaveCounted, NodesAreKnown, TransactionsAreKnown, IsNumberedBy}
+use Rattle.nodes_world.specs.Agreement.{HasSent, IsAlone, IsClosed, IsCutOff, IsDecided, IsRolledBack, IsWord, MayBeRolledBack, RecordsRestOnVotes, RestsOnVotes, StatesFollow, VotesWereGiven, CommitsAreRecorded, OnePhaseIsAlone, RollbacksAreClosed, has_record, names_object, records_at}
+use Rattle.nodes_world.specs.AgreementInside.{Known, DisksAreKnown, FamiliesAreKnown, FamilyIsKnown, HasAnswered, HasNotVoted, HasVotedCommit, IsBranch, IsNamedBy, NamesAreTold, OutcomeIsTold, ResourceIsKnown, ResourcesAreKnown, SeatsAreNamed, ToldIsOpen, WordsAreTold, phase_of, placed, EndsHaveCounted, NodesAreKnown, TransactionsAreKnown, IsNumberedBy}
 use Rattle.nodes_world.specs.Happenings.{naming, new_message, requests}
 use Rattle.nodes_world.specs.Objects.{place_of}
 use Rattle.nodes_world.specs.Told as tell
@@ -630,28 +629,6 @@ module _ (w : World) (told : List Told) (k : Known w told) (place : ℕ) (o : Ou
       (λ x y early says to. may_be_on r.name (k.rollbacks x y r early says to))
       (λ says to. may_be_on r.name (subst (λ (z : NamedKey). MayBeRolledBack w told z.name) (same_named m.resource r (referred w o.to) m.refers to) (m.back says)))
       p q sent rollback refers
-
-  -- ---- what is over
-
-  heard_after : (s : Completion) → HasHeardAll w s → HasHeardAll (world_with place o w) s
-  unfolding referred resource_at end_at
-  heard_after (Waiting room) h = h
-  heard_after (UnderWay c) h = λ p object r among is refers at. h p object r among is refers at
-
-  pub over_after : CompletionsAreOver w → CompletionsAreOver (world_with place o w)
-  unfolding referred resource_at end_at node_at
-  over_after over = record {
-    answered = λ nth from reply q object one r answer word commit refers at says there.
-        old_answer (λ (i x : ℕ) (y : Outward). y.word ≡ words.Commit → referred w y.to ≡ Some object → one.content ≡ contents.Reply (i + 1) answer → agreed.IsOver r.state)
-        nth from reply q one answer word at says
-        (λ early was prepares to reads. over.answered nth from reply q object one r answer early prepares to was reads there) commit refers says;
-    heard = λ key f there commits. heard_after f.completion (over.heard key f there commits);
-    told_again = over.told_again;
-  }
-
-  pub dones_after : DonesAreComplete w → DonesAreComplete (world_with place o w)
-  unfolding referred resource_at end_at
-  dones_after dones = dones
 
   -- ---- transactions, nodes and ends
 

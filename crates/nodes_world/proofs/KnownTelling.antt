@@ -34,11 +34,6 @@ is_bare (lines.Decide name outcome) = is_recorded outcome
 is_bare (lines.Done name) = true
 is_bare _ = false
 
-pub bare_not_plain : (line : Line) → is_bare line ≡ false → is_plain line ≡ false
-bare_not_plain (lines.Recv number) is = is
-bare_not_plain (lines.Up server life) is = is
-bare_not_plain _ is = refl
-
 pub plain_bare : (line : Line) → is_plain line ≡ true → is_bare line ≡ true
 plain_bare (lines.Recv number) is = refl
 plain_bare (lines.Up server life) is = refl

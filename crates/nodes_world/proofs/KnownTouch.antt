@@ -10,7 +10,7 @@ use Rattle.resource_end.specs.declared.state.State.TheVariants as states
 use Rattle.coordinator.specs.Node.{Node, family_of}
 use Rattle.nodes_world.specs.declared.message.Message.{Message}
 use Rattle.nodes_world.specs.declared.thing.Thing.TheVariants as things
-use Rattle.nodes_world.specs.Agreement.{IsOver, StatesFollow, records_at}
+use Rattle.nodes_world.specs.Agreement.{StatesFollow, records_at}
 use Rattle.nodes_world.specs.AgreementInside.{Known, HasAnswered, HasNotVoted, HasVotedCommit, ResourceIsKnown, EndsHaveCounted}
 use Rattle.nodes_world.specs.Ends.{closed_by, in_place_of, with_resource, with_resource_at}
 use Rattle.nodes_world.specs.Journals.{records_on}
@@ -370,11 +370,6 @@ unvoted_open states.Fresh name h open_now voted = voted
 unvoted_open states.Working name h open_now voted = voted
 unvoted_open _ name h open_now voted = absurd cc
 
-not_over_open : (s : State) → closed_by s ≡ None → IsOver s → ⊥
-not_over_open states.Fresh open_now over = over
-not_over_open states.Working open_now over = over
-not_over_open _ open_now over = absurd cc
-
 closed_end : (s t : State) → closed_by s ≡ None → (closed_by t ≡ None → ⊥) → s ≡ t → ⊥
 closed_end s t open_now closed e = closed (subst (λ (z : State). closed_by z ≡ None) e open_now)
 
@@ -455,7 +450,6 @@ module _ (w : World) (told : List Told) (k : Known w told) (name : List ℕ) (ke
     replies = λ reply request m answer there says. inl there;
     counted = counted_same w (place_of key) at.seat e next w.messages at.there at.up (omega arith);
     many = as_long w.seats (place_of key) (record at.seat { server = OfEnd (Some (with_resource next e)) });
-    over = λ over. absurd (not_over_open r.state open_now over);
     known_next = touched_known e at;
   }
 

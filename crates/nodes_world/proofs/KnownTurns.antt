@@ -16,7 +16,6 @@ use Rattle.ots_model.specs.declared.tree.Outcome.TheVariants as outcomes
 use Rattle.ots_model.specs.declared.tree.Outward.{Outward}
 use Rattle.ots_model.specs.declared.tree.Word.TheVariants as words
 use Rattle.two_phase.specs.Stages as stages
-use Rattle.two_phase.specs.Stages.{Standing as Completion, Waiting, Going as UnderWay}
 use Rattle.decision_journal.specs.declared.record.JournalRecord.{JournalRecord}
 use Rattle.decision_journal.specs.declared.record.Registration.{Registration as Named}
 use Rattle.resource_end.specs.declared.state.State.{State}
@@ -31,8 +30,8 @@ use Rattle.nodes_world.specs.declared.message.Message.{Message}
 use Rattle.nodes_world.specs.declared.thing.Thing.{Thing}
 use Rattle.nodes_world.specs.declared.thing.Thing.TheVariants as things
 use Rattle.nodes_world.specs.Agreement as agreed
-use Rattle.nodes_world.specs.Agreement.{HasSent, IsAlone, IsClosed, IsCutOff, IsDecided, IsOutlived, IsOver, IsRolledBack, IsTransaction, IsWord, MayBeRolledBack, RecordsRestOnVotes, RestsOnVotes, VotesWereGiven, CommitsAreRecorded, DonesAreComplete, NoneIsBoth, OnePhaseIsAlone, RollbacksAreClosed, has_record, names_object, records_at}
-use Rattle.nodes_world.specs.AgreementInside.{Known, CompletionsAreOver, DisksAreKnown, FamiliesAreKnown, FamilyIsKnown, HasAnswered, HasHeardAll, IsBranch, IsListed, NamesAreTold, OutcomeIsTold, ResourceIsKnown, ResourcesAreKnown, SeatsAreNamed, ToldIsOpen, WordsAreTold, EndsHaveCounted, IsHeldAs, NodesAreKnown, TransactionsAreKnown}
+use Rattle.nodes_world.specs.Agreement.{HasSent, IsAlone, IsClosed, IsCutOff, IsDecided, IsRolledBack, IsWord, MayBeRolledBack, RecordsRestOnVotes, RestsOnVotes, VotesWereGiven, has_record, records_at}
+use Rattle.nodes_world.specs.AgreementInside.{Known, DisksAreKnown, FamiliesAreKnown, FamilyIsKnown, HasAnswered, IsBranch, IsListed, NamesAreTold, OutcomeIsTold, ResourceIsKnown, ResourcesAreKnown, SeatsAreNamed, ToldIsOpen, WordsAreTold, EndsHaveCounted, IsHeldAs, NodesAreKnown, TransactionsAreKnown}
 use Rattle.nodes_world.specs.Objects.{place_of}
 use Rattle.nodes_world.specs.Told.{Told, known}
 use Rattle.nodes_world.specs.World.{World, Seat, OfNode, FlatResource, NamedKey, family_at, referred, resource_at, seat_name, thing, thing_in}
@@ -75,11 +74,9 @@ pub record Turns (w v : World) (told later : List Told) (x : NamedKey) (r next :
       → (slice_get w.messages reply ≡ Some m)
       ⊎ ((request ≤ reply) × ((nth p : ℕ) × (q : Outward) × IsWord w nth p q × (request ≡ nth + 1))
       × ((nth p : ℕ) (q : Outward) → request ≡ nth + 1 → IsWord w nth p q
-      → (referred w q.to ≡ Some x) × (q.word ≡ words.Commit → IsOver next.state)
-      × ((vote : Vote) → answer ≡ said.Voted vote → q.word ≡ words.Prepare)))
+      → (referred w q.to ≡ Some x) × ((vote : Vote) → answer ≡ said.Voted vote → q.word ≡ words.Prepare)))
   pub counted : EndsHaveCounted w → EndsHaveCounted v
   pub many : length v.seats ≡ length w.seats
-  pub over : IsOver r.state → IsOver next.state
   pub known_next : ResourceIsKnown v (lines_of later) x.name next
 
 -- what is said of names in one list of lines is said in another, where its lines are there, but for those of states
@@ -242,7 +239,7 @@ module _ (w v : World) (told later : List Told) (k : Known w told) (x : NamedKey
     voters = λ reply nth p m vote q at says word.
         elim (t.replies reply (nth + 1) m (said.Voted vote) at says) [
           | inl there ↦ k.words.voters reply nth p m vote q there says (t.words_back nth p q word)
-          | inr new ↦ (new.2 nth p q refl (t.words_back nth p q word)).2 vote refl
+          | inr new ↦ (new.2 nth p q refl (t.words_back nth p q word)).1 vote refl
         ];
     lives = λ p q rs sent held. k.words.lives p q rs (sent_w p q sent) (records_w p rs held);
     given = λ p s n q there runs sent alike. k.words.given p s n q (t.nodes p s (Some n) there runs) runs (sent_w p q sent) alike;
@@ -489,45 +486,6 @@ module _ (w v : World) (told later : List Told) (k : Known w told) (x : NamedKey
     family = to_v old.top _ old.family;
     over = over_on old.transaction old.top (record old.key { index = 0 }) old.over;
   }
-
-  -- ---- what is over
-
-  -- over in the world of before, over now
-  still_over : (key : ObjectKey) (q : FlatResource) → resource_at v key ≡ Some q → ((old : FlatResource) → resource_at w key ≡ Some old → IsOver old.state) → IsOver q.state
-  still_over key q at was =
-      elim (t.turned key q at) [
-        | inl other ↦ was q other.1
-        | inr here ↦ subst (λ (z : FlatResource). IsOver z.state) (sym here.0) (t.over (was r here.1))
-      ]
-
-  heard_turned : (s : Completion) → HasHeardAll w s → HasHeardAll v s
-  heard_turned (Waiting room) h = h
-  heard_turned (UnderWay c) h = λ p object q among is refers at.
-      still_over object.key q at (λ old was. h p object old among is (refers_w p.to object refers) was)
-
-  pub over_turned : CompletionsAreOver w → CompletionsAreOver v
-  over_turned over = record {
-    answered = λ nth from reply q object one z answer word commit refers at says there.
-        elim (t.replies reply (nth + 1) one answer at says) [
-          | inl old ↦ still_over object.key z there
-              (λ was held. over.answered nth from reply q object one was answer (t.words_back nth from q word) commit (refers_w q.to object refers) old says held)
-          | inr new ↦
-              let so = new.2 nth from q refl (t.words_back nth from q word) in
-              let same : object ≡ x = inner (sym (refers_w q.to object refers) ∙ so.0) in
-              elim (t.turned object.key z there) [
-                | inl other ↦ absurd (other.0 (ap (λ (y : NamedKey). y.key) same))
-                | inr here ↦ subst (λ (y : FlatResource). IsOver y.state) (sym here.0) (so.1 commit)
-              ]
-        ];
-    heard = λ key f there commits. heard_turned f.completion (over.heard key f (family_w key f there) commits);
-    told_again = λ place s n h p object q there runs among party is refers at.
-        still_over object.key q at
-        (λ was held. over.told_again place s n h p object was (t.nodes place s (Some n) there runs) runs among party is (refers_w p.to object refers) held);
-  }
-
-  pub dones_turned : DonesAreComplete w → DonesAreComplete v
-  dones_turned dones p rs key to name q held some done refers at =
-      still_over name.key q at (λ was there. dones p rs key to name was (records_w p rs held) some done (refers_w to name refers) there)
 
   -- ---- transactions and nodes
 

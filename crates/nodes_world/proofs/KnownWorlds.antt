@@ -1,11 +1,11 @@
 -- What is known of a world is known of another one in which families may be gone and a record of a life may stand further, but for
 -- what is said of its seats.
-use Rattle.std.proofs.Common.{◌≡◌, ◌⊎◌, inl, inr, ℕ, ◌≤◌, ◌&&◌, Bool, true, false, not, is_some, IsTrue, List, [], slice_get, Any, Contains, Option, Some, None, refl, sym, ap, subst, ◌∙◌, arith}
+use Rattle.std.proofs.Common.{◌≡◌, ◌⊎◌, inl, inr, ℕ, ◌≤◌, Bool, true, false, is_some, IsTrue, List, [], slice_get, Any, Contains, Option, Some, None, refl, sym, ap, subst, ◌∙◌, arith}
 use Rattle.std.specs.List.{list_any}
 use Rattle.std.specs.Option.{option_map, option_and_then}
 use Rattle.ior_refs.specs.declared.key.ObjectKey.{ObjectKey}
 use Rattle.ots_model.specs.Safe as safe
-use Rattle.ots_model.specs.Safe.{Stands, HasConsented, IsFamily, IsJoined, IsRegistered, IsSent, IsTop, TakesPart}
+use Rattle.ots_model.specs.Safe.{Stands, HasConsented, IsFamily, IsJoined, IsRegistered, IsTop, TakesPart}
 use Rattle.ots_model.specs.SafeByLine.{AreAllowed}
 use Rattle.ots_model.specs.declared.completion.Ground.TheVariants as grounds
 use Rattle.ots_model.specs.declared.completion.Ground.TheVariants.{Record}
@@ -18,24 +18,20 @@ use Rattle.ots_model.specs.declared.tree.Outcome.{Outcome}
 use Rattle.ots_model.specs.declared.tree.Outcome.TheVariants as outcomes
 use Rattle.ots_model.specs.declared.tree.Outward.{Outward}
 use Rattle.two_phase.specs.Stages as stages
-use Rattle.two_phase.specs.Stages.{Standing as Completion, Waiting, Going as UnderWay}
 use Rattle.decision_journal.specs.Journal.{first_gate, found_in}
-use Rattle.decision_journal.specs.declared.journal.Standing.{Standing}
 use Rattle.decision_journal.specs.declared.record.JournalRecord.{JournalRecord}
 use Rattle.decision_journal.specs.declared.record.JournalRecord.TheVariants.{Life, Decision, Done}
 use Rattle.decision_journal.specs.declared.record.Registration.{Registration as Named}
-use Rattle.recovery_coord.specs.Held.{is_nothing}
 use Rattle.recovery_coord.specs.Limits.{retold_slot}
 use Rattle.recovery_coord.specs.declared.held.Held.{Held}
-use Rattle.recovery_coord.specs.declared.held.Party.{Party as HeldParty}
 use Rattle.coordinator.specs.Family.{Family}
 use Rattle.coordinator.specs.Node.{Node, life}
 use Rattle.nodes_world.specs.declared.message.Message.{Message}
 use Rattle.nodes_world.specs.declared.thing.Thing.{Thing}
 use Rattle.nodes_world.specs.declared.thing.Thing.TheVariants as things
 use Rattle.nodes_world.specs.Agreement as agreed
-use Rattle.nodes_world.specs.Agreement.{HasSent, IsAlone, IsClosed, IsCutOff, IsDecided, IsOutlived, IsOver, IsRolledBack, IsTransaction, IsWord, KeysAreOnce, StatesFollow, MayBeRolledBack, NumbersAreOnce, RecordsRestOnVotes, RestsOnVotes, VotesWereGiven, CommitsAreRecorded, DecisionsAreRecorded, DonesAreComplete, NoneIsBoth, OnePhaseIsAlone, RollbacksAreClosed, SubtransactionsEndOnce, has_record, is_decision_of, is_done_in, names_object, recorded_key, records_at}
-use Rattle.nodes_world.specs.AgreementInside.{Known, CompletionsAreOver, DisksAreKnown, FamiliesAreKnown, FamilyIsKnown, HasAnswered, HasHeardAll, IsBranch, IsListed, IsNamedBy, NamesAreTold, OutcomeIsTold, ResourceIsKnown, ResourcesAreKnown, RollbacksAreOutcomes, RollbacksAreTold, SeatsAreNamed, ToldIsOpen, WordsAreTold, placed, EndsHaveCounted, IsHeldAs, IsNamed, NodeIsKnown, NodesAreKnown, TransactionsAreKnown}
+use Rattle.nodes_world.specs.Agreement.{HasSent, IsAlone, IsClosed, IsCutOff, IsDecided, IsRolledBack, IsTransaction, IsWord, KeysAreOnce, StatesFollow, MayBeRolledBack, RecordsRestOnVotes, RestsOnVotes, VotesWereGiven, CommitsAreRecorded, DecisionsAreRecorded, NoneIsBoth, OnePhaseIsAlone, RollbacksAreClosed, has_record, is_decision_of, names_object, recorded_key, records_at}
+use Rattle.nodes_world.specs.AgreementInside.{Known, DisksAreKnown, FamiliesAreKnown, FamilyIsKnown, HasAnswered, IsBranch, IsListed, IsNamedBy, NamesAreTold, OutcomeIsTold, ResourceIsKnown, ResourcesAreKnown, RollbacksAreOutcomes, RollbacksAreTold, SeatsAreNamed, ToldIsOpen, WordsAreTold, placed, EndsHaveCounted, IsHeldAs, IsNamed, NodeIsKnown, NodesAreKnown, TransactionsAreKnown}
 use Rattle.nodes_world.specs.Objects.{place_of, service_at}
 use Rattle.nodes_world.specs.Told.{Told, known}
 use Rattle.nodes_world.specs.World.{World, Seat, OfNode, FlatResource, NamedKey, family_at, referred, resource_at, seat_name, thing, node_at, node_in}
@@ -139,11 +135,6 @@ NamedOnce v = (name : List ℕ) (named : Thing) → Contains v.names (name, name
 abbrev pub WereGiven : World → Type 0
 WereGiven v = (place : ℕ) (s : Seat) (n : Node) (o : Outward) → slice_get v.seats place ≡ Some s → s.server ≡ OfNode (Some n)
     → HasSent v place o → o.number.life ≡ life n → (o.number.slot ≡ retold_slot) ⊎ (o.number.generation ≤ n.generation)
-
-abbrev pub AreOverAgain : World → Type 0
-AreOverAgain v = (place : ℕ) (s : Seat) (n : Node) (h : Held) (p : HeldParty) (object : NamedKey) (r : FlatResource)
-    → slice_get v.seats place ≡ Some s → s.server ≡ OfNode (Some n) → Contains n.recovered h → Contains h.parties p
-    → IsTrue (is_nothing p.due) → referred v p.to ≡ Some object → resource_at v object.key ≡ Some r → IsOver r.state
 
 module _ (w v : World) (told later : List Told) (f : Frame w v told later) (k : Known w told) where
   on : AreAmong (lines_of told) (lines_of later)
@@ -492,40 +483,6 @@ module _ (w v : World) (told later : List Told) (f : Frame w v told later) (k : 
   told_back_then : RollbacksAreTold v later
   told_back_then name key g there named is =
       rolled_back_on name (k.told_back name key g (f.families key g there) (f.transaction_back name g.key named) is)
-
-  -- ---- what is over
-
-  heard_then : (s : Completion) → HasHeardAll w s → HasHeardAll v s
-  heard_then (Waiting room) h = h
-  heard_then (UnderWay c) h = λ p object r among is refers at. h p object r among is (refers_back p.to object refers) (at_back object.key r at)
-
-  pub over_then : AreOverAgain v → CompletionsAreOver w → CompletionsAreOver v
-  over_then again over = record {
-    answered = λ nth from reply q object one r answer word commit refers at says there.
-        let was = f.messages_back reply one at (ap is_call says) in
-        over.answered nth from reply q object was.0 r answer (word_back nth from q word) commit (refers_back q.to object refers) was.1
-        (was.2 ∙ says) (at_back object.key r there);
-    heard = λ key g there commits. heard_then g.completion (over.heard key g (f.families key g there) commits);
-    told_again = again;
-  }
-
-  -- where none is done that wasn't
-  pub dones_then : ((p : ℕ) (earlier rs : List JournalRecord) → records_at w p ≡ Some earlier → records_at v p ≡ Some rs
-      → (found_in rs).standing ≡ (found_in earlier).standing) → DonesAreComplete w → DonesAreComplete v
-  dones_then still dones p rs key to name r held some done refers there = at (f.records p rs held)
-    where
-      is_so : JournalRecord → Bool
-      is_so item = is_decision_of key item && names_object to item
-
-      no_some : false ≡ true → ⊥
-      no_some e = cc
-
-      at : ((earlier : List JournalRecord) × (records_at w p ≡ Some earlier) × Follows earlier rs) ⊎ ((rs ≡ []) × (slice_get w.seats p ≡ None)) → IsOver r.state
-      at (inl (earlier, was, follows)) =
-          dones p earlier key to name r was (sym (follows.some is_so (λ life. refl) (λ named. refl)) ∙ some)
-          (ap (λ (standing : List Standing). not (list_any (λ (s : Standing). is_decision_of key s.item) standing)) (sym (still p earlier rs was held)) ∙ done)
-          (refers_back to name refers) (at_back name.key r there)
-      at (inr (none, gone)) = absurd (no_some (ap (λ (x : List JournalRecord). list_any is_so x) (sym none) ∙ some))
 
   -- ---- transactions, nodes and ends
 

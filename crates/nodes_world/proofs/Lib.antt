@@ -50,7 +50,6 @@ mod EffectsTold
 mod EffectsSame
 mod SeatSwaps
 mod TickSlots
-mod StepTold
 mod StepBranches
 mod SoundNodes
 mod Edges
@@ -142,3 +141,13 @@ mod StoredAnswers
 mod ClosesKeep
 mod ClosesShut
 mod ClosesKnown
+mod AnsweredCommits
+mod AskedFor
+mod NamedParties
+mod DuesHeard
+mod LeftParties
+mod HeldAnswered
+mod SentWords
+mod RetoldAnswered
+mod DonesAnswered
+mod DonesComplete

@@ -1,5 +1,5 @@
 -- What a load finds in the records of a disk, and holds of them.
-use Rattle.std.proofs.Common.{◌≡◌, ◌⊎◌, inl, inr, ℕ, ◌+◌, ◌==◌, ◌||◌, zero, suc, Bool, true, false, IsTrue, List, [], ◌∷◌, ◌++◌, length, map, filter_map, replicate, Any, Contains, Option, Some, None, refl, sym, ap, subst, ◌∙◌, arith}
+use Rattle.std.proofs.Common.{◌≡◌, ◌⊎◌, inl, inr, ℕ, ◌+◌, ◌==◌, ◌||◌, zero, suc, Bool, true, List, [], ◌∷◌, ◌++◌, length, map, filter_map, replicate, Any, Contains, Option, Some, None, refl, sym, ap, subst, ◌∙◌, arith}
 use Rattle.std.specs.List.{AllByRecursion, cons_option, remove}
 use Rattle.std.proofs.lemmas.Bool.Decides.{nat_tests}
 use Rattle.std.proofs.lemmas.List.{length-replicate}
@@ -12,7 +12,7 @@ use Rattle.decision_journal.specs.declared.journal.Standing.{Standing}
 use Rattle.decision_journal.specs.declared.record.JournalRecord.{JournalRecord}
 use Rattle.decision_journal.specs.declared.record.JournalRecord.TheVariants.{Life, Decision, Done, Prepared, CellsPrepared, CellsOutcome, CellsOnePhase}
 use Rattle.decision_journal.specs.declared.record.Registration.{Registration}
-use Rattle.recovery_coord.specs.Held.{held_of, is_decided, is_nothing, loaded, party_of}
+use Rattle.recovery_coord.specs.Held.{held_of, is_decided, loaded, party_of}
 use Rattle.recovery_coord.specs.Laws.{registrations_of}
 use Rattle.recovery_coord.specs.declared.held.Due.{Due}
 use Rattle.recovery_coord.specs.declared.held.Due.TheVariants as due
@@ -23,7 +23,7 @@ use Rattle.coordinator.specs.Limits.{slot_limit}
 use Rattle.coordinator.specs.Node.{family_in, load, in_next_life}
 use Rattle.coordinator.specs.NodeParts.{IsWhole}
 use Rattle.nodes_world.specs.Agreement.{HoldsDecisions}
-use Rattle.nodes_world.specs.AgreementInside.{is_prepared, placed}
+use Rattle.nodes_world.specs.AgreementInside.{placed}
 
 -- ---- what stands is a record
 
@@ -158,28 +158,6 @@ decision_held_as place life slot generation retry asked regs h is =
       ap (λ (x : Held). x.slot) (sym same),
       ap (λ (x : Held). x.generation) (sym same),
     )
-
--- a decision that is held has told nobody yet
-commit_due : (regs : List Registration) (p : Party) → Contains (map (party_of due.Commit [] []) regs) p → p.due ≡ due.Commit
-commit_due [] p (i, less, at) = absurd (omega (arith, less))
-commit_due (r ∷ regs) p c = elim (Contains-append_cases (party_of due.Commit [] [] r ∷ []) (map (party_of due.Commit [] []) regs) p c) [
-  | inl first ↦ sym (ap (λ (x : Party). x.due) (one_of (party_of due.Commit [] [] r) p first))
-  | inr later ↦ commit_due regs p later
-]
-
-pub none_complete : (place : ℕ) (item : JournalRecord) (h : Held) (p : Party) → held_of place item [] [] ≡ Some h → is_prepared item ≡ false
-    → Contains h.parties p → IsTrue (is_nothing p.due) → ⊥
-none_complete place (Life life) h p is own c nothing = absurd cc
-none_complete place (Decision life slot generation by asked regs) h p is own c nothing =
-    no (sym (ap is_nothing (commit_due regs p (subst (λ (x : Held). Contains x.parties p) (sym (inner_held _ h is)) c))) ∙ nothing)
-  where
-    no : false ≡ true → ⊥
-    no e = cc
-none_complete place (Done named) h p is own c nothing = absurd cc
-none_complete place (Prepared life slot generation recovery regs) h p is own c nothing = absurd cc
-none_complete place (CellsPrepared life number recovery ps) h p is own c nothing = absurd cc
-none_complete place (CellsOutcome named how) h p is own c nothing = absurd cc
-none_complete place (CellsOnePhase life number ps) h p is own c nothing = absurd cc
 
 -- ---- the node
 

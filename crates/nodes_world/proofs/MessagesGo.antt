@@ -74,7 +74,7 @@ same_go w v same = record {
 sent_on : (m : Message) (w : World) (nth : ℕ) (content : Content) → HasContent w nth content → HasContent (with_sent m w) nth content
 sent_on m w nth content has = (has.0, push_kept w.messages nth m has.0 has.1, has.2)
 
-sent_back : (m : Message) (w : World) (nth : ℕ) (content : Content) → HasContent (with_sent m w) nth content → HasContent w nth content ⊎ (m.content ≡ content)
+pub sent_back : (m : Message) (w : World) (nth : ℕ) (content : Content) → HasContent (with_sent m w) nth content → HasContent w nth content ⊎ (m.content ≡ content)
 sent_back m w nth content has = elim (push_cases w.messages nth m has.0 has.1) [
   | inl old ↦ inl (has.0, old, has.2)
   | inr new ↦ inr (ap (λ (x : Message). x.content) (sym new.1) ∙ has.2)

@@ -69,13 +69,13 @@ abbrev pub NodesGo : World → World → Type 0
 NodesGo w v = (place : ℕ) (m : Node) → node_at v place ≡ Some m → (node_at w place ≡ Some m) ⊎ Becomes w place m
 
 -- no node becomes another one
-abbrev NodesStay : World → World → Type 0
+abbrev pub NodesStay : World → World → Type 0
 NodesStay w v = (place : ℕ) (m : Node) → node_at v place ≡ Some m → node_at w place ≡ Some m
 
-stay_self : (w : World) → NodesStay w w
+pub stay_self : (w : World) → NodesStay w w
 stay_self w place m is = is
 
-stay_then : (a b c : World) → NodesStay a b → NodesStay b c → NodesStay a c
+pub stay_then : (a b c : World) → NodesStay a b → NodesStay b c → NodesStay a c
 stay_then a b c first later place m is = first place m (later place m is)
 
 stays_go : (w v : World) → NodesStay w v → NodesGo w v
@@ -86,7 +86,7 @@ go_then_stay a b c go stay place m is = go place m (stay place m is)
 
 -- ---- seats
 
-seats_stay : (w v : World) → v.seats ≡ w.seats → NodesStay w v
+pub seats_stay : (w v : World) → v.seats ≡ w.seats → NodesStay w v
 unfolding node_at
 seats_stay w v same place m is = ap (λ (ss : List Seat). option_and_then (λ (s : Seat). node_in s.server) (slice_get ss place)) (sym same) ∙ is
 
@@ -111,7 +111,7 @@ down_stays w place s later there none p m is = elim (seat_cases w place s later 
   | inr other ↦ other
 ]
 
-end_stays : (place : ℕ) (change : FlatEnd → FlatEnd) (w : World) → NodesStay w (with_end place change w)
+pub end_stays : (place : ℕ) (change : FlatEnd → FlatEnd) (w : World) → NodesStay w (with_end place change w)
 end_stays place change w = by_end (end_at w place)
   where
     at_seat : (server : Server) → node_in server ≡ None → (o : Option Seat) → slice_get w.seats place ≡ o

@@ -20,8 +20,6 @@ use Rattle.nodes_world.specs.declared.thing.Thing.{Thing}
 use Rattle.nodes_world.specs.Agreement.{IsClosed, IsDecided, IsOutlived, IsRolledBack, IsTransaction, OutcomesLast, ReachedOutcomesLast, by_known, by_other, by_synchronization, has_record, is_decision_of, outlived, records_at, rolled_back}
 use Rattle.nodes_world.specs.AgreementInside.{Known}
 use Rattle.nodes_world.specs.AgreementSteps.{Goes, GoesOn, StepsStayKnown, further, still}
-use Rattle.nodes_world.specs.Asking.{IsOfLife}
-use Rattle.nodes_world.specs.Happenings.{after}
 use Rattle.nodes_world.specs.Happenings as happenings
 use Rattle.nodes_world.specs.Journals.{records_in, records_on}
 use Rattle.nodes_world.specs.Laws.{RecordsAreRead}
@@ -29,7 +27,7 @@ use Rattle.nodes_world.specs.Objects.{place_of, service_at}
 use Rattle.nodes_world.specs.Step.{carried_out}
 use Rattle.nodes_world.specs.Told.{Told, known}
 use Rattle.nodes_world.specs.World.{World, Seat, OfNode, seat_name, thing}
-use Rattle.nodes_world.proofs.DisksGoOn.{DisksGoOn, HearingsGoOn, RecordsGoOn, disks_go, more, same}
+use Rattle.nodes_world.proofs.DisksGoOn.{DecidesIn, DisksGoOn, HearingsGoOn, RecordsGoOn, disks_go, more, same}
 use Rattle.nodes_world.proofs.Delivered.{reached_delivered}
 use Rattle.nodes_world.proofs.GoingOn.{deeds_go}
 use Rattle.nodes_world.proofs.KnownLines.{in_front}
@@ -54,7 +52,7 @@ three : (life slot number a b c : ℕ) → (life == a && slot == b && number == 
 three life slot number a b c is = grind (arith, nat_tests)
 
 -- among decisions of a life one of this family is of that life
-decision_life : (key : ObjectKey) (now : ℕ) (rs : List JournalRecord) → AllByRecursion (IsOfLife now) rs → list_any (is_decision_of key) rs ≡ true
+decision_life : (key : ObjectKey) (now : ℕ) (rs : List JournalRecord) → AllByRecursion (DecidesIn now) rs → list_any (is_decision_of key) rs ≡ true
     → key.life ≡ now
 decision_life key now [] all is = absurd cc
 decision_life key now (r ∷ rs) (first, others) is = elim (either (is_decision_of key r) (list_any (is_decision_of key) rs) is) [
@@ -62,7 +60,7 @@ decision_life key now (r ∷ rs) (first, others) is = elim (either (is_decision_
   | inr later ↦ decision_life key now rs others later
 ]
   where
-    one : (r : JournalRecord) → IsOfLife now r → is_decision_of key r ≡ true → key.life ≡ now
+    one : (r : JournalRecord) → DecidesIn now r → is_decision_of key r ≡ true → key.life ≡ now
     one (Decision life slot generation by asked regs) first is = sym (three life slot generation key.life key.slot key.generation is) ∙ first
     one (Life life) first is = absurd cc
     one (Done named) first is = absurd cc

@@ -18,7 +18,6 @@ use Rattle.nodes_world.specs.declared.message.Message.{Message}
 use Rattle.nodes_world.specs.Agreement.{IsWord, records_at}
 use Rattle.nodes_world.specs.AgreementInside.{Known}
 use Rattle.nodes_world.specs.AgreementSteps.{Goes, by_alike, by_begin, by_call, by_calling, by_crash, by_end, by_hearing, by_load, by_node, by_receipt, by_register, by_sub, by_tick, by_touch, by_word}
-use Rattle.nodes_world.specs.Asking.{HearingsMayAsk}
 use Rattle.nodes_world.specs.Clients.{call_event}
 use Rattle.nodes_world.specs.Deliveries.{answer_event, hears_answer, is_waited_for}
 use Rattle.nodes_world.specs.Happenings.{Done, client_message}
@@ -35,6 +34,7 @@ use Rattle.nodes_world.proofs.DisksGoOn.{alike_same, begin_same, crash_same, mad
 use Rattle.nodes_world.proofs.DisksSame.{DisksSame, obeys_same, quiet_call, resource_same, same_self, sent_same, steps_same, ticks_same}
 use Rattle.nodes_world.proofs.Going.{node_up, on_seat_twice}
 use Rattle.nodes_world.proofs.HearingsAsk.{node_records}
+use Rattle.nodes_world.proofs.HearingsMay.{KnownMayAsk}
 use Rattle.nodes_world.proofs.KnownLoad.{held_as}
 use Rattle.nodes_world.proofs.KnownSeats.{set_at}
 use Rattle.nodes_world.proofs.KnownWorlds.{node_there}
@@ -107,7 +107,7 @@ load_go grow safe read w told place s rs k there down held lacks p now is =
 
 -- ---- an answer
 
-module _ (keep : AskedJournalsKeep) (stop : AskedJournalsStop) (read : RecordsAreRead) (may : HearingsMayAsk) (w : World) (told : List Told) (k : Known w told)
+module _ (keep : AskedJournalsKeep) (stop : AskedJournalsStop) (read : RecordsAreRead) (may : KnownMayAsk) (w : World) (told : List Told) (k : Known w told)
     (request from reply : ℕ) (o : Outward) (m back : Message) (answer : Said) (s : Seat) (there : slice_get w.messages (request - 1) ≡ Some m)
     (is : m.content ≡ contents.Request from o) (replied : slice_get w.messages reply ≡ Some back) (says : back.content ≡ contents.Reply request answer)
     (seated : slice_get w.seats from ≡ Some s) (waits : is_waited_for w m from o ≡ true) where
@@ -154,7 +154,7 @@ module _ (keep : AskedJournalsKeep) (stop : AskedJournalsStop) (read : RecordsAr
 
 -- ---- each step
 
-module _ (grow : JournalsGrow) (safe : LoadsAreSafe) (keep : AskedJournalsKeep) (stop : AskedJournalsStop) (read : RecordsAreRead) (may : HearingsMayAsk) where
+module _ (grow : JournalsGrow) (safe : LoadsAreSafe) (keep : AskedJournalsKeep) (stop : AskedJournalsStop) (read : RecordsAreRead) (may : KnownMayAsk) where
   pub records_go : (w : World) (told : List Told) (d : Done) → Known w told → Goes w d → RecordsGo w d.world
   records_go w told d k (by_alike v quiet alike all) = same_go w v (alike_same w v alike)
   records_go w told d k (by_receipt number) = same_go w w (same_self w)

@@ -21,7 +21,7 @@ use Rattle.nodes_world.specs.declared.deed.Manner.{Manner}
 use Rattle.nodes_world.specs.declared.thing.Thing.{Thing}
 use Rattle.nodes_world.specs.declared.thing.Thing.TheVariants as things
 use Rattle.nodes_world.specs.Agreement as agreed
-use Rattle.nodes_world.specs.Agreement.{FollowsDisk, HasSent, HoldsDecisions, IsAlone, IsClosed, IsCutOff, IsDecided, IsTransaction, MayBeRolledBack, RecordsRestOnVotes, RestsOnVotes, VotesWereGiven, CommitsAreRecorded, DecisionsAreRecorded, NoneIsBoth, OnePhaseIsAlone, RollbacksAreClosed, has_record, is_decision_of, is_registration_of, names_object, recorded_key, records_at}
+use Rattle.nodes_world.specs.Agreement.{HasSent, IsAlone, IsClosed, IsCutOff, IsDecided, IsTransaction, RecordsRestOnVotes, RestsOnVotes, VotesWereGiven, NoneIsBoth, RollbacksAreClosed, has_record, is_decision_of, names_object, recorded_key, records_at}
 use Rattle.nodes_world.specs.AgreementInside.{Known, DisksAreKnown, EndsHaveCounted, FamiliesAreKnown, FamilyIsKnown, HasAnswered, IsBranch, IsHeldAs, IsListed, IsMade, IsNamed, NamesAreTold, NodesAreKnown, ResourceIsKnown, ResourcesAreKnown, SeatsAreNamed, ToldIsOpen, TransactionsAreKnown, WordsAreTold}
 use Rattle.nodes_world.specs.Ends.{fresh}
 use Rattle.nodes_world.specs.Limits.{message_limit, seat_limit}

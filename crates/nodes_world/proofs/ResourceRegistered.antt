@@ -43,7 +43,7 @@ use Rattle.family_laws.specs.Sound.{HasParties, IsAsking, IsSoundFamily}
 use Rattle.family_laws.specs.OwnDecisions.{KeepsDecisions}
 use Rattle.nodes_world.specs.declared.thing.Thing.TheVariants as things
 use Rattle.nodes_world.specs.Agreement as agreed
-use Rattle.nodes_world.specs.Agreement.{FollowsDisk, HasSent, HoldsDecisions, IsAlone, IsClosed, IsCutOff, IsDecided, IsRolledBack, IsTransaction, RecordsRestOnVotes, RestsOnVotes, StatesFollow, VotesWereGiven, CommitsAreRecorded, DecisionsAreRecorded, NoneIsBoth, OnePhaseIsAlone, RollbacksAreClosed, SubtransactionsEndOnce, has_record, is_decision_of, names_object, recorded_key, records_at}
+use Rattle.nodes_world.specs.Agreement.{FollowsDisk, HasSent, HoldsDecisions, IsAlone, IsClosed, IsCutOff, IsDecided, IsRolledBack, IsTransaction, RecordsRestOnVotes, RestsOnVotes, StatesFollow, VotesWereGiven, NoneIsBoth, OnePhaseIsAlone, RollbacksAreClosed, has_record, is_decision_of, names_object, recorded_key, records_at}
 use Rattle.nodes_world.specs.AgreementInside.{Known, DisksAreKnown, EndsHaveCounted, FamiliesAreKnown, FamilyIsKnown, HasAnswered, HasMessage, IsBack, IsBranch, IsHeldAs, IsListed, IsMade, NamesAreTold, NodeIsKnown, NodesAreKnown, OutcomeIsTold, ResourceIsKnown, ResourcesAreKnown, RollbacksAreOutcomes, RollbacksAreTold, SeatsAreNamed, ToldIsOpen, TransactionsAreKnown, WordsAreTold, IsNotBefore, edge_at, IsNumberedBy, AreFew}
 use Rattle.nodes_world.specs.Laws.{IsInOrder}
 use Rattle.nodes_world.specs.Objects.{place_of, service_at}

@@ -52,33 +52,35 @@ pub record IsRetold (in_life : ℕ) (records : List Held) (o : Outward) : Type 0
   pub index : o.number.serial ≡ party.index
   pub to : o.to ≡ party.to
   pub word : (o.word ≡ words.Commit) ⊎ (phase_of o.word ≡ None)
+  -- commit, where nothing was heard of it yet
+  pub waits : (o.word ≡ words.Commit) ⊎ (party.due ≡ due.Forget)
 
 all_append : {A : Type 0} (P : A → Type 0) (xs ys : List A) → AllByRecursion P xs → AllByRecursion P ys → AllByRecursion P (xs ++ ys)
 all_append P [] ys all also = also
 all_append P (x ∷ xs) ys (one, all) also = (one, all_append P xs ys all also)
 
-word_of : (in_life : ℕ) (records : List Held) (h : Held) (p : Party) (decided : Bool) (d : Due) → Contains records h → Contains h.parties p
+word_of : (in_life : ℕ) (records : List Held) (h : Held) (p : Party) (decided : Bool) (d : Due) → p.due ≡ d → Contains records h → Contains h.parties p
     → (o : Outward) → telling.word_by in_life h.place decided p d ≡ Some o → IsRetold in_life records o
-word_of in_life records h p decided due.Commit among one o is =
+word_of in_life records h p decided due.Commit waits among one o is =
     subst (IsRetold in_life records) (inner is)
-    (record { held = h; among = among; party = p; one = one; of_life = refl; slot = refl; place = refl; index = refl; to = refl; word = inl refl })
+    (record { held = h; among = among; party = p; one = one; of_life = refl; slot = refl; place = refl; index = refl; to = refl; word = inl refl; waits = inl refl })
   where
     inner : {x y : Outward} → Some x ≡ Some y → x ≡ y
     inner e = cc
-word_of in_life records h p true due.Forget among one o is =
+word_of in_life records h p true due.Forget waits among one o is =
     subst (IsRetold in_life records) (inner is)
-    (record { held = h; among = among; party = p; one = one; of_life = refl; slot = refl; place = refl; index = refl; to = refl; word = inr refl })
+    (record { held = h; among = among; party = p; one = one; of_life = refl; slot = refl; place = refl; index = refl; to = refl; word = inr refl; waits = inr waits })
   where
     inner : {x y : Outward} → Some x ≡ Some y → x ≡ y
     inner e = cc
-word_of in_life records h p false due.Forget among one o is = absurd cc
-word_of in_life records h p decided due.Nothing among one o is = absurd cc
+word_of in_life records h p false due.Forget waits among one o is = absurd cc
+word_of in_life records h p decided due.Nothing waits among one o is = absurd cc
 
 party_words : (in_life : ℕ) (records : List Held) (h : Held) (ps : List Party) → Contains records h → ((p : Party) → Contains ps p → Contains h.parties p)
     → AllByRecursion (IsRetold in_life records) (filter_map (telling.word_to in_life h.place (is_decided h.kind)) ps)
 party_words in_life records h [] among each = tt
 party_words in_life records h (p ∷ ps) among each =
-    by (telling.word_to in_life h.place (is_decided h.kind) p) (word_of in_life records h p (is_decided h.kind) p.due among (each p (0, omega arith, refl)))
+    by (telling.word_to in_life h.place (is_decided h.kind) p) (word_of in_life records h p (is_decided h.kind) p.due refl among (each p (0, omega arith, refl)))
     (party_words in_life records h ps among (λ q c. each q (Contains-append_right (p ∷ []) ps q c)))
   where
     by : (x : Option Outward) → ((o : Outward) → x ≡ Some o → IsRetold in_life records o)
@@ -102,7 +104,7 @@ words_retold in_life records = held_words in_life records records (λ h c. c)
 -- ---- whom the record names
 
 -- a party is a registration of the record
-registration_of : (ps : List Party) (regs : List Registration) (p : Party) → map (λ (x : Party). x.index) ps ≡ map (λ (r : Registration). r.index) regs
+pub registration_of : (ps : List Party) (regs : List Registration) (p : Party) → map (λ (x : Party). x.index) ps ≡ map (λ (r : Registration). r.index) regs
     → map (λ (x : Party). x.to) ps ≡ map (λ (r : Registration). r.reference) regs → Contains ps p
     → (r : Registration) × Contains regs r × (r.index ≡ p.index) × (r.reference ≡ p.to)
 registration_of [] regs p numbers tos (i, less, is) = absurd (omega (arith, less))
@@ -127,15 +129,15 @@ registration_of (q ∷ ps) (r ∷ regs) p numbers tos c = elim (Contains-append_
     tail_of a b xs ys e = cc
 
 -- where a record names somebody, it is a decision, or that of a tree with a superior
-record IsDecision (item : JournalRecord) : Type 0 where
-  of_life : ℕ
-  slot : ℕ
-  generation : ℕ
-  retry : Option RetryKey
-  asked : Bool
-  is : item ≡ Decision of_life slot generation retry asked (registrations_of item)
+pub record IsDecision (item : JournalRecord) : Type 0 where
+  pub of_life : ℕ
+  pub slot : ℕ
+  pub generation : ℕ
+  pub retry : Option RetryKey
+  pub asked : Bool
+  pub is : item ≡ Decision of_life slot generation retry asked (registrations_of item)
 
-decision_of : (item : JournalRecord) (r : Registration) → is_prepared item ≡ false → Contains (registrations_of item) r → IsDecision item
+pub decision_of : (item : JournalRecord) (r : Registration) → is_prepared item ≡ false → Contains (registrations_of item) r → IsDecision item
 decision_of (Life l) r own (i, less, at) = absurd (omega (arith, less))
 decision_of (Decision l slot generation retry asked regs) r own c =
     record { of_life = l; slot = slot; generation = generation; retry = retry; asked = asked; is = refl }

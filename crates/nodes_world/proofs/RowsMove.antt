@@ -6,13 +6,13 @@ use Rattle.ots_model.specs.declared.completion.Vote.TheVariants.{VoteCommit, Vot
 use Rattle.ots_model.specs.declared.completion.Word.TheVariants as phases
 use Rattle.ots_model.specs.declared.line.Line.{Line}
 use Rattle.ots_model.specs.declared.line.ResourceState.TheVariants as shown
-use Rattle.resource_end.specs.Table.{row, on_prepare, on_commit}
+use Rattle.resource_end.specs.Table.{row, on_prepare}
 use Rattle.resource_end.specs.declared.state.State.{State}
 use Rattle.resource_end.specs.declared.state.State.TheVariants as states
 use Rattle.resource_end.specs.declared.state.Word.{Word as EndWord}
 use Rattle.resource_end.specs.declared.state.Word.TheVariants as tolds
 use Rattle.coordinator.specs.declared.said.Said.TheVariants as said
-use Rattle.nodes_world.specs.Agreement.{IsOver, StatesFollow}
+use Rattle.nodes_world.specs.Agreement.{StatesFollow}
 use Rattle.nodes_world.specs.AgreementInside.{HasNotVoted, HasVotedCommit}
 use Rattle.nodes_world.specs.Ends.{answer_of_row, shown_state}
 
@@ -169,29 +169,6 @@ follows_moves tolds.CommitOnePhase states.Undone name h told is undo = is
 follows_moves tolds.Forget states.Applied name h told is undo = is
 follows_moves tolds.Forget states.Undone name h told is undo = is
 follows_moves _ _ name h told is undo = tt
-
--- what is over stays over
-pub over_moves : (word : EndWord) (s : State) → IsOver s → IsOver (moved (row word s).next s)
-over_moves tolds.Prepare states.Fresh over = absurd over
-over_moves tolds.Prepare states.Working over = absurd over
-over_moves tolds.Prepare states.Refused over = absurd over
-over_moves tolds.Prepare states.Prepared over = absurd over
-over_moves tolds.Commit states.Fresh over = absurd over
-over_moves tolds.Commit states.Working over = absurd over
-over_moves tolds.Commit states.Refused over = absurd over
-over_moves tolds.Rollback states.Fresh over = absurd over
-over_moves tolds.CommitOnePhase states.Fresh over = absurd over
-over_moves tolds.Forget states.Fresh over = absurd over
-over_moves tolds.Forget states.Working over = absurd over
-over_moves tolds.Forget states.Refused over = absurd over
-over_moves tolds.Forget states.Prepared over = absurd over
-over_moves _ _ over = tt
-
-pub commit_ends : (s : State) (name : List ℕ) (h : List Line) → HasVotedCommit s name h → IsOver (moved (on_commit s).next s)
-commit_ends states.Prepared name h is = tt
-commit_ends states.Applied name h is = tt
-commit_ends states.Undone name h is = tt
-commit_ends _ name h is = absurd is
 
 -- what is shown is the state
 pub shown_applied : (s : State) → shown_state s ≡ Some shown.Applied → s ≡ states.Applied

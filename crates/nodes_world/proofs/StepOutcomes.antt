@@ -36,7 +36,7 @@ use Rattle.coordinator.specs.Phases.{is_before}
 use Rattle.family_laws.specs.Sound.{IsAsking}
 use Rattle.nodes_world.specs.declared.thing.Thing.TheVariants as things
 use Rattle.nodes_world.specs.Agreement as agreed
-use Rattle.nodes_world.specs.Agreement.{CommitsAreRecorded, DecisionsAreRecorded, IsAlone, IsClosed, IsCutOff, IsDecided, IsRolledBack, IsTransaction, MayBeRolledBack, NoneIsBoth, OnePhaseIsAlone, RecordsRestOnVotes, RestsOnVotes, RollbacksAreClosed, SubtransactionsEndOnce, has_record, is_decision_of, names_object, recorded_key, records_at}
+use Rattle.nodes_world.specs.Agreement.{CommitsAreRecorded, DecisionsAreRecorded, IsAlone, IsClosed, IsCutOff, IsDecided, IsRolledBack, IsTransaction, NoneIsBoth, OnePhaseIsAlone, RecordsRestOnVotes, RestsOnVotes, RollbacksAreClosed, SubtransactionsEndOnce, has_record, is_decision_of, names_object, recorded_key, records_at}
 use Rattle.nodes_world.specs.AgreementInside.{Known, FamilyIsKnown, IsBack, IsBranch, RollbacksAreOutcomes, RollbacksAreTold, ToldIsOpen, TransactionsAreKnown}
 use Rattle.nodes_world.specs.Happenings.{Cast, all_effect_lines, all_finished_lines, branch_name, name_numbered, registered}
 use Rattle.nodes_world.specs.Objects.{place_of}

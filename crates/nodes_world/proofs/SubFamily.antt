@@ -30,7 +30,7 @@ use Rattle.nodes_world.specs.Agreement.{IsTransaction, has_record, is_decision_o
 use Rattle.nodes_world.specs.AgreementInside.{Known, FamiliesAreKnown, FamilyIsKnown, HasMessage, IsBranch, IsListed, OutcomeIsTold, ended_state, IsNotBefore, AreFew}
 use Rattle.nodes_world.specs.Objects.{place_of}
 use Rattle.nodes_world.specs.Told as tell
-use Rattle.nodes_world.specs.Told.{Told, known}
+use Rattle.nodes_world.specs.Told.{Told}
 use Rattle.nodes_world.specs.World.{World, NamedKey, Seat, OfNode, family_at, referred, thing}
 use Rattle.nodes_world.proofs.KnownLines.{lines_of}
 use Rattle.nodes_world.proofs.KnownFamilies.{all_at, is_own, parent_within, same_of_branch, same_parts}

@@ -62,9 +62,6 @@ pub stays_then : (w : World) (first : Done) (next : World → Done) → StaysKno
 stays_then w first next one other told k =
     subst (Known (next first.world).world) (append_assoc told first.lines (next first.world).lines) (other (told ++ first.lines) (one told k))
 
-nothing_stays : (w : World) → StaysKnown w (nothing w)
-nothing_stays w told k = subst (Known w) (sym (append-nil told)) k
-
 said_quietly : (message : ℕ) (later : Bool) (answer : Said) → AllByRecursion IsQuiet (said_lines message later answer)
 said_quietly message true answer = tt
 said_quietly message false answer = (tt, tt)
@@ -365,9 +362,6 @@ module _ (laws : FamilyLaws) (nodes : NodesKeepDecisions) (w : World) (parent : 
   unfolding acts_at steps
   came_to = by (slice_get w.seats (place_of parent)) refl
     where
-      e_at : ℕ → Event
-      e_at now = call_event message parent acts.CreateSubtransaction now
-
       nothing_came : Known u (later ++ [])
       nothing_came = subst (Known u) (sym (append-nil later)) k_sent
 

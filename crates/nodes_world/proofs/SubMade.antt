@@ -3,7 +3,7 @@ use Rattle.std.proofs.Common.{◌≡◌, ◌⊎◌, inl, inr, ℕ, ◌-◌, ◌<
 use Rattle.std.proofs.lemmas.List.Elements.{Contains-push_cases}
 use Rattle.ior_refs.specs.declared.key.ObjectKey.{ObjectKey}
 use Rattle.ots_model.specs.Safe as safe
-use Rattle.ots_model.specs.Safe.{Stands, IsFamily, IsJoined, IsRegistered, TakesPart}
+use Rattle.ots_model.specs.Safe.{Stands, IsFamily, IsJoined, TakesPart}
 use Rattle.ots_model.specs.SafeByLine.{AreAllowed}
 use Rattle.ots_model.specs.declared.completion.Vote.{Vote}
 use Rattle.ots_model.specs.declared.line.Line.{Line}

@@ -90,7 +90,7 @@ pub itself_same : (s : Standing) → SameParties s s
 itself_same (Waiting room) = tt
 itself_same (UnderWay c) = (refl, refl)
 
-proceeds_same : (s t : Standing) → Proceeds s t → SameParties s t
+pub proceeds_same : (s t : Standing) → Proceeds s t → SameParties s t
 proceeds_same _ _ (still s) = itself_same s
 proceeds_same _ _ (asks room participants asked first one_phase) = tt
 proceeds_same _ _ (rolls_back room participants asked first one_phase reason) = tt
@@ -123,7 +123,7 @@ abbrev pub AreNumbered : List Registration → Type 0
 AreNumbered rs = (i : ℕ) (r : Registration) → slice_get rs i ≡ Some r → r.index ≡ i + 1
 
 -- so a number is that of one of them
-one_registered : (rs : List Registration) → AreNumbered rs → (p q : Party) → IsRegisteredAs rs p → IsRegisteredAs rs q → p.index ≡ q.index → p.to ≡ q.to
+pub one_registered : (rs : List Registration) → AreNumbered rs → (p q : Party) → IsRegisteredAs rs p → IsRegisteredAs rs q → p.index ≡ q.index → p.to ≡ q.to
 one_registered rs numbered p q one other same =
     sym one.reference ∙ ap (λ (r : Registration). r.to) (inner (sym first ∙ ap (slice_get rs) places ∙ second)) ∙ other.reference
   where

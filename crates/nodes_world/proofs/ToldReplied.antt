@@ -69,7 +69,7 @@ module _ (numbers : FamiliesNumberWords) (k : ObjectKey) (e : Event) (stood : Op
   abbrev CameBy : Type 0
   CameBy = (family_in n.families slot ≡ Some g) ⊎ ((f : Family) × (family_of k n ≡ Some f) × (family_in n.families slot ≡ Some f) × (g ≡ (family_step f e stood).family))
 
-  family_for_of : (f : Family) → family_for k e n ≡ Some f → family_of k n ≡ Some f
+  pub family_for_of : (f : Family) → family_for k e n ≡ Some f → family_of k n ≡ Some f
   family_for_of f is = by (is_some (retold_answer e.act)) is
     where
       by : (t : Bool) → (if t then None else family_of k n) ≡ Some f → family_of k n ≡ Some f
@@ -126,7 +126,7 @@ ticked_in now [] slot = refl
 ticked_in now (x ∷ fs) zero = refl
 ticked_in now (x ∷ fs) (suc slot) = ticked_in now fs slot
 
-came_by_tick : (now : ℕ) (n : Node) (slot : ℕ) (g : Family) → family_in (ticks now n).node.families slot ≡ Some g
+pub came_by_tick : (now : ℕ) (n : Node) (slot : ℕ) (g : Family) → family_in (ticks now n).node.families slot ≡ Some g
     → (family_in n.families slot ≡ Some g) ⊎ IsStepOf n (tick_at now) None slot g
 unfolding ticks
 came_by_tick now n slot g is = by (family_in n.families slot) refl (sym (ticked_in now n.families slot) ∙ is)
@@ -148,7 +148,7 @@ set_in (y ∷ fs) zero (suc slot) x g is = inr is
 set_in (y ∷ fs) (suc i) zero x g is = inr is
 set_in (y ∷ fs) (suc i) (suc slot) x g is = set_in fs i slot x g is
 
-made_in : (now seconds : ℕ) (n : Node) (slot : ℕ) (g : Family) → family_in (creates now seconds n).node.families slot ≡ Some g
+pub made_in : (now seconds : ℕ) (n : Node) (slot : ℕ) (g : Family) → family_in (creates now seconds n).node.families slot ≡ Some g
     → (family_in n.families slot ≡ Some g) ⊎ (g.completion ≡ Waiting 0)
 unfolding creates makes
 made_in now seconds n slot g is = by_slot (free_slot n) is
@@ -168,7 +168,7 @@ made_in now seconds n slot g is = by_slot (free_slot n) is
     by_slot (Some i) is = by_number i _ is
     by_slot None is = inl is
 
-none_in : (many slot : ℕ) (g : Family) → family_in (replicate many None) slot ≡ Some g → ⊥
+pub none_in : (many slot : ℕ) (g : Family) → family_in (replicate many None) slot ≡ Some g → ⊥
 none_in zero slot g is = absurd cc
 none_in (suc many) zero g is = absurd cc
 none_in (suc many) (suc slot) g is = none_in many slot g is
@@ -211,7 +211,7 @@ module _ (w : World) (told : List Told) (k : Known w told) (place : ℕ) (n : No
   seat_up : NodeIsUp w place n
   seat_up = node_is_up w place n up
 
-  in_slot : IsInSlot n slot f
+  pub in_slot : IsInSlot n slot f
   in_slot = (k.disks.whole place seat_up.seat n seat_up.there seat_up.up).families slot f there
 
   pub slot_service : f.key.service ≡ service_at place
@@ -334,7 +334,7 @@ module _ (rightly : FamiliesStepRightly) (answered : FamiliesHearOutcomesAnswere
 
   -- ---- a node then
 
-  becomes_replied : (place : ℕ) (m : Node) → Becomes w place m → (slot : ℕ) (g : Family) (to : List ℕ) (x : ParticipantHeard) → family_in m.families slot ≡ Some g
+  pub becomes_replied : (place : ℕ) (m : Node) → Becomes w place m → (slot : ℕ) (g : Family) (to : List ℕ) (x : ParticipantHeard) → family_in m.families slot ≡ Some g
       → IsTold g.completion to x → IsReplied w to
   becomes_replied place _ (loaded_so service rs) slot g to x there is = absurd (none_in slot_limit slot g there)
   becomes_replied place _ (made now seconds n up) slot g to x there is = elim (made_in now seconds n slot g there) [

@@ -32,6 +32,7 @@ use Rattle.nodes_world.specs.OverForGood.{IsAt, ToldParticipantsAreStored}
 use Rattle.nodes_world.specs.Step.{carried_out}
 use Rattle.nodes_world.specs.Told.{Told}
 use Rattle.nodes_world.specs.World.{World, NamedKey, family_at, node_at, referred}
+use Rattle.nodes_world.proofs.AnsweredCommits.{HasAnsweredCommit, answered_stored, replied_commit}
 use Rattle.nodes_world.proofs.AskedCounts.{IsRegisteredAs}
 use Rattle.nodes_world.proofs.CallKnown.{key_slot}
 use Rattle.nodes_world.proofs.CanTell.{part_back}
@@ -45,7 +46,7 @@ use Rattle.nodes_world.proofs.MessagesGo.{HasContent, MessagesStep, goes, messag
 use Rattle.nodes_world.proofs.NodesGo.{nodes_go}
 use Rattle.nodes_world.proofs.NumberedWords.{all_themselves}
 use Rattle.nodes_world.proofs.Reaching.{goes_known, known_reached}
-use Rattle.nodes_world.proofs.StoredAnswers.{AreStored, IsStored, stored_reached}
+use Rattle.nodes_world.proofs.StoredAnswers.{IsStored, stored_reached}
 use Rattle.nodes_world.proofs.ToldParties.{IsTold, each_of}
 use Rattle.nodes_world.proofs.ToldReplied.{IsReplied, ToldReplied, replied_step}
 
@@ -73,7 +74,7 @@ stored_at w told k to r is refers =
       so = here.2.applied.0 (subst (λ (x : NamedKey). Stands (lines.State x.name shown.Applied) (lines_of told)) same is.line);
     }
 
-module _ (w : World) (told : List Told) (k : Known w told) (stored : AreStored w told) (replied : ToldReplied w) (key : ObjectKey) (f : Family)
+module _ (w : World) (told : List Told) (k : Known w told) (replied : ToldReplied w) (key : ObjectKey) (f : Family)
     (there : family_at w key ≡ Some f) (commits : stages.outcome f.completion ≡ Some (outcomes.Commit Record)) where
   known : FamilyIsKnown w (lines_of told) f
   known = k.families key f there
@@ -89,9 +90,10 @@ module _ (w : World) (told : List Told) (k : Known w told) (stored : AreStored w
       let sent = sent_of w told k x.place x.word phases.Rollback r (x.nth, x.sent) (ap phase_of back) (ap (referred w) x.own ∙ refers) in
       subst IsBack commits (part_back w told k key f there as_one.r r as_one.there (ap (referred w) as_one.reference ∙ refers) sent)
 
-  pub told_stored : (c : Course) → f.completion ≡ UnderWay c → (p : Party) → Contains c.parties p → IsTrue (is_some p.told) → (r : NamedKey)
-      → referred w p.to ≡ Some r → IsStored w told p.to
-  told_stored c course p among told_so r refers = by (outcome_cases is.word.word is.outcome)
+  -- each one that counts as told has answered commit
+  pub told_answered : (c : Course) → f.completion ≡ UnderWay c → (p : Party) → Contains c.parties p → IsTrue (is_some p.told) → (r : NamedKey)
+      → referred w p.to ≡ Some r → HasAnsweredCommit w p.to
+  told_answered c course p among told_so r refers = by (outcome_cases is.word.word is.outcome)
     where
       heard : (x : ParticipantHeard) × (p.told ≡ Some x)
       heard = some_heard p.told told_so
@@ -103,17 +105,17 @@ module _ (w : World) (told : List Told) (k : Known w told) (stored : AreStored w
       is = replied (place_of key) at.0 key.slot f p.to heard.0 at.1 (key_slot key at.0 f at.2).0
           (subst (λ (s : Standing). IsTold s p.to heard.0) (sym course) (p, among, heard.1, refl))
 
-      by : (is.word.word ≡ words.Commit) ⊎ (is.word.word ≡ words.Rollback) → IsStored w told p.to
-      by (inl commit) = subst (IsStored w told) is.own (stored is.nth is.place is.reply is.word is.answer is.sent commit is.replied)
+      by : (is.word.word ≡ words.Commit) ⊎ (is.word.word ≡ words.Rollback) → HasAnsweredCommit w p.to
+      by (inl commit) = replied_commit w p.to is commit
       by (inr back) = absurd (not_back c course p among r refers is back)
 
 -- ---- any number of steps
 
-messages_on : (w : World) (d : Done) → MessagesStep w d → (nth : ℕ) (content : Content) → HasContent w nth content → HasContent d.world nth content
+pub messages_on : (w : World) (d : Done) → MessagesStep w d → (nth : ℕ) (content : Content) → HasContent w nth content → HasContent d.world nth content
 messages_on w _ (goes d go) = go.on
 messages_on w _ (obeys_one nth place o word) = (obeys_answers (nth + 1) o w).on
 
-nobody_told : ToldReplied (record { seats = []; messages = []; names = [] })
+pub nobody_told : ToldReplied (record { seats = []; messages = []; names = [] })
 unfolding node_at
 nobody_told place n slot f to x up there is = absurd cc
 
@@ -139,4 +141,5 @@ module _ (rightly : FamiliesStepRightly) (answered : FamiliesHearOutcomesAnswere
   told_are_stored w told key f c p r reached there course commits among told_so refers =
       let k = known_reached keeps w told reached in
       stored_at w told k p.to r
-      (told_stored w told k (stored_reached keeps w told reached) (replied_reached w told reached) key f there commits c course p among told_so r refers) refers
+      (answered_stored w told (stored_reached keeps w told reached) p.to
+      (told_answered w told k (replied_reached w told reached) key f there commits c course p among told_so r refers)) refers

@@ -20,8 +20,8 @@ use Rattle.resource_end.specs.declared.state.Word.{Word as EndWord}
 use Rattle.resource_end.specs.declared.state.Word.TheVariants as tolds
 use Rattle.coordinator.specs.declared.said.Said.{Said}
 use Rattle.coordinator.specs.declared.said.Said.TheVariants as said
-use Rattle.nodes_world.specs.Agreement.{IsOver, IsWord}
-use Rattle.nodes_world.specs.AgreementInside.{Known, HasAnswered, HasNotVoted, HasVotedCommit, ResourceIsKnown, phase_of}
+use Rattle.nodes_world.specs.Agreement.{IsWord}
+use Rattle.nodes_world.specs.AgreementInside.{Known, HasAnswered, HasNotVoted, HasVotedCommit, ResourceIsKnown}
 use Rattle.nodes_world.specs.Ends.{answer_of_row, answers, moves, obeys, obeys_as, obeys_row, obeys_word, shown_state, state_lines, told_word, with_resource_at, with_resource}
 use Rattle.nodes_world.specs.Happenings.{Done, nothing, replies, ◌▹◌}
 use Rattle.nodes_world.specs.Objects.{place_of}
@@ -30,9 +30,9 @@ use Rattle.nodes_world.specs.Told.{Told}
 use Rattle.nodes_world.specs.World.{World, FlatEnd, FlatResource, NamedKey, end_at, next_message, node_at, referred, resource_at, with_sent, OfEnd}
 use Rattle.nodes_world.proofs.Going.{EndIsUp, end_is_up}
 use Rattle.nodes_world.proofs.KnownLines.{lines_of}
-use Rattle.nodes_world.proofs.KnownWords.{resource_of, sent_of, told_commit, voter_stands}
+use Rattle.nodes_world.proofs.KnownWords.{resource_of, sent_of}
 use Rattle.nodes_world.proofs.CanChange.{can_apply, can_undo, told_phase}
-use Rattle.nodes_world.proofs.RowsMove.{WasTold, applied_stays, commit_ends, commit_now, follows_moves, forgotten_stays, moved, only_prepare_votes, over_moves, read_only_now, rollback_now, row_answers, shown_applied, shown_undone, undone_stays, unvoted_moves, voted_moves}
+use Rattle.nodes_world.proofs.RowsMove.{WasTold, applied_stays, commit_now, follows_moves, forgotten_stays, moved, only_prepare_votes, read_only_now, rollback_now, row_answers, shown_applied, shown_undone, undone_stays, unvoted_moves, voted_moves}
 use Rattle.nodes_world.proofs.KnownTouch.{end_of, family_same, nodes_same, records_same, refers_same, replaced, replaced_is, seats_are, seats_were, turned_one, turned_still, counted_same}
 use Rattle.nodes_world.proofs.KnownObeys.{Obeys, Replies, obeyed_known, obeyed_lines, reply_of, shown_told}
 use Rattle.nodes_world.proofs.KnownSeats.{as_long}
@@ -198,12 +198,6 @@ module _ (w : World) (told : List Told) (k : Known w told) (is_safe : AllowedIsS
           (λ vote voted. unvoted (is_prepare (only_prepare_votes word r.state vote voted)) vote (said_inner (sym says ∙ voted)));
       follows = follows_moves word r.state x.name (lines_of told) was_told old.follows
           (λ undo. (can_undo w told k is_safe place o x r word (nth, asked) refers was means undo).not_told);
-      over = over_moves word r.state;
-      ends = λ is.
-          let own : word ≡ tolds.Commit = some_word (sym means ∙ ap told_word is) in
-          let sent = sent_of w told k place o phases.Commit x (nth, asked) (ap phase_of is) refers in
-          subst (λ (z : EndWord). IsOver (moved (row z r.state).next r.state)) (sym own)
-          (commit_ends r.state x.name (lines_of told) (voter_stands w told k x.name r old (told_commit w told k x.name sent).2));
       voter = λ vote voted. is_prepare (only_prepare_votes word r.state vote (says ∙ ap (λ (z : Said). Some z) voted));
       applied_on = stays_at word r.state states.Applied (applied_stays word);
       applied_shown = moved_applied (row word r.state).next r.state;
@@ -266,8 +260,6 @@ module _ (w : World) (told : List Told) (k : Known w told) (is_safe : AllowedIsS
     rollback_now = λ is voted. absurd (none_of words.Prepare tolds.Prepare is refl);
     none = λ unvoted before. before;
     follows = old.follows;
-    over = λ over. over;
-    ends = λ is. absurd (none_of words.Commit tolds.Commit is refl);
     voter = λ vote is. absurd (no_vote vote is);
     applied_on = λ is. is;
     applied_shown = λ is. absurd (no_state is);

@@ -1,7 +1,6 @@
 -- Agreement: the lines of every world that a script can reach are safe, through crashes too (Transaction Service, the two phases of
 -- interfaces Terminator, Coordinator and Resource). What is known of a family is said by lines, and by the records that its node's
--- disk holds: a family in memory is gone after a crash. That Dones are complete in each world that is reached is not
--- proved yet.
+-- disk holds: a family in memory is gone after a crash.
 use Rattle.std.specs.Prelude.{◌≡◌, ℕ, ◌+◌, ◌<◌, ◌⊎◌, ◌==◌, ◌&&◌, ◌||◌, ◌↔◌, Bool, true, false, not, nat_le, List, [], ◌∷◌, ◌++◌, map, bytes_eq, slice_get, Contains, Option, Some, None, is_some, IsTrue, ◌≤◌, length}
 use Rattle.std.specs.List.{AllByRecursion, list_any}
 use Rattle.std.specs.Option.{option_and_then, option_map_or}
@@ -390,6 +389,10 @@ pub record IsKnown (w : World) (told : List Told) : Type 0 where
 -- so it is of every world that is reached
 abbrev pub ReachedIsKnown : Type 0
 ReachedIsKnown = (w : World) (told : List Told) → Reaches w told → IsKnown w told
+
+-- and each Done in it names a decision that is over for all whom it names
+abbrev pub ReachedDonesAreComplete : Type 0
+ReachedDonesAreComplete = (w : World) (told : List Told) → Reaches w told → DonesAreComplete w
 
 -- what is decided in a world, and what is closed, is so in a later one
 pub record OutcomesLast (w later : World) (told all : List Told) : Type 0 where

@@ -43,7 +43,6 @@ use Rattle.decision_journal.specs.declared.journal.Standing.{Standing}
 use Rattle.decision_journal.specs.declared.record.Registration.{Registration as Named}
 use Rattle.decision_journal.specs.declared.record.JournalRecord.{JournalRecord}
 use Rattle.decision_journal.specs.declared.record.JournalRecord.TheVariants.{Decision, Prepared}
-use Rattle.recovery_coord.specs.Held.{is_nothing}
 use Rattle.recovery_coord.specs.Laws.{registrations_of}
 use Rattle.recovery_coord.specs.Limits.{retold_slot}
 use Rattle.recovery_coord.specs.declared.held.Held.{Held}
@@ -70,7 +69,7 @@ use Rattle.nodes_world.specs.declared.message.Content.TheVariants as contents
 use Rattle.nodes_world.specs.declared.message.Message.{Message}
 use Rattle.nodes_world.specs.declared.thing.Thing.{Thing}
 use Rattle.nodes_world.specs.declared.thing.Thing.TheVariants as things
-use Rattle.nodes_world.specs.Agreement.{DecisionsAreHeld, DecisionsAreRecorded, HasSent, IsTransaction, IsWord, KeysAreOnce, LivesRise, NodesFollowDisks, NoneIsBoth, NumbersAreOnce, OnePhaseIsAlone, RecordsRestOnVotes, RollbacksAreClosed, CommitsAreRecorded, SubtransactionsEndOnce, VotesWereGiven, WordsAreNamed, has_record, is_decision_of, recorded_key, records_at, IsOver, IsRolledBack, StatesFollow}
+use Rattle.nodes_world.specs.Agreement.{DecisionsAreHeld, DecisionsAreRecorded, HasSent, IsTransaction, IsWord, KeysAreOnce, LivesRise, NodesFollowDisks, NoneIsBoth, NumbersAreOnce, OnePhaseIsAlone, RecordsRestOnVotes, RollbacksAreClosed, CommitsAreRecorded, SubtransactionsEndOnce, VotesWereGiven, WordsAreNamed, has_record, is_decision_of, recorded_key, records_at, IsRolledBack, StatesFollow}
 use Rattle.nodes_world.specs.Laws.{IsInOrder}
 use Rattle.nodes_world.specs.Limits.{message_limit, script_client, seat_limit}
 use Rattle.nodes_world.specs.Objects.{place_of, service_at, resource_key}
@@ -408,7 +407,7 @@ pub record ToldIsOpen (w : World) (h : List Line) : Type 0 where
   pub one_phase : (g t : List ℕ) (b : ℕ) (key : ObjectKey) (f : Family) → IsSent phases.CommitOnePhase g h → IsRegistered g t h
       → family_at w key ≡ Some f → IsBranch w f t b → IsAsking f.completion × (stages.decides_alone f.completion ≡ true)
 
--- ---- what was rolled back, and what has completed
+-- ---- what was rolled back
 
 -- a family that is there and was rolled back, by a line, has that outcome
 abbrev pub IsBack : Option Outcome → Type 0
@@ -423,23 +422,6 @@ RollbacksAreOutcomes w told = (name : List ℕ) (key : ObjectKey) (f : Family) �
 abbrev pub RollbacksAreTold : World → List Told → Type 0
 RollbacksAreTold w told = (name : List ℕ) (key : ObjectKey) (f : Family) → family_at w key ≡ Some f → IsTransaction w name f.key
     → IsBack (stages.outcome f.completion) → IsRolledBack told name
-
--- It is over for each resource that has answered commit, and so for each that its family, or its record, has heard. Agreement
--- doesn't rest on this.
-abbrev pub HasHeardAll : World → Completion → Type 0
-HasHeardAll w (Waiting room) = Unit {0}
-HasHeardAll w (UnderWay c) = (p : Party) (object : NamedKey) (r : FlatResource) → Contains c.parties p → IsTrue (is_some p.told)
-    → referred w p.to ≡ Some object → resource_at w object.key ≡ Some r → IsOver r.state
-
-pub record CompletionsAreOver (w : World) : Type 0 where
-  pub answered : (nth from reply : ℕ) (o : Outward) (object : NamedKey) (m : Message) (r : FlatResource) (answer : Said) → IsWord w nth from o
-      → o.word ≡ words.Commit → referred w o.to ≡ Some object → slice_get w.messages reply ≡ Some m
-      → m.content ≡ contents.Reply (nth + 1) answer → resource_at w object.key ≡ Some r → IsOver r.state
-  pub heard : (key : ObjectKey) (f : Family) → family_at w key ≡ Some f → stages.outcome f.completion ≡ Some (outcomes.Commit Record)
-      → HasHeardAll w f.completion
-  pub told_again : (place : ℕ) (s : Seat) (n : Node) (h : Held) (p : HeldParty) (object : NamedKey) (r : FlatResource)
-      → slice_get w.seats place ≡ Some s → s.server ≡ OfNode (Some n) → Contains n.recovered h → Contains h.parties p
-      → IsTrue (is_nothing p.due) → referred w p.to ≡ Some object → resource_at w object.key ≡ Some r → IsOver r.state
 
 -- ---- transactions that were made, nodes that are up, and what ends have made
 

@@ -22,7 +22,7 @@ use Rattle.coordinator.specs.declared.said.Said.{Said}
 use Rattle.nodes_world.specs.declared.deed.Deed.{Deed}
 use Rattle.nodes_world.specs.declared.message.Content.TheVariants as contents
 use Rattle.nodes_world.specs.declared.message.Message.{Message}
-use Rattle.nodes_world.specs.Agreement.{IsOver, IsWord, Reaches, is_decision_of, names_object, records_at}
+use Rattle.nodes_world.specs.Agreement.{IsOver, IsWord, Reaches, is_decision_of, is_done_in, names_object, records_at}
 use Rattle.nodes_world.specs.Deliveries.{answer_event}
 use Rattle.nodes_world.specs.Ends.{obeys}
 use Rattle.nodes_world.specs.Resolve.{resolve}
@@ -71,3 +71,9 @@ ClosedFamiliesAreStored = (w : World) (told : List Told) (place : ℕ) (n : Node
     → family_in n.families slot ≡ Some f → wanted f (answer_event o answer now) ≡ Some (WritesDone done) → records_at w place ≡ Some rs
     → IsTrue (list_any (λ (item : JournalRecord). is_decision_of f.key item && names_object to item) rs) → referred w to ≡ Some r
     → IsAt (λ (s : State). s ≡ states.Applied) w r.key
+
+-- and from the moment at which a Done names a decision on a node's disk, so has each resource that this decision names
+abbrev pub DonesAreStored : Type 0
+DonesAreStored = (w : World) (told : List Told) (place : ℕ) (rs : List JournalRecord) (key : ObjectKey) (to : List ℕ) (r : NamedKey) → Reaches w told
+    → records_at w place ≡ Some rs → IsTrue (list_any (λ (item : JournalRecord). is_decision_of key item && names_object to item) rs)
+    → IsTrue (is_done_in rs key) → referred w to ≡ Some r → IsAt (λ (s : State). s ≡ states.Applied) w r.key

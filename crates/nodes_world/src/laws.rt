@@ -1,10 +1,10 @@
 // Laws of the definitions: these functions do nothing, and their contracts are the laws.
-ghost use Rattle.nodes_world.specs.Agreement.{Agreement, ReachedIsKnown, ReachedOutcomesLast, ReadNamesFit, RunsAreSafe};
+ghost use Rattle.nodes_world.specs.Agreement.{Agreement, ReachedDonesAreComplete, ReachedIsKnown, ReachedOutcomesLast, ReadNamesFit, RunsAreSafe};
 ghost use Rattle.nodes_world.specs.AgreementSteps.{DeedsGo, ReachedCallsAreDelivered, StepsStayKnown};
 ghost use Rattle.nodes_world.specs.Asking.{HearingsMayAsk};
 ghost use Rattle.nodes_world.specs.Changes.{DeedsAreChanges};
 ghost use Rattle.nodes_world.specs.Laws.{AppendsGoThrough, AppendsStrike, AskedJournalsKeep, AskedJournalsStop, RecordsAreRead, StoppedAppendsAreSafe, WhatIsLeftIsAnImage};
-ghost use Rattle.nodes_world.specs.OverForGood.{AnsweredCommitsAreStored, ClosedFamiliesAreStored, CommitsAreStored, ResourcesStay, ToldParticipantsAreStored};
+ghost use Rattle.nodes_world.specs.OverForGood.{AnsweredCommitsAreStored, ClosedFamiliesAreStored, CommitsAreStored, DonesAreStored, ResourcesStay, ToldParticipantsAreStored};
 ghost use Rattle.nodes_world.specs.Plays.{WorldsPlay};
 ghost use Rattle.nodes_world.specs.StandingDecisions.{RestartsTellAgain, StandingIsTold, ToldIsRecorded};
 
@@ -90,8 +90,9 @@ pub fn names_that_are_read_fit()
     ensures { ReadNamesFit }
 {}
 
-/// Where what is known of a world holds, what a node asks of its journal when it hears an answer may be asked: a decision of the life
-/// in which the node is, which can be written as a record, or the Done of a decision that stands.
+/// In each world that a script reaches, what a node asks of its journal when it hears an answer may be asked: a decision
+/// of the life in which the node is, which can be written as a record, or the Done of a decision that stands. It never
+/// asks to read the disk again.
 pub fn hearings_may_ask()
     ensures { HearingsMayAsk }
 {
@@ -102,6 +103,7 @@ pub fn hearings_may_ask()
     nodes_keep_decisions();
     held_records_stood();
     tree_outcomes_have_causes();
+    steps_stay_known();
 }
 
 /// What is known of a world stays known by each step of which deeds are made.
@@ -157,7 +159,10 @@ pub fn outcomes_last()
     loads_are_safe();
     records_are_read();
     asked_journals_stay_in_order();
-    hearings_may_ask();
+    completes_once();
+    nodes_keep_decisions();
+    held_records_stood();
+    tree_outcomes_have_causes();
     steps_stay_known();
 }
 
@@ -184,4 +189,25 @@ pub fn commits_are_stored()
     families_number_words();
     families_close_last();
     tree_outcomes_have_causes();
+}
+
+/// In each world that a script reaches, where a Done names the decision of a family, it is over for each resource that
+/// this decision names: each has stored its updates.
+pub fn dones_are_complete()
+    ensures complete { ReachedDonesAreComplete }
+    ensures stored { DonesAreStored }
+{
+    journals_grow();
+    loads_are_safe();
+    records_are_read();
+    asked_journals_stay_in_order();
+    completes_once();
+    nodes_keep_decisions();
+    held_records_stood();
+    families_step_rightly();
+    families_hear_outcomes_answered();
+    families_number_words();
+    families_close_last();
+    tree_outcomes_have_causes();
+    steps_stay_known();
 }

@@ -10,4 +10,4 @@ returns c =
       keep = c.asked_journals_stay_in_order.ensures.keep;
       stop = c.asked_journals_stay_in_order.ensures.stop;
       complete = c.completes_once.ensures;
-    }) c.nodes_keep_decisions.ensures c.held_records_stood.ensures
+    }) c.nodes_keep_decisions.ensures c.held_records_stood.ensures c.steps_stay_known.ensures
