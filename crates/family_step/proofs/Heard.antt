@@ -1,14 +1,12 @@
 -- A step that brings an answer: it is heard first, and then the journal is asked.
-use Rattle.std.proofs.Common.{◌≡◌, ◌∙◌, refl, sym, ap, ℕ, Bool, true, false, Option, Some, None, is_some, is_none, if◌then◌else◌}
-use Rattle.ots_model.specs.declared.completion.CallNumber.{CallNumber}
+use Rattle.std.proofs.Common.{◌≡◌, ◌∙◌, refl, sym, ap, ℕ, Bool, false, Option, Some, None, is_some, is_none, if◌then◌else◌}
 use Rattle.ots_model.specs.declared.completion.Stood.{Stood}
-use Rattle.ots_model.specs.declared.tree.Heard.{Heard}
-use Rattle.coordinator.specs.Family.{Family, call_at, waiting_for}
+use Rattle.coordinator.specs.Family.{Family}
 use Rattle.coordinator.specs.Hearing.{settles}
 use Rattle.coordinator.specs.History.{kept_for}
 use Rattle.coordinator.specs.Moves.{◌▹◌}
 use Rattle.coordinator.specs.Running.{goes_on}
-use Rattle.coordinator.specs.Step.{Stepped, Wanted, acted, acts_on, answered, entered, family_step, goes_on_at, hears, hears_call, hears_for, is_silent_act, new_step, quiet, step_by, wanted, wanted_act, wanted_by}
+use Rattle.coordinator.specs.Step.{acted, acts_on, answered, entered, family_step, goes_on_at, hears, hears_for, is_silent_act, quiet, step_by, wanted, wanted_act, wanted_by}
 use Rattle.coordinator.specs.Table.{Acted, does}
 use Rattle.coordinator.specs.declared.event.Act.{Act}
 use Rattle.coordinator.specs.declared.event.Act.TheVariants as acts

@@ -10,3 +10,4 @@ mod Heard
 mod Recorded
 mod Naming
 mod Caused
+mod Indexed

@@ -5,16 +5,15 @@ use Rattle.decision_journal.specs.Layout.{FitsRegistrations}
 use Rattle.decision_journal.specs.declared.record.Registration.{Registration as Recorded}
 use Rattle.resource_votes.specs.Ballots.{participants}
 use Rattle.resource_votes.specs.History.{times}
-use Rattle.resource_votes.specs.declared.registration.Registration.{Registration}
 use Rattle.two_phase.specs.Stages as stages
 use Rattle.coordinator.specs.Family.{Family}
 use Rattle.coordinator.specs.Hearing.{decision_record, record_place, wants_done}
-use Rattle.coordinator.specs.Step.{Appends, Wanted, WritesDone, wanted, wanted_by}
+use Rattle.coordinator.specs.Step.{Appends, WritesDone, wanted}
 use Rattle.coordinator.specs.declared.event.Event.{Event}
 use Rattle.family_laws.specs.LawsOfJournal.{FamiliesAppendOwn}
-use Rattle.family_laws.specs.Sound.{HasParties, IsSoundFamily}
+use Rattle.family_laws.specs.Sound.{IsSoundFamily}
 use Rattle.family_rules.specs.Recording.{recorded}
-use Rattle.family_step.specs.Asking.{AreReady, HasVoters, HaveVoters, hearer, hears_act, may_name, waits_for}
+use Rattle.family_step.specs.Asking.{AreReady, HasVoters, HaveVoters, hearer, hears_act, may_name}
 use Rattle.family_step.proofs.Heard.{heard_wants, waits}
 use Rattle.family_step.proofs.Parties.{heard_keeps}
 use Rattle.family_step.proofs.Voters.{voters_named}

@@ -1,5 +1,5 @@
 -- Whom a completion asks: an answer that is heard changes nothing of that.
-use Rattle.std.proofs.Common.{◌≡◌, ◌∙◌, refl, sym, ap, ℕ, zero, suc, Bool, true, false, List, [], ◌∷◌, map, Option, Some, None, is_some, if◌then◌else◌}
+use Rattle.std.proofs.Common.{◌≡◌, ◌∙◌, refl, sym, ap, ℕ, zero, suc, Bool, true, false, List, [], ◌∷◌, map, Option, Some, None, if◌then◌else◌}
 use Rattle.std.specs.Prelude.{slice_set}
 use Rattle.std.specs.List.{slice_get}
 use Rattle.ots_model.specs.declared.completion.CallNumber.{CallNumber}
@@ -26,7 +26,6 @@ use Rattle.coordinator.specs.Closing.{asked_of, begins, begun, gives_up, rolling
 use Rattle.coordinator.specs.Family.{Family, Aim, Call, Commits, RollsBack, call_at, with_call}
 use Rattle.coordinator.specs.Hearing.{hears_at, inner_number, is_markable, is_plain, marks, marks_parent, reason_of, told, told_before, told_commit, told_end, told_participant}
 use Rattle.coordinator.specs.Moves.{Moved, completes_as}
-use Rattle.coordinator.specs.Phases.{has_parent_ended}
 use Rattle.coordinator.specs.Step.{hears_call}
 use Rattle.txn_tree.specs.Rows.{parent}
 use Rattle.family_laws.specs.Sound.{HasParties}

@@ -1,5 +1,5 @@
 -- What a step of a family asks the journal, and what that answers (our profile).
-use Rattle.std.specs.Prelude.{◌≡◌, ◌≤◌, ◌⊎◌, ℕ, Bool, true, false, ◌&&◌, List, [], ◌∷◌, ◌++◌, map, filter, Option, Some, None, IfSome, IsSome, IsTrue, is_none, is_some, if◌then◌else◌}
+use Rattle.std.specs.Prelude.{◌≡◌, ◌≤◌, ◌⊎◌, ℕ, Bool, true, false, ◌&&◌, List, [], ◌∷◌, ◌++◌, map, filter, Option, Some, None, IfSome, IsTrue, is_none, is_some, if◌then◌else◌}
 use Rattle.ots_model.specs.declared.completion.Doubted.{Doubted}
 use Rattle.ots_model.specs.declared.completion.Doubted.TheVariants.{Counted, Damaged, Starved}
 use Rattle.ots_model.specs.declared.completion.Stood.{Stood}
@@ -14,7 +14,7 @@ use Rattle.decision_journal.specs.Calls.{HasAppended, IsAfterDone, IsRefusedAppe
 use Rattle.decision_journal.specs.Layout.{FitsRegistrations}
 use Rattle.decision_journal.specs.State.{JournalState}
 use Rattle.decision_journal.specs.declared.journal.JournalFault.{JournalFault}
-use Rattle.decision_journal.specs.declared.journal.JournalFault.TheVariants.{DiskFault, Full, BadHeader, BadRecord, LivesSpent, Memory}
+use Rattle.decision_journal.specs.declared.journal.JournalFault.TheVariants.{Full, BadHeader, BadRecord, Memory}
 use Rattle.decision_journal.specs.declared.record.JournalRecord.{JournalRecord}
 use Rattle.decision_journal.specs.declared.record.JournalRecord.TheVariants.{Done}
 use Rattle.decision_journal.specs.declared.record.Registration.{Registration}

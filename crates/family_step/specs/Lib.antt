@@ -2,3 +2,4 @@ pub mod Acting
 pub mod Reserving
 pub mod FamilyInside
 pub mod Asking
+pub mod Callers

@@ -1,33 +1,24 @@
 -- What is made ready for the step of an event.
-use Rattle.std.specs.Prelude.{◌≡◌, ℕ, ◌+◌, ◌<◌, true, List, length, Option, Some, None, is_some}
+use Rattle.std.specs.Prelude.{◌≡◌, ◌+◌, ◌<◌, true, length, Option, Some, None}
 use Rattle.std.specs.Option.{option_map}
 use Rattle.std.specs.Vec.{vec_items}
 use Rattle.coordinator.specs.Family.{Family}
 use Rattle.coordinator.specs.History.{has_room, kept_for}
 use Rattle.coordinator.specs.declared.event.Event.{Event}
-use Rattle.coordinator.specs.declared.said.Said.{Said}
 use Rattle.family_rules.specs.Changes.{nothing_yet}
 use Rattle.family_rules.specs.Going.{CanGo}
 use Rattle.family_rules.specs.Room.{StateParts}
-use Rattle.family_step.specs.Acting.{name_in, name_of_said, reference_in}
+use Rattle.family_step.specs.Acting.{name_in, reference_in}
 use Rattle.family_step.specs.Asking.{AreReady}
 use Rattle.family_step.specs.declared.ready.Ready.{Ready}
-
--- the name that is said in the step of an event, where one is
-abbrev pub name_by : Option Said → Event → Family → Option (List ℕ)
-name_by (Some answer) e f = name_of_said answer
-name_by None e f = name_in e.act e.branch f
-
-abbrev pub name_said : Event → Family → Option (List ℕ)
-name_said e f = name_by (kept_for f.entries e.key) e f
 
 -- all that the step of this event needs of a family was made ready
 pub record IsReadyFor (e : Event) (f : Family) (r : Ready) : Type 0 where
   pub event : r.event ≡ e
-  pub known : r.is_known ≡ is_some (kept_for f.entries e.key)
+  pub answered : r.answered ≡ kept_for f.entries e.key
   pub to : r.to ≡ reference_in e.act
-  pub name : r.name ≡ name_said e f
-  pub name_again : r.name_again ≡ name_said e f
+  pub name : r.name ≡ name_in e.act e.branch f
+  pub name_again : r.name_again ≡ name_in e.act e.branch f
   pub named : AreReady (option_map vec_items r.named) e f
   pub nothing : r.draft.changes ≡ (nothing_yet 0 0).changes
   pub can : CanGo (length f.rows + 8) f r.draft

@@ -52,7 +52,7 @@ fn hearer(state: &State, ready: &Ready) -> Option<u32>
     requires ready { IsReadyFor ready.now.event state.now.family ready.now }
     ensures { result ≡ asking.hearer ready.now.event state.now.family }
 {
-    if ready.is_known {
+    if ready.answered.is_some() {
         return None;
     }
     match &ready.event.act {

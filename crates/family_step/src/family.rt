@@ -12,7 +12,8 @@ ghost use Rattle.two_phase.specs.Stages as stages;
 ghost use Rattle.family_step.specs.Asking.{EntryIsCaused, HasStepped, is_reread};
 
 use crate::asking::step_asking;
-use crate::ready::Ready;
+use crate::callers::Callers;
+use crate::ready::{Ready, has_room, kept};
 use crate::step::{is_silent, step};
 use coordinator::{Entry, Event, Phase, Said, StepAnswer, histories_grow_by_entries};
 use decision_journal::Journal;
@@ -27,10 +28,12 @@ use std::alloc::{AllocError, Global};
 use std::marker::Model;
 
 /// A top-level transaction with its subtransactions, who is registered with them, the calls under way, and the history of
-/// what happened. Contracts see it as the definition has it, and the event for which memory was taken.
+/// what happened, with an index of its retry keys. Contracts see it as the definition has it, and the event for which memory was
+/// taken.
 #[derive(Drop)]
 pub struct Family {
     state: State,
+    callers: Callers,
     ready: Option<Ready>,
 }
 
@@ -62,8 +65,11 @@ impl Family {
         ensures made { IfOk result (λ f. f ≡ record { family = new_family key deadline; ready = None }) }
     {
         families_stay_sound();
+        let state = State::new(alloc, key, deadline)?;
+        let callers = Callers::new(alloc);
         Ok(Family {
-            state: State::new(alloc, key, deadline)?,
+            state,
+            callers,
             ready: None,
         })
     }
@@ -81,7 +87,7 @@ impl Family {
         ensures room { OnOk result (0 < out.new.room) }
         ensures kept { out.old.room ≤ out.new.room }
     {
-        if !self.state.has_room(event) {
+        if !has_room(&self.state, &self.callers, event) {
             return Err(FamilyFault::History(event.act.history_limit()));
         }
         match self.make_ready(event, out) {
@@ -100,8 +106,9 @@ impl Family {
         ensures kept { out.old.room ≤ out.new.room }
     {
         self.state.make_room()?;
+        self.callers.reserve()?;
         out.reserve(1)?;
-        let ready = Ready::new(self.state.allocator(), &self.state, event)?;
+        let ready = Ready::new(self.state.allocator(), &self.state, &self.callers, event)?;
         self.ready = Some(ready);
         Ok(())
     }
@@ -208,7 +215,7 @@ impl Family {
     pub fn kept(&self, key: &RetryKey) -> Option<&Said>
         ensures kept { option_copied result ≡ history.kept (self.now.family).entries key.now }
     {
-        self.state.kept(key)
+        kept(&self.state, &self.callers, key)
     }
 
     /// The name of a transaction (`get_transaction_name`).
@@ -289,8 +296,12 @@ impl Family {
             ≡ out.old.words ++ (steps.family_step self.old.family e stood).words) }
     {
         families_stay_sound();
+        histories_grow_by_entries();
         let ready = self.ready.take().unwrap();
-        step(&mut self.state, ready, stood, out)
+        let place = self.state.entry_count();
+        let answer = step(&mut self.state, ready, stood, out);
+        self.callers.note(self.state.entries(), place);
+        answer
     }
 
     /// The step of an event for which memory was taken, which asks the journal for what is wanted in it. It takes no memory. No
@@ -317,6 +328,9 @@ impl Family {
         histories_grow_by_entries();
         let _ = event;
         let ready = self.ready.take().unwrap();
-        step_asking(&mut self.state, ready, journal, out)
+        let place = self.state.entry_count();
+        let answer = step_asking(&mut self.state, ready, journal, out);
+        self.callers.note(self.state.entries(), place);
+        answer
     }
 }

@@ -5,6 +5,7 @@ pub use family::{Family, FamilyFault};
 
 mod acting;
 mod asking;
+mod callers;
 mod family;
 mod ready;
 mod registering;

@@ -7,21 +7,23 @@ ghost use Rattle.family_rules.specs.Changes.{nothing_yet};
 ghost use Rattle.family_rules.specs.Going.{CanGo};
 ghost use Rattle.family_step.specs.Acting.{name_in, name_of_said, reference_in};
 ghost use Rattle.family_step.specs.Asking.{AreReady, may_decide, may_name};
-ghost use Rattle.family_step.specs.Reserving.{name_by};
+ghost use Rattle.family_step.specs.Callers.{IsIndex, place_for};
 
+use crate::callers::Callers;
+use crate::step::again;
 use coordinator::{Act, Event, Said, copy_event};
 use decision_journal::Registration;
 use family_rules::{Draft, State};
-use ots_model::{Octets, RefBytes};
+use ots_model::{Octets, RefBytes, RetryKey};
 use std::alloc::{AllocError, Global};
 
-/// What was made ready for the step of an event: a copy of it, whether it is a call that comes again, the reference that it
-/// registers, the name that is said, once for the caller and once for the history, whom a decision record of it may name, and
-/// the memory for all else.
+/// What was made ready for the step of an event: a copy of it, what it was answered where it is a call that comes again, the
+/// reference that it registers, the name that is said, once for the caller and once for the history, whom a decision record of
+/// it may name, and the memory for all else.
 #[derive(Drop)]
 pub(crate) struct Ready {
     pub event: Event,
-    pub is_known: bool,
+    pub answered: Option<Said>,
     pub to: Option<RefBytes>,
     pub name: Option<Octets>,
     pub name_again: Option<Octets>,
@@ -33,15 +35,20 @@ impl Ready {
     ghost use Rattle.family_step.specs.Reserving.{IsReadyFor};
 
     /// For this event.
-    pub fn new(alloc: Global, state: &State, event: &Event) -> Result<Ready, AllocError>
+    pub fn new(
+        alloc: Global,
+        state: &State,
+        callers: &Callers,
+        event: &Event,
+    ) -> Result<Ready, AllocError>
+        requires index { IsIndex (callers.now).places (state.now.family).entries }
         requires serial { (state.now.family).serial ≤ length (state.now.family).entries }
         ensures { IfOk result (λ r. IsReadyFor event.entry.now state.now.family r) }
     {
-        let known = known(state, event);
-        let name = name_of(alloc, state, known, event)?;
+        let name = name_asked(alloc, state, event)?;
         Ok(Ready {
             event: copy_event(alloc, event)?,
-            is_known: known.is_some(),
+            answered: copy_answer(alloc, known(state, callers, event))?,
             to: reference_of(alloc, &event.act)?,
             name_again: copy_name(alloc, &name)?,
             name,
@@ -77,18 +84,13 @@ fn reference_of(alloc: Global, act: &Act) -> Result<Option<RefBytes>, AllocError
     })
 }
 
-/// The name that is said in the step of an event, where one is and this is what the event was answered before.
-fn name_of(
-    alloc: Global,
-    state: &State,
-    known: Option<&Said>,
-    event: &Event,
-) -> Result<Option<Octets>, AllocError>
-    ensures { IfOk result (λ name. name ≡ name_by (option_copied known.entry) event.entry.now state.now.family) }
+/// A copy of what was answered, where something was.
+fn copy_answer(alloc: Global, said: Option<&Said>) -> Result<Option<Said>, AllocError>
+    ensures { IfOk result (λ copy. copy ≡ option_copied said.entry) }
 {
-    match known {
-        Some(said) => name_in_answer(alloc, said),
-        None => name_asked(alloc, state, event),
+    match said {
+        Some(said) => Ok(Some(again(said, name_in_answer(alloc, said)?))),
+        None => Ok(None),
     }
 }
 
@@ -147,12 +149,45 @@ fn may_decide(state: &State, event: &Event) -> bool
     }
 }
 
+/// Whether the history has room for an event, or the event is a call that comes again.
+pub(crate) fn has_room(state: &State, callers: &Callers, event: &Event) -> bool
+    requires index { IsIndex (callers.now).places (state.now.family).entries }
+    ensures { result ≡ history.has_room (state.now.family).entries event.entry.now }
+{
+    place_of(callers, event).is_some() || state.entry_count() < event.act.history_limit()
+}
+
+/// The place of the first call with the key of an event.
+fn place_of(callers: &Callers, event: &Event) -> Option<u32>
+    ensures { result ≡ place_for (callers.now).places (event.entry.now).key }
+{
+    match &event.key {
+        Some(key) => callers.place(key),
+        None => None,
+    }
+}
+
 /// What a call was answered that comes again under its key.
-pub(crate) fn known<'a>(state: &'a State, event: &Event) -> Option<&'a Said>
+fn known<'a>(state: &'a State, callers: &Callers, event: &Event) -> Option<&'a Said>
+    requires index { IsIndex (callers.now).places (state.now.family).entries }
     ensures { option_copied result ≡ history.kept_for (state.now.family).entries (event.entry.now).key }
 {
     match &event.key {
-        Some(key) => state.kept(key),
+        Some(key) => kept(state, callers, key),
         None => None,
+    }
+}
+
+/// What the call with this key was answered. The history is walked only where it was answered later.
+pub(crate) fn kept<'a>(state: &'a State, callers: &Callers, key: &RetryKey) -> Option<&'a Said>
+    requires index { IsIndex (callers.now).places (state.now.family).entries }
+    ensures { option_copied result ≡ history.kept (state.now.family).entries key.now }
+{
+    let place = callers.place(key)?;
+    let said = &state.entries()[place as usize].said;
+    if said.is_later() {
+        state.kept(key)
+    } else {
+        Some(said)
     }
 }

@@ -10,7 +10,7 @@ ghost use Rattle.family_step.specs.Acting.{brings, name_of_said};
 ghost use Rattle.family_step.specs.Reserving.{IsReadyFor, IsStocked};
 
 use crate::acting::{Given, act};
-use crate::ready::{Ready, known};
+use crate::ready::Ready;
 use crate::table::has_timed_out;
 use coordinator::{Act, Entry, Event, Said, StepAnswer};
 use family_rules::{Draft, State};
@@ -37,7 +37,7 @@ pub(crate) fn step(
     ensures serial { (state.new.family).serial ≤ length (state.new.family).entries }
 {
     let position = state.entry_count();
-    if ready.is_known {
+    if ready.answered.is_some() {
         return repeat(state, position, ready);
     }
     if is_silent(state, &ready.event) {
@@ -66,28 +66,27 @@ fn repeat(state: &State, position: u32, ready: Ready) -> StepAnswer
         ≡ answer_of state.now.family (steps.step_by (history.kept_for (state.now.family).entries ready.event.key)
         state.now.family ready.event None) }
 {
+    let _ = state;
     let Ready {
-        event,
-        name,
+        answered,
         draft,
         ..
     } = ready;
-    let said = match known(state, &event) {
-        Some(said) => repeated(said, name),
+    let said = match answered {
+        Some(said) => repeated(said),
         None => Said::Plain,
     };
     quiet(position, said, draft)
 }
 
 /// What a repeat is answered, where this was answered before.
-fn repeated(said: &Said, name: Option<Octets>) -> Said
-    requires name { name ≡ name_of_said said.now }
-    ensures { result ≡ history.repeated said.now }
+fn repeated(said: Said) -> Said
+    ensures { result ≡ history.repeated said }
 {
     if said.is_later() {
         Said::Transient
     } else {
-        again(said, name)
+        said
     }
 }
 
@@ -188,7 +187,7 @@ fn put_word(word: Option<Outward>, out: &mut Outbox)
 }
 
 /// The same. It needs no memory, since a name is given for one that is said.
-fn again(said: &Said, name: Option<Octets>) -> Said
+pub(crate) fn again(said: &Said, name: Option<Octets>) -> Said
     requires name { IfSome (name_of_said said.now) (λ octets. name ≡ Some octets) }
     ensures { result ≡ said.now }
 {

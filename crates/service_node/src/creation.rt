@@ -80,12 +80,14 @@ impl<D: Disk> Node<D> {
         ensures journal { self.new.journal ≡ self.old.journal }
         ensures err { IfErr result (λ fault. (self.new ≡ self.old) × (fault ≡ NodeFault.Memory)) }
     {
-        take_from(
-            self.alloc,
-            &self.journal,
-            self.slots.family(slot),
-            &mut self.recovered,
-        )?;
+        let left = self.slots.family(slot);
+        match take_from(self.alloc, &self.journal, left, &mut self.recovered) {
+            Ok(()) => {}
+            Err(fault) => {
+                drop(family);
+                return Err(fault.into());
+            }
+        }
         self.slots.put(slot, family);
         self.last = slot;
         self.generation += 1;

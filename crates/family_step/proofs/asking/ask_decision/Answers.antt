@@ -1,4 +1,4 @@
-use Rattle.std.proofs.Common.{◌≡◌, ◌∙◌, inl, inr, ℕ, List, refl, sym, ap, subst}
+use Rattle.std.proofs.Common.{◌∙◌, inl, inr, ℕ, List, refl, sym, ap, subst}
 use Rattle.decision_journal.specs.Calls.{HasAppended, IsRefusedAppend}
 use Rattle.decision_journal.specs.Layout.{FitsRegistrations}
 use Rattle.decision_journal.specs.declared.record.JournalRecord.{JournalRecord}

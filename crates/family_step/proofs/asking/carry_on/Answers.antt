@@ -1,9 +1,9 @@
-use Rattle.std.proofs.Common.{◌≡◌, ◌∙◌, ◌<◌, ◌++◌, refl, ap, sym, subst, ℕ, List, length, Option}
+use Rattle.std.proofs.Common.{◌∙◌, ◌<◌, ◌++◌, refl, ap, sym, subst, ℕ, length, Option}
 use Rattle.coordinator.specs.Hearing.{settles}
 use Rattle.coordinator.specs.Limits.{history_limit}
 use Rattle.coordinator.specs.Moves.{Moved, ◌▹◌}
 use Rattle.coordinator.specs.Running.{goes_on}
-use Rattle.coordinator.specs.Step.{Stepped, Wanted, acted}
+use Rattle.coordinator.specs.Step.{Stepped, Wanted}
 use Rattle.coordinator.specs.NodeCalls.{answer_of}
 use Rattle.coordinator.specs.Table.{Acted, does}
 use Rattle.coordinator.specs.declared.said.Said.TheVariants as said

@@ -1,12 +1,9 @@
 use Rattle.std.proofs.Common.{◌≡◌, ◌∙◌, ◌<◌, ◌++◌, ap, sym, subst, ℕ, List, length, Option, Some}
 use Rattle.std.specs.Option.{IfSome}
-use Rattle.ots_model.specs.declared.tree.Outward.{Outward}
 use Rattle.coordinator.specs.Limits.{history_limit}
 use Rattle.coordinator.specs.Moves.{Moved}
 use Rattle.coordinator.specs.Step.{Stepped, acted}
-use Rattle.coordinator.specs.declared.said.Said.{Said}
 use Rattle.family_step.specs.Acting.{name_in, name_of_said}
-use Rattle.family_step.specs.Reserving.{name_by}
 use Rattle.family_step.proofs.Answered.{name_fits}
 use Rattle.family_step.proofs.Entered.{all_of, answer_same, entered_same, room_for}
 use Rattle.family_step.proofs.Steady.{acts_keep}
@@ -30,7 +27,7 @@ conclude-requires-clause-name c = λ y replied.
     let f = c.args.state.now.family in
     let r = c.args.ready in
     let e = r.event in
-    let name : r.name_again ≡ name_in e.act e.branch f = c.requires.ready.ready.name_again ∙ ap (λ (o : Option Said). name_by o e f) c.requires.new in
+    let name : r.name_again ≡ name_in e.act e.branch f = c.requires.ready.ready.name_again in
     subst (λ (o : Option (List ℕ)). IfSome (name_of_said y) (λ n. o ≡ Some n)) (sym name) (name_fits e c.args.stood f c.act-said.result y c.act-said.ensures.acts.1 replied)
 
 pub returns-clause-family : goal.returns-clause-family

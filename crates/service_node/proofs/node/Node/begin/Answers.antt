@@ -12,5 +12,5 @@ invariant_of-self-2 g c =
     c.self.inside.generation c.args.slot c.args.family.family c.self.invariant c.requires.slot
     (subst (λ (s : NodeState g.row.D.Denot). s.node.generation < generation_limit) (sym c.self.view_is) c.requires.number)
     (c.requires.key ∙ ap (λ (s : NodeState g.row.D.Denot). next_key s.node c.args.slot) (sym c.self.view_is))
-    (c.in_ok-take_from.ensures.ok ∙ ap (λ (o : Option Family). record c.self.inside.recovered { records = takes_over c.self.inside.journal.found o c.self.inside.recovered.records }) c.family.ensures)
+    (c.in-Ok.ensures.ok ∙ ap (λ (o : Option Family). record c.self.inside.recovered { records = takes_over c.self.inside.journal.found o c.self.inside.recovered.records }) c.family-left.ensures)
     c.put.ensures

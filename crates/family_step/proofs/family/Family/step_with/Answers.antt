@@ -1,0 +1,23 @@
+use Rattle.std.proofs.Common.{◌<◌, Option, IfSome, sym, subst}
+use Rattle.coordinator.specs.Family.{Family}
+use Rattle.family_laws.specs.Sound.{IsSoundFamily}
+use Rattle.family_step.specs.Reserving.{IsStockedFor}
+use Rattle.family_step.specs.declared.ready.Ready.{Ready}
+use Rattle.family_step.proofs.Indexed.{index_after}
+use Rattle.family_step.proofs.family.Family.step_with.Goals as goal
+
+pub invariant_of-self : goal.invariant_of-self
+invariant_of-self c =
+    let f = c.self.inside.state.family in
+    let e = c.unwrap-ready.result.event in
+    let stood = c.args.stood in
+    let is = c.step-answer.ensures.family in
+    let none = sym c.take.ensures.after in
+    record {
+      serial = c.step-answer.ensures.serial;
+      sound = subst (λ (g : Family). IsSoundFamily g) (sym is) (c.families_stay_sound.ensures.steps f e stood c.self.invariant.sound);
+      index = index_after f e stood c.step-answer.new.state.family c.self.inside.callers.places c.note.new.self.places c.entries.result.now c.entry_count-place.result
+          c.histories_grow_by_entries.ensures is c.self.invariant.index c.entries.ensures c.entry_count-place.ensures.count c.note.ensures.noted;
+      stocked = subst (λ (r : Option Ready). IsStockedFor c.step-answer.new.state r) none tt;
+      noted = subst (λ (r : Option Ready). IfSome r (λ (x : Ready). 0 < c.note.new.self.room)) none tt;
+    }
