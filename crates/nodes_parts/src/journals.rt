@@ -21,7 +21,7 @@ pub struct Gates {
 }
 
 /// The gate that comes behind the record of an open gate.
-fn next_gate(octets: &[u8], gate: usize) -> Option<usize>
+pub fn next_gate(octets: &[u8], gate: usize) -> Option<usize>
     ensures next { result ≡ gate_behind gate (drop gate octets.now) }
     ensures within { IfSome result (λ next. (gate < length octets.now) × (gate < next)) }
 {

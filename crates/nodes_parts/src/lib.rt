@@ -4,7 +4,7 @@
 
 pub use disks::{Appended, Stop, copy_image};
 pub use ends::{End, Resource, answer_of_row, closed_by, shown_state, told_word};
-pub use journals::{Gates, last_gates};
+pub use journals::{Gates, last_gates, next_gate};
 pub use messages::Messages;
 pub use names::Directory;
 pub use objects::{

@@ -1,0 +1,2 @@
+mod EndChanged
+mod Obeying

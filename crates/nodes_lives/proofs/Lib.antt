@@ -1,0 +1,16 @@
+mod Closing
+mod Ends
+mod Resting
+mod Beginning
+mod Lasting
+mod Standings
+mod Naming
+mod Asking
+mod Applying
+mod Through
+mod Striking
+mod Calls
+mod Coming
+mod Wanting
+mod Hears
+mod Firsts

@@ -1,0 +1,10 @@
+pub mod Living
+pub mod Running
+pub mod Shown
+pub mod Loads
+pub mod Making
+pub mod Ticking
+pub mod Writing
+pub mod Striking
+pub mod First
+pub mod Calling

@@ -1,0 +1,9 @@
+pub mod Reading
+mod Indexed
+mod Registered
+pub mod Doing
+pub mod Failing
+pub mod Progress
+pub mod Named
+mod Requested
+mod Saying

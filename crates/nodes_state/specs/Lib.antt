@@ -1,0 +1,5 @@
+pub mod Telling
+pub mod Casting
+pub mod Seated
+pub mod Shown
+pub mod Does

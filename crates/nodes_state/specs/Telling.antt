@@ -1,0 +1,52 @@
+-- What a call that tells lines has done, and whom the lines speak of (our profile).
+use Rattle.std.specs.Prelude.{◌≡◌, ℕ, ◌+◌, ◌++◌, List, take, slice_get, Option, Some, None, Result, Ok, Err}
+use Rattle.ior_refs.specs.declared.key.ObjectKey.{ObjectKey}
+use Rattle.resource_votes.specs.declared.registration.Registration.{Registration}
+use Rattle.coordinator.specs.Family.{Family}
+use Rattle.nodes_world.specs.Told.{Told, text}
+use Rattle.nodes_world.specs.World.{World, transaction_name, referred}
+use Rattle.nodes_world.specs.Happenings.{Cast, cast_of_key}
+use Rattle.nodes_parts.specs.Naming.{Names, name_of_key}
+use Rattle.nodes_parts.specs.Referring.{referred_in}
+
+-- these lines were told, whole
+abbrev pub Tells : List Told → List ℕ → List ℕ → Type 0
+Tells some before after = after ≡ before ++ text some
+
+-- some of these lines were told, from the front, each whole
+abbrev pub TellsPart : List Told → List ℕ → List ℕ → Type 0
+TellsPart some before after = (k : ℕ) × (after ≡ before ++ text (take k some))
+
+-- a line was told, where there is one; or, where memory ran out, nothing
+abbrev pub TellsOne : {E : Type 0} → List Told → List ℕ → List ℕ → Result (Unit {0}) E → Type 0
+TellsOne some before after (Ok _) = Tells some before after
+TellsOne some before after (Err _) = after ≡ before
+
+-- the lines were told; or, where memory ran out, some of them
+abbrev pub TellsSome : {E : Type 0} → List Told → List ℕ → List ℕ → Result (Unit {0}) E → Type 0
+TellsSome some before after (Ok _) = Tells some before after
+TellsSome some before after (Err _) = TellsPart some before after
+
+-- the names are those of a world
+pub record AreNamesOf (n : Names) (w : World) : Type 0 where
+  pub things : n.things ≡ w.names
+  pub transactions : (key : ObjectKey) → name_of_key n.things key ≡ transaction_name w key
+  pub references : (to : List ℕ) → referred_in n.referred to ≡ referred w to
+
+-- whom the effects of a family speak of, where it may be gone
+abbrev pub cast_by : ObjectKey → Option Family → Cast
+cast_by key (Some f) = record {
+  key = key;
+  registrations = f.ballots.registrations;
+  synchronizations = f.ballots.synchronizations;
+}
+cast_by key None = cast_of_key key
+
+-- each registration has the number of its place
+abbrev pub AreIndexed : List Registration → Type 0
+AreIndexed some = (i : ℕ) (r : Registration) → slice_get some i ≡ Some r → r.index ≡ i + 1
+
+-- so it is with all whom the effects of a family speak of
+pub record IsIndexed (c : Cast) : Type 0 where
+  pub registrations : AreIndexed c.registrations
+  pub synchronizations : AreIndexed c.synchronizations
