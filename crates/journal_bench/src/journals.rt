@@ -16,8 +16,11 @@ pub const AREA: u64 = 67_108_864;
 /// How many octets a decision has, with its gate.
 const LENGTH: u64 = 286;
 
-/// What is written behind its gate, and the next gate.
+/// What is written behind its gate, and the next gate: as many octets as it has.
 const BEHIND: [u8; 286] = [0; 286];
+
+/// The same of a Done.
+const BEHIND_DONE: [u8; 10] = [0; 10];
 
 /// The journal that a disk holds is loaded.
 pub fn load(rt: &HostRuntime, disk: FileDisk) -> io::Result<u128> {
@@ -45,6 +48,7 @@ fn calls(
     let start = Instant::now(rt)?;
     match kind {
         "appends" => appends(rt.alloc(), journal, count)?,
+        "dones" => dones(journal, count)?,
         "retells" => retells(rt.alloc(), journal, count)?,
         _ => cells(rt.alloc(), journal, count)?,
     }
@@ -57,6 +61,20 @@ fn appends(alloc: Global, journal: &mut Journal<FileDisk>, count: u32) -> io::Re
         let item = decision(alloc)?;
         journal.reserve()?;
         if journal.append(item).is_err() {
+            return Err(ErrorKind::Other.into());
+        }
+    }
+    Ok(())
+}
+
+/// Names the oldest decision that stands done, so many times.
+fn dones(journal: &mut Journal<FileDisk>, count: u32) -> io::Result<()> {
+    for _ in 0..count {
+        let Some(oldest) = journal.standing().first() else {
+            return Err(ErrorKind::InvalidData.into());
+        };
+        let place = oldest.place;
+        if journal.done(place).is_err() {
             return Err(ErrorKind::Other.into());
         }
     }
@@ -106,17 +124,28 @@ fn append_cells(alloc: Global, journal: &mut Journal<FileDisk>) -> io::Result<()
 pub fn bare(rt: &HostRuntime, mut disk: FileDisk, count: u32) -> io::Result<u128> {
     let start = Instant::now(rt)?;
     for place in 0..u64::from(count) {
-        if write_twice(&mut disk, 26 + LENGTH * place).is_err() {
+        if write_twice(&mut disk, 26 + LENGTH * place, &BEHIND).is_err() {
             return Err(ErrorKind::Other.into());
         }
     }
     Ok(start.elapsed(rt)?.as_nanos())
 }
 
-fn write_twice(disk: &mut FileDisk, gate: u64) -> Result<(), DiskRefusal>
+/// Makes the writes and syncs of as many Dones.
+pub fn bare_dones(rt: &HostRuntime, mut disk: FileDisk, count: u32) -> io::Result<u128> {
+    let start = Instant::now(rt)?;
+    for place in 0..u64::from(count) {
+        if write_twice(&mut disk, 26 + 10 * place, &BEHIND_DONE).is_err() {
+            return Err(ErrorKind::Other.into());
+        }
+    }
+    Ok(start.elapsed(rt)?.as_nanos())
+}
+
+fn write_twice(disk: &mut FileDisk, gate: u64, behind: &[u8]) -> Result<(), DiskRefusal>
     requires { gate < 2 ^ 63 }
 {
-    disk.write_at(gate + 1, &BEHIND)?;
+    disk.write_at(gate + 1, behind)?;
     disk.sync()?;
     disk.write_at(gate, &[1])?;
     disk.sync()

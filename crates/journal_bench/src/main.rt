@@ -3,6 +3,7 @@
 //!
 //! - `load`: the journal in the file is loaded.
 //! - `appends`: so many decisions are appended to it. `bare`: as many octets are written and synced so often, with no journal.
+//! - `dones`: the oldest decision that stands in it is named done, so many times. `bare_dones`: as `bare`, with the octets of Dones.
 //! - `retells`: the decisions that stand in it are told again, with so many words, each of which is done.
 //! - `ends`: so many resources of the end in the file put a cell, prepare and commit, one after the other.
 //! - `cells`: the records of as many are appended to the journal in the file, with no end.
@@ -30,6 +31,7 @@ fn main(rt: HostRuntime) -> io::Result<()> {
     let disk = FileDisk::new(options.open(&rt, path.as_str())?, None);
     let took = match kind.as_str() {
         "bare" => journals::bare(&rt, disk, count)?,
+        "bare_dones" => journals::bare_dones(&rt, disk, count)?,
         "load" => journals::load(&rt, disk)?,
         "ends" => ends::ends(&rt, disk, count)?,
         kind => journals::journal(&rt, disk, kind, count)?,

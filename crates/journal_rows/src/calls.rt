@@ -6,7 +6,7 @@
 //! - `bytes`: the octets that the journal gives. `disk`: those that its disk reads. `standing`: what stands.
 
 use crate::records::{number, record_of};
-use decision_journal::{CellsEnd, Journal, JournalRecord};
+use decision_journal::{CellsEnd, Journal, JournalRecord, Puts};
 use ots_outside::MemDisk;
 use std::alloc::Global;
 use std::io;
@@ -82,4 +82,56 @@ pub fn tell_standing(journal: &Journal<MemDisk>, told: &mut Vec<u8>) -> io::Resu
         write!(told, " {}", standing.place)?;
     }
     Ok(())
+}
+
+/// How many records stand, where those of cells count too.
+pub fn count_records(journal: &Journal<MemDisk>) -> usize {
+    journal.standing().len()
+}
+
+/// Tells the records that stand, but for so many of the first.
+pub fn tell_records(
+    journal: &Journal<MemDisk>,
+    known: usize,
+    told: &mut Vec<u8>,
+) -> io::Result<()> {
+    for standing in journal.standing().get(known..).unwrap_or(&[]) {
+        tell_record(&standing.item, told)?;
+    }
+    Ok(())
+}
+
+/// Tells the kind of a record of cells and its fields.
+fn tell_record(item: &JournalRecord, told: &mut Vec<u8>) -> io::Result<()> {
+    match item {
+        JournalRecord::CellsPrepared(life, number, recovery, puts) => {
+            write!(told, "; prepared {life} {number} {:?}", recovery.bytes())?;
+            tell_puts(puts, told)
+        }
+        JournalRecord::CellsOnePhase(life, number, puts) => {
+            write!(told, "; one phase {life} {number}")?;
+            tell_puts(puts, told)
+        }
+        JournalRecord::CellsOutcome(place, end) => { write!(told, "; {} {place}", end_word(*end)) }
+        _ => write!(told, "; another record"),
+    }
+}
+
+/// Tells the cells and their values.
+fn tell_puts(puts: &Puts, told: &mut Vec<u8>) -> io::Result<()> {
+    for put in puts.items() {
+        write!(told, " {}={}", put.cell, put.value)?;
+    }
+    Ok(())
+}
+
+/// The word of an outcome.
+fn end_word(end: CellsEnd) -> &'static str {
+    match end {
+        CellsEnd::Applied => "applied",
+        CellsEnd::Undone => "undone",
+        CellsEnd::ChoseCommit => "chose commit",
+        CellsEnd::ChoseRollback => "chose rollback",
+        CellsEnd::Forgotten => "forgotten",
+    }
 }

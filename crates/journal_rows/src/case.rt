@@ -1,7 +1,6 @@
 use crate::calls::{call, tell_standing};
 use crate::crashes::tell_crashes;
-use crate::ends;
-use crate::ends::tell_fault;
+use crate::end_runs::{tell_end, tell_stops, tell_words};
 use crate::records::{add_octets, number};
 use decision_journal::{Journal, JournalFault};
 use ots_outside::{Back, MemDisk};
@@ -20,15 +19,19 @@ pub const CALLS: u64 = 64;
 type Loaded = Result<Journal<MemDisk>, Back<MemDisk, JournalFault>>;
 
 /// What comes of a load of a resource end.
-type LoadedEnd = Result<ResourceEnd<MemDisk>, Back<MemDisk, EndFault>>;
+pub type LoadedEnd = Result<ResourceEnd<MemDisk>, Back<MemDisk, EndFault>>;
 
 /// What a disk holds, and what is done with it.
 #[derive(Drop)]
 pub struct Case<'a> {
-    octets: Vec<u8>,
+    /// What the disk holds at first.
+    pub octets: Vec<u8>,
     area: u64,
     service: u64,
-    calls: Vec<&'a str>,
+    /// What is done.
+    pub calls: Vec<&'a str>,
+    /// What is then asked of an end that a crash has left.
+    pub looks: Vec<&'a str>,
 }
 
 impl<'a> Case<'a> {
@@ -39,6 +42,7 @@ impl<'a> Case<'a> {
             area: 400,
             service: 1,
             calls: Vec::new(alloc),
+            looks: Vec::new(alloc),
         };
         for line in lines {
             match line.split_once(' ') {
@@ -49,6 +53,7 @@ impl<'a> Case<'a> {
                 }
                 Some(("area", area)) => case.area = u64::from(number(area)?),
                 Some(("service", service)) => case.service = u64::from(number(service)?),
+                Some(("then", look)) => case.looks.push(look)?,
                 _ => case.calls.push(line)?,
             }
         }
@@ -71,10 +76,11 @@ impl<'a> Case<'a> {
         } else if head.starts_with("crashes") {
             tell_crashes(alloc, self, &mut told)?;
         } else if head.starts_with("end") {
-            self.tell_end(alloc, Vec::new(alloc), "\n", &mut told)?;
-            writeln!(told)?;
+            tell_end(alloc, self, &mut told)?;
+        } else if head.starts_with("words") {
+            tell_words(alloc, self, &mut told)?;
         } else if head.starts_with("stops") {
-            self.tell_stops(alloc, &mut told)?;
+            tell_stops(alloc, self, &mut told)?;
         } else {
             self.tell_run(alloc, Vec::new(alloc), "\n", &mut told)?;
         }
@@ -126,78 +132,20 @@ impl<'a> Case<'a> {
     }
 
     /// Loads the resource end that a disk of these octets holds, of which these calls fail.
-    fn load_end(&self, alloc: Global, octets: &[u8], failing: Vec<u64>) -> io::Result<LoadedEnd> {
+    pub fn load_end(
+        &self,
+        alloc: Global,
+        octets: &[u8],
+        failing: Vec<u64>,
+    ) -> io::Result<LoadedEnd> {
         let area = self.area.min(AREA_LIMIT);
         let disk = MemDisk::new(alloc, octets.to_vec(alloc)?, failing)?;
         Ok(ResourceEnd::load(alloc, disk, area, self.service))
     }
 
-    /// Runs the case on a resource end over a disk of which these calls fail, and tells each answer.
-    fn tell_end(
-        &self,
-        alloc: Global,
-        failing: Vec<u64>,
-        between: &str,
-        told: &mut Vec<u8>,
-    ) -> io::Result<()> {
-        let mut loaded = self.load_end(alloc, self.octets.as_slice(), failing)?;
-        let mut gap = "";
-        for line in self.calls.as_slice() {
-            write!(told, "{gap}{line}: ")?;
-            loaded = self.next_end(alloc, loaded, line, told)?;
-            gap = between;
-        }
-        Ok(())
-    }
-
-    /// Makes the call of a line on an end, and tells the answer. `crash` loads it again from what its disk reads; after `fail N`
-    /// the call N of its disk fails too.
-    fn next_end(
-        &self,
-        alloc: Global,
-        loaded: LoadedEnd,
-        line: &str,
-        told: &mut Vec<u8>,
-    ) -> io::Result<LoadedEnd> {
-        let failing = match line.split_once(' ') {
-            Some(("fail", call)) => vec![in alloc; u64::from(number(call)?)]?,
-            _ if line == "crash" => Vec::new(alloc),
-            _ => return tell_call(alloc, loaded, line, told),
-        };
-        let disk = match loaded {
-            Ok(end) => end.into_disk(),
-            Err(back) => back.value,
-        };
-        let loaded = self.load_end(alloc, disk.octets(), failing)?;
-        match &loaded {
-            Ok(_) => write!(told, "ok")?,
-            Err(back) => tell_fault(back.fault, told)?,
-        }
-        Ok(loaded)
-    }
-
-    /// Runs the case on a resource end once for each call of its disk, from which on all fail, and tells what comes. Where it
-    /// is the same for several, it is told once.
-    fn tell_stops(&self, alloc: Global, told: &mut Vec<u8>) -> io::Result<()> {
-        let mut last = Vec::new(alloc);
-        for call in 0..CALLS {
-            let failing: Vec<u64> = (call..call.saturating_add(CALLS)).collect(alloc)?;
-            let mut row = Vec::new(alloc);
-            self.tell_end(alloc, failing, ", ", &mut row)?;
-            if row != last {
-                write!(told, "{call}: ")?;
-                told.extend_from_slice(&row)?;
-                writeln!(told)?;
-                last = row;
-            }
-        }
-        Ok(())
-    }
-
     /// Runs the case up to this call of the disk. From there on each call fails.
     pub fn stopped(&self, alloc: Global, call: u64) -> io::Result<MemDisk> {
-        let failing: Vec<u64> = (call..call.saturating_add(CALLS)).collect(alloc)?;
-        self.run(alloc, failing, "", &mut Vec::new(alloc))
+        self.run(alloc, calls_from(alloc, call)?, "", &mut Vec::new(alloc))
     }
 
     /// Tells what a load of the octets finds, once one of them is another and the rest is cut off.
@@ -227,21 +175,7 @@ impl<'a> Case<'a> {
     }
 }
 
-/// Makes the call of a line on an end that was loaded, and tells the answer.
-fn tell_call(
-    alloc: Global,
-    loaded: LoadedEnd,
-    line: &str,
-    told: &mut Vec<u8>,
-) -> io::Result<LoadedEnd> {
-    match loaded {
-        Ok(mut end) => {
-            ends::call(alloc, &mut end, line, told)?;
-            Ok(Ok(end))
-        }
-        Err(back) => {
-            tell_fault(back.fault, told)?;
-            Ok(Err(back))
-        }
-    }
+/// The calls of a disk from this one on.
+pub fn calls_from(alloc: Global, call: u64) -> io::Result<Vec<u64>> {
+    Ok((call..call.saturating_add(CALLS)).collect(alloc)?)
 }

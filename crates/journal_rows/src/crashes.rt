@@ -60,20 +60,40 @@ fn rows(
     after: &[u8],
     end: &[u8],
 ) -> io::Result<Vec<Row>> {
-    let written = difference(before, after);
     let mut rows = Vec::new(alloc);
-    for count in written.start..=written.end {
-        let old = torn(alloc, before, after, count)?;
-        count_image(alloc, case, old.as_slice(), end, &mut rows)?;
+    for image in images(alloc, before, after)?.as_slice() {
+        count_image(alloc, case, image.as_slice(), end, &mut rows)?;
     }
+    Ok(rows)
+}
+
+/// The images that a crash can leave. Each has the front of what was written, and behind it what stood there, or octets
+/// that are 1.
+pub fn images(alloc: Global, before: &[u8], after: &[u8]) -> io::Result<Vec<Vec<u8>>> {
+    let written = difference(before, after);
+    let mut images = Vec::new(alloc);
+    for count in written.start..=written.end {
+        images.push(torn(alloc, before, after, count)?)?;
+    }
+    add_ones(alloc, after, written, &mut images)?;
+    Ok(images)
+}
+
+/// Adds the images with octets that are 1.
+fn add_ones(
+    alloc: Global,
+    after: &[u8],
+    written: Range<usize>,
+    images: &mut Vec<Vec<u8>>,
+) -> io::Result<()> {
     for count in written.start..written.end {
         let mut ones = after.to_vec(alloc)?;
         if let Some(rest) = ones.as_mut_slice().get_mut(count..written.end) {
             rest.fill(1);
         }
-        count_image(alloc, case, ones.as_slice(), end, &mut rows)?;
+        images.push(ones)?;
     }
-    Ok(rows)
+    Ok(())
 }
 
 /// So many octets of what was written, and what stood behind them.

@@ -1,7 +1,9 @@
-//! The calls of a resource end. A resource is named by the life that made it and its number in it. Each line is one of these:
+//! The calls of a resource end. A resource is named by the life that made it and its number in it. The letter of its key
+//! is R where no other follows the number, as in `1 2-A`. Each line is one of these:
 //!
-//! - `fresh`: a resource is made; `fresh N`: so many, and the last answer is told. `asks`: who asks, and whom. `cell C`: what
-//!   is stored in a cell. `puts L N COUNT`: a resource puts so many cells, and the last answer is told.
+//! - `fresh`: a resource is made; `fresh N`: so many, and the last answer is told. `fresh A`, `fresh Y`: an object with a
+//!   key of this letter. `asks`: who asks, and whom. `cell C`: what is stored in a cell. `puts L N COUNT`: a resource puts
+//!   so many cells, and the last answer is told.
 //! - `put L N C V`, `get L N C`, `bind L N R`, `unmake L N`, `refuse L N`, `choose L N DECISION`, `learn L N STATUS`.
 //! - `prepare L N`, `commit L N`, `rollback L N`, `one_phase L N`, `forget L N`: a word, what it is answered, and what
 //!   that is shown as.
@@ -27,21 +29,33 @@ pub fn call(
     let words: Vec<&str> = line.split_whitespace().collect(alloc)?;
     match words.as_slice() {
         [_] => call_alone(alloc, end, line, told),
-        ["fresh", count] => tell_fresh(end, number(count)?, told),
+        ["fresh", "A"] => tell_fresh(end, b'A', 1, told),
+        ["fresh", "Y"] => tell_fresh(end, b'Y', 1, told),
+        ["fresh", count] => tell_fresh(end, b'R', number(count)?, told),
         [_, cell] => write!(told, "{:?}", end.stored(u64::from(number(cell)?))),
         [word, life, of, rest @ ..] => {
-            let key = ObjectKey {
-                kind: b'R',
-                service: end.service(),
-                life: number(life)?,
-                slot: 0,
-                generation: u64::from(number(of)?),
-                index: 0,
-            };
+            let key = key_of(end, life, of)?;
             call_on(alloc, end, &key, word, rest, told)
         }
         [] => Err(ErrorKind::InvalidInput.into()),
     }
+}
+
+/// The key of the object with this life and number.
+fn key_of(end: &ResourceEnd<MemDisk>, life: &str, of: &str) -> io::Result<ObjectKey> {
+    let (of, letter) = of.split_once('-').unwrap_or((of, "R"));
+    Ok(ObjectKey {
+        kind: match letter {
+            "A" => b'A',
+            "Y" => b'Y',
+            _ => b'R',
+        },
+        service: end.service(),
+        life: number(life)?,
+        slot: 0,
+        generation: u64::from(number(of)?),
+        index: 0,
+    })
 }
 
 /// Makes a call that names no resource.
@@ -52,7 +66,7 @@ fn call_alone(
     told: &mut Vec<u8>,
 ) -> io::Result<()> {
     if word == "fresh" {
-        return tell_fresh(end, 1, told);
+        return tell_fresh(end, b'R', 1, told);
     }
     let mut out = Outbox::new(alloc);
     if let Err(fault) = end.asks(&mut out) {
@@ -67,11 +81,16 @@ fn call_alone(
     Ok(())
 }
 
-/// Makes so many resources, and tells the last answer.
-fn tell_fresh(end: &mut ResourceEnd<MemDisk>, count: u32, told: &mut Vec<u8>) -> io::Result<()> {
+/// Makes so many objects with keys of this letter, and tells the last answer.
+fn tell_fresh(
+    end: &mut ResourceEnd<MemDisk>,
+    letter: u8,
+    count: u32,
+    told: &mut Vec<u8>,
+) -> io::Result<()> {
     let mut answer = Err(EndFault::NoResources);
     for _ in 0..count {
-        answer = end.fresh(b'R');
+        answer = end.fresh(letter);
     }
     match answer {
         Ok(key) => write!(told, "{} {}", key.life, key.generation),
