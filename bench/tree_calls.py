@@ -3,22 +3,25 @@
 
 `tree_calls.py calls SEED COUNT BRANCHES` prints about so many random calls on a tree of at most so many branches, and
 `answers` in place of `calls` their answers by the plain account below, which knows nothing of the program.
+`tree_calls.py cases calls` and `cases answers` print the random cases of `crates/ots_rows` and what they tell.
 `tree_calls.py bench KIND SIZE COUNT` prints about so many calls of a kind on trees of that size (see bench/trees.sh), and
 `setup` in place of `bench` only what makes these trees.
 """
 import random
 import sys
 
-DEPTH, TRANSACTIONS, REGISTRATIONS = 16, 1024, 64
+DEPTH, TRANSACTIONS, REGISTRATIONS, SYNCHRONIZATIONS = 16, 1024, 64, 64
 LIVE = "Active", "MarkedRollback"
+VOTES = "VoteCommit", "VoteRollback", "VoteReadOnly"
 
 
 class Account:
-    """A tree as the path of each branch from the top to itself, and each registration with the branch that it was made at."""
+    """A tree as the path of each branch from the top to itself; each registration as the branch that it was made at, whether
+    it takes part, whether it is told of the end of a subtransaction, and what it voted last; and a count of synchronizations."""
 
     def __init__(self):
         self.paths, self.states = [(0,)], ["Active"]
-        self.made, self.commits = [], []
+        self.made, self.commits, self.synchronizations = [], [], 0
 
     def parent(self, branch):
         return self.paths[branch][-2] if branch else None
@@ -67,19 +70,47 @@ class Account:
         below = [b for b, path in enumerate(self.paths) if branch in path[:-1] and self.states[b] in LIVE]
         return max(below, key=lambda b: (len(self.paths[b]), b)) if below else "none"
 
-    def register(self, branch):
+    def register(self, branch, takes_part=True, is_aware=False):
+        refusal = self.refusal(branch, len(self.made), REGISTRATIONS)
+        if refusal:
+            return refusal
+        self.made.append([branch, takes_part, is_aware, None])
+        return f"registration {len(self.made)}"
+
+    def double(self, branch):
+        return self.register(branch, is_aware=True)
+
+    def aware(self, branch):
+        return self.register(branch, takes_part=False, is_aware=True) if branch else "NotSubtransaction"
+
+    def sync(self, branch):
+        refusal = self.refusal(branch, self.synchronizations, SYNCHRONIZATIONS)
+        if branch or refusal:
+            return "SynchronizationUnavailable" if branch else refusal
+        self.synchronizations += 1
+        return f"registration {self.synchronizations}"
+
+    def refusal(self, branch, count, most):
         if self.states[branch] != "Active":
             return "MarkedAlready" if self.states[branch] == "MarkedRollback" else "Inactive"
-        if len(self.made) == REGISTRATIONS:
-            return "NoResources"
-        self.made.append(branch)
-        return f"registration {len(self.made)}"
+        return "NoResources" if count == most else None
+
+    def told(self, branch, after):
+        later = [n for n, (at, _, is_aware, _) in enumerate(self.made, 1) if is_aware and at == branch and n > after]
+        return min(later, default="none")
+
+    def synchronization(self, number):
+        return number if 1 <= number <= self.synchronizations else "none"
+
+    def vote(self, number, vote):
+        self.made[number - 1][3] = vote
+        return f"Some({vote})"
 
     def participants(self, top):
         """Of a branch, what was registered with it and the lists of its committed children, in the order of these calls;
         nothing is left where its list was handed on."""
         def listed(branch):
-            events = [(2 * place, [place + 1]) for place, owner in enumerate(self.made) if owner == branch]
+            events = [(2 * place, [place + 1]) for place, (at, takes_part, _, _) in enumerate(self.made) if takes_part and at == branch]
             for moment, (before, child) in enumerate(self.commits):
                 if self.parent(child) == branch:
                     events.append((2 * before - 1 + moment / len(self.commits), listed(child)))
@@ -89,30 +120,81 @@ class Account:
         return " ".join(["participants"] + [str(number) for number in ([] if handed_on else listed(top))])
 
 
-KINDS = "create", "commit", "rollback", "mark", "status", "relation", "live", "register", "participants"
-MANY, FEW = (60, 10, 3, 2, 5, 8, 6, 6, 2), (25, 14, 2, 1, 4, 4, 4, 24, 8)
+# how often each call is made, on a tree of as many transactions as there may be and on a small one
+KINDS = {
+    "create": (60, 25), "commit": (10, 14), "rollback": (3, 2), "mark": (2, 1), "status": (5, 4), "relation": (8, 4),
+    "live": (6, 4), "sweep": (2, 1), "register": (3, 14), "double": (2, 7), "aware": (2, 7), "sync": (2, 5), "told": (4, 6),
+    "synchronization": (1, 2), "vote": (3, 6), "participants": (2, 8),
+}
+# the cases of crates/ots_rows: a seed, how many calls, and of how many branches
+CASES = [(seed, 150, 24) for seed in range(1, 9)] + [(seed, 2200, TRANSACTIONS) for seed in range(11, 14)]
+
+
+def random_call(pick, account, most):
+    """A call and its words, or nothing."""
+    branches = range(len(account.paths))
+    branch = pick.choice(branches)
+    call = pick.choices(list(KINDS), [often[most < TRANSACTIONS] for often in KINDS.values()])[0]
+    if call in ("create", "register", "double", "aware", "commit") and pick.random() < 0.9:
+        open_ones = [b for b in branches if account.states[b] == "Active" and len(account.paths[b]) < DEPTH]
+        branch = pick.choice(open_ones[0 if call in ("create", "commit") else 1:] or open_ones or branches)
+    if call in ("commit", "rollback", "mark") and branch == 0 or call == "create" and len(branches) == most < TRANSACTIONS:
+        return None
+    if call in ("participants", "sync") and pick.random() < 0.7:
+        branch = 0
+    if call in ("live", "sweep"):
+        branch = min(branch, *pick.choices(branches, k=3))
+    if call == "vote":
+        return account.made and (call, pick.randint(1, len(account.made)), pick.choice(VOTES))
+    if call == "synchronization":
+        return call, pick.randint(0, account.synchronizations + 1)
+    if call == "told" and account.made:
+        branch = pick.choice([branch, pick.choice(account.made)[0]])
+    words = {"relation": [pick.choice(branches), branch], "told": [branch, pick.randint(0, len(account.made))]}
+    return (call, *words.get(call, [branch]))
 
 
 def random_calls(seed, count, most):
+    """Random calls, each with its answer. A sweep rolls back what is live below a branch, or the first of it."""
     pick = random.Random(seed)
     account = Account()
     for _ in range(count):
-        branches = range(len(account.paths))
-        branch = pick.choice(branches)
-        call = pick.choices(KINDS, MANY if most == TRANSACTIONS else FEW)[0]
-        if call in ("create", "register", "commit") and pick.random() < 0.9:
-            open_ones = [b for b in branches if account.states[b] == "Active" and len(account.paths[b]) < DEPTH]
-            branch = pick.choice(open_ones[1 if call == "register" else 0:] or open_ones)
-        if call in ("commit", "rollback", "mark") and branch == 0 or call == "create" and len(branches) == most < TRANSACTIONS:
-            continue
-        if call == "participants" and pick.random() < 0.7:
-            branch = 0
-        words = [branch] if call != "relation" else [pick.choice(branches), branch]
-        yield " ".join([call] + [str(word) for word in words]), getattr(account, call)(*words)
+        call, *words = random_call(pick, account, most) or ("status", 0)
+        steps = 1 if call != "sweep" else pick.randint(1, 12)
+        for _ in range(steps):
+            name = "live" if call == "sweep" else call
+            answer = getattr(account, name)(*words)
+            yield " ".join(map(str, [name] + words)), answer
+            if call == "sweep" and answer != "none":
+                yield f"rollback {answer}", account.rollback(answer)
+
+
+def cases(what):
+    for seed, count, most in CASES:
+        told = list(random_calls(seed, count, most))
+        size = sum(str(answer).startswith("branch") for _, answer in told) + 1
+        print(f"== tree | # random calls on a tree that grows to {size:,} transactions, {seed}")
+        print("\n".join(str(call if what == "calls" else answer) for call, answer in told))
 
 
 def chain(depth):
     return [f"create {branch}" for branch in range(depth - 1)]
+
+
+def ending(kind, count):
+    """A tree of so many subtransactions, and the calls that roll back each of them, with a look for the next one before each:
+    below the top; or from the leaves up, the last first, below the parent of each; or pairs of one and its only child, in the
+    order of their making, below the first of the pair."""
+    parents = {b: (b - 1) // 2 if kind != "pairs" else 0 if b % 2 else b - 1 for b in range(1, count + 1)}
+    depths = {0: 0}
+    for branch, parent in parents.items():
+        depths[branch] = depths[parent] + 1
+    looks = {
+        "top": [(0, b) for b in sorted(parents, key=lambda b: (depths[b], b), reverse=True)],
+        "leaves": [(parents[b], b) for b in reversed(parents)],
+        "pairs": [(b, end) for b in range(1, count, 2) for end in (b + 1, b)],
+    }
+    return [f"create {p}" for p in parents.values()], [line for at, b in looks[kind] for line in (f"live {at}", f"rollback {b}")]
 
 
 def bench(kind, size):
@@ -123,6 +205,10 @@ def bench(kind, size):
         return [], ["register 0"] * size
     if kind == "vote":
         return ["register 0"] * size, [f"vote {size} VoteCommit"] * 64
+    if kind in ("top", "leaves", "pairs"):
+        return ending(kind, size)
+    if kind == "few":
+        return ["create 0"] * (size - 1) + ["create 1"], ["live 1"] * 4096
     if kind == "ancestry":
         return chain(size), [f"relation 0 {size - 1}"] * 64
     if kind == "participants":
@@ -145,6 +231,8 @@ def main():
         for _ in range(max(1, int(words[2]) // (len(first) + len(again)))):
             print("\n".join(["== tree"] + first + (again if what == "bench" else [])))
         return
+    if what == "cases":
+        return cases(words[0])
     for call, answer in random_calls(*map(int, words)):
         print(call if what == "calls" else answer)
 

@@ -9,28 +9,39 @@ calls=${1:-200000}
 ots=$here/crates/ots_rows/out/ots_rows
 (cd "$here/crates/ots_rows" && rt run </dev/null >/dev/null 2>&1) || true
 
-# row KIND SIZE..: about so many calls of a kind on trees of each size.
+# row KIND SIZE..: about so many calls of a kind on trees of each size. What is counted is named, with the calls that each
+# takes, by `each` and `times`.
 row() {
   local kind=$1
   shift
   make() { python3 "$here/bench/tree_calls.py" bench "$kind" "$1" "$calls"; }
   setup() { python3 "$here/bench/tree_calls.py" setup "$kind" "$1" "$calls"; }
   rows cases make "$@" >"$work/all"
-  rows cases setup "$@" | paste -d " " "$work/all" - | python3 -c '
-import sys
+  rows cases setup "$@" | paste -d " " "$work/all" - | each=${each:-call} times=${times:-1} python3 -c '
+import os, sys
+each, times = os.environ["each"], int(os.environ["times"])
 rows = []
 for line in sys.stdin:
     size, octets, took, told, _, _, setup, before = map(int, line.split())
     rows.append((size, octets, max(1, took - setup), told - before))
 for size, _, took, told in rows:
-    print(f"{size:>6}: {told:>8} calls, {took / 1e6:8.1f} ms, {took / told:8.0f} ns per call")
+    print(f"{size:>6}: {told:>8} calls, {took / 1e6:8.1f} ms, {took / told * times:8.0f} ns per {each}")
 (small, _, first, once), (large, _, last, again) = rows[0], rows[-1]
-print(f"ratio of the time per call, {large:,} to {small:,}: {(last / again) / (first / once):.2f}")
+print(f"ratio of the time per {each}, {large:,} to {small:,}: {(last / again) / (first / once):.2f}")
 '
 }
 
 echo "create_sub, by the transactions of a tree:"
 row create 16 128 1024
+echo "live_under, below one that has a single subtransaction, by the live subtransactions of its tree:"
+row few 128 512 1023
+rollbacks() { each=subtransaction times=2 row "$1" 128 512 1022; }
+echo "live_under and end_sub, each as the next one below the top, by the live subtransactions of a tree:"
+rollbacks top
+echo "live_under and end_sub, from the leaves up, with a look below the parent of each, by the same:"
+rollbacks leaves
+echo "live_under and end_sub, pairs of one and its only child, by the same:"
+rollbacks pairs
 echo "register, by the registrations of a tree:"
 row register 2 16 64
 echo "vote and vote_of, by the registrations of a tree:"

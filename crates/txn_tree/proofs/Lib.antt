@@ -2,3 +2,10 @@ pub mod Lineages
 pub mod Sound
 pub mod Deepest
 pub mod Next
+pub mod Kept
+pub mod Below
+pub mod Ways
+pub mod Linking
+pub mod Unlinking
+pub mod Found
+pub mod Steps

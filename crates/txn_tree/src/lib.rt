@@ -9,5 +9,6 @@ pub use row::TreeFault;
 pub use tree::{DEPTH_LIMIT, TRANSACTION_LIMIT, Tree};
 
 mod laws;
+mod links;
 mod row;
 mod tree;

@@ -1,5 +1,5 @@
-ghost use Rattle.std.specs.Prelude.{◌≡◌};
-ghost use Rattle.txn_tree.specs.Rows as rows;
+ghost use Rattle.std.specs.Prelude.{◌≡◌, ◌<◌, length};
+ghost use Rattle.txn_tree.specs.Rows as tree;
 
 use ots_model::Status;
 
@@ -15,14 +15,14 @@ pub(crate) enum State {
 impl State {
     /// Whether it has not ended.
     pub fn is_live(self) -> bool
-        ensures { result ≡ rows.is_live self }
+        ensures { result ≡ tree.is_live self }
     {
         matches!(self, State::Active | State::Marked)
     }
 
     /// As a status of the standard.
     pub fn status(self) -> Status
-        ensures { result ≡ rows.shown self }
+        ensures { result ≡ tree.shown self }
     {
         match self {
             State::Active => Status::Active,
@@ -38,6 +38,14 @@ impl State {
 pub(crate) struct Row {
     pub parent: Option<u32>,
     pub state: State,
+}
+
+/// The parent of a branch.
+pub(crate) fn parent_of(rows: &[Row], branch: u32) -> Option<u32>
+    requires there { branch < length rows.now }
+    ensures { result ≡ tree.parent rows.now branch }
+{
+    rows[branch as usize].parent
 }
 
 /// Why a call on a tree changes nothing.

@@ -5,7 +5,8 @@ ghost use Rattle.txn_tree.specs.Rows.{IsTree};
 ghost use Rattle.txn_tree.specs.Rows as ancestry;
 ghost use Rattle.txn_tree.specs.Calls as calls;
 
-use crate::row::{Row, State, TreeFault};
+use crate::links::{Links, last_under, link, relink, unlink, unlinked};
+use crate::row::{Row, State, TreeFault, parent_of};
 use ots_model::Status;
 use std::alloc::{AllocError, Global};
 use std::marker::Model;
@@ -25,6 +26,7 @@ const TOP: u32 = 0;
 pub struct Tree {
     rows: Vec<Row>,
     depths: Vec<u32>,
+    links: Vec<Links>,
 }
 
 impl Model for Tree {
@@ -46,12 +48,18 @@ impl Tree {
     {
         let mut rows = Vec::new(alloc);
         let mut depths = Vec::new(alloc);
+        let mut links = Vec::new(alloc);
         rows.push(Row {
             parent: None,
             state: State::Active,
         })?;
         depths.push(1)?;
-        Ok(Tree { rows, depths })
+        links.push(unlinked())?;
+        Ok(Tree {
+            rows,
+            depths,
+            links,
+        })
     }
 
     /// How many transactions there are, the top included: branches are below that.
@@ -73,6 +81,7 @@ impl Tree {
         if self.is_packed() {
             self.rows.reserve(1)?;
             self.depths.reserve(1)?;
+            self.links.reserve(1)?;
         }
         Ok(())
     }
@@ -125,7 +134,9 @@ impl Tree {
     fn is_packed(&self) -> bool
         ensures { IsTrue result ↔ (self.now.room ≡ 0) }
     {
-        self.rows.len() == self.rows.capacity() || self.depths.len() == self.depths.capacity()
+        self.rows.len() == self.rows.capacity()
+            || self.depths.len() == self.depths.capacity()
+            || self.links.len() == self.links.capacity()
     }
 
     /// Makes a subtransaction of this branch. It needs no memory.
@@ -139,10 +150,12 @@ impl Tree {
         let branch = self.rows.len() as u32;
         let depth = self.depths[parent as usize] + 1;
         self.depths.push_reserved(depth);
+        self.links.push_reserved(unlinked());
         self.rows.push_reserved(Row {
             parent: Some(parent),
             state: State::Active,
         });
+        link(&self.rows, &self.depths, &mut self.links, branch);
         branch
     }
 
@@ -305,52 +318,12 @@ impl Tree {
     }
 
     /// Of the live transactions below this branch the deepest; of equals the one made last. It is the next one to be
-    /// rolled back where this branch ends.
+    /// rolled back where this branch ends. It is found in one step for each depth.
     pub fn live_under(&self, branch: u32) -> Option<u32>
         requires there { branch < length self.now.rows }
         ensures { result ≡ calls.live_under self.now.rows branch }
     {
-        let count = self.rows.len() as u32;
-        let mut next = None;
-        for place in (0..count).rev() {
-            if self.is_next(branch, place, next) {
-                next = Some(place);
-            }
-        }
-        next
-    }
-
-    /// Whether a branch is live and below another one, and is rolled back before those made later, of which this is the
-    /// first.
-    fn is_next(&self, above: u32, branch: u32, later: Option<u32>) -> bool
-        requires there { (above < length self.now.rows) × (branch < length self.now.rows) }
-        requires later { IfSome later (λ o. o < length self.now.rows) }
-        ensures { result ≡ (calls.is_deeper self.now.rows branch later
-            && calls.is_live_below self.now.rows above branch) }
-    {
-        self.is_deeper(branch, later) && self.is_live_below(above, branch)
-    }
-
-    /// Whether a branch lies deeper than another one, where there is another one.
-    fn is_deeper(&self, branch: u32, other: Option<u32>) -> bool
-        requires there { branch < length self.now.rows }
-        requires other { IfSome other (λ o. o < length self.now.rows) }
-        ensures { result ≡ calls.is_deeper self.now.rows branch other }
-    {
-        match other {
-            Some(other) => self.depths[other as usize] < self.depths[branch as usize],
-            None => true,
-        }
-    }
-
-    /// Whether a branch is live, and below another one.
-    fn is_live_below(&self, above: u32, branch: u32) -> bool
-        requires there { (above < length self.now.rows) × (branch < length self.now.rows) }
-        ensures { result ≡ calls.is_live_below self.now.rows above branch }
-    {
-        self.rows[branch as usize].state.is_live()
-            && branch != above
-            && self.is_ancestor(above, branch)
+        last_under(&self.links, branch)
     }
 
     /// Whether the parent has ended, where there is one.
@@ -364,13 +337,20 @@ impl Tree {
         }
     }
 
-    /// From now on this branch stands so.
+    /// From now on this branch stands so. One that ends costs its depth, and the ended ones that it uncovers; the whole tree is
+    /// gone over only where one that has ended is marked.
     fn set_state(&mut self, branch: u32, state: State)
         requires there { branch < length self.old.rows }
         ensures { self.new ≡ record self.old { rows = calls.with_state self.old.rows branch state } }
     {
+        let was_live = self.rows[branch as usize].state.is_live();
         let parent = parent_of(&self.rows, branch);
         self.rows[branch as usize] = Row { parent, state };
+        if !state.is_live() {
+            unlink(&self.rows, &self.depths, &mut self.links, branch);
+        } else if !was_live {
+            relink(&self.rows, &self.depths, &mut self.links);
+        }
     }
 }
 
@@ -408,12 +388,4 @@ fn have_top(rows: &[Row], a: u32, b: u32) -> bool
     ensures { result ≡ ancestry.are_related rows.now a b }
 {
     is_above(rows, TOP, a) && is_above(rows, TOP, b)
-}
-
-/// The parent of a branch.
-fn parent_of(rows: &[Row], branch: u32) -> Option<u32>
-    requires there { branch < length rows.now }
-    ensures { result ≡ ancestry.parent rows.now branch }
-{
-    rows[branch as usize].parent
 }
