@@ -1,8 +1,8 @@
 #!/usr/bin/env bash
 # Appends decisions to a journal in a real file, and makes the bare writes and syncs of as many octets; does both for
-# the Dones of the oldest decisions, in a journal in which few stand, and appends to it and makes Dones in one in which
-# 8,000 stand; and loads journals of 1, 8 and 64 MB, of decisions and their Dones: each Done behind its decision, and
-# each so far behind it that 8,000 stand. Prints how many appends there were in a second, and the ratios of the times:
+# the Dones of the oldest decisions, in a journal in which few stand, and appends to it and makes Dones, of the oldest and
+# of those in the middle, in one in which 8,000 stand; and loads journals of 1, 8 and 64 MB, of decisions and their Dones:
+# each Done behind its decision, and each so far behind it that 8,000 stand. Prints how many appends there were in a second, and the ratios of the times:
 # of appends and Dones to the bare writes and syncs, of each where many stand to the same where few do, and of the loads
 # per octet. What a load of an empty journal takes, which is its syncs, is taken off. Run it anywhere; it builds the
 # program first. How many decisions are appended, and the folder of the files, may be given as arguments. Each time is
@@ -67,7 +67,7 @@ loads() {
 for size in 19200 336065; do
   journal "$size" 8000 >"$work/octets"
   for _ in 1 2 3 4 5; do
-    for kind in appends dones; do
+    for kind in appends dones middle_dones; do
       cp "$work/octets" "$file"
       "$program" "$kind" "$file" 100 >>"$work/$kind.$size"
     done
@@ -83,13 +83,14 @@ for standing in 0 8000; do
 done
 
 python3 - "$(least <"$work/bare_dones")" $(for size in 19200 336065; do
-  for kind in appends dones; do least <"$work/$kind.$size"; done
+  for kind in appends dones middle_dones; do least <"$work/$kind.$size"; done
 done) <<'PY'
 import sys
-bare, appends, dones, appends_many, dones_many = map(int, sys.argv[1:])
+bare, appends, dones, middle, appends_many, dones_many, middle_many = map(int, sys.argv[1:])
 print(f"ratio of the time of Dones to that of bare writes and syncs: {dones / bare:.2f}")
 print(f"ratio of the time of an append, 8,000 decisions standing to 450: {appends_many / appends:.2f}")
-print(f"ratio of the time of a Done, 8,000 decisions standing to 450: {dones_many / dones:.2f}")
+print(f"ratio of the time of a Done of the oldest, 8,000 decisions standing to 450: {dones_many / dones:.2f}")
+print(f"ratio of the time of a Done in the middle, 8,000 decisions standing to 450: {middle_many / middle:.2f}")
 PY
 
 python3 - "$count" "$(least <"$work/appends")" "$(least <"$work/bare")" $(cat "$work/loads.0") $(cat "$work/loads.8000") <<'PY'

@@ -1,12 +1,12 @@
 -- One more record: what is found then, and what is used.
-use Rattle.std.proofs.Common.{◌≡◌, ℕ, ◌+◌, ◌≤◌, List, [], ◌∷◌, ◌++◌, length, refl, sym, ap, subst, ◌∙◌, arith, append_assoc, append-nil, length-append}
+use Rattle.std.proofs.Common.{◌≡◌, ℕ, ◌+◌, List, [], ◌∷◌, ◌++◌, length, sym, ap, ◌∙◌, arith, append_assoc, append-nil, length-append}
 use Rattle.std.specs.List.{flat_map}
 use Rattle.decision_journal.specs.declared.record.JournalRecord.{JournalRecord}
 use Rattle.decision_journal.specs.declared.record.JournalRecord.TheVariants.{Done}
 use Rattle.decision_journal.specs.Growing.{BodiesAreRead, JournalsGrow}
-use Rattle.decision_journal.specs.Journal.{Found, first_gate, found_in, front, header, nothing_found, with_record}
+use Rattle.decision_journal.specs.Journal.{first_gate, found_in, front, header, nothing_found, with_record}
 use Rattle.decision_journal.specs.Layout.{record_octets}
-use Rattle.decision_journal.specs.State.{need, used}
+use Rattle.decision_journal.specs.State.{used}
 use Rattle.decision_journal.proofs.Scans.{with_records-more}
 use Rattle.decision_journal.proofs.Steps.{body_again}
 use Rattle.decision_journal.proofs.Using.{room_done, room_more}

@@ -30,3 +30,5 @@ pub mod Below
 pub mod Calls
 pub mod Refused
 pub mod Left
+pub mod Lined
+pub mod Asking

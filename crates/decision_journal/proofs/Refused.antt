@@ -30,7 +30,7 @@ way_appended : (g : ℕ) (b : List ℕ) (s m t : DiskState) → IsOnTheWay s m t
 way_appended g b s m t way = way_before g (1 ∷ []) s (wrote_synced (g + 1) b m) t (way_before (g + 1) b s m t way)
 
 -- octets that are a journal, by the test
-old_test : (o : List ℕ) → (IsFresh o → ⊥) → is_fresh o ≡ false
+pub old_test : (o : List ℕ) → (IsFresh o → ⊥) → is_fresh o ≡ false
 old_test o old = elim (cases_lt (length o) 17) [
   | inl less ↦ absurd (old (inl less))
   | inr long ↦ elim (cases_eq (length o) 17) [

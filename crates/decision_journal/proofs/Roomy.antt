@@ -3,14 +3,14 @@ use Rattle.std.proofs.Common.{◌≡◌, ℕ, ◌+◌, ◌<◌, ◌≤◌, Optio
 use Rattle.std.specs.Prelude.{IsTrue}
 use Rattle.decision_journal.specs.declared.record.JournalRecord.{JournalRecord}
 use Rattle.decision_journal.specs.declared.record.JournalRecord.TheVariants.{Life, Decision, Done, Prepared, CellsPrepared, CellsOutcome, CellsOnePhase}
-use Rattle.decision_journal.specs.Limits.{standing_limit}
+use Rattle.decision_journal.specs.Limits.{piece_length, standing_limit}
 use Rattle.decision_journal.specs.Journal.{is_decision}
 use Rattle.decision_journal.specs.State.{cells_in, decisions}
 use Rattle.decision_journal.specs.Room.{IsRoomy, Stock, stands_in}
 
 module _ (area capacity piece : ℕ) (stock : Stock) where
   -- with more room for octets, and a piece
-  pub roomy_more : (doubted : Option JournalRecord) (room more other : ℕ) → capacity ≤ more → 0 < other → IsRoomy area capacity piece stock doubted room → IsRoomy area more other stock doubted room
+  pub roomy_more : (doubted : Option JournalRecord) (room more other : ℕ) → capacity ≤ more → other ≡ piece_length → IsRoomy area capacity piece stock doubted room → IsRoomy area more other stock doubted room
   roomy_more doubted room more other le some r = record { octets = omega (arith, le, r.octets); pieces = some; spare = r.spare; records = r.records }
 
   -- no record is in doubt any more

@@ -21,6 +21,11 @@ pub record IsIndexed (standing : List Standing) (decisions : ℕ) : Type 0 where
   pub order : AreInOrder standing
   pub count : decisions ≡ count_by (λ s. is_decision s.item) standing
 
+-- what stands, in order, and for how many more there is room
+pub record Lined : Type 0 where
+  pub standing : List Standing
+  pub spare : ℕ
+
 abbrev pub is_done : JournalRecord → Bool
 is_done (Life life) = false
 is_done (Decision life slot generation k asked regs) = false

@@ -8,5 +8,6 @@ pub mod Laws
 pub mod State
 pub mod Growing
 pub mod Room
+pub mod Asking
 pub mod Calls
 pub mod Loading

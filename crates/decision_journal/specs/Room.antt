@@ -1,8 +1,8 @@
 -- The room that a journal keeps, so that its calls need no memory. Its contracts speak of the room for records of cells alone.
-use Rattle.std.specs.Prelude.{ℕ, ◌+◌, ◌<◌, ◌≤◌, Option, Some, None}
+use Rattle.std.specs.Prelude.{◌≡◌, ℕ, ◌+◌, ◌≤◌, Option, Some, None}
 use Rattle.decision_journal.specs.declared.record.JournalRecord.{JournalRecord}
 use Rattle.decision_journal.specs.declared.record.JournalRecord.TheVariants.{Life, Decision, Done, Prepared, CellsPrepared, CellsOutcome, CellsOnePhase}
-use Rattle.decision_journal.specs.Limits.{standing_limit}
+use Rattle.decision_journal.specs.Limits.{piece_length, standing_limit}
 use Rattle.decision_journal.specs.Journal.{Found}
 use Rattle.decision_journal.specs.State.{cells_in, decisions}
 
@@ -30,10 +30,10 @@ abbrev pub cells_in_doubt : Option JournalRecord → ℕ
 cells_in_doubt None = 0
 cells_in_doubt (Some r) = cells_in r
 
--- the room that a journal keeps: for the octets of its area, a piece to read into, and for so many records of cells, the one
+-- the room that a journal keeps: for the octets of its area, a piece of 65,536 to read into, and for so many records of cells, the one
 -- in doubt, and all decisions that may stand
 pub record IsRoomy (area capacity piece : ℕ) (stock : Stock) (doubted : Option JournalRecord) (room : ℕ) : Type 0 where
   pub octets : area ≤ capacity
-  pub pieces : 0 < piece
+  pub pieces : piece ≡ piece_length
   pub spare : room + stands_in_doubt doubted ≤ stock.spare
   pub records : standing_limit + room + cells_in_doubt doubted ≤ decisions stock.found + stock.spare

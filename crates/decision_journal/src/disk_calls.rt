@@ -1,12 +1,15 @@
-ghost use Rattle.std.specs.Prelude.{◌≡◌, ◌<◌, ◌≤◌, ◌+◌, ◌^◌, ◌++◌, length, vec_capacity, IsErrOf, IsTrue, OnErr, OnOk, IfOk, IfSome};
+ghost use Rattle.std.specs.Prelude.{◌≡◌, ◌<◌, ◌≤◌, ◌+◌, ◌^◌, ◌++◌, is_ok, length, vec_capacity, IsErrOf, IsTrue, OnErr, OnOk, IfOk, IfSome};
 ghost use Rattle.std.specs.Option.{ForSome};
 ghost use Rattle.ots_outside.specs.declared.disk.DiskRefusal.TheVariants.{Failed, Memory};
 ghost use Rattle.ots_outside.specs.Disk.{IsAfterRefusal, ReadsImage, Tells, synced, written};
+ghost use Rattle.ots_outside.specs.Asked.{IsAsked};
 ghost use Rattle.ots_outside.specs.Faults.{LeavesFaults};
 ghost use Rattle.ots_outside.specs.Source.{HasRisen};
 ghost use Rattle.decision_journal.specs.Layout.{Fits, record_octets};
 ghost use Rattle.decision_journal.specs.Laws.{IsOnTheWay, appended, behind_gate, cleared, created, is_letter_due};
 ghost use Rattle.decision_journal.specs.Journal.{IsAlong};
+ghost use Rattle.decision_journal.specs.Asking.{AsksReads, AsksReread, append_calls, clear_calls, create_calls, write_calls};
+ghost use Rattle.decision_journal.specs.Limits.{piece_length};
 
 use crate::record::JournalRecord;
 use crate::room::put_closed_record;
@@ -26,6 +29,7 @@ pub(crate) fn append_at<D: Disk>(disk: &mut D, gate: u64, behind: &[u8]) -> Resu
     ensures cause { IsErrOf result Failed → HasRisen (D.faults disk.old) (D.faults disk.new) }
     ensures calm { LeavesFaults result (D.faults disk.old) (D.faults disk.new) }
     ensures later { D.faults disk.old ≤ D.faults disk.new }
+    ensures asked { IsAsked D.asked (is_ok result) (append_calls gate behind.now) disk.old disk.new }
 {
     ok!(write_and_sync(disk, gate + 1, behind));
     write_and_sync(disk, gate, &[OPEN])
@@ -53,6 +57,8 @@ pub(crate) fn append_record<D: Disk>(
     ensures cause { IsErrOf result Failed → HasRisen (D.faults disk.old) (D.faults disk.new) }
     ensures calm { LeavesFaults result (D.faults disk.old) (D.faults disk.new) }
     ensures later { D.faults disk.old ≤ D.faults disk.new }
+    ensures asked { IsAsked D.asked (is_ok result)
+        (append_calls (length octets.old.items) (behind_gate item.now)) disk.old disk.new }
 {
     let gate = octets.len();
     put_closed_record(octets, item);
@@ -76,6 +82,7 @@ fn write_and_sync<D: Disk>(disk: &mut D, place: u64, octets: &[u8]) -> Result<()
     ensures cause { IsErrOf result Failed → HasRisen (D.faults disk.old) (D.faults disk.new) }
     ensures calm { LeavesFaults result (D.faults disk.old) (D.faults disk.new) }
     ensures later { D.faults disk.old ≤ D.faults disk.new }
+    ensures asked { IsAsked D.asked (is_ok result) (write_calls place octets.now) disk.old disk.new }
 {
     ok!(disk.write_at(place, octets));
     disk.sync()
@@ -89,6 +96,7 @@ fn clear_letter<D: Disk>(disk: &mut D, due: bool) -> Result<(), DiskRefusal>
     ensures cause { IsErrOf result Failed → HasRisen (D.faults disk.old) (D.faults disk.new) }
     ensures calm { LeavesFaults result (D.faults disk.old) (D.faults disk.new) }
     ensures later { D.faults disk.old ≤ D.faults disk.new }
+    ensures asked { IsAsked D.asked (is_ok result) (clear_calls due) disk.old disk.new }
 {
     if !due {
         return Ok(());
@@ -106,6 +114,7 @@ pub(crate) fn create_at<D: Disk>(disk: &mut D, service: u64, due: bool) -> Resul
     ensures cause { IsErrOf result Failed → HasRisen (D.faults disk.old) (D.faults disk.new) }
     ensures calm { LeavesFaults result (D.faults disk.old) (D.faults disk.new) }
     ensures later { D.faults disk.old ≤ D.faults disk.new }
+    ensures asked { IsAsked D.asked (is_ok result) (create_calls service due) disk.old disk.new }
 {
     ok!(clear_letter(disk, due));
     let behind = behind_letter_of(service);
@@ -125,6 +134,7 @@ pub(crate) fn read_whole<D: Disk>(alloc: Global, disk: &mut D) -> Result<Vec<u8>
     ensures cause { IsErrOf result Failed → HasRisen (D.faults disk.old) (D.faults disk.new) }
     ensures calm { LeavesFaults result (D.faults disk.old) (D.faults disk.new) }
     ensures later { D.faults disk.old ≤ D.faults disk.new }
+    ensures asked { AsksReread D.asked D.told (is_ok result) disk.old disk.new }
 {
     ok!(disk.sync());
     let length = ok!(disk.len());
@@ -141,6 +151,7 @@ fn read_pieces<D: Disk>(disk: &mut D, octets: &mut [u8]) -> Result<(), DiskRefus
     ensures cause { IsErrOf result Failed → HasRisen (D.faults disk.old) (D.faults disk.new) }
     ensures calm { LeavesFaults result (D.faults disk.old) (D.faults disk.new) }
     ensures later { D.faults disk.old ≤ D.faults disk.new }
+    ensures asked { AsksReads D.asked (length octets.old) (is_ok result) disk.old disk.new }
 {
     let mut place = 0;
     while place < octets.len() {
@@ -158,7 +169,7 @@ pub(crate) fn read_along<D: Disk>(
     piece: &mut [u8],
     known: &[u8],
 ) -> Result<Along, DiskRefusal>
-    requires { 0 < length piece.old }
+    requires { length piece.old ≡ piece_length }
     ensures way { Tells (D.told disk.old) (D.told disk.new) (λ s t. IsAfterRefusal s (synced s) t) }
     ensures along { IfOk result (λ along. IfSome (D.told disk.new)
         (λ t. IsAlong known.now t.reads along.same along.closed)) }
@@ -170,6 +181,7 @@ pub(crate) fn read_along<D: Disk>(
     ensures calm { LeavesFaults result (D.faults disk.old) (D.faults disk.new) }
     ensures later { D.faults disk.old ≤ D.faults disk.new }
     ensures piece { length piece.new ≡ length piece.old }
+    ensures asked { AsksReread D.asked D.told (is_ok result) disk.old disk.new }
 {
     ok!(disk.sync());
     let length = ok!(disk.len());
@@ -183,7 +195,7 @@ fn go_along<D: Disk>(
     piece: &mut [u8],
     known: &[u8],
 ) -> Result<Along, DiskRefusal>
-    requires piece { 0 < length piece.old }
+    requires piece { length piece.old ≡ piece_length }
     requires whole { ForSome (D.told disk.old) (λ s. count ≡ length s.reads) }
     ensures untouched { D.told disk.new ≡ D.told disk.old }
     ensures along { IfOk result (λ along. IfSome (D.told disk.old)
@@ -194,6 +206,7 @@ fn go_along<D: Disk>(
     ensures calm { LeavesFaults result (D.faults disk.old) (D.faults disk.new) }
     ensures later { D.faults disk.old ≤ D.faults disk.new }
     ensures piece { length piece.new ≡ length piece.old }
+    ensures asked { AsksReads D.asked count (is_ok result) disk.old disk.new }
 {
     let mut place = 0;
     let mut found = Along {

@@ -2,12 +2,13 @@ ghost use Rattle.std.specs.Prelude.{◌≡◌, ℕ, ◌+◌, ◌≤◌, ◌<◌,
 ghost use Rattle.std.specs.List.{list_any};
 ghost use Rattle.decision_journal.specs.Limits.{standing_limit};
 ghost use Rattle.decision_journal.specs.Journal.{are_cells_at, can_follow, is_cells_prepared, is_decision, is_decision_at, nothing_found, taken_away, with_record};
-ghost use Rattle.decision_journal.specs.Index.{AreBefore, AreInOrder, IsIndexed, is_left, left};
+ghost use Rattle.decision_journal.specs.Index.{AreBefore, AreInOrder, IsIndexed, left};
 ghost use Rattle.decision_journal.specs.Loading.{last_life};
 ghost use Rattle.decision_journal.specs.Room.{stands_in};
 ghost use Rattle.decision_journal.specs.State.{cells_in, decisions};
 
 use crate::journal::Standing;
+use crate::line::Line;
 use crate::record::JournalRecord;
 use std::alloc::{AllocError, Global};
 use std::marker::Model;
@@ -20,23 +21,22 @@ pub(crate) const STANDING_LIMIT: usize = 8_192;
 #[derive(Drop)]
 pub(crate) struct Index {
     life: u32,
-    standing: Vec<Standing>,
+    standing: Line,
     decisions: usize,
 }
 
 impl Model for Index {
-    ghost use Rattle.std.specs.Prelude.{◌-◌, vec_capacity, vec_len};
     ghost use Rattle.decision_journal.specs.Index.{IsIndexed};
     ghost use Rattle.decision_journal.specs.Room.{Stock};
 
     ghost Value = { Stock };
 
     ghost view = { λ index. record {
-      found = record { life = index.life; standing = index.standing.items };
-      spare = vec_capacity index.standing - vec_len index.standing;
+      found = record { life = index.life; standing = index.standing.standing };
+      spare = index.standing.spare;
     } };
 
-    ghost invariant = { λ index. IsIndexed index.standing.items index.decisions };
+    ghost invariant = { λ index. IsIndexed index.standing.standing index.decisions };
 }
 
 impl Index {
@@ -45,7 +45,7 @@ impl Index {
     {
         Index {
             life: 0,
-            standing: Vec::new(alloc),
+            standing: Line::new(alloc),
             decisions: 0,
         }
     }
@@ -85,19 +85,19 @@ impl Index {
         match item {
             JournalRecord::Life(life) => is_next(*life, self.life),
             JournalRecord::Done(place) => self.stands(*place),
-            JournalRecord::CellsOutcome(place, _) => cells_stand(&self.standing, *place),
+            JournalRecord::CellsOutcome(place, _) => cells_stand(self.standing.as_slice(), *place),
             _ => true,
         }
     }
 
-    /// Takes memory for all decisions that may stand beside those that do, and for two records more.
+    /// Takes memory for all decisions that may stand beside those that do, for as many that are gone, and for two records more.
     pub(crate) fn reserve(&mut self) -> Result<(), AllocError>
         ensures same { self.new.found ≡ self.old.found }
         ensures ok { OnOk result (standing_limit + 2 ≤ decisions self.new.found + self.new.spare) }
         ensures two { OnOk result (2 ≤ self.new.spare) }
         ensures spare { self.old.spare ≤ self.new.spare }
     {
-        let more = STANDING_LIMIT.saturating_sub(self.decisions) + 2;
+        let more = (2 * STANDING_LIMIT).saturating_sub(self.decisions) + 2;
         self.standing.reserve(more)
     }
 
@@ -127,7 +127,7 @@ impl Index {
         ensures spare { self.old.spare ≡ self.new.spare + 1 }
     {
         let decided = is_decided(&item);
-        self.standing.push_reserved(Standing { place, item });
+        self.standing.push(Standing { place, item });
         if decided {
             self.decisions += 1;
         }
@@ -141,7 +141,7 @@ impl Index {
         ensures spare { self.old.spare ≤ self.new.spare }
         ensures decisions { decisions self.old.found + self.old.spare ≤ decisions self.new.found + self.new.spare }
     {
-        if let Some(index) = decision_at(&self.standing, place) {
+        if let Some(index) = decision_at(self.standing.as_slice(), place) {
             self.standing.remove(index);
             self.decisions -= 1;
         }
@@ -172,11 +172,14 @@ impl Index {
         } }
         ensures before { (n : ℕ) → AreBefore n self.old.found.standing → AreBefore n self.new.found.standing }
     {
-        if let Some(index) = decision_at(&self.standing, place) {
-            self.standing[index] = Standing {
-                place,
-                item: JournalRecord::Done(place),
-            };
+        if let Some(index) = decision_at(self.standing.as_slice(), place) {
+            self.standing.set(
+                index,
+                Standing {
+                    place,
+                    item: JournalRecord::Done(place),
+                },
+            );
             self.decisions -= 1;
         }
     }
@@ -185,15 +188,14 @@ impl Index {
     pub(crate) fn settle(&mut self)
         ensures { self.new.found ≡ left self.old.found }
     {
-        self.standing.retain(|standing| is_kept(standing));
-        self.standing.shrink_to_fit();
+        self.standing.settle();
     }
 
     /// Whether a decision or prepared record stands at this place.
     pub(crate) fn stands(&self, place: u32) -> bool
         ensures { result ≡ list_any (is_decision_at place) self.now.found.standing }
     {
-        decision_at(&self.standing, place).is_some()
+        decision_at(self.standing.as_slice(), place).is_some()
     }
 }
 
@@ -254,13 +256,6 @@ pub(crate) fn is_decided(item: &JournalRecord) -> bool
         item,
         JournalRecord::Decision(..) | JournalRecord::Prepared(..)
     )
-}
-
-/// Whether it stands for itself, and not in the stead of what is done.
-fn is_kept(standing: &Standing) -> bool
-    ensures { result ≡ is_left standing.now }
-{
-    !matches!(standing.item, JournalRecord::Done(..))
 }
 
 /// Whether it is a record of prepared cells.

@@ -1,4 +1,4 @@
-ghost use Rattle.std.specs.Prelude.{◌≡◌, ℕ, ◌<◌, ◌≤◌, ◌+◌, ◌++◌, ◌∷◌, [], length, false, true, None, IsTrue, Err, IfOk, IfErr, OnOk, OnErr};
+ghost use Rattle.std.specs.Prelude.{◌≡◌, ℕ, ◌<◌, ◌≤◌, ◌+◌, ◌++◌, ◌∷◌, [], is_ok, length, false, true, None, IsTrue, Err, IfOk, IfErr, IfSome, OnOk, OnErr};
 ghost use Rattle.std.specs.List.{list_any};
 ghost use Rattle.std.specs.Option.{ForSome};
 ghost use Rattle.ots_outside.specs.Disk.{Tells, synced};
@@ -60,6 +60,8 @@ impl<D: Disk> Model for Journal<D> {
 impl<D: Disk> Journal<D> {
     ghost use Rattle.decision_journal.specs.Loading.{IsDiskFault, IsLoadFault, IsRefusedLoad, LoadIsDone, LoadIsSafe};
     ghost use Rattle.decision_journal.specs.State.{AppendIsDone, AppendIsSafe, HasMore, HasReread, DoneIsDone, IsAppendFault, IsReadFault, IsRoomFault, IsUnread, IsUnsure, IsKept, LeavesFound, StaysWithinArea, MayFollow, ReadIsDone, ReadIsSafe, cells_in, decisions, need, used};
+    ghost use Rattle.ots_outside.specs.Asked.{IsAsked};
+    ghost use Rattle.decision_journal.specs.Asking.{AsksBehind, AsksDone, AsksLoad, AsksLoadSome, AsksReady, AsksReread, AsksSome, append_calls};
     ghost use Rattle.decision_journal.specs.Calls.{HasAppended, IsAfterDone, IsCurrent, IsReady, IsRefusedAppend, IsRefusedReading, IsUnwritten, reread};
 
     /// Whether the next call reads the disk again.
@@ -140,6 +142,9 @@ impl<D: Disk> Journal<D> {
         ensures later { D.faults self.old.disk ≤ D.faults self.new.disk }
         ensures safe { Tells (D.told self.old.disk) (D.told self.new.disk) (ReadIsSafe self.old.service) }
         ensures room { self.old.room ≤ self.new.room }
+        ensures asked { OnOk result (AsksReread D.asked D.told true self.old.disk self.new.disk) }
+        ensures begun { OnErr result (IfSome (D.told self.old.disk)
+            (λ _. AsksReread D.asked D.told false self.old.disk self.new.disk)) }
     {
         self.failed = true;
         let gate = self.octets.len();
@@ -189,6 +194,10 @@ impl<D: Disk> Journal<D> {
         ensures later { D.faults self.old.disk ≤ D.faults self.new.disk }
         ensures safe { Tells (D.told self.old.disk) (D.told self.new.disk) (ReadIsSafe self.old.service) }
         ensures room { self.old.room ≤ self.new.room }
+        ensures asked { OnOk result
+            (AsksReady D.asked D.told self.old.failed self.old.disk self.new.disk) }
+        ensures begun { OnErr result (IfSome (D.told self.old.disk)
+            (λ _. AsksReread D.asked D.told false self.old.disk self.new.disk)) }
     {
         if self.failed {
             return self.reopen();
@@ -245,6 +254,8 @@ impl<D: Disk> Journal<D> {
         ensures later { D.faults self.old.disk ≤ D.faults self.new.disk }
         ensures safe { Tells (D.told self.old.disk) (D.told self.new.disk) (AppendIsSafe self.old.service item) }
         ensures room { self.old.room ≡ self.new.room + cells_in item }
+        ensures asked { IsAsked D.asked (is_ok result)
+            (append_calls (length self.old.octets) (behind_gate item)) self.old.disk self.new.disk }
     {
         let gate = self.octets.len() as u32;
         self.failed = true;
@@ -276,6 +287,10 @@ impl<D: Disk> Journal<D> {
         ensures safe { Tells (D.told self.old.disk) (D.told self.new.disk) (AppendIsSafe self.old.service item) }
         ensures room { self.old.room ≤ self.new.room + cells_in item }
         ensures full { (used need : ℕ) → result ≡ Err (JournalFault.Full used need) → self.old.room ≤ self.new.room }
+        ensures asked { IfOk result (λ place. AsksBehind D.asked D.told self.old.failed
+            (append_calls place (behind_gate item)) true self.old.disk self.new.disk) }
+        ensures begun { OnErr result ((place : ℕ) × AsksSome D.asked D.told self.old.failed
+            (append_calls place (behind_gate item)) self.old.disk self.new.disk) }
     {
         ok!(self.ready());
         ok!(self.has_room(&item));
@@ -298,6 +313,9 @@ impl<D: Disk> Journal<D> {
         ensures safe { Tells (D.told self.old.disk) (D.told self.new.disk)
             (AppendIsSafe self.old.service (JournalRecord.Done place)) }
         ensures room { self.old.room ≤ self.new.room }
+        ensures asked { OnOk result (AsksDone D.asked D.told place self.old.failed self.old.disk self.new.disk) }
+        ensures begun { OnErr result ((gate : ℕ) × AsksSome D.asked D.told self.old.failed
+            (append_calls gate (behind_gate (JournalRecord.Done place))) self.old.disk self.new.disk) }
     {
         ok!(self.ready());
         if !self.stands(place) {
@@ -324,6 +342,10 @@ impl<D: Disk> Journal<D> {
         ensures later { D.faults self.old.disk ≤ D.faults self.new.disk }
         ensures safe { Tells (D.told self.old.disk) (D.told self.new.disk) (ReadIsSafe self.old.service) }
         ensures room { self.old.room ≤ self.new.room }
+        ensures asked { OnOk result
+            (AsksReady D.asked D.told self.old.failed self.old.disk self.new.disk) }
+        ensures begun { OnErr result
+            (AsksSome D.asked D.told self.old.failed [] self.old.disk self.new.disk) }
     {
         ok!(self.ready());
         self.put_bytes(into)?;
@@ -375,6 +397,9 @@ impl<D: Disk> Journal<D> {
         ensures calm_err { IfErr result (λ back. IsNoFault back.fault (D.faults disk) (D.faults back.value)) }
         ensures later_ok { IfOk result (λ journal. D.faults disk ≤ D.faults journal.disk) }
         ensures later_err { IfErr result (λ back. D.faults disk ≤ D.faults back.value) }
+        ensures asked { IfOk result
+            (λ journal. AsksLoad D.asked D.told service true disk journal.disk) }
+        ensures begun { IfErr result (λ back. AsksLoadSome D.asked D.told service disk back.value) }
     {
         let start = match start_within(alloc, &mut disk, area, service) {
             Ok(start) => start,

@@ -24,6 +24,7 @@ mod found;
 mod journal;
 mod keeping;
 mod laws;
+mod line;
 mod loading;
 mod reading;
 mod record;

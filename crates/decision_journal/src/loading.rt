@@ -1,9 +1,11 @@
-ghost use Rattle.std.specs.Prelude.{◌≡◌, ◌≤◌, ◌<◌, ◌+◌, ◌^◌, true, false, None, length, vec_capacity, IfOk, IfErr, OnOk};
+ghost use Rattle.std.specs.Prelude.{◌≡◌, ◌≤◌, ◌<◌, ◌+◌, ◌^◌, true, false, None, length, vec_capacity, is_ok, IfOk, IfErr, OnErr, OnOk};
 ghost use Rattle.std.specs.Option.{ForSome};
 ghost use Rattle.ots_outside.specs.Disk.{Tells, synced};
+ghost use Rattle.ots_outside.specs.Asked.{IsAsked};
+ghost use Rattle.decision_journal.specs.Asking.{AsksStart, AsksStartSome, create_calls};
 ghost use Rattle.decision_journal.specs.Faults.{IsNoFault, LeavesFaults};
-ghost use Rattle.decision_journal.specs.Limits.{area_limit, standing_limit};
-ghost use Rattle.decision_journal.specs.Laws.{IsOnTheWay, IsSettled, cleared, created};
+ghost use Rattle.decision_journal.specs.Limits.{area_limit, piece_length, standing_limit};
+ghost use Rattle.decision_journal.specs.Laws.{IsOnTheWay, IsSettled, cleared, created, is_letter_due};
 ghost use Rattle.decision_journal.specs.Journal.{IsFilled, IsFresh};
 ghost use Rattle.decision_journal.specs.State.{IsReadFault, decisions, used};
 ghost use Rattle.decision_journal.specs.Loading.{IsDiskFault, IsLoadFault, IsRefusedLoad, IsStartFault, IsStarted, LoadIsSafe, last_life, readied};
@@ -51,6 +53,8 @@ fn create<D: Disk>(
     ensures fault { IfErr result (IsDiskFault true (D.faults disk.old) (D.faults disk.new)) }
     ensures calm { LeavesFaults result (D.faults disk.old) (D.faults disk.new) }
     ensures later { D.faults disk.old ≤ D.faults disk.new }
+    ensures asked { IsAsked D.asked (is_ok result)
+        (create_calls service (is_letter_due octets.now)) disk.old disk.new }
 {
     if let Err(refusal) = create_at(disk, service, is_due(octets)) {
         return Err(fault_of(refusal));
@@ -76,6 +80,8 @@ fn read_or_create<D: Disk>(alloc: Global, disk: &mut D, service: u64) -> Result<
         (IsStartFault service (D.told disk.old) (D.faults disk.old) (D.faults disk.new)) }
     ensures calm { LeavesFaults result (D.faults disk.old) (D.faults disk.new) }
     ensures later { D.faults disk.old ≤ D.faults disk.new }
+    ensures asked { OnOk result (AsksStart D.asked D.told service true disk.old disk.new) }
+    ensures begun { OnErr result (AsksStartSome D.asked D.told service disk.old disk.new) }
 {
     let mut octets = match read_whole(alloc, disk) {
         Ok(octets) => octets,
@@ -99,7 +105,7 @@ fn make_room(start: &mut Start, area: u64) -> Result<(), AllocError>
     ensures found { start.new.index.found ≡ start.old.index.found }
     ensures area { OnOk result (area ≤ vec_capacity start.new.octets) }
     ensures records { OnOk result (standing_limit ≤ decisions start.new.index.found + start.new.index.spare) }
-    ensures piece { OnOk result (0 < length start.new.piece.items) }
+    ensures piece { OnOk result (length start.new.piece.items ≡ piece_length) }
 {
     let more = (area as usize).saturating_sub(start.octets.len());
     ok!(start.octets.reserve(more));
@@ -120,7 +126,7 @@ pub(crate) fn start_within<D: Disk>(
     ensures room { IfOk result (λ start. used start.octets.items start.index.found + 10 ≤ area) }
     ensures area { IfOk result (λ start. area ≤ vec_capacity start.octets) }
     ensures records { IfOk result (λ start. standing_limit ≤ decisions start.index.found + start.index.spare) }
-    ensures piece { IfOk result (λ start. 0 < length start.piece.items) }
+    ensures piece { IfOk result (λ start. length start.piece.items ≡ piece_length) }
     ensures started { IfOk result (λ start. Tells (D.told disk.old) (D.told disk.new)
         (IsStarted service start.octets.items start.index.found)) }
     ensures safe { Tells (D.told disk.old) (D.told disk.new) (LoadIsSafe service) }
@@ -132,6 +138,8 @@ pub(crate) fn start_within<D: Disk>(
         (IsLoadFault area service (D.told disk.old) (D.faults disk.old) (D.faults disk.new)) }
     ensures calm { LeavesFaults result (D.faults disk.old) (D.faults disk.new) }
     ensures later { D.faults disk.old ≤ D.faults disk.new }
+    ensures asked { OnOk result (AsksStart D.asked D.told service true disk.old disk.new) }
+    ensures begun { OnErr result (AsksStartSome D.asked D.told service disk.old disk.new) }
 {
     let mut start = ok!(read_or_create(alloc, disk, service));
     if start.index.life() == u32::MAX {

@@ -49,6 +49,7 @@ fn calls(
     match kind {
         "appends" => appends(rt.alloc(), journal, count)?,
         "dones" => dones(journal, count)?,
+        "middle_dones" => middle_dones(journal, count)?,
         "retells" => retells(rt.alloc(), journal, count)?,
         _ => cells(rt.alloc(), journal, count)?,
     }
@@ -70,13 +71,28 @@ fn appends(alloc: Global, journal: &mut Journal<FileDisk>, count: u32) -> io::Re
 /// Names the oldest decision that stands done, so many times.
 fn dones(journal: &mut Journal<FileDisk>, count: u32) -> io::Result<()> {
     for _ in 0..count {
-        let Some(oldest) = journal.standing().first() else {
-            return Err(ErrorKind::InvalidData.into());
-        };
-        let place = oldest.place;
-        if journal.done(place).is_err() {
-            return Err(ErrorKind::Other.into());
-        }
+        done_at(journal, 0)?;
+    }
+    Ok(())
+}
+
+/// Names the decision in the middle of those that stand done, so many times.
+fn middle_dones(journal: &mut Journal<FileDisk>, count: u32) -> io::Result<()> {
+    for _ in 0..count {
+        let middle = journal.standing().len() / 2;
+        done_at(journal, middle)?;
+    }
+    Ok(())
+}
+
+/// Names a decision that stands done.
+fn done_at(journal: &mut Journal<FileDisk>, index: usize) -> io::Result<()> {
+    let Some(standing) = journal.standing().get(index) else {
+        return Err(ErrorKind::InvalidData.into());
+    };
+    let place = standing.place;
+    if journal.done(place).is_err() {
+        return Err(ErrorKind::Other.into());
     }
     Ok(())
 }

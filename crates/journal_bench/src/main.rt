@@ -3,7 +3,8 @@
 //!
 //! - `load`: the journal in the file is loaded.
 //! - `appends`: so many decisions are appended to it. `bare`: as many octets are written and synced so often, with no journal.
-//! - `dones`: the oldest decision that stands in it is named done, so many times. `bare_dones`: as `bare`, with the octets of Dones.
+//! - `dones`: the oldest decision that stands in it is named done, so many times. `middle_dones`: the one in the middle of those that
+//!   stand. `bare_dones`: as `bare`, with the octets of Dones.
 //! - `retells`: the decisions that stand in it are told again, with so many words, each of which is done.
 //! - `ends`: so many resources of the end in the file put a cell, prepare and commit, one after the other.
 //! - `cells`: the records of as many are appended to the journal in the file, with no end.

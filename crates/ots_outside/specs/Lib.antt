@@ -1,6 +1,7 @@
 pub mod Source
 pub mod Sink
 pub mod Disk
+pub mod Asked
 pub mod Faults
 pub mod Laws
 pub mod Memory

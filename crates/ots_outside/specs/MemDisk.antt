@@ -1,5 +1,5 @@
 -- A disk in memory: what it was told to do, and which of its calls fail (our profile).
-use Rattle.std.specs.Prelude.{◌≡◌, ◌↔◌, ℕ, List, [], ◌∷◌, Contains, Result, IsErrOf}
+use Rattle.std.specs.Prelude.{◌≡◌, ◌↔◌, ℕ, List, [], ◌∷◌, Contains, Bool, Result, IsErrOf, IsTrue}
 use Rattle.ots_outside.specs.declared.disk.DiskRefusal.{DiskRefusal}
 use Rattle.ots_outside.specs.declared.disk.DiskRefusal.TheVariants.{Failed}
 use Rattle.ots_outside.specs.declared.mem_disk.DiskEvent.{DiskEvent}
@@ -29,6 +29,12 @@ pub record MemDiskState : Type 0 where
   pub failing : List ℕ
   pub calls : ℕ
   pub faults : ℕ
+
+-- a call of any kind was counted, and where it answered Ok, it isn't listed
+pub record IsCounted (answered : Bool) (before after : MemDiskState) : Type 0 where
+  pub failing : after.failing ≡ before.failing
+  pub calls : after.calls ≡ raised before.calls
+  pub listed : IsTrue answered → Contains before.failing before.calls → ⊥
 
 -- a call of any kind was counted. It failed exactly where it is listed, and then was a fault
 pub record CountsCall {T : Type 0} (result : Result T DiskRefusal) (before after : MemDiskState) : Type 0 where

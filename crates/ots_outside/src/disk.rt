@@ -1,9 +1,10 @@
-ghost use Rattle.std.specs.Prelude.{◌≡◌, ℕ, ◌+◌, ◌≤◌, Bool, Option, length, slice_range, IsTrue, IfSome, IfOk, OnOk, OnErr, IsErrOf};
+ghost use Rattle.std.specs.Prelude.{◌≡◌, ℕ, ◌+◌, ◌≤◌, Bool, Option, length, slice_range, is_ok, IsTrue, IfSome, IfOk, OnOk, OnErr, IsErrOf, ⊤};
 ghost use Rattle.std.specs.Option.{ForSome};
 ghost use Rattle.ots_outside.specs.Source.{HasRisen};
 ghost use Rattle.ots_outside.specs.declared.disk.DiskRefusal.TheVariants.{Failed, Memory};
 ghost use Rattle.ots_outside.specs.Disk.{DiskState, IsAfterRefusal, ReadsImage, Tells, synced, written};
 ghost use Rattle.ots_outside.specs.Faults.{LeavesFaults};
+ghost use Rattle.ots_outside.specs.Asked.{AskLength, AskRead, AskSync, AskWrite, DiskCall};
 
 use std::alloc::{AllocError, AllocFailed};
 
@@ -43,6 +44,9 @@ pub trait Disk {
     /// Whether a call of the disk may want memory.
     ghost wants_memory: { Bool };
 
+    /// What is known of the disk before and after a call, and of whether it answered Ok.
+    ghost asked: { Self → DiskCall → Bool → Self → Type 0 } = { λ _ _ _ _. ⊤ };
+
     /// How often the disk has failed, as a number.
     fn fault_count(&self) -> u64
         ensures { result ≡ faults self.now };
@@ -55,7 +59,8 @@ pub trait Disk {
         ensures want { IsErrOf result Memory → IsTrue wants_memory }
         ensures cause { IsErrOf result Failed → HasRisen (faults self.old) (faults self.new) }
         ensures calm { LeavesFaults result (faults self.old) (faults self.new) }
-        ensures later { faults self.old ≤ faults self.new };
+        ensures later { faults self.old ≤ faults self.new }
+        ensures asked { asked self.old AskLength (is_ok result) self.new };
 
     /// Reads the octets from a place on, all of the piece.
     fn read_at(&mut self, place: u64, into: &mut [u8]) -> Result<(), DiskRefusal>
@@ -67,7 +72,8 @@ pub trait Disk {
         ensures want { IsErrOf result Memory → IsTrue wants_memory }
         ensures cause { IsErrOf result Failed → HasRisen (faults self.old) (faults self.new) }
         ensures calm { LeavesFaults result (faults self.old) (faults self.new) }
-        ensures later { faults self.old ≤ faults self.new };
+        ensures later { faults self.old ≤ faults self.new }
+        ensures asked { asked self.old (AskRead place (length into.old)) (is_ok result) self.new };
 
     /// Writes the octets from a place on, over what is there and past the end. A crash may leave them torn until a sync.
     fn write_at(&mut self, place: u64, bytes: &[u8]) -> Result<(), DiskRefusal>
@@ -80,7 +86,8 @@ pub trait Disk {
         ensures want { IsErrOf result Memory → IsTrue wants_memory }
         ensures cause { IsErrOf result Failed → HasRisen (faults self.old) (faults self.new) }
         ensures calm { LeavesFaults result (faults self.old) (faults self.new) }
-        ensures later { faults self.old ≤ faults self.new };
+        ensures later { faults self.old ≤ faults self.new }
+        ensures asked { asked self.old (AskWrite place bytes.now) (is_ok result) self.new };
 
     /// Makes what is read outlast a crash.
     fn sync(&mut self) -> Result<(), DiskRefusal>
@@ -92,5 +99,6 @@ pub trait Disk {
         ensures want { IsErrOf result Memory → IsTrue wants_memory }
         ensures cause { IsErrOf result Failed → HasRisen (faults self.old) (faults self.new) }
         ensures calm { LeavesFaults result (faults self.old) (faults self.new) }
-        ensures later { faults self.old ≤ faults self.new };
+        ensures later { faults self.old ≤ faults self.new }
+        ensures asked { asked self.old AskSync (is_ok result) self.new };
 }

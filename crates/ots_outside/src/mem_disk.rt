@@ -277,12 +277,15 @@ fn is_listed(failing: &[u64], call: u64) -> bool
 
 impl Disk for MemDisk {
     ghost use Rattle.std.specs.Prelude.{Some, true};
+    ghost use Rattle.ots_outside.specs.MemDisk.{IsCounted};
 
     ghost faults = { λ disk. disk.faults };
 
     ghost told = { λ disk. Some disk.disk };
 
     ghost wants_memory = { true };
+
+    ghost asked = { λ before _ answered after. IsCounted answered before after };
 
     fn fault_count(&self) -> u64 {
         self.faults()

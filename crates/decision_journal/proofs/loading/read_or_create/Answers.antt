@@ -1,10 +1,17 @@
-use Rattle.std.proofs.Common.{subst, sym}
+use Rattle.std.proofs.Common.{subst, sym, ℕ, List, inl}
 use Rattle.decision_journal.specs.Journal.{IsFresh}
 use Rattle.decision_journal.specs.Loading.{IsStartFault}
 use Rattle.std.proofs.lemmas.Result.{IfOk-weaker, on_ok_weaker}
 use Rattle.decision_journal.proofs.Starts.{told_unread, told_read, told_behind, told_started}
 use Rattle.decision_journal.proofs.Joined.{if_err_weaker, refused_as}
 use Rattle.decision_journal.proofs.Refused.{is_old, made_begun, made_readied, of_disk, read_readied, refused_begun, refused_scan, scan_start, unwritten_begun}
+use Rattle.std.specs.Result.{is_ok}
+use Rattle.ots_outside.specs.Asked.{IsAsked}
+use Rattle.decision_journal.specs.Asking.{create_calls}
+use Rattle.decision_journal.specs.Laws.{is_letter_due}
+use Rattle.decision_journal.proofs.Loads.{fresh_test}
+use Rattle.decision_journal.proofs.Refused.{old_test}
+use Rattle.decision_journal.proofs.Asking.{made_asked, made_begun_asked, octets_synced, read_asked, read_left}
 use Rattle.decision_journal.proofs.loading.read_or_create.Goals as goal
 
 pub returns-in-Err-clause-safe : goal.returns-in-Err-clause-safe
@@ -55,3 +62,18 @@ returns-in-Err-clause-fault g c =
 pub returns-in-Err-filled-clause-fault : goal.returns-in-Err-filled-clause-fault
 returns-in-Err-filled-clause-fault g c =
     scan_start c.args.service _ (g.D.Disk.told c.args.disk.now) (g.D.Disk.told c.read_whole.new.disk) _ _ c.in-Ok.ensures.settled c.in-Ok.ensures.octets (λ fresh. is_old _ _ c.is_fresh.ensures.1 c.if-is_fresh.false (subst IsFresh (sym c.deref.ensures.value) fresh)) _ c.in-Err-filled.ensures.fault
+
+pub returns-in-Err-clause-begun : goal.returns-in-Err-clause-begun
+returns-in-Err-clause-begun g c = inl c.in-Err.ensures.asked
+
+pub returns-then-is_fresh-clause-asked : goal.returns-then-is_fresh-clause-asked
+returns-then-is_fresh-clause-asked g c = made_asked g.D.Disk.asked g.D.Disk.told c.args.service c.in-Ok.octets.items c.args.disk.now c.read_whole.new.disk (octets_synced c.in-Ok.octets.items (g.D.Disk.told c.args.disk.now) (g.D.Disk.told c.read_whole.new.disk) c.in-Ok.ensures.settled c.in-Ok.ensures.octets) c.in-Ok.ensures.asked c.create.new.disk (fresh_test c.in-Ok.octets.items (subst IsFresh c.deref.ensures.value (c.is_fresh.ensures.0 c.if-is_fresh.true))) c.create.result (subst (λ (o : List ℕ). IsAsked g.D.Disk.asked (is_ok c.create.result) (create_calls c.args.service (is_letter_due o)) c.read_whole.new.disk c.create.new.disk) c.deref-then-is_fresh.ensures.value c.create.ensures.asked)
+
+pub returns-then-is_fresh-clause-begun : goal.returns-then-is_fresh-clause-begun
+returns-then-is_fresh-clause-begun g c = made_begun_asked g.D.Disk.asked g.D.Disk.told c.args.service c.in-Ok.octets.items c.args.disk.now c.read_whole.new.disk (octets_synced c.in-Ok.octets.items (g.D.Disk.told c.args.disk.now) (g.D.Disk.told c.read_whole.new.disk) c.in-Ok.ensures.settled c.in-Ok.ensures.octets) c.in-Ok.ensures.asked c.create.new.disk (fresh_test c.in-Ok.octets.items (subst IsFresh c.deref.ensures.value (c.is_fresh.ensures.0 c.if-is_fresh.true))) c.create.result (subst (λ (o : List ℕ). IsAsked g.D.Disk.asked (is_ok c.create.result) (create_calls c.args.service (is_letter_due o)) c.read_whole.new.disk c.create.new.disk) c.deref-then-is_fresh.ensures.value c.create.ensures.asked)
+
+pub returns-in-Err-filled-clause-begun : goal.returns-in-Err-filled-clause-begun
+returns-in-Err-filled-clause-begun g c = read_left g.D.Disk.asked g.D.Disk.told c.args.service c.in-Ok.octets.items c.args.disk.now c.read_whole.new.disk (octets_synced c.in-Ok.octets.items (g.D.Disk.told c.args.disk.now) (g.D.Disk.told c.read_whole.new.disk) c.in-Ok.ensures.settled c.in-Ok.ensures.octets) c.in-Ok.ensures.asked
+
+pub returns-clause-asked : goal.returns-clause-asked
+returns-clause-asked g c = read_asked g.D.Disk.asked g.D.Disk.told c.args.service c.in-Ok.octets.items c.args.disk.now c.read_whole.new.disk (octets_synced c.in-Ok.octets.items (g.D.Disk.told c.args.disk.now) (g.D.Disk.told c.read_whole.new.disk) c.in-Ok.ensures.settled c.in-Ok.ensures.octets) c.in-Ok.ensures.asked (old_test c.in-Ok.octets.items (λ fresh. is_old _ _ c.is_fresh.ensures.1 c.if-is_fresh.false (subst IsFresh (sym c.deref.ensures.value) fresh)))

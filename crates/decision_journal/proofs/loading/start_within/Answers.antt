@@ -7,6 +7,7 @@ use Rattle.decision_journal.specs.Loading.{IsStarted, last_life}
 use Rattle.std.proofs.lemmas.Result.{err_from_is_err_and}
 use Rattle.decision_journal.proofs.Starts.{at_same, spent_told, full_told}
 use Rattle.decision_journal.proofs.Refused.{idle_begun, spent_unwritten, start_fault}
+use Rattle.decision_journal.proofs.Asking.{start_left}
 use Rattle.decision_journal.proofs.loading.start_within.Goals as goal
 
 pub used_of-used-requires-clause-few : goal.used_of-used-requires-clause-few
@@ -52,3 +53,20 @@ returns-in-Err-clause-fault g c =
 pub returns-in-Err-clause-refused : goal.returns-in-Err-clause-refused
 returns-in-Err-clause-refused g c =
     c.in-Err.ensures.refused
+
+pub returns-then-life-clause-begun : goal.returns-then-life-clause-begun
+returns-then-life-clause-begun g c = start_left g.D.Disk.asked g.D.Disk.told c.args.service c.args.disk.now c.read_or_create.new.disk c.in-Ok.ensures.asked
+
+pub returns-then-area-used-clause-begun : goal.returns-then-area-used-clause-begun
+returns-then-area-used-clause-begun g c = start_left g.D.Disk.asked g.D.Disk.told c.args.service c.args.disk.now c.read_or_create.new.disk c.in-Ok.ensures.asked
+
+pub returns-in_err-make_room-clause-begun : goal.returns-in_err-make_room-clause-begun
+returns-in_err-make_room-clause-begun g c =
+    let p = err_from_is_err_and c.from_residual.result c.from_residual.ensures.1 in
+    rw (p.1) (start_left g.D.Disk.asked g.D.Disk.told c.args.service c.args.disk.now c.read_or_create.new.disk c.in-Ok.ensures.asked)
+
+pub returns-in-Err-clause-begun : goal.returns-in-Err-clause-begun
+returns-in-Err-clause-begun g c = c.in-Err.ensures.begun
+
+pub returns-clause-asked : goal.returns-clause-asked
+returns-clause-asked g c = c.in-Ok.ensures.asked

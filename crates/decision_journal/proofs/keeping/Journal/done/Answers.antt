@@ -1,8 +1,11 @@
-use Rattle.std.proofs.Common.{◌∙◌, ap, inl, inr, not, sym}
+use Rattle.std.proofs.Common.{◌∙◌, ap, inl, inr, not, sym, length}
 use Rattle.decision_journal.specs.declared.record.JournalRecord.TheVariants.{Done}
 use Rattle.decision_journal.specs.State.{AppendIsDone, AppendIsSafe}
 use Rattle.decision_journal.proofs.Joined.{read_only, safe_then, done_then, done_unwritten, done_written, at_service}
 use Rattle.decision_journal.proofs.Calls.{done_fault_then, ready_of, refused_doubt, refused_unready}
+use Rattle.decision_journal.specs.Asking.{append_calls}
+use Rattle.decision_journal.specs.Laws.{behind_gate}
+use Rattle.decision_journal.proofs.Asking.{some_behind, some_reread}
 use Rattle.decision_journal.proofs.keeping.Journal.done.Goals as goal
 
 pub returns-in-Err-clause-safe : goal.returns-in-Err-clause-safe
@@ -56,3 +59,15 @@ returns-in-Err-write-clause-refused g c =
 pub returns-then-not-stands-clause-done : goal.returns-then-not-stands-clause-done
 returns-then-not-stands-clause-done g c =
     done_unwritten c.args.self.now.service c.args.place _ _ c.ready.ensures.safe c.in-Ok.ensures.done
+
+pub returns-clause-asked : goal.returns-clause-asked
+returns-clause-asked g c = inr (length c.ready.new.self.octets, (c.ready.new.self.disk, c.in-Ok.ensures.asked, c.in-Ok-write.ensures.asked))
+
+pub returns-then-not-stands-clause-asked : goal.returns-then-not-stands-clause-asked
+returns-then-not-stands-clause-asked g c = inl c.in-Ok.ensures.asked
+
+pub returns-in-Err-clause-begun : goal.returns-in-Err-clause-begun
+returns-in-Err-clause-begun g c = (0, some_reread g.D.Disk.asked g.D.Disk.told c.args.self.now.failed c.args.self.now.disk (append_calls 0 (behind_gate (Done c.args.place))) c.ready.new.self.disk c.in-Err.ensures.was c.in-Err.ensures.begun)
+
+pub returns-in-Err-write-clause-begun : goal.returns-in-Err-write-clause-begun
+returns-in-Err-write-clause-begun g c = (length c.ready.new.self.octets, some_behind g.D.Disk.asked g.D.Disk.told c.args.self.now.failed c.args.self.now.disk (append_calls (length c.ready.new.self.octets) (behind_gate (Done c.args.place))) c.ready.new.self.disk c.write.new.self.disk c.in-Ok.ensures.asked c.in-Err-write.ensures.asked)

@@ -1,10 +1,12 @@
-use Rattle.std.proofs.Common.{◌∙◌, false, None, ap, length, sym, subst, refl}
+use Rattle.std.proofs.Common.{◌∙◌, false, None, ap, length, sym, subst, refl, ◌⊎◌, inl}
 use Rattle.ots_outside.specs.Disk.{Tells}
 use Rattle.decision_journal.specs.Loading.{IsLoadFault, IsRefusedLoad, LoadIsSafe}
 use Rattle.decision_journal.proofs.Calls.{fine_then}
 use Rattle.decision_journal.proofs.Joined.{known_now}
 use Rattle.decision_journal.proofs.Starts.{load_done, load_safe}
 use Rattle.decision_journal.proofs.Refused.{life_fault, life_refused}
+use Rattle.decision_journal.specs.Asking.{AsksLoad, AsksLoadSome, AsksStartSome}
+use Rattle.decision_journal.proofs.Asking.{for_told, load_asked, load_begun}
 use Rattle.decision_journal.proofs.keeping.Journal.load.Goals as goal
 
 pub returns-in-Ok-append-clause-done : goal.returns-in-Ok-append-clause-done
@@ -29,3 +31,14 @@ returns-in-Ok-append-clause-safe_ok g c =
 pub returns-in-Err-append-clause-safe_err : goal.returns-in-Err-append-clause-safe_err
 returns-in-Err-append-clause-safe_err g c =
     subst (λ d. Tells (g.D.Disk.told c.args.disk) (g.D.Disk.told d) (LoadIsSafe c.args.service)) (sym c.into_disk.ensures) (load_safe c.args.service c.in-Ok.start.octets.items c.in-Ok.start.index.found c.next_life.result c.next_life.ensures (g.D.Disk.told c.args.disk) (g.D.Disk.told c.start_within.new.disk) (g.D.Disk.told c.append.new.self.disk) c.in-Ok.ensures.started c.start_within.ensures.safe c.append.ensures.safe)
+
+pub returns-in-Ok-append-clause-asked : goal.returns-in-Ok-append-clause-asked
+returns-in-Ok-append-clause-asked g c = load_asked g.D.Disk.asked g.D.Disk.told c.args.service c.next_life.result c.args.disk c.start_within.new.disk c.append.new.self.disk c.in-Ok.ensures.asked _ c.in-Ok-append.ensures.asked
+
+pub returns-in-Err-clause-begun : goal.returns-in-Err-clause-begun
+returns-in-Err-clause-begun g c =
+    for_told (g.D.Disk.told c.args.disk) (AsksStartSome g.D.Disk.asked g.D.Disk.told c.args.service c.args.disk c.start_within.new.disk ⊎ AsksLoad g.D.Disk.asked g.D.Disk.told c.args.service false c.args.disk c.start_within.new.disk) (inl c.in-Err.ensures.begun)
+
+pub returns-in-Err-append-clause-begun : goal.returns-in-Err-append-clause-begun
+returns-in-Err-append-clause-begun g c =
+    subst (λ d. AsksLoadSome g.D.Disk.asked g.D.Disk.told c.args.service c.args.disk d) (sym c.into_disk.ensures) (load_begun g.D.Disk.asked g.D.Disk.told c.args.service c.next_life.result c.args.disk c.start_within.new.disk c.append.new.self.disk c.in-Ok.ensures.asked _ c.start_within.ensures.safe c.in-Err-append.ensures.begun)

@@ -1,9 +1,11 @@
-use Rattle.std.proofs.Common.{◌≡◌, ◌∙◌, ℕ, List, true, ap, sym, subst, arith, length, refl}
+use Rattle.std.proofs.Common.{◌≡◌, ◌∙◌, ℕ, List, false, true, ap, sym, subst, arith, length, refl}
 use Rattle.std.specs.Prelude.{vec_capacity, vec_len}
+use Rattle.decision_journal.specs.Asking.{AsksReread}
 use Rattle.decision_journal.specs.Calls.{IsUnwritten}
 use Rattle.decision_journal.specs.Index.{AreBefore}
 use Rattle.decision_journal.specs.Room.{Stock}
 use Rattle.decision_journal.specs.State.{IsReadFault, IsSound, ReadIsSafe}
+use Rattle.decision_journal.proofs.Asking.{for_told, none_begun}
 use Rattle.decision_journal.proofs.Below.{before_end}
 use Rattle.decision_journal.proofs.Kept.{within_now}
 use Rattle.decision_journal.proofs.Rereads.{doubted_fits, found_sound, front_of, known_small, may_found, misread_fault, misread_sound, none_told, other_none, read_done, read_safe, read_unread, sound_same, whole_of}
@@ -125,3 +127,14 @@ returns-then-not-find-clause-unread g c =
     let same = c.find.ensures.same c.if-not-find.true in
     let front = same.0 ∙ front_of c.self.inside.octets.items _ c.put_doubted.new.octets.items c.len-gate.result c.put_doubted.ensures.octets gate in
     rw (← c.self.view_is) (record { area = refl; service = refl; octets = front; found = ap (λ (s : Stock). s.found) same.1; doubted = same.2; failed = refl })
+
+pub returns-in-Err-clause-begun : goal.returns-in-Err-clause-begun
+returns-in-Err-clause-begun g c = rw (← c.self.view_is) (for_told (g.D.Disk.told c.self.inside.disk) (AsksReread g.D.Disk.asked g.D.Disk.told false c.self.inside.disk c.read_along.new.disk) c.in-Err.ensures.asked)
+
+pub returns-clause-asked : goal.returns-clause-asked
+returns-clause-asked g c = rw (← c.self.view_is) c.in-Ok.ensures.asked
+
+pub returns-then-not-find-clause-begun : goal.returns-then-not-find-clause-begun
+returns-then-not-find-clause-begun g c =
+    let gate : c.len-gate.result ≡ length c.self.inside.octets.items = omega (arith, c.len-gate.ensures) in
+    rw (← c.self.view_is) (none_begun (g.D.Disk.told c.self.inside.disk) (g.D.Disk.told c.read_along.new.disk) _ (AsksReread g.D.Disk.asked g.D.Disk.told false c.self.inside.disk c.misread.new.disk) c.read_along.ensures.way (other_none (g.D.Disk.told c.self.inside.disk) c.self.inside.area c.self.inside.service c.self.inside.octets.items c.self.inside.index.found c.self.inside.failed c.self.inside.doubted c.self.invariant.0 (g.D.Disk.told c.read_along.new.disk) c.read_along.ensures.image c.in-Ok.ensures.settled c.put_doubted.new.octets.items c.deref.result.now c.len-gate.result c.deref.ensures.value c.put_doubted.ensures.octets gate c.in-Ok.along.same c.in-Ok.along.closed c.in-Ok.ensures.along (c.find.ensures.other c.if-not-find.true)))

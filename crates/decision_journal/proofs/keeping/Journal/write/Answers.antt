@@ -100,3 +100,9 @@ pub returns-clause-disk : goal.returns-clause-disk
 returns-clause-disk g c =
     let can = subst (λ (j : JournalState g.row.D.Denot). CanWrite j c.args.item) (sym c.self.view_is) (record { kept = c.requires.kept; follows = c.requires.follows; within = c.requires.within; few = c.requires.few; room = c.requires.room }) in
     rw (← c.self.view_is) (write_disk _ _ _ _ _ _ _ c.args.item c.self.invariant.0 can.kept c.requires.fits can.follows can.within (g.D.Disk.told c.append_record.new.disk) c.len-gate.result (omega (arith, c.len-gate.ensures)) c.in_default.ensures.ok)
+
+pub returns-in-Err-clause-asked : goal.returns-in-Err-clause-asked
+returns-in-Err-clause-asked g c = rw (← c.self.view_is) c.in-Err.ensures.asked
+
+pub returns-clause-asked : goal.returns-clause-asked
+returns-clause-asked g c = rw (← c.self.view_is) c.in_default.ensures.asked
