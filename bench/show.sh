@@ -2,12 +2,14 @@
 # Shows streams of about 1 MB and 32 MB of requests and replies, and streams of about 8 MB whose messages, of 2,000 up to
 # 64,000 octets, come in Fragments of 8 octets, one after another or eight at once; behind whose type_id and operation, of
 # 2,000 up to 64,000 octets, come Fragments without octets; and of which eight are unfinished, and the oldest is ended by
-# a Fragment without octets. Prints octets per second and how the time per octet grows. Run it anywhere; it builds the
-# program first. Sizes of the first streams in octets may be given as arguments.
+# a Fragment without octets. Shows streams of about 1 MB that come one octet at a time, of messages of 24 up to 64,000
+# octets, by a case of crates/ots_rows. Prints octets per second and how the time per octet grows. Run it anywhere; it
+# builds the programs first. Sizes of the first streams in octets may be given as arguments.
 set -euo pipefail
 . "$(dirname "$0")/timing.sh"
 [ $# -gt 0 ] || set -- 1000000 32000000
 build show
+(cd "$here/crates/ots_rows" && rt run </dev/null >/dev/null 2>&1) || true
 
 # What both kinds of streams are made of.
 parts=$(cat <<'PY'
@@ -170,6 +172,22 @@ sys.stdout.buffer.write(b"".join(stream + [last[(i + 1 + k) % 8] for k in range(
 ' "$1"
 }
 
+# A case of ots_rows: a stream of about 1 MB of replies of that many octets, which comes one octet at a time.
+octet_by_octet() {
+  python3 -c "$parts"'
+size = int(sys.argv[1])
+message = reply("<", 1, [], bytes(size - 24))
+print("\n== show | pieces 1 | hex | last 1")
+print((message * (1000000 // size)).hex())
+' "$1"
+}
+
+# The rows of these cases, with the octets and the messages of each stream.
+octets_alone() {
+  ots=$here/crates/ots_rows/out/ots_rows
+  rows show octet_by_octet "$@" | awk '{ n = int(1000000 / $1); print $1, n * $1, $3, n }'
+}
+
 report() {
   python3 -c '
 import sys
@@ -192,3 +210,5 @@ echo "Messages that stand still while Fragments without octets come, by the leng
 rows show standing_still 2000 16000 64000 | report
 echo "Messages in two parts, eight at once, of which the oldest ends by an empty Fragment, by the size of a message:"
 rows show oldest_ends 16 2000 16000 64000 | report
+echo "Messages that come one octet at a time, by the size of a message:"
+octets_alone 24 2000 16000 64000 | report

@@ -1,5 +1,5 @@
 -- A fault of a step is the fault of the whole.
-use Rattle.std.proofs.Common.{◌≡◌, Result, Ok, Err, refl, ap, sym, ◌∙◌}
+use Rattle.std.proofs.Common.{◌≡◌, Result, Ok, Err, refl, ap}
 use Rattle.std.specs.Prelude.{IfErr}
 use Rattle.cdr_values.specs.Reading.{◌>>=◌}
 use Rattle.giop_frames.specs.declared.fault.FrameFault.{FrameFault}
@@ -52,8 +52,3 @@ pub told_behind : (X Y : Type 0) {Z W : Type 0} (fault : FrameFault) (step : Res
     → IfErr whole (λ found. failed {A = Y} fault ≡ failed found)
 told_behind X Y fault (Ok z) make whole same told = rw same tt
 told_behind X Y fault (Err found) make whole same told = rw same (ap (λ (d : FrameFault). Err d) (err_is {A = X} fault found told))
-
--- where want of memory is answered, no other fault is found
-pub told_memory : (X : Type 0) {Y : Type 0} (fault : FrameFault) (read : Result Y FrameFault) → fault ≡ faults.Memory → IfErr read (λ found. failed {A = X} fault ≡ failed found) → IfErr read (λ found. found ≡ faults.Memory)
-told_memory X fault (Ok y) e told = tt
-told_memory X fault (Err found) e told = sym (err_is {A = X} fault found told) ∙ e

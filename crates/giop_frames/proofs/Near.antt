@@ -1,6 +1,6 @@
 -- Where octets are wanting, the value that wants them is near.
 use Rattle.std.proofs.Common.{◌≡◌, ℕ, ◌+◌, ◌<◌, ◌⊎◌, inl, inr, arith, Bool, true, false, cond, ltb, List, [], ◌∷◌, length, take, drop, None, Result, Ok, Err, refl, sym, subst, ap, ◌∙◌}
-use Rattle.std.specs.Prelude.{IfErr, IfOk, IsOk}
+use Rattle.std.specs.Prelude.{IfErr, IfOk}
 use Rattle.std.proofs.lemmas.List.{length-append}
 use Rattle.cdr_values.specs.declared.order.Order.{Order}
 use Rattle.cdr_values.specs.declared.fault.CdrFault.{CdrFault}
@@ -12,7 +12,7 @@ use Rattle.cdr_values.specs.Sequence.{sequence_at}
 use Rattle.cdr_values.specs.Tagged.{reference_at, tagged_at}
 use Rattle.cdr_values.specs.Laws.{ReadingLaws}
 use Rattle.giop_frames.specs.declared.fault.FrameFault.{FrameFault}
-use Rattle.giop_frames.specs.declared.fault.FrameFault.TheVariants.{Body, Memory}
+use Rattle.giop_frames.specs.declared.fault.FrameFault.TheVariants.{Body}
 use Rattle.giop_frames.specs.declared.header.Kind.{Kind}
 use Rattle.giop_frames.specs.declared.header.Kind.TheVariants as kinds
 use Rattle.giop_frames.specs.declared.header.Header.{Header}
@@ -24,9 +24,8 @@ use Rattle.giop_frames.specs.declared.found.Found.{Found}
 use Rattle.giop_frames.specs.declared.walk.Step.TheVariants as steps
 use Rattle.giop_frames.specs.declared.walk.Walk.{Walk}
 use Rattle.giop_frames.specs.Fault.{fault_of}
-use Rattle.giop_frames.specs.declared.message.Message.{Message}
-use Rattle.giop_frames.specs.Layout.{Fields, blank, kept_tail, layout, message_with}
-use Rattle.giop_frames.specs.Content.{field_at, fields_at, front_of, indexed_at, key_at, message_behind, message_by, message_of, target_at}
+use Rattle.giop_frames.specs.Layout.{Fields, blank, layout}
+use Rattle.giop_frames.specs.Content.{field_at, fields_at, front_of, indexed_at, key_at, target_at}
 use Rattle.giop_frames.specs.Walk.{IsAsFar, IsDone, IsNear, IsWalked, MakesStep, ReadsTagged, fields_by, step_at}
 use Rattle.giop_frames.proofs.Given.{err_is, failed}
 use Rattle.giop_frames.proofs.Walking.{all_walked}
@@ -188,34 +187,6 @@ far_stuck header content w fault e is = rw e (is, tt)
 -- it has no field left
 pub far_done : (header : Header) (content : List ℕ) (w : Walk) → IsWalked header content w → IsDone w → IsAsFar header content w
 far_done header content w walked done = rw (all_walked header content w walked done) (tt, done)
-
--- ---- reading never wants memory
-
-with_never : (order : Order) (kind : Kind) (f : Fields) (tail : List ℕ) → message_with order kind f tail ≡ Err Memory → ⊥
-with_never order kinds.Request f tail e = cc
-with_never order kinds.Reply f tail e = cc
-with_never order kinds.CancelRequest f tail e = cc
-with_never order kinds.LocateRequest f tail e = cc
-with_never order kinds.LocateReply f tail e = cc
-with_never order kinds.CloseConnection f tail e = cc
-with_never order kinds.MessageError f tail e = cc
-with_never order kinds.Fragment f tail e = cc
-
-behind_never : (header : Header) (place : ℕ) (read : Result (Fields × Reading) FrameFault) → IfErr read (λ fault. IsNear place fault) → (read >>= message_behind header.version header.order header.kind) ≡ Err Memory → ⊥
-behind_never header place (Ok read) near e = with_never header.order header.kind read.0 (kept_tail header.version header.kind read.1.place read.1.rest) e
-behind_never header place (Err fault) near e = subst (IsNear place) (err_is {A = Message} fault Memory e) near
-
-message_never : (header : Header) (content : List ℕ) (w : Walk) → IsAsFar header content w → message_by header content ≡ Err Memory → ⊥
-unfolding message_of
-message_never header content w far e = behind_never header w.place (fields_by header content) far.0 e
-
-found_by : {Y : Type 0} (read : Result Y FrameFault) → (read ≡ Err Memory → ⊥) → IfErr read (λ fault. fault ≡ Memory) → IsOk read
-found_by (Ok y) never told = refl
-found_by (Err fault) never told = absurd (never (ap (λ (d : FrameFault). Err d) told))
-
--- so where memory is wanted, a message was found
-pub message_found : (header : Header) (content : List ℕ) (w : Walk) → IsAsFar header content w → IfErr (message_by header content) (λ fault. fault ≡ Memory) → IsOk (message_by header content)
-message_found header content w far told = found_by (message_by header content) (message_never header content w far) told
 
 -- ---- a walk at the front
 

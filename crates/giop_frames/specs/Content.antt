@@ -1,6 +1,6 @@
 -- Reading the content of a message from its front, field by field as the table of layouts lists them (CORBA, GIOP
 -- Message Formats), and its first fault (our profile).
-use Rattle.std.specs.Prelude.{ℕ, ◌==◌, nat_lt, List, [], ◌∷◌, length, Result, Ok, Err, if◌then◌else◌}
+use Rattle.std.specs.Prelude.{ℕ, ◌<◌, ◌==◌, nat_lt, List, [], ◌∷◌, length, Result, Ok, Err, IsOkAnd, if◌then◌else◌}
 use Rattle.cdr_values.specs.declared.order.Order.{Order}
 use Rattle.cdr_values.specs.Reading.{Reading, ◌>>=◌, octet_at, ushort_at, ulong_at, octets_at, string_at}
 use Rattle.cdr_values.specs.Sequence.{Read, sequence_at}
@@ -19,6 +19,7 @@ use Rattle.giop_frames.specs.declared.message.ServiceContext.{ServiceContext}
 use Rattle.giop_frames.specs.Limits.{context_limit, key_limit, profile_limit}
 use Rattle.giop_frames.specs.Fault.{fault_of, field, too_long}
 use Rattle.giop_frames.specs.Layout.{Fields, blank, kept_tail, key_addr, layout, message_with, profile_addr, reference_addr, tail_start}
+use Rattle.giop_frames.specs.Message.{message_kept}
 
 unfoldable pub key_at : Reading → Result (Target × Reading) FrameFault
 key_at r = do
@@ -95,6 +96,10 @@ start_behind version kind (Err fault) = 0
 -- the same of a message of this kind with this content
 unfoldable pub start_of : Version → Order → Kind → List ℕ → ℕ
 start_of version order kind content = start_behind version kind (fields_in version order kind content)
+
+-- reading gives a message that keeps something, for which memory may be wanted
+abbrev pub GivesKept : Result Message FrameFault → Type 0
+GivesKept read = IsOkAnd read (λ m. 0 < message_kept m)
 
 -- the message of a part with this header whose content this is
 abbrev pub message_by : Header → List ℕ → Result Message FrameFault

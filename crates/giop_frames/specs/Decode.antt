@@ -1,6 +1,6 @@
 -- Reading one message without fragments from the front of octets (CORBA, GIOP Message Formats), and its first fault
 -- (our profile).
-use Rattle.std.specs.Prelude.{◌≡◌, ◌≢◌, ℕ, ◌+◌, ◌||◌, nat_lt, List, ◌++◌, length, Result, Ok, Err, IfOk, IfErr, if◌then◌else◌}
+use Rattle.std.specs.Prelude.{◌≡◌, ◌≢◌, ℕ, ◌<◌, ◌+◌, ◌||◌, nat_lt, List, ◌++◌, length, Result, Ok, Err, IfOk, IfErr, IsOkAnd, if◌then◌else◌}
 use Rattle.cdr_values.specs.Reading.{◌>>=◌}
 use Rattle.giop_frames.specs.declared.fault.FrameFault.{FrameFault}
 use Rattle.giop_frames.specs.declared.fault.FrameFault.TheVariants.{BadFragment, Memory, Short}
@@ -9,7 +9,7 @@ use Rattle.giop_frames.specs.declared.decoding.Decoded.{Decoded}
 use Rattle.giop_frames.specs.declared.message.Message.{Message}
 use Rattle.giop_frames.specs.Fault.{Finds}
 use Rattle.giop_frames.specs.Header.{content_behind, is_fragment, header_at}
-use Rattle.giop_frames.specs.Message.{IsMessage}
+use Rattle.giop_frames.specs.Message.{IsMessage, message_kept}
 use Rattle.giop_frames.specs.Content.{message_of}
 
 -- the message of one of these versions in front, and how many octets it has
@@ -27,6 +27,10 @@ Decodes versions bytes result = Finds (λ d. (d.message, d.used)) result (decode
 -- a fault that reading finds is answered, never want of memory
 abbrev pub TellsFault : List Version → List ℕ → Result Decoded FrameFault → Type 0
 TellsFault versions bytes result = IfErr (decoded versions bytes) (λ fault. result ≡ Err fault)
+
+-- a message that keeps something stands in front, for which memory may be wanted
+abbrev pub FindsKept : List Version → List ℕ → Type 0
+FindsKept versions bytes = IsOkAnd (decoded versions bytes) (λ found. 0 < message_kept found.0)
 
 -- a fault that isn't want of octets or of memory is found whatever octets follow
 abbrev pub IsRefusedForGood : List Version → List ℕ → FrameFault → Type 0

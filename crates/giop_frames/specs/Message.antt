@@ -11,6 +11,8 @@ use Rattle.giop_frames.specs.declared.header.Header.{Header}
 use Rattle.giop_frames.specs.declared.layout.Version.{Version}
 use Rattle.giop_frames.specs.declared.message.Message.{Message}
 use Rattle.giop_frames.specs.declared.message.Message.TheVariants as messages
+use Rattle.giop_frames.specs.declared.message.Target.{Target}
+use Rattle.giop_frames.specs.declared.message.Target.TheVariants.{Key}
 use Rattle.giop_frames.specs.Layout.{Fields, AreFields, blank, layout, kept_tail, message_with}
 use Rattle.giop_frames.specs.Header.{IsPart}
 
@@ -22,6 +24,21 @@ kind_of (messages.Locate l) = kinds.LocateRequest
 kind_of (messages.LocateReply l) = kinds.LocateReply
 kind_of messages.Close = kinds.CloseConnection
 kind_of messages.Error = kinds.MessageError
+
+-- how many octets a target keeps
+abbrev pub target_kept : Target → ℕ
+target_kept (Key key) = length key
+target_kept _ = 0
+
+-- how many octets and service contexts a message keeps: for these, and for nothing else, memory is wanted when it is read
+abbrev pub message_kept : Message → ℕ
+message_kept (messages.Request r) = target_kept r.target + length r.operation + length r.contexts + length r.body
+message_kept (messages.Reply r) = length r.contexts + length r.body
+message_kept (messages.Cancel id) = 0
+message_kept (messages.Locate l) = target_kept l.target
+message_kept (messages.LocateReply l) = length l.rest
+message_kept messages.Close = 0
+message_kept messages.Error = 0
 
 -- the content of a message of this version, in this byte order: its fields from offset 12 on, and a tail
 pub record IsContent (version : Version) (order : Order) (m : Message) (content : List ℕ) : Type 0 where

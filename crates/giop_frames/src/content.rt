@@ -1,8 +1,9 @@
-ghost use Rattle.std.specs.Prelude.{◌≡◌, ◌≤◌, ◌<◌, ◌^◌, length, map, Ok, Err, IfErr, IfOk, IsOk};
+ghost use Rattle.std.specs.Prelude.{◌≡◌, ◌≤◌, ◌<◌, ◌^◌, length, map, Ok, Err, IfErr, IfOk, OnErr};
 ghost use Rattle.giop_frames.specs.Limits.{size_limit};
 ghost use Rattle.giop_frames.specs.Fault.{Finds};
+ghost use Rattle.giop_frames.specs.Message.{target_kept};
 ghost use Rattle.giop_frames.specs.Layout.{kept_tail, message_with, tail_start};
-ghost use Rattle.giop_frames.specs.Content.{message_by, start_by};
+ghost use Rattle.giop_frames.specs.Content.{GivesKept, message_by, start_by};
 ghost use Rattle.giop_frames.specs.Walk.{IsWalked, context_of, message_found, spanned, target_of, told_by};
 
 use crate::fault::FrameFault;
@@ -26,7 +27,7 @@ pub fn read_message(alloc: Global, header: Header, content: &[u8]) -> Result<Con
     requires { length content.now ≤ size_limit }
     ensures message { Finds (λ found. found.message) result (message_by header content.now) }
     ensures told { IfErr (message_by header content.now) (λ fault. result ≡ Err fault) }
-    ensures memory { IfErr result (λ fault. fault ≡ FrameFault.Memory → IsOk (message_by header content.now)) }
+    ensures memory { IfErr result (λ fault. fault ≡ FrameFault.Memory → GivesKept (message_by header content.now)) }
     ensures start { IfOk result (λ found. found.start ≡ start_by header content.now) }
 {
     finish_message(alloc, header, content, Walk::new(header))
@@ -43,7 +44,7 @@ pub fn finish_message(
     requires walked { IsWalked header content.now walk }
     ensures message { Finds (λ found. found.message) result (message_by header content.now) }
     ensures told { IfErr (message_by header content.now) (λ fault. result ≡ Err fault) }
-    ensures memory { IfErr result (λ fault. fault ≡ FrameFault.Memory → IsOk (message_by header content.now)) }
+    ensures memory { IfErr result (λ fault. fault ≡ FrameFault.Memory → GivesKept (message_by header content.now)) }
     ensures start { IfOk result (λ found. found.start ≡ start_by header content.now) }
 {
     walk.go_on(header, content)?;
@@ -66,6 +67,8 @@ fn build(
 ) -> Result<Message, FrameFault>
     ensures message { Finds (λ m. m) result (message_found header content.now found.now tail.now) }
     ensures told { IfErr (message_found header content.now found.now tail.now) (λ fault. result ≡ Err fault) }
+    ensures memory { IfErr result (λ fault. fault ≡ FrameFault.Memory
+        → GivesKept (message_found header content.now found.now tail.now)) }
 {
     match header.kind {
         Kind::Request => Ok(Message::Request(build_request(alloc, header, content, found, tail)?)),
@@ -93,8 +96,10 @@ fn build_request(
     found: &Found,
     tail: &[u8],
 ) -> Result<Request, AllocError>
-    ensures { IfOk result (λ request.
+    ensures found { IfOk result (λ request.
         message_with header.order Kind.Request (told_by content.now found.now) tail.now ≡ Ok (Message.Request request)) }
+    ensures memory { OnErr result
+        (GivesKept (message_with header.order Kind.Request (told_by content.now found.now) tail.now)) }
 {
     let target = copy_target(alloc, content, found.target)?;
     let operation = copy(alloc, content, found.operation)?;
@@ -117,8 +122,10 @@ fn build_reply(
     found: &Found,
     tail: &[u8],
 ) -> Result<Reply, AllocError>
-    ensures { IfOk result (λ reply.
+    ensures found { IfOk result (λ reply.
         message_with header.order Kind.Reply (told_by content.now found.now) tail.now ≡ Ok (Message.Reply reply)) }
+    ensures memory { OnErr result
+        (GivesKept (message_with header.order Kind.Reply (told_by content.now found.now) tail.now)) }
 {
     Ok(Reply {
         id: found.id,
@@ -131,13 +138,15 @@ fn build_reply(
 
 /// The octets that were found.
 fn copy(alloc: Global, content: &[u8], span: Span) -> Result<Octets, AllocError>
-    ensures { IfOk result (λ octets. octets ≡ spanned content.now span) }
+    ensures found { IfOk result (λ octets. octets ≡ spanned content.now span) }
+    ensures needed { OnErr result (0 < length (spanned content.now span)) }
 {
     Octets::new(alloc, front(behind(content, span.start), span.length))
 }
 
 fn copy_target(alloc: Global, content: &[u8], target: FoundTarget) -> Result<Target, AllocError>
-    ensures { IfOk result (λ copied. copied ≡ target_of content.now target) }
+    ensures found { IfOk result (λ copied. copied ≡ target_of content.now target) }
+    ensures needed { OnErr result (0 < target_kept (target_of content.now target)) }
 {
     match target {
         FoundTarget::Key(key) => Ok(Target::Key(copy(alloc, content, key)?)),
@@ -151,7 +160,8 @@ fn copy_contexts(
     content: &[u8],
     found: &[FoundContext],
 ) -> Result<Contexts, AllocError>
-    ensures { IfOk result (λ contexts. contexts ≡ map (context_of content.now) found.now) }
+    ensures found { IfOk result (λ contexts. contexts ≡ map (context_of content.now) found.now) }
+    ensures needed { OnErr result (0 < length found.now) }
 {
     let mut contexts = Vec::new(alloc);
     for context in found {

@@ -1,7 +1,7 @@
-ghost use Rattle.std.specs.Prelude.{◌≤◌, ◌^◌, ◌<◌, length, take, IfErr, IfOk};
+ghost use Rattle.std.specs.Prelude.{◌≡◌, ◌≤◌, ◌^◌, ◌<◌, length, take, IfErr, IfOk};
 ghost use Rattle.giop_frames.specs.Header.{profile_versions};
 ghost use Rattle.giop_frames.specs.Message.{IsMessage};
-ghost use Rattle.giop_frames.specs.Decode.{Decodes, FindsWhatStands, IsRefusedForGood, TellsFault};
+ghost use Rattle.giop_frames.specs.Decode.{Decodes, FindsKept, FindsWhatStands, IsRefusedForGood, TellsFault};
 
 use crate::content::read_message;
 use crate::fault::FrameFault;
@@ -29,6 +29,7 @@ pub fn decode(alloc: Global, bytes: &[u8]) -> Result<Decoded, FrameFault>
     ensures only { FindsWhatStands profile_versions bytes.now result }
     ensures exact { Decodes profile_versions bytes.now result }
     ensures told { TellsFault profile_versions bytes.now result }
+    ensures memory { IfErr result (λ fault. fault ≡ FrameFault.Memory → FindsKept profile_versions bytes.now) }
     ensures stays { IfErr result (IsRefusedForGood profile_versions bytes.now) }
 {
     decode_as(alloc, profile_versions(), bytes)
@@ -42,6 +43,7 @@ pub fn decode_as(alloc: Global, versions: &[Version], bytes: &[u8]) -> Result<De
     ensures only { FindsWhatStands versions.now bytes.now result }
     ensures exact { Decodes versions.now bytes.now result }
     ensures told { TellsFault versions.now bytes.now result }
+    ensures memory { IfErr result (λ fault. fault ≡ FrameFault.Memory → FindsKept versions.now bytes.now) }
     ensures stays { IfErr result (IsRefusedForGood versions.now bytes.now) }
 {
     fields_are_read_exactly();
@@ -53,6 +55,7 @@ fn decode_front(alloc: Global, versions: &[Version], bytes: &[u8]) -> Result<Dec
     requires { length bytes.now < 2 ^ 31 }
     ensures exact { Decodes versions.now bytes.now result }
     ensures told { TellsFault versions.now bytes.now result }
+    ensures memory { IfErr result (λ fault. fault ≡ FrameFault.Memory → FindsKept versions.now bytes.now) }
 {
     let header = read_header(versions, bytes)?;
     if header.is_fragmented() {

@@ -1,5 +1,5 @@
 -- The last octets of a message.
-use Rattle.std.proofs.Common.{◌≡◌, ℕ, ◌≤◌, List, length, Result, Ok, Err, Some, refl, subst, ◌∙◌}
+use Rattle.std.proofs.Common.{◌≡◌, ℕ, ◌≤◌, ◌++◌, inr, List, length, Result, Ok, Err, Some, refl, subst, ◌∙◌}
 use Rattle.std.specs.Prelude.{IfErr, IfOk, OnErr}
 use Rattle.std.proofs.lemmas.Bool.{le-ltb}
 use Rattle.giop_frames.specs.declared.fault.FrameFault.{FrameFault}
@@ -8,6 +8,8 @@ use Rattle.giop_streams.specs.declared.framed.Framed.{Framed}
 use Rattle.giop_frames.specs.declared.header.Header.{Header}
 use Rattle.giop_frames.specs.Fault.{Fails, Finds}
 use Rattle.giop_frames.specs.Limits.{size_limit}
+use Rattle.giop_frames.specs.Content.{GivesKept, message_by}
+use Rattle.giop_streams.specs.Held.{MayEnd}
 use Rattle.giop_streams.specs.Stream.{Judgement, whole_by}
 use Rattle.giop_streams.specs.StreamInside.{limited_whole}
 use Rattle.giop_streams.proofs.Results.{fails_on}
@@ -24,9 +26,11 @@ pub whole_refused : (result : Result Framed FrameFault) (read limited : Judgemen
 whole_refused (Ok framed) read limited same finds = tt
 whole_refused (Err fault) read limited same finds = fails_on fault read limited (λ e. same ∙ e) finds
 
-pub short_memory : (result : Result Framed FrameFault) (content : List ℕ) → length content ≤ size_limit → IfErr result (λ fault. fault ≡ faults.Memory → length content ≤ size_limit)
-short_memory (Ok framed) content few = tt
-short_memory (Err fault) content few = λ e. few
+-- memory may be wanted for a message that is whole by its joined octets
+pub whole_memory : (result : Result Framed FrameFault) (header : Header) (content octets joined : List ℕ) → joined ≡ content ++ octets → length joined ≤ size_limit
+    → IfErr result (λ fault. fault ≡ faults.Memory → GivesKept (message_by header joined)) → IfErr result (λ fault. fault ≡ faults.Memory → MayEnd header content octets)
+whole_memory (Ok framed) header content octets joined same few memory = tt
+whole_memory (Err fault) header content octets joined same few memory = λ e. (rw same at few, inr (rw same at memory e))
 
 pub where_refused : {X : Type 0} (result : Result Framed FrameFault) → X → OnErr result X
 where_refused (Ok framed) x = tt

@@ -90,15 +90,15 @@ pub holds_refused : (versions : List Version) → (octets : List ℕ) (messages 
 holds_refused versions octets messages old fault r h = record { parts = h.parts; rest = old.rest; splits = h.splits; place_is = h.place_is; refused = refuses_parts versions octets messages old fault h r }
 
 -- a stream takes the part in front of what it holds
-pub took : (versions : List Version) (messages : List Unfinished) (place : ℕ) (rest : List ℕ) (refused : Option FrameFault) (kept : ℕ) (header : Header) (content : List ℕ) (answer : Option Framed) (new : Held) (old : Held)
-    → record { versions = versions; unfinished = messages; place = place; rest = rest; refused = refused; kept = kept } ≡ old → IsInFront versions header rest → content ≡ take header.size (drop 12 rest)
+pub took : (versions : List Version) (messages : List Unfinished) (place : ℕ) (rest : List ℕ) (refused : Option FrameFault) (kept room : ℕ) (header : Header) (content : List ℕ) (answer : Option Framed) (new : Held) (old : Held)
+    → record { versions = versions; unfinished = messages; place = place; rest = rest; refused = refused; kept = kept; room = room } ≡ old → IsInFront versions header rest → content ≡ take header.size (drop 12 rest)
     → judged messages place (record { header = header; content = content }) ≡ Ok answer → new.unfinished ≡ after place (record { header = header; content = content }) messages
-    → new.place ≡ min (place + (12 + header.size)) (2 ^ 64 - 1) → new.rest ≡ drop (12 + header.size) rest → new.refused ≡ refused → new.versions ≡ versions → Took old answer new
-took versions messages place rest refused kept header content answer new old view front is said messages_are place_is rest_is refused_is versions_is =
+    → new.place ≡ min (place + (12 + header.size)) (2 ^ 64 - 1) → new.rest ≡ drop (12 + header.size) rest → new.refused ≡ refused → new.versions ≡ versions → room ≤ new.room → Took old answer new
+took versions messages place rest refused kept room header content answer new old view front is said messages_are place_is rest_is refused_is versions_is more_room =
     let part : Part = record { header = header; content = content } in
     let stands : part_at versions rest ≡ Ok (part, new.rest) = front.part ∙ ap (λ (x : List ℕ). Ok (record { header = header; content = x }, drop (12 + header.size) rest)) (sym is) ∙ ap (λ (x : List ℕ). Ok (part, x)) (sym rest_is) in
-    let held : Held = record { versions = versions; unfinished = messages; place = place; rest = rest; refused = refused; kept = kept } in
-    let made : Took held answer new = record { part = part; stands = stands; says = said; unfinished_are = messages_are; place_is = place_is; refused = refused_is; versions_are = versions_is } in
+    let held : Held = record { versions = versions; unfinished = messages; place = place; rest = rest; refused = refused; kept = kept; room = room } in
+    let made : Took held answer new = record { part = part; stands = stands; says = said; unfinished_are = messages_are; place_is = place_is; refused = refused_is; versions_are = versions_is; room = more_room } in
     subst (λ (h : Held). Took h answer new) view made
 
 -- or refuses it, or wants memory for it
@@ -113,14 +113,14 @@ refuses_part old p behind faults.Short part fails wants = (refl, inr (p, behind,
 refuses_part old p behind faults.NotWritten part fails wants = (refl, inr (p, behind, part, fails))
 refuses_part old p behind faults.Memory part fails wants = (refl, (p, behind, part, wants refl))
 
-pub refused_part : (versions : List Version) (messages : List Unfinished) (place : ℕ) (rest : List ℕ) (refused : Option FrameFault) (kept : ℕ) (header : Header) (content : List ℕ) (fault : FrameFault) (after : List Unfinished) (old : Held)
-    → record { versions = versions; unfinished = messages; place = place; rest = rest; refused = refused; kept = kept } ≡ old → IsInFront versions header rest → content ≡ take header.size (drop 12 rest)
-    → Fails fault (judged messages place (record { header = header; content = content })) → (fault ≡ faults.Memory → MayWantMemory messages (record { header = header; content = content })) → after ≡ messages → Takes old (Err fault) (record { versions = versions; unfinished = after; place = place; rest = rest; refused = refused; kept = kept })
-refused_part versions messages place rest refused kept header content fault after old view front is fails wants same =
+pub refused_part : (versions : List Version) (messages : List Unfinished) (place : ℕ) (rest : List ℕ) (refused : Option FrameFault) (kept room : ℕ) (header : Header) (content : List ℕ) (fault : FrameFault) (after : List Unfinished) (old : Held)
+    → record { versions = versions; unfinished = messages; place = place; rest = rest; refused = refused; kept = kept; room = room } ≡ old → IsInFront versions header rest → content ≡ take header.size (drop 12 rest)
+    → Fails fault (judged messages place (record { header = header; content = content })) → (fault ≡ faults.Memory → MayWantMemory messages (record { header = header; content = content })) → after ≡ messages → Takes old (Err fault) (record { versions = versions; unfinished = after; place = place; rest = rest; refused = refused; kept = kept; room = room })
+refused_part versions messages place rest refused kept room header content fault after old view front is fails wants same =
     let part : Part = record { header = header; content = content } in
     let behind : List ℕ = drop (12 + header.size) rest in
     let stands : part_at versions rest ≡ Ok (part, behind) = front.part ∙ ap (λ (x : List ℕ). Ok (record { header = header; content = x }, behind)) (sym is) in
-    let held : List Unfinished → Held = λ unfinished. record { versions = versions; unfinished = unfinished; place = place; rest = rest; refused = refused; kept = kept } in
+    let held : List Unfinished → Held = λ unfinished. record { versions = versions; unfinished = unfinished; place = place; rest = rest; refused = refused; kept = kept; room = room } in
     let made : Takes (held messages) (Err fault) (held messages) = refuses_part (held messages) part behind fault stands fails wants in
     subst (λ (h : Held). Takes h (Err fault) (held after)) view (subst (λ (m : List Unfinished). Takes (held messages) (Err fault) (held m)) (sym same) made)
 
@@ -181,3 +181,15 @@ shorter laws old new answer t =
     let f = part_found laws old.versions old.rest t.part new.rest t.stands in
     let p = f.is_part.part in
     omega (arith, ap length f.parts, length-append f.front new.rest, ap length p.parts, length-append magic (version_octets t.part.header.version ++ (p.flags ∷ type_octet t.part.header.kind ∷ (p.size ++ t.part.content))))
+
+-- a refusal takes no room for octets
+pub room_by : {least : ℕ} (old new now : Held) (fault : FrameFault) → Takes old (Err fault) new → now ≡ remembering new fault → least ≤ old.room → least ≤ now.room
+room_by {least} old new now faults.BadMagic t is some = rw (is, t.0) some
+room_by {least} old new now faults.BadVersion t is some = rw (is, t.0) some
+room_by {least} old new now faults.BadType t is some = rw (is, t.0) some
+room_by {least} old new now (faults.TooLarge n) t is some = rw (is, t.0) some
+room_by {least} old new now faults.BadFragment t is some = rw (is, t.0) some
+room_by {least} old new now (faults.Body at cdr) t is some = rw (is, t.0) some
+room_by {least} old new now faults.Short t is some = rw (is, t.0) some
+room_by {least} old new now faults.NotWritten t is some = rw (is, t.0) some
+room_by {least} old new now faults.Memory t is some = rw (is, t.0) some

@@ -7,14 +7,14 @@ use Rattle.cdr_values.specs.declared.fault.CdrFault.TheVariants as cdr
 use Rattle.cdr_values.specs.Value.{number_in}
 use Rattle.cdr_values.specs.Reading.{Reading, ◌>>=◌, number_at, sized_at}
 use Rattle.giop_frames.specs.Fault.{Fails, fault_of}
-use Rattle.std.specs.Prelude.{IsOk, remove}
+use Rattle.std.specs.Prelude.{remove}
 use Rattle.std.specs.List.{AllByRecursion}
 use Rattle.giop_frames.specs.declared.fault.FrameFault.{FrameFault}
 use Rattle.giop_frames.specs.declared.fault.FrameFault.TheVariants.{BadFragment, Memory}
 use Rattle.giop_frames.specs.Header.{is_fragment}
-use Rattle.giop_frames.specs.Content.{message_of, message_by}
+use Rattle.giop_frames.specs.Content.{GivesKept, message_of, message_by}
 use Rattle.giop_streams.specs.Stream.{Part, Unfinished, after, begun_by, id_of, joined, judged, numbered, opening, so_far, whole_by, with_begun, without_id}
-use Rattle.giop_streams.specs.Held.{AreShort, MayWantMemory}
+use Rattle.giop_streams.specs.Held.{AreShort, MayGoOn, MayWantMemory}
 use Rattle.giop_streams.specs.HeldInside.{Judges}
 use Rattle.giop_streams.specs.StreamInside.{IsAt}
 use Rattle.giop_frames.specs.Limits.{size_limit}
@@ -116,42 +116,45 @@ short_begun messages place p short room few = record {
 
 -- ---- where memory may be wanted
 
-pub wants_whole : (messages : List Unfinished) (p : Part) → is_fragment p.header.kind ≡ false → p.header.more ≡ false → IsOk (message_by p.header p.content) → MayWantMemory messages p
+pub wants_whole : (messages : List Unfinished) (p : Part) → is_fragment p.header.kind ≡ false → p.header.more ≡ false → GivesKept (message_by p.header p.content) → MayWantMemory messages p
 wants_whole messages p other last sound = record {
   whole = λ f m. sound;
   room = λ f m. let both : true ≡ false = sym m ∙ last in absurd cc;
   free = λ f m. let both : true ≡ false = sym m ∙ last in absurd cc;
+  sound = λ f m. let both : true ≡ false = sym m ∙ last in absurd cc;
   goes_on = λ f. let both : true ≡ false = sym f ∙ other in absurd cc;
 }
 
-pub wants_first : (messages : List Unfinished) (p : Part) → is_fragment p.header.kind ≡ false → p.header.more ≡ true → (numbered (id_of p) messages ≡ None) × (length messages < unfinished_limit) → MayWantMemory messages p
+pub wants_first : (messages : List Unfinished) (p : Part) → is_fragment p.header.kind ≡ false → p.header.more ≡ true → (numbered (id_of p) messages ≡ None) × (length messages < unfinished_limit) × (so_far (message_by p.header p.content) ≡ Ok None) → MayWantMemory messages p
 wants_first messages p other more may = record {
   whole = λ f m. let both : true ≡ false = sym more ∙ m in absurd cc;
   room = λ f m. may.1;
   free = λ f m. may.0;
+  sound = λ f m. may.2;
   goes_on = λ f. let both : true ≡ false = sym f ∙ other in absurd cc;
 }
 
-pub wants_fragment : (messages : List Unfinished) (p : Part) (i : ℕ) (first : Unfinished) (octets : List ℕ) → is_fragment p.header.kind ≡ true → IsAt (id_of p) messages i → first ≡ get_or messages i first → octets ≡ drop 4 p.content
-    → length (first.content ++ octets) ≤ size_limit → MayWantMemory messages p
-wants_fragment messages p i first octets fragment at is behind fits =
+pub wants_fragment : (messages : List Unfinished) (p : Part) (i : ℕ) (first : Unfinished) (octets : List ℕ) (more : Bool) → is_fragment p.header.kind ≡ true → IsAt (id_of p) messages i → first ≡ get_or messages i first → octets ≡ drop 4 p.content → p.header.more ≡ more
+    → MayGoOn more octets first → MayWantMemory messages p
+wants_fragment messages p i first octets more fragment at is behind m may =
     let found : numbered (id_of p) messages ≡ Some first = numbered_at (id_of p) messages i first at ∙ ap (λ (u : Unfinished). Some u) (sym is) in
     record {
       whole = λ f m. let both : true ≡ false = sym fragment ∙ f in absurd cc;
       room = λ f m. let both : true ≡ false = sym fragment ∙ f in absurd cc;
       free = λ f m. let both : true ≡ false = sym fragment ∙ f in absurd cc;
-      goes_on = λ f. rw (found, ← behind) fits;
+      sound = λ f m. let both : true ≡ false = sym fragment ∙ f in absurd cc;
+      goes_on = λ f. rw (found, m, ← behind) may;
     }
 
 -- a refusal of a fragment is that of the message which goes on
 pub fragment_fails : (messages : List Unfinished) (p : Part) (i : ℕ) (first : Unfinished) (octets : List ℕ) (more : Bool) (fault : FrameFault) (new : List Unfinished) → is_fragment p.header.kind ≡ true → 4 ≤ length p.content → IsAt (id_of p) messages i
-    → first ≡ get_or messages i first → octets ≡ drop 4 p.content → p.header.more ≡ more → Fails fault (joined more octets first) → (fault ≡ Memory → length (first.content ++ octets) ≤ size_limit) → new ≡ messages → AreShort messages
+    → first ≡ get_or messages i first → octets ≡ drop 4 p.content → p.header.more ≡ more → Fails fault (joined more octets first) → (fault ≡ Memory → MayGoOn more octets first) → new ≡ messages → AreShort messages
     → (place : ℕ) → Judges place p (Err fault) messages new
 fragment_fails messages p i first octets more fault new fragment long at is behind m fails fits same short place = record {
   says = tt;
   after = tt;
   refused = fails_on fault (joined more octets first) (judged messages place p) (λ e. fragment_says messages place p i first octets more fragment long at is behind m ∙ e) fails;
-  memory = λ e. wants_fragment messages p i first octets fragment at is behind (fits e);
+  memory = λ e. wants_fragment messages p i first octets more fragment at is behind m (fits e);
   err = same;
   short = subst AreShort (sym same) short;
 }

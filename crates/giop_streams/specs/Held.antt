@@ -1,20 +1,21 @@
 -- What a stream holds back between two calls, of a stream of messages (CORBA, GIOP Message Formats, Fragment Message).
-use Rattle.std.specs.Prelude.{◌≡◌, ◌≢◌, ◌⊎◌, ◌<◌, ◌≤◌, ◌+◌, ℕ, true, false, List, [], ◌∷◌, ◌++◌, length, drop, Option, Some, None, IfSome, IsSome, IsSomeAnd, Result, Ok, Err, IfOk, IsOk, OnErr, OnOk}
+use Rattle.std.specs.Prelude.{◌≡◌, ◌≢◌, ◌⊎◌, ◌<◌, ◌≤◌, ◌+◌, ℕ, Bool, true, false, List, [], ◌∷◌, ◌++◌, length, drop, Option, Some, None, IfSome, IsSome, IsSomeAnd, Result, Ok, Err, IfOk, OnErr, OnOk}
 use Rattle.std.specs.List.{AllByRecursion}
 use Rattle.giop_frames.specs.declared.fault.FrameFault.{FrameFault}
 use Rattle.giop_frames.specs.declared.fault.FrameFault.TheVariants.{Short, Memory}
 use Rattle.giop_streams.specs.declared.framed.Framed.{Framed}
+use Rattle.giop_frames.specs.declared.header.Header.{Header}
 use Rattle.giop_frames.specs.declared.layout.Version.{Version}
 use Rattle.giop_frames.specs.declared.message.Message.{Message}
 use Rattle.giop_frames.specs.Limits.{size_limit}
 use Rattle.giop_streams.specs.Limits.{unfinished_limit}
 use Rattle.giop_frames.specs.Fault.{IfRefused}
 use Rattle.giop_frames.specs.Header.{is_fragment}
-use Rattle.giop_frames.specs.Content.{message_by}
-use Rattle.giop_streams.specs.Stream.{Part, Unfinished, IsRefused, IsStream, Splits, Refuses, earliest, id_of, numbered, offset, part_at, unfinished}
+use Rattle.giop_frames.specs.Content.{GivesKept, message_by}
+use Rattle.giop_streams.specs.Stream.{Part, Unfinished, IsRefused, IsStream, Splits, Refuses, earliest, id_of, numbered, offset, part_at, so_far, unfinished}
 
 -- the versions that it admits, the unfinished messages, the octets of no whole part yet and their offset in the stream,
--- the refusal that is answered for good, and how many octets its buffer has
+-- the refusal that is answered for good, how many octets its buffer has, and how many more it takes without memory
 pub record Held : Type 0 where
   pub versions : List Version
   pub unfinished : List Unfinished
@@ -22,6 +23,7 @@ pub record Held : Type 0 where
   pub rest : List ℕ
   pub refused : Option FrameFault
   pub kept : ℕ
+  pub room : ℕ
 
 -- what a stream of these versions holds of which nothing has come
 abbrev pub nothing_of : List Version → Held
@@ -32,6 +34,7 @@ nothing_of versions = record {
   rest = [];
   refused = None;
   kept = 0;
+  room = 0;
 }
 
 -- no unfinished message is longer than a message may be, and there are at most 8
@@ -100,25 +103,36 @@ IsRefusedAtPlace old new fault =
     (versions : List Version) (octets : List ℕ) (messages : List Framed) → Holds versions octets messages old
     → IsRefused versions messages new.place fault octets
 
--- a message with the octets of this Fragment is no longer than a message may be
-abbrev pub IsJoinedBy : Part → Unfinished → Type 0
-IsJoinedBy p first = length (first.content ++ drop 4 p.content) ≤ size_limit
+-- memory may be wanted to join octets with those of a message: there are some, and not too many in all
+abbrev pub MayJoin : List ℕ → List ℕ → Type 0
+MayJoin content octets = (length (content ++ octets) ≤ size_limit) × (0 < length octets)
+
+-- memory may be wanted to end a message by octets: to join them, or for what the message keeps
+abbrev pub MayEnd : Header → List ℕ → List ℕ → Type 0
+MayEnd header content octets =
+    (length (content ++ octets) ≤ size_limit) × ((0 < length octets) ⊎ GivesKept (message_by header (content ++ octets)))
+
+-- memory may be wanted for the octets of a Fragment of this message, behind which more of them come or not
+abbrev pub MayGoOn : Bool → List ℕ → Unfinished → Type 0
+MayGoOn true octets first = MayJoin first.content octets
+MayGoOn false octets first = MayEnd first.header first.content octets
 
 -- beside these unfinished messages memory may be wanted for this part: for a message in one part in which no fault is
--- found, for a first part whose request_id is free and for whose message there is room, and for a Fragment of a message
--- whose joined octets are not too many
+-- found, and which keeps something; for a first part whose request_id is free, for whose message there is room, and in
+-- which no fault is found; and for a Fragment of a message
 pub record MayWantMemory (messages : List Unfinished) (p : Part) : Type 0 where
-  pub whole : is_fragment p.header.kind ≡ false → p.header.more ≡ false → IsOk (message_by p.header p.content)
+  pub whole : is_fragment p.header.kind ≡ false → p.header.more ≡ false → GivesKept (message_by p.header p.content)
   pub room : is_fragment p.header.kind ≡ false → p.header.more ≡ true → length messages < unfinished_limit
   pub free : is_fragment p.header.kind ≡ false → p.header.more ≡ true → numbered (id_of p) messages ≡ None
-  pub goes_on : is_fragment p.header.kind ≡ true → IsSomeAnd (numbered (id_of p) messages) (IsJoinedBy p)
+  pub sound : is_fragment p.header.kind ≡ false → p.header.more ≡ true → so_far (message_by p.header p.content) ≡ Ok None
+  pub goes_on : is_fragment p.header.kind ≡ true → IsSomeAnd (numbered (id_of p) messages) (MayGoOn p.header.more (drop 4 p.content))
 
 -- memory may be wanted for the whole part at a stream's place
 abbrev pub WantsMemory : Held → Type 0
 WantsMemory h = (p : Part) × (behind : List ℕ) × (part_at h.versions h.rest ≡ Ok (p, behind)) × MayWantMemory h.unfinished p
 
 -- A call asked for the next message: it was given so, or there is none, or a part is refused. A refusal is answered for
--- good, and loses nothing. Want of memory is answered only where memory may be wanted.
+-- good, and loses nothing. Want of memory is answered only where memory may be wanted. It takes no room for octets.
 pub record GivesNext {X : Type 0} (Gave : X → Held → Held → Type 0) (result : Result (Option X) FrameFault)
     (old new : Held) : Type 0 where
   pub message : IfOk result (λ found. IfSome found (λ m. Gave m old new))
@@ -131,3 +145,4 @@ pub record GivesNext {X : Type 0} (Gave : X → Held → Held → Type 0) (resul
   pub accepts : OnOk result (new.refused ≡ None)
   pub partial : result ≡ Ok None → part_at new.versions new.rest ≡ Err Short
   pub shorter : IfOk result (λ found. IsSome found → length new.rest < length old.rest)
+  pub room : old.room ≤ new.room

@@ -37,6 +37,7 @@ pub record Took (old : Held) (answer : Option Framed) (new : Held) : Type 0 wher
   pub place_is : new.place ≡ min (old.place + (12 + part.header.size)) (2 ^ 64 - 1)
   pub refused : new.refused ≡ old.refused
   pub versions_are : new.versions ≡ old.versions
+  pub room : old.room ≤ new.room
 
 -- the part at the place is refused
 abbrev pub RefusesHeld : Held → FrameFault → Type 0

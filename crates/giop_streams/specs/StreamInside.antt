@@ -1,5 +1,5 @@
 -- How the code finds a part and an unfinished message, and what its calls do.
-use Rattle.std.specs.Prelude.{◌≡◌, ℕ, ◌+◌, ◌≤◌, ◌<◌, ◌==◌, nat_lt, Bool, true, false, List, ◌++◌, length, take, drop, Option, Some, None, Result, Ok, Err, if◌then◌else◌}
+use Rattle.std.specs.Prelude.{◌≡◌, ℕ, ◌+◌, ◌≤◌, ◌<◌, ◌==◌, nat_lt, Bool, true, false, List, ◌++◌, length, take, drop, Option, Some, None, IfSome, Result, Ok, Err, IfOk, if◌then◌else◌}
 use Rattle.std.specs.List.{position_or_len}
 use Rattle.cdr_values.specs.declared.order.Order.{Order}
 use Rattle.cdr_values.specs.declared.fault.CdrFault.TheVariants as cdr
@@ -11,13 +11,22 @@ use Rattle.giop_frames.specs.declared.layout.Version.{Version}
 use Rattle.giop_frames.specs.Limits.{size_limit}
 use Rattle.giop_frames.specs.Header.{content_behind}
 use Rattle.giop_frames.specs.Content.{message_by}
-use Rattle.giop_streams.specs.Stream.{Judgement, Unfinished, part_at, part_of, so_far, whole_by, without_id}
+use Rattle.giop_streams.specs.Stream.{Judgement, Unfinished, part_at, part_header_at, part_of, so_far, whole_by, without_id}
 
 -- a whole part with this header stands in front
 pub record IsInFront (versions : List Version) (header : Header) (octets : List ℕ) : Type 0 where
   pub part : part_at versions octets ≡ Ok (part_of header (content_behind header octets), drop (12 + header.size) octets)
   pub whole : 12 + header.size ≤ length octets
   pub few : header.size ≤ size_limit
+
+-- the header of the part in front of octets was read, and the part may be whole or not
+pub record IsRead (versions : List Version) (octets : List ℕ) (header : Header) : Type 0 where
+  pub header_is : part_header_at versions octets ≡ Ok header
+  pub few : header.size ≤ size_limit
+
+-- where a header stands in front it is known, and no other
+abbrev pub Keeps : List Version → List ℕ → Option Header → Type 0
+Keeps versions octets known = IfOk (part_header_at versions octets) (λ header. known ≡ Some header) × IfSome known (IsRead versions octets)
 
 -- a call found the header of the whole part in front, or less than a part
 abbrev pub FindsPart : List Version → List ℕ → Option Header → Type 0
@@ -29,10 +38,11 @@ abbrev pub ReadsId : Order → List ℕ → Result ℕ FrameFault → Type 0
 ReadsId order content (Ok id) = (4 ≤ length content) × (id ≡ number_in order 4 (take 4 content))
 ReadsId order content (Err fault) = (fault ≡ without_id) × (length content < 4)
 
--- a message may have the octets with more behind them, for which a vector of this capacity has no room
+-- a message may have the octets with more behind them, for which a vector of this capacity has no room. No octets need
+-- none.
 abbrev pub WantsRoom : ℕ → List ℕ → List ℕ → Type 0
 WantsRoom capacity content octets =
-    (length (content ++ octets) ≤ size_limit) × (capacity < length (content ++ octets))
+    (length (content ++ octets) ≤ size_limit) × (0 < length octets) × (capacity < length (content ++ octets))
 
 -- a field is cut off
 abbrev pub wants_octets : FrameFault → Bool

@@ -1,7 +1,7 @@
-ghost use Rattle.std.specs.Prelude.{◌≡◌, ◌≤◌, length, IfErr, IsOk, Ok, Some};
+ghost use Rattle.std.specs.Prelude.{◌≡◌, ◌≤◌, length, IfErr, Ok, Some};
 ghost use Rattle.giop_frames.specs.Limits.{size_limit};
 ghost use Rattle.giop_frames.specs.Fault.{Finds};
-ghost use Rattle.giop_frames.specs.Content.{message_by};
+ghost use Rattle.giop_frames.specs.Content.{GivesKept, message_by};
 ghost use Rattle.giop_streams.specs.Stream.{whole, whole_by};
 ghost use Rattle.giop_frames.specs.Walk.{IsAsFar, IsWalked};
 
@@ -51,8 +51,9 @@ pub fn finish_framed(
 ) -> Result<Framed, FrameFault>
     requires short { length content.now ≤ size_limit }
     requires walked { IsWalked header content.now walk }
+    requires far { IsAsFar header content.now walk }
     ensures whole { Finds (λ framed. Some framed) result (whole_by place header content.now) }
-    ensures memory { IfErr result (λ fault. fault ≡ FrameFault.Memory → IsOk (message_by header content.now)) }
+    ensures memory { IfErr result (λ fault. fault ≡ FrameFault.Memory → GivesKept (message_by header content.now)) }
 {
     let found = finish_message(alloc, header, content, walk)?;
     Ok(frame(place, header, found))

@@ -3,11 +3,12 @@ ghost use Rattle.std.specs.List.{position as position_of};
 ghost use Rattle.giop_frames.specs.Limits.{size_limit};
 ghost use Rattle.giop_streams.specs.Limits.{unfinished_limit};
 ghost use Rattle.giop_frames.specs.Fault.{Fails};
+ghost use Rattle.giop_frames.specs.Content.{message_by};
 ghost use Rattle.giop_frames.specs.Header.{content_behind, is_fragment};
 ghost use Rattle.giop_streams.specs.Held.{AreShort};
 ghost use Rattle.giop_streams.specs.HeldInside.{Judges};
-ghost use Rattle.giop_streams.specs.Stream.{id_of, may_be_fragmented, may_be_part, may_go_on, may_stand, opening, numbered, part_at, part_header_at, part_of, with_begun};
-ghost use Rattle.giop_streams.specs.StreamInside.{FindsPart, IsAt, ReadsId};
+ghost use Rattle.giop_streams.specs.Stream.{id_of, may_be_fragmented, may_be_part, may_go_on, may_stand, opening, numbered, part_at, part_header_at, part_of, so_far, with_begun};
+ghost use Rattle.giop_streams.specs.StreamInside.{FindsPart, IsAt, IsRead, Keeps, ReadsId};
 
 use crate::framed::{Framed, frame};
 use crate::unfinished::Unfinished;
@@ -20,15 +21,21 @@ use std::alloc::Global;
 /// How many messages of a stream are unfinished at once (our profile).
 pub const UNFINISHED_LIMIT: usize = 8;
 
-/// The header of the part in front of the octets, where the part is whole.
+/// The header of the part in front of the octets, where the part is whole. It is kept once it was read.
 #[tactic(auto, unfolding(crate::specs::Stream::part_at))]
-pub fn whole_part(versions: &[Version], octets: &[u8]) -> Result<Option<Header>, FrameFault>
+pub fn whole_part(
+    versions: &[Version],
+    known: &mut Option<Header>,
+    octets: &[u8],
+) -> Result<Option<Header>, FrameFault>
+    requires known { IfSome known.old (IsRead versions.now octets.now) }
+    ensures kept { Keeps versions.now octets.now known.new }
     ensures part { IfOk result (FindsPart versions.now octets.now) }
     ensures refused { IfErr result
         (λ fault. (part_at versions.now octets.now ≡ Err fault) × (fault ≢ FrameFault.Short)) }
     ensures memory { IfErr result (λ fault. fault ≢ FrameFault.Memory) }
 {
-    match read_part_header(versions, octets) {
+    match know_header(versions, known, octets) {
         Err(FrameFault::Short) => Ok(None),
         Err(fault) => Err(fault),
         Ok(header) if octets.len() < HEADER_LENGTH + header.size as usize => Ok(None),
@@ -42,6 +49,26 @@ pub fn content_of(header: Header, octets: &[u8]) -> &[u8]
     ensures { result.now ≡ content_behind header octets.now }
 {
     front(behind(octets, HEADER_LENGTH), header.size as usize)
+}
+
+/// The header of the part in front of the octets, or its first fault. One that is known isn't read again.
+fn know_header(
+    versions: &[Version],
+    known: &mut Option<Header>,
+    octets: &[u8],
+) -> Result<Header, FrameFault>
+    requires known { IfSome known.old (IsRead versions.now octets.now) }
+    ensures kept { Keeps versions.now octets.now known.new }
+    ensures header { result ≡ part_header_at versions.now octets.now }
+    ensures small { IfOk result (λ header. header.size ≤ size_limit) }
+    ensures memory { IfErr result (λ fault. fault ≢ FrameFault.Memory) }
+{
+    if let Some(header) = *known {
+        return Ok(header);
+    }
+    let header = read_part_header(versions, octets)?;
+    *known = Some(header);
+    Ok(header)
 }
 
 /// The header of the part in front of the octets, or its first fault, as its octets come.
@@ -132,7 +159,8 @@ fn begin(
     ensures room { OnOk result (length unfinished.old.items < unfinished_limit) }
     ensures memory { IfErr result (λ fault. fault ≡ FrameFault.Memory
         → (numbered (id_of (part_of header content.now)) unfinished.old.items ≡ None)
-        × (length unfinished.old.items < unfinished_limit)) }
+        × (length unfinished.old.items < unfinished_limit)
+        × (so_far (message_by header content.now) ≡ Ok None)) }
     ensures refused { IfErr result
         (λ fault. Fails fault (opening unfinished.old.items (part_of header content.now))) }
     ensures err { OnErr result (unfinished.new.items ≡ unfinished.old.items) }

@@ -1,4 +1,4 @@
-ghost use Rattle.std.specs.Prelude.{◌≡◌, ◌≢◌, ◌↔◌, ◌+◌, ◌<◌, ◌≤◌, ◌^◌, [], length, drop, Option, None, Some, Ok, Err, IfSome, IsTrue, OnErr, OnOk};
+ghost use Rattle.std.specs.Prelude.{◌≡◌, ◌≢◌, ◌↔◌, ◌+◌, ◌-◌, ◌<◌, ◌≤◌, ◌^◌, [], length, drop, vec_capacity, vec_len, Option, None, Some, Ok, Err, IfSome, IsTrue, OnErr, OnOk};
 ghost use Rattle.giop_frames.specs.Fault.{IfRefused};
 ghost use Rattle.giop_streams.specs.Held.{Held, Holds, GivesNext, nothing_of, HasCome, HasGiven, HasGivenFramed, IsBounded, IsUnfinished, place_of};
 ghost use Rattle.giop_frames.specs.Header.{profile_versions};
@@ -10,14 +10,15 @@ use crate::framed::Framed;
 use crate::parts::{content_of, judge, whole_part};
 use crate::unfinished::Unfinished;
 use giop_frames::{
-    FrameFault, HEADER_LENGTH, Message, Version, behind, headers_are_read_exactly, profile_versions,
+    FrameFault, HEADER_LENGTH, Header, Message, Version, behind, headers_are_read_exactly,
+    profile_versions,
 };
-use std::alloc::Global;
+use std::alloc::{AllocError, Global};
 use std::marker::Model;
 
 /// Messages of a stream of octets that comes in pieces, with fragments of up to 8 unfinished messages. Contracts see the
 /// versions that it admits, and what it holds back: the unfinished messages, the octets of no whole part yet and their
-/// offset, and the refusal that it answers for good.
+/// offset, the refusal that it answers for good, and for how many more octets it has room.
 #[derive(Drop)]
 pub struct Stream {
     alloc: Global,
@@ -25,14 +26,17 @@ pub struct Stream {
     messages: Vec<Unfinished>,
     buffer: Vec<u8>,
     start: usize,
+    /// What the header of the part at the place says, once it was read.
+    header: Option<Header>,
     place: u64,
     refused: Option<FrameFault>,
 }
 
 impl Model for Stream {
-    ghost use Rattle.std.specs.Prelude.{◌≤◌, length, drop};
+    ghost use Rattle.std.specs.Prelude.{◌-◌, ◌≤◌, IfSome, length, drop, vec_capacity, vec_len};
     ghost use Rattle.giop_streams.specs.Held.{AreShort, Held};
     ghost use Rattle.giop_streams.specs.HeldInside.{IsMostlyHeld};
+    ghost use Rattle.giop_streams.specs.StreamInside.{IsRead};
 
     ghost Value = { Held };
 
@@ -43,9 +47,11 @@ impl Model for Stream {
       rest = drop s.start s.buffer.items;
       refused = s.refused;
       kept = length s.buffer.items;
+      room = vec_capacity s.buffer - vec_len s.buffer;
     } };
 
-    ghost invariant = { λ s. IsMostlyHeld s.start s.buffer.items × AreShort s.messages.items };
+    ghost invariant = { λ s. IsMostlyHeld s.start s.buffer.items × AreShort s.messages.items
+        × IfSome s.header (IsRead s.versions.now (drop s.start s.buffer.items)) };
 }
 
 /// What a stream found at its place.
@@ -78,26 +84,43 @@ impl Stream {
             messages: Vec::new(alloc),
             buffer: Vec::new(alloc),
             start: 0,
+            header: None,
             place: 0,
             refused: None,
         }
     }
 
-    /// These octets have come. It needs no memory where there are none.
+    /// Takes memory for so many more octets, where there is none yet.
+    pub fn reserve(&mut self, count: usize) -> Result<(), AllocError>
+        ensures ok { OnOk result (count ≤ self.new.room) }
+        ensures there { OnErr result (self.old.room < count) }
+        ensures same { self.new ≡ record self.old { room = self.new.room } }
+        ensures room { self.old.room ≤ self.new.room }
+    {
+        if count > 0 {
+            self.buffer.reserve(count)?;
+        }
+        Ok(())
+    }
+
+    /// These octets have come. It needs no memory where there is room for them.
     pub fn feed(&mut self, piece: &[u8]) -> Result<(), FrameFault>
         ensures ok { OnOk result (HasCome piece.now self.old self.new) }
         ensures err { OnErr result (self.new ≡ self.old) }
         ensures refused { IfRefused result (λ fault. self.old.refused ≡ Some fault) }
         ensures again { IfSome self.old.refused (λ fault. result ≡ Err fault) }
         ensures accepts { OnOk result (self.new.refused ≡ None) }
-        ensures nothing { self.old.refused ≡ None → OnErr result (piece.now ≢ []) }
+        ensures memory { self.old.refused ≡ None → OnErr result (self.old.room < length piece.now) }
+        ensures room { self.old.room ≤ self.new.room + length piece.now }
     {
+        headers_are_read_exactly();
         if let Some(fault) = self.refused {
             return Err(fault);
         }
         if piece.is_empty() {
             return Ok(());
         }
+        self.buffer.reserve(piece.len())?;
         self.buffer.extend_from_slice(piece)?;
         Ok(())
     }
@@ -183,12 +206,13 @@ impl Stream {
         ensures { Takes self.old result self.new }
     {
         let rest = behind(&self.buffer, self.start);
-        let Some(header) = whole_part(self.versions, rest)? else {
+        let Some(header) = whole_part(self.versions, &mut self.header, rest)? else {
             return Ok(Taken::Nothing);
         };
         let content = content_of(header, rest);
         let framed = judge(self.alloc, &mut self.messages, self.place, header, content)?;
         let length = HEADER_LENGTH + header.size as usize;
+        self.header = None;
         self.start = give_back(&mut self.buffer, self.start + length);
         self.place = self.place.saturating_add(length as u64);
         let Some(framed) = framed else {
@@ -204,6 +228,7 @@ fn give_back(buffer: &mut Vec<u8>, taken: usize) -> usize
     requires { taken ≤ length buffer.old.items }
     ensures held { drop result buffer.new.items ≡ drop taken buffer.old.items }
     ensures mostly { IsMostlyHeld result buffer.new.items }
+    ensures room { vec_capacity buffer.old - vec_len buffer.old ≤ vec_capacity buffer.new - vec_len buffer.new }
 {
     if taken <= buffer.len() - taken {
         return taken;

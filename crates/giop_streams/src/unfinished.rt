@@ -3,6 +3,7 @@ ghost use Rattle.giop_frames.specs.Limits.{size_limit};
 ghost use Rattle.giop_frames.specs.Fault.{Fails};
 ghost use Rattle.giop_frames.specs.Header.{is_fragment};
 ghost use Rattle.giop_frames.specs.Walk.{IsAsFar, IsWalked};
+ghost use Rattle.giop_streams.specs.Held.{MayEnd, MayJoin};
 ghost use Rattle.giop_streams.specs.StreamInside.{wants_octets, WantsRoom, limited_so_far, limited_whole};
 ghost use Rattle.giop_frames.specs.Content.{message_by};
 ghost use Rattle.giop_streams.specs.Stream.{begun_as, joined, part_of, so_far, with_more};
@@ -55,10 +56,13 @@ impl Unfinished {
         ensures begun { IfOk result (λ begun. begun ≡ begun_as id place (part_of header content.now)) }
         ensures sound { OnOk result (so_far (message_by header content.now) ≡ Ok None) }
         ensures refused { IfErr result (λ fault. Fails fault (so_far (message_by header content.now))) }
+        ensures memory { IfErr result (λ fault. fault ≡ FrameFault.Memory →
+            so_far (message_by header content.now) ≡ Ok None) }
     {
-        let mut octets = Vec::new(alloc);
         let mut walk = Walk::new(header);
-        go_so_far(&mut walk, header, &mut octets, content)?;
+        walk_so_far(&mut walk, header, content)?;
+        let mut octets = Vec::new(alloc);
+        join(&mut octets, content)?;
         Ok(Unfinished {
             id,
             place,
@@ -90,8 +94,7 @@ impl Unfinished {
         ensures after { OnOk result (self.new ≡ with_more octets.now self.old) }
         ensures short { length self.new.content ≤ size_limit }
         ensures refused { IfErr result (λ fault. Fails fault (joined true octets.now self.old)) }
-        ensures memory { IfErr result (λ fault. fault ≡ FrameFault.Memory →
-            length (self.old.content ++ octets.now) ≤ size_limit) }
+        ensures memory { IfErr result (λ fault. fault ≡ FrameFault.Memory → MayJoin self.old.content octets.now) }
         ensures err { OnErr result (self.new ≡ self.old) }
     {
         let mut walk = self.walk;
@@ -107,7 +110,7 @@ impl Unfinished {
         ensures says { IfOk result (λ framed. joined false octets.now self.old ≡ Ok (Some framed)) }
         ensures refused { IfErr result (λ fault. Fails fault (joined false octets.now self.old)) }
         ensures memory { IfErr result (λ fault. fault ≡ FrameFault.Memory →
-            length (self.old.content ++ octets.now) ≤ size_limit) }
+            MayEnd self.old.header self.old.content octets.now) }
         ensures err { OnErr result (self.new ≡ self.old) }
     {
         let before = self.content.len();
@@ -143,8 +146,7 @@ fn finish_joined(
         limited_whole place header (content.old.items ++ octets.now) ≡ Ok (Some framed)) }
     ensures refused { IfErr result (λ fault.
         Fails fault (limited_whole place header (content.old.items ++ octets.now))) }
-    ensures memory { IfErr result (λ fault. fault ≡ FrameFault.Memory →
-        length (content.old.items ++ octets.now) ≤ size_limit) }
+    ensures memory { IfErr result (λ fault. fault ≡ FrameFault.Memory → MayEnd header content.old.items octets.now) }
     ensures front { take (length content.old.items) content.new.items ≡ content.old.items }
 {
     go_so_far(&mut walk, header, content, octets)?;
@@ -169,6 +171,7 @@ fn go_so_far(
     ensures short { length content.new.items ≤ size_limit }
     ensures walked { OnOk result (IsWalked header content.new.items walk.new) }
     ensures far { OnOk result (IsAsFar header content.new.items walk.new) }
+    ensures forward { walk.old.place ≤ walk.new.place }
     ensures says { OnOk result (limited_so_far header (content.old.items ++ octets.now) ≡ Ok None) }
     ensures refused { IfErr result (λ fault. Fails fault (limited_so_far header (content.old.items ++ octets.now))) }
     ensures memory { IfErr result (λ fault. fault ≡ FrameFault.Memory →
@@ -184,7 +187,8 @@ fn go_so_far(
     Ok(())
 }
 
-/// Appends more octets of a message to its content, which then has at most 65,536 (our profile).
+/// Appends more octets of a message to its content, which then has at most 65,536 (our profile). It needs no memory
+/// where there are none.
 fn join(content: &mut Vec<u8>, octets: &[u8]) -> Result<(), FrameFault>
     requires content { length content.old.items ≤ size_limit }
     requires octets { length octets.now ≤ size_limit }
@@ -196,6 +200,9 @@ fn join(content: &mut Vec<u8>, octets: &[u8]) -> Result<(), FrameFault>
         WantsRoom (vec_capacity content.old) content.old.items octets.now) }
     ensures err { OnErr result (content.new.items ≡ content.old.items) }
 {
+    if octets.is_empty() {
+        return Ok(());
+    }
     let joined = content.len() + octets.len();
     if joined > SIZE_LIMIT {
         return Err(FrameFault::TooLarge(joined as u32));
@@ -211,6 +218,7 @@ fn walk_so_far(walk: &mut Walk, header: Header, content: &[u8]) -> Result<(), Fr
     requires walked { IsWalked header content.now walk.old }
     ensures walked { IsWalked header content.now walk.new }
     ensures far { IsAsFar header content.now walk.new }
+    ensures forward { walk.old.place ≤ walk.new.place }
     ensures says { OnOk result (so_far (message_by header content.now) ≡ Ok None) }
     ensures refused { IfErr result (λ fault. so_far (message_by header content.now) ≡ Err fault) }
     ensures memory { IfErr result (λ fault. fault ≢ FrameFault.Memory) }

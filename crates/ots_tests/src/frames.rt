@@ -59,9 +59,10 @@ fn append(into: &mut Vec<u8>, order: Order, part: &Part) -> Result<(), Fail>
     Ok(())
 }
 
-/// A stream to which these octets have come.
+/// A stream to which these octets have come, for which memory was taken before.
 fn stream_of(alloc: Global, bytes: &[u8]) -> Result<Stream, Fail> {
     let mut stream = Stream::new(alloc);
+    stream.reserve(bytes.len())?;
     stream.feed(bytes)?;
     Ok(stream)
 }

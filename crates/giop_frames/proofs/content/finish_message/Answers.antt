@@ -1,11 +1,9 @@
-use Rattle.std.proofs.Common.{◌≡◌, ◌∙◌, ap, sym}
+use Rattle.std.proofs.Common.{◌≡◌, ◌∙◌, ap, subst, sym}
 use Rattle.std.proofs.lemmas.Result.{err_from_is_err_and}
-use Rattle.giop_frames.specs.declared.message.Message.{Message}
 use Rattle.giop_frames.specs.Layout.{kept_tail, message_with}
-use Rattle.giop_frames.specs.Content.{message_by}
+use Rattle.giop_frames.specs.Content.{GivesKept, message_by}
 use Rattle.giop_frames.specs.Walk.{told_by}
-use Rattle.giop_frames.proofs.Loops.{fails_from, fails_on, told_from, told_memory, told_ok, told_on}
-use Rattle.giop_frames.proofs.Near.{message_found}
+use Rattle.giop_frames.proofs.Loops.{fails_from, fails_on, told_from, told_ok, told_on}
 use Rattle.giop_frames.proofs.Walking.{message_fails, message_walked, start_walked}
 use Rattle.giop_frames.proofs.content.finish_message.Goals as goal
 
@@ -68,17 +66,15 @@ returns-in_err-build-clause-start c =
 pub returns-in_err-go_on-clause-memory : goal.returns-in_err-go_on-clause-memory
 returns-in_err-go_on-clause-memory c =
     let p = err_from_is_err_and c.from_residual.result c.from_residual.ensures.1 in
-    let fault = c.in_err-go_on.field-0.0 in
-    rw (p.1, p.2) (λ e. message_found c.args.header c.args.content.now c.go_on.new.self c.in_err-go_on.ensures.far (rw (message_fails c.args.header c.args.content.now fault c.in_err-go_on.ensures.fault) e))
+    let near = rw c.in_err-go_on.ensures.fault at c.in_err-go_on.ensures.far.0 in
+    rw (p.1, p.2) (λ e. absurd (rw e at near))
 
 pub returns-in_err-build-clause-memory : goal.returns-in_err-build-clause-memory
 returns-in_err-build-clause-memory c =
     let w = c.go_on.new.self in
     let told = told_by c.args.content.now w.found in
     let tail = c.kept_tail-tail.ensures ∙ ap (kept_tail c.args.header.version c.args.header.kind w.place) c.behind-octets.ensures in
-    let read = message_by c.args.header c.args.content.now in
-    let same : read ≡ message_with c.args.header.order c.args.header.kind told c.kept_tail-tail.result.now =
+    let same : message_by c.args.header c.args.content.now ≡ message_with c.args.header.order c.args.header.kind told c.kept_tail-tail.result.now =
     message_walked c.args.header c.args.content.now w c.in_ok-go_on.ensures.walked c.in_ok-go_on.ensures.done ∙ ap (message_with c.args.header.order c.args.header.kind told) (sym tail) in
     let p = err_from_is_err_and c.from_residual-in_err-build.result c.from_residual-in_err-build.ensures.1 in
-    let fault = c.in_err-build.field-0.0 in
-    rw (p.1, p.2) (λ e. message_found c.args.header c.args.content.now c.go_on.new.self c.in_ok-go_on.ensures.far (told_memory Message fault read e (told_on Message Message fault _ read same c.in_err-build.ensures.told)))
+    rw (p.1, p.2) (λ e. subst GivesKept (sym same) (c.in_err-build.ensures.memory e))

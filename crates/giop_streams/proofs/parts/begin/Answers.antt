@@ -30,7 +30,7 @@ returns-in_err-new-clause-refused c =
 pub returns-in_err-new-clause-memory : goal.returns-in_err-new-clause-memory
 returns-in_err-new-clause-memory c =
     let p = err_from_is_err_and c.from_residual-in_err-new.result c.from_residual-in_err-new.ensures.1 in
-    rw (p.1, p.2) (λ e. (rw c.deref.ensures.value at c.in_ok-id.ensures.free, rw c.deref.ensures.value at c.in_ok-id.ensures.room))
+    rw (p.1, p.2) (λ e. (rw c.deref.ensures.value at c.in_ok-id.ensures.free, rw c.deref.ensures.value at c.in_ok-id.ensures.room, c.in_err-new.ensures.memory e))
 
 pub returns-clause-says : goal.returns-clause-says
 returns-clause-says c =
@@ -53,4 +53,4 @@ returns-clause-room c = rw c.deref.ensures.value at c.in_ok-id.ensures.room
 pub returns-in_err-push-clause-memory : goal.returns-in_err-push-clause-memory
 returns-in_err-push-clause-memory c =
     let p = err_from_is_err_and c.from_residual-in_err-push.result c.from_residual-in_err-push.ensures.1 in
-    rw (p.1, p.2) (λ e. (rw c.deref.ensures.value at c.in_ok-id.ensures.free, rw c.deref.ensures.value at c.in_ok-id.ensures.room))
+    rw (p.1, p.2) (λ e. (rw c.deref.ensures.value at c.in_ok-id.ensures.free, rw c.deref.ensures.value at c.in_ok-id.ensures.room, c.in_ok-new.ensures.sound))

@@ -1,9 +1,9 @@
-use Rattle.std.proofs.Common.{◌∙◌, ◌++◌, ◌≤◌, ap, arith, length, take, refl}
+use Rattle.std.proofs.Common.{◌∙◌, ◌++◌, ◌≤◌, ap, arith, inl, length, take, refl}
 use Rattle.std.proofs.lemmas.List.{take_all, take_at}
 use Rattle.std.proofs.lemmas.Result.{err_from_is_err_and}
 use Rattle.giop_frames.specs.Limits.{size_limit}
 use Rattle.giop_streams.specs.StreamInside.{limited_so_far, limited_whole}
-use Rattle.giop_streams.proofs.Finished.{limited_whole_is, short_memory, whole_refused, whole_says}
+use Rattle.giop_streams.proofs.Finished.{limited_whole_is, whole_memory, whole_refused, whole_says}
 use Rattle.giop_streams.proofs.Results.{fails_on}
 use Rattle.giop_streams.proofs.SoFar.{joined_fails}
 use Rattle.giop_streams.proofs.unfinished.finish_joined.Goals as goal
@@ -24,8 +24,10 @@ returns-clause-refused c =
 
 pub returns-clause-memory : goal.returns-clause-memory
 returns-clause-memory c =
-    let few : length (c.args.content.now.items ++ c.args.octets.now) ≤ size_limit = rw c.in_ok-go_so_far.ensures.joined at c.in_ok-go_so_far.ensures.short in
-    short_memory c.finish_framed.result (c.args.content.now.items ++ c.args.octets.now) few
+    let octets = c.deref.result.now in
+    let short : length octets ≤ size_limit = rw c.deref.ensures.value c.in_ok-go_so_far.ensures.short in
+    let joined = c.deref.ensures.value ∙ c.in_ok-go_so_far.ensures.joined in
+    whole_memory c.finish_framed.result c.args.header c.args.content.now.items c.args.octets.now octets joined short c.finish_framed.ensures.memory
 
 pub returns-clause-front : goal.returns-clause-front
 returns-clause-front c =
@@ -44,7 +46,7 @@ returns-in_err-go_so_far-clause-refused c =
 pub returns-in_err-go_so_far-clause-memory : goal.returns-in_err-go_so_far-clause-memory
 returns-in_err-go_so_far-clause-memory c =
     let p = err_from_is_err_and c.from_residual.result c.from_residual.ensures.1 in
-    rw (p.1, p.2) (λ e. (c.in_err-go_so_far.ensures.memory e).0)
+    rw (p.1, p.2) (λ e. let wants = c.in_err-go_so_far.ensures.memory e in (wants.0, inl wants.1))
 
 pub returns-in_err-go_so_far-clause-front : goal.returns-in_err-go_so_far-clause-front
 returns-in_err-go_so_far-clause-front c =

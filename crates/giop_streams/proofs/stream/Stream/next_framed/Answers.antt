@@ -1,10 +1,10 @@
-use Rattle.std.proofs.Common.{◌≡◌, ◌∙◌, ◌⊎◌, ap, sym, refl, inl, inr, None, Some}
+use Rattle.std.proofs.Common.{◌≡◌, ◌∙◌, ◌⊎◌, ap, sym, refl, inl, inr, None, Some, arith}
 use Rattle.giop_frames.specs.declared.fault.FrameFault.{FrameFault}
 use Rattle.giop_frames.specs.declared.fault.FrameFault.TheVariants as faults
 use Rattle.giop_streams.specs.Held.{Held}
 use Rattle.giop_streams.specs.HeldInside.{remembering}
 use Rattle.giop_streams.proofs.Results.{less_than, no_more_than, not_done, not_failed, not_none}
-use Rattle.giop_streams.proofs.Holding.{holds_part, holds_piece, holds_stream, kept_by, memory_is, part_of, refused_by, shorter}
+use Rattle.giop_streams.proofs.Holding.{holds_part, holds_piece, holds_stream, kept_by, memory_is, room_by, part_of, refused_by, shorter}
 use Rattle.giop_streams.proofs.stream.Stream.next_framed.Goals as goal
 
 pub loop-framed-smaller : goal.loop-framed-smaller
@@ -17,6 +17,7 @@ loop-framed-preserved c =
       accepts = t.refused ∙ c.loop-framed.invariant.accepts;
       goes_on = λ versions octets messages h. holds_piece c.headers_are_read_exactly.ensures versions octets messages c.loop-framed.self c.take_part.new.self t c.loop-framed.invariant.accepts (c.loop-framed.invariant.goes_on versions octets messages h);
       shorter = no_more_than _ _ _ (shorter c.headers_are_read_exactly.ensures c.loop-framed.self c.take_part.new.self _ t) c.loop-framed.invariant.shorter;
+      room = omega (arith, c.loop-framed.invariant.room, t.room);
     }
 
 -- a refusal other than want of memory is remembered
@@ -48,6 +49,7 @@ returns-in-Ok-Nothing c =
       accepts = ap (λ (h : Held). h.refused) t.0 ∙ c.loop-framed.invariant.accepts;
       partial = λ e. rw t.0 t.1;
       shorter = λ some. absurd cc;
+      room = rw t.0 c.loop-framed.invariant.room;
     }
 
 pub returns-in-Ok-Whole : goal.returns-in-Ok-Whole
@@ -66,6 +68,7 @@ returns-in-Ok-Whole c =
       accepts = t.refused ∙ c.loop-framed.invariant.accepts;
       partial = λ e. absurd (not_none _ e);
       shorter = λ some. less_than _ _ _ (shorter c.headers_are_read_exactly.ensures c.loop-framed.self c.take_part.new.self _ t) c.loop-framed.invariant.shorter;
+      room = omega (arith, c.loop-framed.invariant.room, t.room);
     }
 
 pub returns-in-Err : goal.returns-in-Err
@@ -87,4 +90,5 @@ returns-in-Err c =
       accepts = tt;
       partial = λ e. absurd (not_done _ _ e);
       shorter = tt;
+      room = room_by c.loop-framed.self c.take_part.new.self c.remember.new.self c.in-Err.fault c.in-Err.ensures c.remember.ensures c.loop-framed.invariant.room;
     }

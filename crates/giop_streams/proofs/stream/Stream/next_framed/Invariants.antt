@@ -9,6 +9,7 @@ invariant-loop-framed l = record {
   accepts : l.self.refused ≡ None;
   goes_on : (versions : List Version) (octets : List ℕ) (messages : List Framed) → Holds versions octets messages l.fn.self → Holds versions octets messages l.self;
   shorter : length l.self.rest ≤ length l.fn.self.rest;
+  room : l.fn.self.room ≤ l.self.room;
 }
 
 abbrev pub decreases-loop-framed : goal.decreases-loop-framed

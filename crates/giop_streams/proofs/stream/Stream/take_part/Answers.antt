@@ -1,4 +1,5 @@
-use Rattle.std.proofs.Common.{◌≡◌, ℕ, ◌+◌, ◌∙◌, ap, sym, refl, List, length, drop, take, Option, Ok, None, Some}
+use Rattle.std.proofs.Common.{◌≡◌, ℕ, ◌+◌, ◌∙◌, ap, sym, refl, List, length, drop, take, ◌-◌, Option, Ok, None, Some}
+use Rattle.std.specs.Prelude.{vec_capacity, vec_len}
 use Rattle.std.proofs.lemmas.List.{drop-drop}
 use Rattle.std.proofs.lemmas.Result.{err_from_is_err_and}
 use Rattle.giop_streams.specs.declared.framed.Framed.{Framed}
@@ -14,8 +15,8 @@ returns-in_default-framed c =
     let rest-is : c.behind-rest.result.now ≡ rest = c.behind-rest.ensures ∙ ap (drop inside.start) c.deref.ensures.value in
     let front : IsInFront inside.versions.now c.in-Some.header rest = rw (← rest-is) (rw c.in-Some.is at c.in_ok-header.ensures.part) in
     let content-is : c.content_of-content.result.now ≡ take size (drop 12 rest) = c.content_of-content.ensures ∙ ap (λ (x : List ℕ). take size (drop 12 x)) rest-is in
-    took inside.versions.now inside.messages.items inside.place rest inside.refused (length inside.buffer.items) c.in-Some.header c.content_of-content.result.now None _ c.args.self.now c.self.view_is front content-is
-    (c.in_ok-framed.ensures.says ∙ ap (λ (a : Option Framed). Ok a) c.in_default-framed.is) c.in_ok-framed.ensures.after c.saturating_add-self-inside.ensures (c.give_back-self-inside.ensures.held ∙ sym (drop-drop (12 + size) inside.start inside.buffer.items)) refl refl
+    took inside.versions.now inside.messages.items inside.place rest inside.refused (length inside.buffer.items) (vec_capacity inside.buffer - vec_len inside.buffer) c.in-Some.header c.content_of-content.result.now None _ c.args.self.now c.self.view_is front content-is
+    (c.in_ok-framed.ensures.says ∙ ap (λ (a : Option Framed). Ok a) c.in_default-framed.is) c.in_ok-framed.ensures.after c.saturating_add-self-inside.ensures (c.give_back-self-inside.ensures.held ∙ sym (drop-drop (12 + size) inside.start inside.buffer.items)) refl refl c.give_back-self-inside.ensures.room
 
 pub returns : goal.returns
 returns c =
@@ -25,8 +26,8 @@ returns c =
     let rest-is : c.behind-rest.result.now ≡ rest = c.behind-rest.ensures ∙ ap (drop inside.start) c.deref.ensures.value in
     let front : IsInFront inside.versions.now c.in-Some.header rest = rw (← rest-is) (rw c.in-Some.is at c.in_ok-header.ensures.part) in
     let content-is : c.content_of-content.result.now ≡ take size (drop 12 rest) = c.content_of-content.ensures ∙ ap (λ (x : List ℕ). take size (drop 12 x)) rest-is in
-    took inside.versions.now inside.messages.items inside.place rest inside.refused (length inside.buffer.items) c.in-Some.header c.content_of-content.result.now (Some c.in-Some-framed.framed) _ c.args.self.now c.self.view_is front content-is
-    (c.in_ok-framed.ensures.says ∙ ap (λ (a : Option Framed). Ok a) c.in-Some-framed.is) c.in_ok-framed.ensures.after c.saturating_add-self-inside.ensures (c.give_back-self-inside.ensures.held ∙ sym (drop-drop (12 + size) inside.start inside.buffer.items)) refl refl
+    took inside.versions.now inside.messages.items inside.place rest inside.refused (length inside.buffer.items) (vec_capacity inside.buffer - vec_len inside.buffer) c.in-Some.header c.content_of-content.result.now (Some c.in-Some-framed.framed) _ c.args.self.now c.self.view_is front content-is
+    (c.in_ok-framed.ensures.says ∙ ap (λ (a : Option Framed). Ok a) c.in-Some-framed.is) c.in_ok-framed.ensures.after c.saturating_add-self-inside.ensures (c.give_back-self-inside.ensures.held ∙ sym (drop-drop (12 + size) inside.start inside.buffer.items)) refl refl c.give_back-self-inside.ensures.room
 
 pub returns-in_err-framed : goal.returns-in_err-framed
 returns-in_err-framed c =
@@ -38,4 +39,4 @@ returns-in_err-framed c =
     let content-is : c.content_of-content.result.now ≡ take size (drop 12 rest) = c.content_of-content.ensures ∙ ap (λ (x : List ℕ). take size (drop 12 x)) rest-is in
     let p = err_from_is_err_and c.from_residual-in_err-framed.result c.from_residual-in_err-framed.ensures.1 in
     rw (p.1, p.2)
-    (refused_part inside.versions.now inside.messages.items inside.place rest inside.refused (length inside.buffer.items) c.in-Some.header c.content_of-content.result.now c.in_err-framed.field-0.0 _ c.args.self.now c.self.view_is front content-is c.in_err-framed.ensures.refused c.in_err-framed.ensures.memory c.in_err-framed.ensures.err)
+    (refused_part inside.versions.now inside.messages.items inside.place rest inside.refused (length inside.buffer.items) (vec_capacity inside.buffer - vec_len inside.buffer) c.in-Some.header c.content_of-content.result.now c.in_err-framed.field-0.0 _ c.args.self.now c.self.view_is front content-is c.in_err-framed.ensures.refused c.in_err-framed.ensures.memory c.in_err-framed.ensures.err)

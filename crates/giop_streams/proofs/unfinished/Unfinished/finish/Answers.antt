@@ -1,9 +1,9 @@
-use Rattle.std.proofs.Common.{◌≡◌, ◌∙◌, ◌++◌, ◌≤◌, ℕ, List, ap, arith, false, length, subst, sym, take, Ok, Some}
+use Rattle.std.proofs.Common.{◌≡◌, ◌∙◌, ℕ, List, ap, arith, false, length, subst, sym, take, Ok, Some}
 use Rattle.std.specs.Prelude.{IfErr, IfOk}
 use Rattle.giop_frames.specs.declared.fault.FrameFault.TheVariants as faults
 use Rattle.giop_frames.specs.Fault.{Fails}
 use Rattle.giop_frames.specs.Header.{is_fragment}
-use Rattle.giop_frames.specs.Limits.{size_limit}
+use Rattle.giop_streams.specs.Held.{MayEnd}
 use Rattle.giop_streams.specs.Stream.{Unfinished, joined}
 use Rattle.giop_frames.specs.Walk.{IsAsFar, IsWalked}
 use Rattle.giop_streams.proofs.Finished.{where_refused}
@@ -19,7 +19,7 @@ returns-clause-refused c =
 
 pub returns-clause-memory : goal.returns-clause-memory
 returns-clause-memory c =
-    subst (λ (u : Unfinished). IfErr c.finish_joined-finished.result (λ fault. fault ≡ faults.Memory → length (u.content ++ c.args.octets.now) ≤ size_limit)) c.self.view_is c.finish_joined-finished.ensures.memory
+    subst (λ (u : Unfinished). IfErr c.finish_joined-finished.result (λ fault. fault ≡ faults.Memory → MayEnd u.header u.content c.args.octets.now)) c.self.view_is c.finish_joined-finished.ensures.memory
 
 pub returns-clause-err : goal.returns-clause-err
 returns-clause-err c =
