@@ -2,12 +2,14 @@
 # Has resources of an end over a real file, in which 1,000, 100,000 and 1,000,000 cells are stored, put a cell, prepare and
 # commit, one after the other; and appends the records of as many to a journal in such a file, with no end. Prints how many
 # prepares and commits there were in a second, the ratio of the two times, and how the first grows with the cells. Loads aren't
-# counted. Run it anywhere; it builds the program first. How many resources there are, and the folder of the files, may be given
-# as arguments. Each time is the least of five.
+# counted. Run it anywhere; it builds the program first. How many resources there are, the folder of the files, and how many
+# rounds there are, may be given as arguments. In each round both are made, one right after the other, on copies of the same
+# file: a ratio is the median of the rounds' ratios, and a time the median of their times.
 set -euo pipefail
 . "$(dirname "$0")/timing.sh"
 count=${1:-500}
 folder=${2:-$work}
+rounds=${3:-9}
 file=$folder/ends.bench
 trap 'rm -rf "$work" "$file"' EXIT
 program=$here/crates/journal_bench/out/journal_bench
@@ -30,23 +32,30 @@ sys.stdout.buffer.write(octets + b"\0")
 PY
 }
 
-# The two are made in turn, each on a copy of that file.
+# Each line has a round's cells, and its two times. In every other round the appends come first.
 for cells in 1000 100000 1000000; do
   stored "$cells" >"$work/octets"
-  for _ in 1 2 3 4 5; do
-    for kind in ends cells; do
+  for round in $(seq "$rounds"); do
+    kinds="ends cells"
+    [ $((round % 2)) = 0 ] && kinds="cells ends"
+    for kind in $kinds; do
       cp "$work/octets" "$file"
       sync "$file"
-      "$program" "$kind" "$file" "$count" >>"$work/$kind.$cells"
+      "$program" "$kind" "$file" "$count" >"$work/$kind"
     done
+    echo "$cells $(cat "$work/ends") $(cat "$work/cells")"
   done
-  echo "$cells $(sort -n "$work/ends.$cells" | head -1) $(sort -n "$work/cells.$cells" | head -1)"
 done | python3 -c '
-import sys
+import statistics, sys
 count = int(sys.argv[1])
-rows = [tuple(map(int, line.split())) for line in sys.stdin]
-for cells, ends, appends in rows:
-    speed = 2 * count * 10**9 // ends
-    print(f"{cells:>9,} cells stored: {speed:,} prepares and commits in a second; ratio to the bare appends: {ends / appends:.2f}")
-print(f"ratio of the time per prepare and commit, 1,000,000 cells to 1,000: {rows[-1][1] / rows[0][1]:.2f}")
+rounds = {}
+for line in sys.stdin:
+    cells, ends, appends = map(int, line.split())
+    rounds.setdefault(cells, []).append((ends, appends))
+times = {cells: statistics.median(ends for ends, _ in each) for cells, each in rounds.items()}
+for cells, each in rounds.items():
+    speed = int(2 * count * 10**9 / times[cells])
+    ratio = statistics.median(ends / appends for ends, appends in each)
+    print(f"{cells:>9,} cells stored: {speed:,} prepares and commits in a second; ratio to the bare appends: {ratio:.2f}")
+print(f"ratio of the time per prepare and commit, 1,000,000 cells to 1,000: {times[1000000] / times[1000]:.2f}")
 ' "$count"

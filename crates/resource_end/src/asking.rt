@@ -28,7 +28,7 @@ impl Kept {
                 serial: 0,
             },
             registration: 0,
-            to: self.recovery.copy(alloc)?,
+            to: ok!(self.recovery.copy(alloc)),
             word: Word::ReplayCompletion,
             receipt: None,
         })
@@ -44,7 +44,7 @@ impl Resources {
         ensures room { out.new.room ≡ out.old.room }
     {
         for id in &self.unfinished {
-            self.ask(*id, out)?;
+            ok!(self.ask(*id, out));
         }
         Ok(())
     }

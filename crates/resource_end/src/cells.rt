@@ -84,7 +84,10 @@ impl Cells {
             stored: None,
             holder: Some(id),
         };
-        self.map.insert(cell, known)?;
+        match self.map.insert(cell, known) {
+            Ok(_) => {}
+            Err(_) => return Err(AllocError),
+        }
         Ok(None)
     }
 
@@ -119,7 +122,7 @@ impl Cells {
         let mut left = puts.len();
         while left > 0 {
             left -= 1;
-            self.load(puts[left])?;
+            ok!(self.load(puts[left]));
         }
         Ok(())
     }
@@ -131,7 +134,10 @@ impl Cells {
             stored: Some(put.value),
             holder: None,
         };
-        self.map.insert(put.cell, known)?;
+        match self.map.insert(put.cell, known) {
+            Ok(_) => {}
+            Err(_) => return Err(AllocError),
+        }
         Ok(())
     }
 }

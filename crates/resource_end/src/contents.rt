@@ -49,7 +49,7 @@ impl Contents {
     ) -> Result<Contents, AllocError>
         ensures { IfOk result (λ c. c ≡ record { resources = resources; cells = inside.stored_cells cells }) }
     {
-        let contested = resources.hold_all(&mut cells)?;
+        let contested = ok!(resources.hold_all(&mut cells));
         Ok(Contents {
             alloc,
             resources,
@@ -145,7 +145,7 @@ impl Contents {
         })) }
         ensures err { OnErr result (self.new ≡ self.old) }
     {
-        self.cells.hold(put.cell, id)?;
+        ok!(self.cells.hold(put.cell, id));
         self.resources.put(id, put)
     }
 

@@ -282,8 +282,8 @@ impl<D: Disk> ResourceEnd<D> {
             (journaling.IsCause D.wants_memory D.told D.faults self.old.journal self.new.journal) }
         ensures later { D.faults self.old.journal.disk ≤ D.faults self.new.journal.disk }
     {
-        self.reread()?;
-        self.needs_open(key)?;
+        ok!(self.reread());
+        ok!(self.needs_open(key));
         let id = (key.life, key.generation);
         if let Some(number) = self.contents.other_holder(id, cell) {
             return Err(EndFault::Transient(number));
@@ -291,7 +291,10 @@ impl<D: Disk> ResourceEnd<D> {
         if !self.contents.has_room(id, cell) {
             return Err(EndFault::NoResources);
         }
-        self.contents.put(id, Put { cell, value })?;
+        match self.contents.put(id, Put { cell, value }) {
+            Ok(()) => {}
+            Err(_) => return Err(EndFault::Memory),
+        }
         Ok(())
     }
 
@@ -318,8 +321,8 @@ impl<D: Disk> ResourceEnd<D> {
             (journaling.IsCause D.wants_memory D.told D.faults self.old.journal self.new.journal) }
         ensures later { D.faults self.old.journal.disk ≤ D.faults self.new.journal.disk }
     {
-        self.reread()?;
-        self.needs_open(key)?;
+        ok!(self.reread());
+        ok!(self.needs_open(key));
         self.contents
             .change((key.life, key.generation), State::Refused, None);
         Ok(())
@@ -351,7 +354,7 @@ impl<D: Disk> ResourceEnd<D> {
             (journaling.IsCause D.wants_memory D.told D.faults self.old.journal self.new.journal) }
         ensures later { D.faults self.old.journal.disk ≤ D.faults self.new.journal.disk }
     {
-        self.reread()?;
+        ok!(self.reread());
         let state = match self.contents.state_of(self.journal.service(), key) {
             Some(state) => state,
             None => return Err(EndFault::ObjectNotExist),
@@ -470,13 +473,13 @@ impl<D: Disk> ResourceEnd<D> {
         ensures later { D.faults self.old.journal.disk ≤ D.faults self.new.journal.disk }
     {
         self.changed = None;
-        self.reread()?;
+        ok!(self.reread());
         let state = match self.contents.state_of(self.journal.service(), key) {
             Some(state) => state,
             None => return Ok(()),
         };
         if let Some(next) = state.learns(heard) {
-            self.moves((key.life, key.generation), next)?;
+            ok!(self.moves((key.life, key.generation), next));
             self.changed = next.shown();
         }
         Ok(())
@@ -507,15 +510,20 @@ impl<D: Disk> ResourceEnd<D> {
         ensures later { D.faults self.old.journal.disk ≤ D.faults self.new.journal.disk }
     {
         self.changed = None;
-        self.reread()?;
+        ok!(self.reread());
         let state = match self.contents.state_of(self.journal.service(), key) {
             Some(state) => state,
             None => return Err(EndFault::ObjectNotExist),
         };
         let row = state.row(word);
         if let Some(next) = row.next {
-            self.moves((key.life, key.generation), next)?;
-            self.changed = next.shown();
+            match self.moves((key.life, key.generation), next) {
+                Ok(()) => self.changed = next.shown(),
+                Err(fault) => {
+                    drop(row);
+                    return Err(fault);
+                }
+            }
         }
         row.said
     }
@@ -583,7 +591,11 @@ impl<D: Disk> ResourceEnd<D> {
         ensures later { D.faults self.old.journal.disk ≤ D.faults self.new.journal.disk }
         ensures shown { self.new.end.changed ≡ self.old.end.changed }
     {
-        match self.contents.record_for(id, next)? {
+        let due = match self.contents.record_for(id, next) {
+            Ok(due) => due,
+            Err(_) => return Err(EndFault::Memory),
+        };
+        match due {
             Some(item) => self.write(item),
             None => {
                 self.contents.change(id, next, None);
@@ -605,8 +617,13 @@ impl<D: Disk> ResourceEnd<D> {
         ensures later { D.faults self.old.journal.disk ≤ D.faults self.new.journal.disk }
         ensures shown { self.new.end.changed ≡ self.old.end.changed }
     {
-        let recovery = named_by(self.alloc, &item)?;
-        self.journal.reserve()?;
+        let recovery = match room_for(self.alloc, &mut self.journal, &item) {
+            Ok(recovery) => recovery,
+            Err(_) => {
+                drop(item);
+                return Err(EndFault::Memory);
+            }
+        };
         match self.journal.append(item) {
             Ok(_) => {
                 self.contents.recall_last(self.journal.standing(), recovery);
@@ -618,6 +635,20 @@ impl<D: Disk> ResourceEnd<D> {
             }
         }
     }
+}
+
+/// Room in a journal for one more record of cells, and a copy of the recovery coordinator that this one names.
+fn room_for<D: Disk>(
+    alloc: Global,
+    journal: &mut Journal<D>,
+    item: &JournalRecord,
+) -> Result<RefBytes, AllocError>
+    ensures named { IfOk result (λ recovery. recovery ≡ inside.named_by item.now) }
+    ensures room { OnOk result (0 < journal.new.room) }
+    ensures same { journal.new ≡ record journal.old { room = journal.new.room } }
+{
+    ok!(journal.reserve());
+    named_by(alloc, item)
 }
 
 /// A copy of the recovery coordinator that a record of cells names, or of none.

@@ -120,13 +120,13 @@ impl Kept {
             (None, State::Working, State::Prepared) => Ok(Some(JournalRecord::CellsPrepared(
                 id.0,
                 id.1,
-                self.recovery.copy(alloc)?,
-                self.copy_puts(alloc)?,
+                ok!(self.recovery.copy(alloc)),
+                ok!(self.copy_puts(alloc)),
             ))),
             (None, State::Working, State::Applied) => Ok(Some(JournalRecord::CellsOnePhase(
                 id.0,
                 id.1,
-                self.copy_puts(alloc)?,
+                ok!(self.copy_puts(alloc)),
             ))),
             _ => Ok(None),
         }
@@ -135,7 +135,7 @@ impl Kept {
     fn copy_puts(&self, alloc: Global) -> Result<Puts, AllocError>
         ensures { IfOk result (λ copy. copy ≡ self.now.puts.items) }
     {
-        Ok(Puts::from_vec(copy_puts(alloc, self.puts.as_slice())?))
+        Ok(Puts::from_vec(ok!(copy_puts(alloc, self.puts.as_slice()))))
     }
 
     /// Each cell that it put is held by it. The result tells whether another one held one of them.
@@ -147,7 +147,7 @@ impl Kept {
     {
         let mut contested = false;
         for put in &self.puts {
-            let before = cells.hold(put.cell, id)?;
+            let before = ok!(cells.hold(put.cell, id));
             contested = either(is_another(before, id), contested);
         }
         Ok(contested)
@@ -159,7 +159,7 @@ impl Kept {
             ≡ calls.with_cell put.cell put.value (inside.resource_at id self.old)) }
         ensures err { OnErr result ((id : ℕ × ℕ) → inside.resource_at id self.new ≡ inside.resource_at id self.old) }
     {
-        set_put(&mut self.puts, put)?;
+        ok!(set_put(&mut self.puts, put));
         self.state = State::Working;
         Ok(())
     }
@@ -323,11 +323,20 @@ impl Resources {
         ensures err { OnErr result (self.new ≡ self.old) }
     {
         if !kept.state.is_unfinished() {
-            self.map.insert(id, kept)?;
+            match self.map.insert(id, kept) {
+                Ok(_) => {}
+                Err(_) => return Err(AllocError),
+            }
             self.unfinished.remove(&id);
             return Ok(());
         }
-        self.unfinished.insert(id)?;
+        match self.unfinished.insert(id) {
+            Ok(_) => {}
+            Err(_) => {
+                drop(kept);
+                return Err(AllocError);
+            }
+        }
         match self.map.insert(id, kept) {
             Ok(_) => Ok(()),
             Err(_) => {
@@ -411,7 +420,7 @@ impl Resources {
     {
         let mut contested = false;
         for (id, kept) in &self.map {
-            let more = kept.hold_all(*id, cells)?;
+            let more = ok!(kept.hold_all(*id, cells));
             contested = either(more, contested);
         }
         Ok(contested)

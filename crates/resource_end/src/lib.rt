@@ -10,6 +10,16 @@ pub use laws::{
 };
 pub use state::{Row, State, Word};
 
+/// The value of an answer that is Ok; any other ends this function, with its fault as it is. It is `?` without a conversion.
+macro_rules! ok {
+    ($answer:expr) => {
+        match $answer {
+            Ok(value) => value,
+            Err(fault) => return Err(fault),
+        }
+    };
+}
+
 mod asking;
 mod cells;
 mod contents;

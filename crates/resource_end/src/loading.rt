@@ -41,7 +41,7 @@ pub(crate) fn load_all(alloc: Global, standing: &[Standing]) -> Result<Contents,
         cells: Cells::new(alloc),
     };
     for each in standing {
-        loading.recall(standing, each)?;
+        ok!(loading.recall(standing, each));
     }
     Contents::of(alloc, loading.resources, loading.cells)
 }
@@ -86,8 +86,8 @@ impl Loading {
         let kept = Kept {
             kind: self.letter_of(id),
             state: State::Prepared,
-            recovery: recovery.copy(self.alloc)?,
-            puts: copy_puts(self.alloc, puts.items())?,
+            recovery: ok!(recovery.copy(self.alloc)),
+            puts: ok!(copy_puts(self.alloc, puts.items())),
             record_place: Some(place),
         };
         self.resources.insert(id, kept)
@@ -124,7 +124,7 @@ impl Loading {
             puts: Vec::new(self.alloc),
             record_place: None,
         };
-        self.resources.insert(id, kept)?;
+        ok!(self.resources.insert(id, kept));
         self.cells.load_all(puts.items())
     }
 

@@ -19,9 +19,9 @@ loop-each-preserved c =
       (λ e. ap (λ n. recalls_all (take n c.args.standing.now) (with_contents no_contents e)) one
           ∙ recalls_more c.args.standing.now c.loop-each.each-index c.each-item.result c.loop-each-test.true (with_contents no_contents e)
           ∙ (λ i. recalls (sym c.each-item.is i) (c.loop-each.invariant.0 e i))
-          ∙ c.in_ok-recall.ensures.told e),
-      c.in_ok-recall.ensures.recorded,
-      c.in_ok-recall.ensures.writable,
+          ∙ c.in-Ok.ensures.told e),
+      c.in-Ok.ensures.recorded,
+      c.in-Ok.ensures.writable,
     )
 
 pub recall-requires : goal.recall-requires

@@ -16,7 +16,7 @@ pub returns-clause-stored : goal.returns-clause-stored
 returns-clause-stored c =
     let n = c.get_mut.follows.lender-at-none in
     let back : n ≡ c.self.inside.map = c.get_mut.follows.holds-at-none in
-    ap stored_cells c.in_ok-insert.ensures.entries
+    ap stored_cells c.in-Ok.ensures.entries
     ∙ same_with c.args.cell (record { stored = None; holder = Some c.args.id }) refl n.entries
     (ap (λ m. lookup (is_at (nat_cmp c.args.cell)) m.entries) back ∙ sym c.in_default.ensures.value)
     ∙ ap (λ m. stored_cells m.entries) back

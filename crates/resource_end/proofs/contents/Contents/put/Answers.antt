@@ -17,11 +17,11 @@ invariant_of-self-2 c =
     let free = subst (λ s. find (is_other_holder c.args.id c.args.put.cell) s.resources ≡ None) (sym c.self.view_is) c.requires.free in
     let held : AreHeld c.self.inside.contested c.hold.new.self c.self.inside.resources =
     held_cell c.self.inside.contested c.self.inside.cells c.hold.new.self c.self.inside.resources c.args.id c.args.put.cell free
-    c.in_ok-hold.ensures.held c.in_ok-hold.ensures.others c.self.invariant in
+    c.in-Ok.ensures.held c.in-Ok.ensures.others c.self.invariant in
     either_way c.put.result _ _ (AreHeld c.self.inside.contested c.hold.new.self c.put.new.self) c.put.ensures.ok c.put.ensures.err
     (λ after.
     let it = known (numbered c.args.id c.self.inside.resources) there (λ r. c.put.new.self ≡ with_resource (with_cell c.args.put.cell c.args.put.value r) c.self.inside.resources) after in
     subst (AreHeld c.self.inside.contested c.hold.new.self) (sym it.1.1)
     (held_put c.self.inside.contested c.hold.new.self c.self.inside.resources c.args.id it.0 c.args.put.cell c.args.put.value it.1.0
-    (at_known (numbered c.args.id c.self.inside.resources) it.0 HasOwnPuts it.1.0 clean) c.in_ok-hold.ensures.held held))
+    (at_known (numbered c.args.id c.self.inside.resources) it.0 HasOwnPuts it.1.0 clean) c.in-Ok.ensures.held held))
     (λ same. subst (AreHeld c.self.inside.contested c.hold.new.self) (sym same) held)

@@ -1,34 +1,32 @@
 use Rattle.std.proofs.Common.{◌≡◌, ◌∙◌, ◌≤◌, None, Some, ap, sym, subst}
-use Rattle.std.specs.Prelude.{find, IfErr, Ok, Err}
+use Rattle.std.specs.Prelude.{find, Ok, Err}
 use Rattle.resource_end.specs.declared.state.Row.{Row}
 use Rattle.resource_end.specs.States.{made}
 use Rattle.resource_end.specs.Table.{row}
 use Rattle.resource_end.specs.Calls.{told, wanted}
 use Rattle.resource_end.specs.End.{is_named, named}
 use Rattle.resource_end.specs.Inside.{HasMoved, HasReadAgain, IsNamed, numbered}
-use Rattle.resource_end.specs.Journaling.{IsCalled, IsCause, afresh}
+use Rattle.resource_end.specs.Journaling.{IsCalled, afresh}
 use Rattle.resource_end.proofs.Calling.{later_cause, told_moved, told_nobody, told_stays, told_unmoved, told_unread}
 use Rattle.resource_end.proofs.Claims.{at_known}
-use Rattle.resource_end.proofs.Writing.{same_err, seen}
+use Rattle.resource_end.proofs.Writing.{seen}
 use Rattle.resource_end.proofs.end.ResourceEnd.try_word.Goals as goal
 
-pub returns-in_err-reread-clause-called : goal.returns-in_err-reread-clause-called
-returns-in_err-reread-clause-called g c =
-    subst (λ x. IsCalled g.D.Disk.told (afresh c.args.self.now) c.reread.new.self x (wanted c.args.word c.args.key.now) (told c.args.word c.args.key.now))
-    (sym (same_err c.from_residual.result c.in_err-reread.field-0.0 c.from_residual.ensures.1))
-    (told_unread g.D.Disk.told c.args.self.now c.args.word c.args.key.now c.reread.new.self c.in_err-reread.field-0.0
-    (subst (λ s. HasReadAgain g.D.Disk.told (afresh s) c.reread.new.self (Err c.in_err-reread.field-0.0)) c.self.view_is c.in_err-reread.ensures.rereads))
+pub returns-in-Err-clause-called : goal.returns-in-Err-clause-called
+returns-in-Err-clause-called g c =
+    told_unread g.D.Disk.told c.args.self.now c.args.word c.args.key.now c.reread.new.self c.in-Err.fault
+    (subst (λ s. HasReadAgain g.D.Disk.told (afresh s) c.reread.new.self (Err c.in-Err.fault)) c.self.view_is c.in-Err.ensures.rereads)
 
 pub returns-in-None-clause-called : goal.returns-in-None-clause-called
 returns-in-None-clause-called g c =
-    let read = subst (λ s. HasReadAgain g.D.Disk.told (afresh s) c.reread.new.self (Ok tt)) c.self.view_is c.in_ok-reread.ensures.rereads in
+    let read = subst (λ s. HasReadAgain g.D.Disk.told (afresh s) c.reread.new.self (Ok tt)) c.self.view_is c.in-Ok.ensures.rereads in
     let none = subst (λ s. named c.args.key.now s.end ≡ None) c.self-2.view_is
     (subst (λ n. find (is_named n c.args.key.now) c.self-2.inside.contents.resources ≡ None) c.service.ensures c.in-None.ensures) in
     told_nobody g.D.Disk.told c.args.self.now c.args.word c.args.key.now c.reread.new.self read none
 
-pub returns-in_err-moves-clause-called : goal.returns-in_err-moves-clause-called
-returns-in_err-moves-clause-called g c =
-    let read = subst (λ s. HasReadAgain g.D.Disk.told (afresh s) c.reread.new.self (Ok tt)) c.self.view_is c.in_ok-reread.ensures.rereads in
+pub returns-in-Err-moves-clause-called : goal.returns-in-Err-moves-clause-called
+returns-in-Err-moves-clause-called g c =
+    let read = subst (λ s. HasReadAgain g.D.Disk.told (afresh s) c.reread.new.self (Ok tt)) c.self.view_is c.in-Ok.ensures.rereads in
     let it = c.in-Some.ensures in
     let is = subst (λ s. named c.args.key.now s.end ≡ Some it.0) c.self-2.view_is
     (subst (λ n. IsNamed n c.args.key.now c.self-2.inside.contents.resources c.in-Some.state it.0) c.service.ensures it.1).named in
@@ -36,23 +34,19 @@ returns-in_err-moves-clause-called g c =
     let row_is = ap (row c.args.word) it.1.stands ∙ sym c.row-row.ensures in
     let next = ap (λ (x : Row). x.next) row_is ∙ c.in-Some-next.is in
     let moved = at_known (numbered (c.args.key.now.life, c.args.key.now.generation) c.reread.new.self.end.resources) it.0
-    (HasMoved g.D.Disk.told c.reread.new.self c.moves.new.self (Err c.in_err-moves.field-0.0) c.in-Some-next.next) there c.in_err-moves.ensures.moves in
-    subst (λ x. IsCalled g.D.Disk.told (afresh c.args.self.now) c.moves.new.self x (wanted c.args.word c.args.key.now) (told c.args.word c.args.key.now))
-    (sym (same_err c.from_residual-in_err-moves.result c.in_err-moves.field-0.0 c.from_residual-in_err-moves.ensures.1))
-    (told_unmoved g.D.Disk.told c.args.self.now c.args.word c.args.key.now c.reread.new.self read it.0 is c.moves.new.self c.in-Some-next.next next c.in_err-moves.field-0.0 moved
-    (c.moves.ensures.shown ∙ c.reread.ensures.shown))
+    (HasMoved g.D.Disk.told c.reread.new.self c.moves.new.self (Err c.in-Err-moves.fault) c.in-Some-next.next) there c.in-Err-moves.ensures.moves in
+    told_unmoved g.D.Disk.told c.args.self.now c.args.word c.args.key.now c.reread.new.self read it.0 is c.moves.new.self c.in-Some-next.next next c.in-Err-moves.fault moved
+    (c.moves.ensures.shown ∙ c.reread.ensures.shown)
 
-pub returns-in_err-moves-clause-fault : goal.returns-in_err-moves-clause-fault
-returns-in_err-moves-clause-fault g c =
-    subst (λ x. IfErr x (IsCause g.D.Disk.wants_memory g.D.Disk.told g.D.Disk.faults c.args.self.now.journal c.moves.new.self.journal))
-    (sym (same_err c.from_residual-in_err-moves.result c.in_err-moves.field-0.0 c.from_residual-in_err-moves.ensures.1))
-    (later_cause g.D.Disk.wants_memory g.D.Disk.told g.D.Disk.faults c.args.self.now.journal c.reread.new.self.journal c.moves.new.self.journal c.in_err-moves.field-0.0
+pub returns-in-Err-moves-clause-fault : goal.returns-in-Err-moves-clause-fault
+returns-in-Err-moves-clause-fault g c =
+    later_cause g.D.Disk.wants_memory g.D.Disk.told g.D.Disk.faults c.args.self.now.journal c.reread.new.self.journal c.moves.new.self.journal c.in-Err-moves.fault
     (subst (λ s. g.D.Disk.faults s.journal.disk ≤ g.D.Disk.faults c.reread.new.self.journal.disk) c.self.view_is c.reread.ensures.later)
-    c.moves.ensures.later c.in_ok-reread.ensures.ready c.in_err-moves.ensures.fault)
+    c.moves.ensures.later c.in-Ok.ensures.ready c.in-Err-moves.ensures.fault
 
-pub returns-in_ok-moves-clause-called : goal.returns-in_ok-moves-clause-called
-returns-in_ok-moves-clause-called g c =
-    let read = subst (λ s. HasReadAgain g.D.Disk.told (afresh s) c.reread.new.self (Ok tt)) c.self.view_is c.in_ok-reread.ensures.rereads in
+pub returns-in-Ok-moves-clause-called : goal.returns-in-Ok-moves-clause-called
+returns-in-Ok-moves-clause-called g c =
+    let read = subst (λ s. HasReadAgain g.D.Disk.told (afresh s) c.reread.new.self (Ok tt)) c.self.view_is c.in-Ok.ensures.rereads in
     let it = c.in-Some.ensures in
     let is = subst (λ s. named c.args.key.now s.end ≡ Some it.0) c.self-2.view_is
     (subst (λ n. IsNamed n c.args.key.now c.self-2.inside.contents.resources c.in-Some.state it.0) c.service.ensures it.1).named in
@@ -60,7 +54,7 @@ returns-in_ok-moves-clause-called g c =
     let row_is = ap (row c.args.word) it.1.stands ∙ sym c.row-row.ensures in
     let next = ap (λ (x : Row). x.next) row_is ∙ c.in-Some-next.is in
     let moved = at_known (numbered (c.args.key.now.life, c.args.key.now.generation) c.reread.new.self.end.resources) it.0
-    (HasMoved g.D.Disk.told c.reread.new.self c.moves.new.self (Ok tt) c.in-Some-next.next) there c.in_ok-moves.ensures.moves in
+    (HasMoved g.D.Disk.told c.reread.new.self c.moves.new.self (Ok tt) c.in-Some-next.next) there c.in-Ok-moves.ensures.moves in
     subst (λ x. IsCalled g.D.Disk.told (afresh c.args.self.now) (seen c.self-in-Some-next.inside.journal c.self-in-Some-next.inside.drawn c.self-in-Some-next.inside.contents x)
     c.row-row.result.said (wanted c.args.word c.args.key.now) (told c.args.word c.args.key.now)) (sym c.shown-self-inside.ensures)
     (subst (λ s. IsCalled g.D.Disk.told (afresh c.args.self.now) (record s { end = record s.end { changed = made c.in-Some-next.next } })
@@ -72,7 +66,7 @@ returns-in_ok-moves-clause-called g c =
 
 pub returns-in_default-clause-called : goal.returns-in_default-clause-called
 returns-in_default-clause-called g c =
-    let read = subst (λ s. HasReadAgain g.D.Disk.told (afresh s) c.reread.new.self (Ok tt)) c.self.view_is c.in_ok-reread.ensures.rereads in
+    let read = subst (λ s. HasReadAgain g.D.Disk.told (afresh s) c.reread.new.self (Ok tt)) c.self.view_is c.in-Ok.ensures.rereads in
     let it = c.in-Some.ensures in
     let is = subst (λ s. named c.args.key.now s.end ≡ Some it.0) c.self-2.view_is
     (subst (λ n. IsNamed n c.args.key.now c.self-2.inside.contents.resources c.in-Some.state it.0) c.service.ensures it.1).named in

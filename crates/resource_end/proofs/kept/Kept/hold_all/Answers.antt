@@ -15,20 +15,20 @@ loop-put-init c = (refl, λ id cell was h. h, λ k d lt. absurd (omega (arith, l
 pub loop-put-preserved : goal.loop-put-preserved
 loop-put-preserved c =
     let x : ℕ = (get_or c.deref-put-items.result.now c.loop-put.put-index (record { cell = 0; value = 0 })).cell in
-    let one : Keeps (is_another c.in_ok-before.before c.args.id) c.loop-put.cells c.hold.new.self =
-    keeps_one x c.args.id c.in_ok-before.before c.loop-put.cells c.hold.new.self c.in_ok-before.ensures.before c.in_ok-before.ensures.held c.in_ok-before.ensures.others in
-    let flag : c.either-contested.result ≡ (is_another c.in_ok-before.before c.args.id || c.loop-put.contested) =
+    let one : Keeps (is_another c.in-Ok.value c.args.id) c.loop-put.cells c.hold.new.self =
+    keeps_one x c.args.id c.in-Ok.value c.loop-put.cells c.hold.new.self c.in-Ok.ensures.before c.in-Ok.ensures.held c.in-Ok.ensures.others in
+    let flag : c.either-contested.result ≡ (is_another c.in-Ok.value c.args.id || c.loop-put.contested) =
     c.either-contested.ensures ∙ ap (λ b. b || c.loop-put.contested) c.is_another.ensures in (
-      c.in_ok-before.ensures.stored ∙ c.loop-put.invariant.0,
+      c.in-Ok.ensures.stored ∙ c.loop-put.invariant.0,
       subst (λ b. Keeps b c.args.cells.now c.hold.new.self) (sym flag)
-          (keeps_more c.loop-put.contested (is_another c.in_ok-before.before c.args.id) c.args.cells.now c.loop-put.cells c.hold.new.self c.loop-put.invariant.1 one),
+          (keeps_more c.loop-put.contested (is_another c.in-Ok.value c.args.id) c.args.cells.now c.loop-put.cells c.hold.new.self c.loop-put.invariant.1 one),
       λ k d lt. elim (cases_eq k c.loop-put.put-index) [
         | inl same ↦
             let at : (get_or c.args.self.now.puts.items k d).cell ≡ x =
             ap (λ (ps : List Put). (get_or ps k d).cell) (sym c.deref-put-items.ensures.value)
             ∙ ap (λ (j : ℕ). (get_or c.deref-put-items.result.now j d).cell) same
             ∙ ap (λ (p : Put). p.cell) (get_or_default c.deref-put-items.result.now c.loop-put.put-index d (record { cell = 0; value = 0 }) (omega (arith, c.loop-put-test.true))) in
-            its c.either-contested.result c.args.id _ (ap (λ y. holder_in y c.hold.new.self) at ∙ c.in_ok-before.ensures.held)
+            its c.either-contested.result c.args.id _ (ap (λ y. holder_in y c.hold.new.self) at ∙ c.in-Ok.ensures.held)
         | inr differs ↦
             subst (λ b. IsHeldBy b c.args.id (holder_in (get_or c.args.self.now.puts.items k d).cell c.hold.new.self)) (sym flag)
             (one c.args.id (get_or c.args.self.now.puts.items k d).cell c.loop-put.contested (c.loop-put.invariant.2 k d (omega (arith, lt, differs))))

@@ -16,13 +16,13 @@ pub loop-id-preserved : goal.loop-id-preserved
 loop-id-preserved c = (
   asked_one c.args.out.now.words c.loop-id.out.words c.ask.new.out.words (asks_of c.args.self.now) (asks_among c.args.self.now c.loop-id.id-iterator)
       (asks_by (numbered c.in-Some.id.now c.args.self.now)) (asks_among c.args.self.now c.next.new.self) (ap (asks_among c.args.self.now) c.in-Some.ensures.steps)
-      (ap (λ o. o.words) c.in_ok-ask.ensures.ok) c.loop-id.invariant.0,
-  ap (λ o. o.room) c.in_ok-ask.ensures.ok ∙ c.loop-id.invariant.1,
+      (ap (λ o. o.words) c.in-Ok.ensures.ok) c.loop-id.invariant.0,
+  ap (λ o. o.room) c.in-Ok.ensures.ok ∙ c.loop-id.invariant.1,
 )
 
-pub returns-in_err-ask-clause-front : goal.returns-in_err-ask-clause-front
-returns-in_err-ask-clause-front c =
-    subst (λ o. HasFrontOf c.args.out.now.words (asks_of c.args.self.now) o.words) (sym c.in_err-ask.ensures.err)
+pub returns-in-Err-clause-front : goal.returns-in-Err-clause-front
+returns-in-Err-clause-front c =
+    subst (λ o. HasFrontOf c.args.out.now.words (asks_of c.args.self.now) o.words) (sym c.in-Err.ensures.err)
     (asked_front c.args.out.now.words c.loop-id.out.words (asks_of c.args.self.now) (asks_among c.args.self.now c.loop-id.id-iterator) c.loop-id.invariant.0)
 
 pub returns-clause-ok : goal.returns-clause-ok

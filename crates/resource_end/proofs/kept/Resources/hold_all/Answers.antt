@@ -17,10 +17,10 @@ loop-id-preserved c =
     c.loop-id.yielded_by c.in-Some.is c.next.ensures.steps id_total c.self.inside.map c.into_iter-id-iterator.ensures.into_iter_gives.0 c.self.invariant.0 in (
       c.hold_all.ensures.stored ∙ c.loop-id.invariant.0,
       subst (λ b. Held b c.hold_all.new.cells c.args.self.now c.next.new.self) (sym c.either-contested.ensures)
-          (held_more c.loop-id.contested c.in_ok-more.more c.loop-id.cells c.hold_all.new.cells c.args.self.now c.in-Some.id.now c.in-Some.kept.now c.next.new.self c.loop-id.id-iterator
+          (held_more c.loop-id.contested c.in-Ok.value c.loop-id.cells c.hold_all.new.cells c.args.self.now c.in-Some.id.now c.in-Some.kept.now c.next.new.self c.loop-id.id-iterator
           c.in-Some.ensures.steps
           (it_is c.in-Some.id.now c.self.inside.map.entries c.args.self.now c.self.view_is c.self.invariant.0 c.in-Some.kept.now turn.1)
-          c.loop-id.invariant.1 c.in_ok-more.ensures.held c.in_ok-more.ensures.others),
+          c.loop-id.invariant.1 c.in-Ok.ensures.held c.in-Ok.ensures.others),
     )
 
 pub returns-clause-held : goal.returns-clause-held

@@ -14,31 +14,31 @@ invariant_of-self-then-not-is_unfinished c = (
   c.remove.ensures.keys
       ∙ ap (remove_key (is_at (id_cmp c.args.id))) c.self.invariant.1
       ∙ sym (ids_put_over c.args.id c.args.kept c.self.inside.map.entries c.self.invariant.0 (sym c.if-not-is_unfinished.ensures))
-      ∙ ap unfinished_ids (sym c.in_ok-insert.ensures.entries),
+      ∙ ap unfinished_ids (sym c.in-Ok.ensures.entries),
 )
 
 pub returns-then-not-is_unfinished-clause-ok : goal.returns-then-not-is_unfinished-clause-ok
 returns-then-not-is_unfinished-clause-ok c =
-    ap resources_of c.in_ok-insert.ensures.entries ∙ inserted c.args.id c.args.kept c.self.inside.map.entries ∙ ap (with_resource (resource_at c.args.id c.args.kept)) c.self.view_is
+    ap resources_of c.in-Ok.ensures.entries ∙ inserted c.args.id c.args.kept c.self.inside.map.entries ∙ ap (with_resource (resource_at c.args.id c.args.kept)) c.self.view_is
 
-pub invariant_of-self-in-Err : goal.invariant_of-self-in-Err
-invariant_of-self-in-Err c = (
+pub invariant_of-self-in-Err-insert-2 : goal.invariant_of-self-in-Err-insert-2
+invariant_of-self-in-Err-insert-2 c = (
   c.insert-3.ensures.ordered,
-  c.remove-in-Err.ensures.keys
-      ∙ ap (remove_key (is_at (id_cmp c.args.id))) (c.in_ok-insert-2.ensures.keys ∙ ap (λ ks. insert_key id_cmp ks c.args.id) c.self.invariant.1)
-      ∙ ids_taken_back c.args.id c.self.inside.map.entries c.in-Err.ensures.absent
-      ∙ ap unfinished_ids (sym c.in-Err.ensures.err),
+  c.remove-in-Err-insert-2.ensures.keys
+      ∙ ap (remove_key (is_at (id_cmp c.args.id))) (c.in-Ok-insert.ensures.keys ∙ ap (λ ks. insert_key id_cmp ks c.args.id) c.self.invariant.1)
+      ∙ ids_taken_back c.args.id c.self.inside.map.entries c.in-Err-insert-2.ensures.absent
+      ∙ ap unfinished_ids (sym c.in-Err-insert-2.ensures.err),
 )
 
-pub invariant_of-self-in-Ok : goal.invariant_of-self-in-Ok
-invariant_of-self-in-Ok c = (
+pub invariant_of-self-in-Ok-insert-2 : goal.invariant_of-self-in-Ok-insert-2
+invariant_of-self-in-Ok-insert-2 c = (
   c.insert-3.ensures.ordered,
-  c.in_ok-insert-2.ensures.keys
+  c.in-Ok-insert.ensures.keys
       ∙ ap (λ ks. insert_key id_cmp ks c.args.id) c.self.invariant.1
       ∙ sym (ids_put c.args.id c.args.kept c.self.inside.map.entries c.self.invariant.0 (sym c.if-not-is_unfinished.ensures))
-      ∙ ap unfinished_ids (sym c.in-Ok.ensures.entries),
+      ∙ ap unfinished_ids (sym c.in-Ok-insert-2.ensures.entries),
 )
 
-pub returns-in-Ok-clause-ok : goal.returns-in-Ok-clause-ok
-returns-in-Ok-clause-ok c =
-    ap resources_of c.in-Ok.ensures.entries ∙ inserted c.args.id c.args.kept c.self.inside.map.entries ∙ ap (with_resource (resource_at c.args.id c.args.kept)) c.self.view_is
+pub returns-in-Ok-insert-2-clause-ok : goal.returns-in-Ok-insert-2-clause-ok
+returns-in-Ok-insert-2-clause-ok c =
+    ap resources_of c.in-Ok-insert-2.ensures.entries ∙ inserted c.args.id c.args.kept c.self.inside.map.entries ∙ ap (with_resource (resource_at c.args.id c.args.kept)) c.self.view_is
