@@ -9,7 +9,8 @@ use Rattle.two_phase.specs.Stages.{Standing, Waiting, Going as UnderWay}
 use Rattle.coordinator.specs.Family.{Call, Duty}
 use Rattle.family_rules.specs.Calls.{AllTasks, AreTasks, all_seated, call_in, duties_in, duty_in, plain_call, seated}
 use Rattle.family_rules.specs.Room.{spare}
-use Rattle.family_rules.specs.StateInside.{AreInOrder, HasPlaces}
+use Rattle.family_rules.specs.Order.{AreInOrder}
+use Rattle.family_rules.specs.StateInside.{HasPlaces}
 use Rattle.family_rules.specs.declared.call.Call.{Call as KeptCall}
 use Rattle.family_rules.specs.declared.call.Seat.{Seat}
 use Rattle.family_rules.specs.declared.call.Task.{Task}

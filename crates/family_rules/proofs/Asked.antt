@@ -63,6 +63,7 @@ sound_same s v p is = subst (λ (x : Ballots). IsSound (record s { votes = recor
   seats = p.seats;
   synchronizations = p.synchronizations;
   order = p.order;
+  synchronization_order = p.synchronization_order;
   lists = p.lists;
   once = p.once;
   tasks = p.tasks;
@@ -84,6 +85,7 @@ one_more s v b to aware lists p some few once =
       seats = p.seats;
       synchronizations = p.synchronizations;
       order = order_stays rs r refl p.order;
+      synchronization_order = p.synchronization_order;
       lists = omega (arith, few, more);
       once = subst (λ (n : ℕ). AreOnce lists n) (sym more) once;
       tasks = all_stay rs r s.seats.items p.tasks;
@@ -112,6 +114,7 @@ sound_sync s v b to p fits is = subst (λ (x : Ballots). IsSound (record s { vot
       seats = p.seats;
       synchronizations = omega (arith, fits, more);
       order = p.order;
+      synchronization_order = order_stays s.votes.ballots.synchronizations r refl p.synchronization_order;
       lists = p.lists;
       once = p.once;
       tasks = p.tasks;
@@ -142,6 +145,13 @@ allowed (Some x) room n h = absurd (cc (h))
 
 pub sync_allowed : (rows : List Row) (b room n : ℕ) (k : Ballots) → AnswersTo (registering_sync rows b k) room (Ok n) → length k.synchronizations < synchronization_limit
 sync_allowed rows b room n k h = sync_fits rows b k (allowed (registering_sync rows b k) room n h)
+
+-- a synchronization was registered, or refused
+pub sound_asked : (s : Inside) (v : VotesParts) (b : ℕ) (to : List ℕ) (room : ℕ) (result : Result ℕ VoteFault) → IsSound s
+    → AnswersTo (registering_sync s.tree.rows b s.votes.ballots) room result → OnOk result (v.ballots ≡ registered_sync b to s.votes.ballots)
+    → OnErr result (v.ballots ≡ s.votes.ballots) → IsSound (record s { votes = v })
+sound_asked s v b to room (Ok n) p answer ok err = sound_sync s v b to p (sync_allowed s.tree.rows b room n s.votes.ballots answer) ok
+sound_asked s v b to room (Err fault) p answer ok err = sound_same s v p err
 
 -- ---- there is room
 

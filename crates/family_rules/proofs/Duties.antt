@@ -10,7 +10,7 @@ use Rattle.resource_votes.specs.Ballots.{numbered}
 use Rattle.resource_votes.specs.declared.registration.Registration.{Registration}
 use Rattle.family_rules.specs.declared.call.Task.{Task}
 use Rattle.family_rules.specs.Calls.{AreTasks, duty_in, duties_in, has_tasks, task_to}
-use Rattle.family_rules.specs.StateInside.{AreInOrder}
+use Rattle.family_rules.specs.Order.{AreInOrder}
 use Rattle.coordinator.specs.Family.{Duty}
 use Rattle.coordinator.specs.declared.call.Ending.{Ending}
 use Rattle.coordinator.specs.Running.{has_some, duty_to}

@@ -18,7 +18,8 @@ use Rattle.two_phase.specs.Stages as stages
 use Rattle.two_phase.specs.Stages.{Standing, Waiting, Going as UnderWay, HasRoom}
 use Rattle.family_rules.specs.declared.call.Seat.{Seat}
 use Rattle.family_rules.specs.Calls.{AreTasks, AllTasks}
-use Rattle.family_rules.specs.StateInside.{AreFew, AreInOrder, AreOnce, HasPlaces, share}
+use Rattle.family_rules.specs.Order.{AreInOrder}
+use Rattle.family_rules.specs.StateInside.{AreFew, AreOnce, HasPlaces, share}
 use Rattle.family_rules.specs.Recording.{recorded}
 
 -- ---- what seats have left to tell

@@ -1,6 +1,7 @@
 pub mod Calls
 pub mod Room
 pub mod Changes
+pub mod Order
 pub mod DraftInside
 pub mod Going
 pub mod StateInside

@@ -1,10 +1,9 @@
-use Rattle.std.specs.Prelude.{◌≡◌, ℕ, ◌+◌, ◌-◌, ◌≤◌, List, length, min, nat_le, sum_by, Some, vec_len, vec_capacity, if◌then◌else◌}
-use Rattle.resource_votes.specs.Ballots.{numbered}
+use Rattle.std.specs.Prelude.{◌≡◌, ℕ, ◌+◌, ◌-◌, ◌≤◌, List, length, min, nat_le, sum_by, vec_len, vec_capacity, if◌then◌else◌}
 use Rattle.resource_votes.specs.History.{times}
 use Rattle.resource_votes.specs.Limits.{synchronization_limit}
-use Rattle.resource_votes.specs.declared.registration.Registration.{Registration}
 use Rattle.two_phase.specs.Stages.{Standing, Waiting, Going as UnderWay}
 use Rattle.family_rules.specs.Calls.{all_seated, AllTasks}
+use Rattle.family_rules.specs.Order.{AreInOrder}
 use Rattle.coordinator.specs.Limits.{history_limit}
 use Rattle.family_rules.specs.Room.{StateParts, spare}
 use Rattle.family_rules.specs.declared.state.State.TheInside.{Inside}
@@ -34,10 +33,6 @@ shown s = record {
   history_room = vec_capacity s.entries - vec_len s.entries;
 }
 
--- each registration's number is its place, counted from 1
-abbrev pub AreInOrder : List Registration → Type 0
-AreInOrder registrations = (n : ℕ) (r : Registration) → numbered registrations n ≡ Some r → r.index ≡ n
-
 -- the lists together have at most so many numbers
 abbrev pub AreFew : List (List ℕ) → ℕ → Type 0
 AreFew lists count = sum_by (λ (xs : List ℕ). length xs) lists ≤ count
@@ -55,14 +50,15 @@ HasPlaces (Waiting room) count = count ≤ room
 HasPlaces (UnderWay c) count = Unit {0}
 
 -- the history and the synchronizations keep to their limits; each entry has sent one word at most, and so has the step that
--- goes on; each transaction has a seat, and what it has left to tell is of registrations that there are; each registration is in
--- one list at most; and all who are registered can take part
+-- goes on; each transaction has a seat, and what it has left to tell is of registrations that there are; each registration and each
+-- synchronization has the number of its place; each registration is in one list at most; and all who are registered can take part
 pub record IsSound (s : Inside) : Type 0 where
   pub few : vec_len s.entries ≤ history_limit
   pub serial : s.serial ≤ vec_len s.entries + 1
   pub seats : vec_len s.seats ≡ length s.tree.rows
   pub synchronizations : length s.votes.ballots.synchronizations ≤ synchronization_limit
   pub order : AreInOrder s.votes.ballots.registrations
+  pub synchronization_order : AreInOrder s.votes.ballots.synchronizations
   pub lists : AreFew s.votes.ballots.lists (length s.votes.ballots.registrations)
   pub once : AreOnce s.votes.ballots.lists (length s.votes.ballots.registrations)
   pub tasks : AllTasks s.votes.ballots.registrations s.seats.items

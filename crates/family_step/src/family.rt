@@ -9,6 +9,7 @@ ghost use Rattle.coordinator.specs.Step as steps;
 ghost use Rattle.resource_votes.specs.Ballots as ballots;
 ghost use Rattle.resource_votes.specs.Limits.{list_count};
 ghost use Rattle.two_phase.specs.Stages as stages;
+ghost use Rattle.family_rules.specs.Order.{AreInOrder};
 ghost use Rattle.family_step.specs.Asking.{EntryIsCaused, HasStepped, is_reread};
 
 use crate::asking::step_asking;
@@ -180,6 +181,14 @@ impl Family {
         ensures silent { result ≡ steps.is_silent event.entry.now self.now.family }
     {
         is_silent(&self.state, event)
+    }
+
+    /// Each registration has the number of its place, counted from 1, and so has each synchronization.
+    pub fn in_order(&self)
+        ensures registrations { AreInOrder (self.now.family).ballots.registrations }
+        ensures synchronizations { AreInOrder (self.now.family).ballots.synchronizations }
+    {
+        self.state.in_order();
     }
 
     /// The registration with this number.

@@ -2,3 +2,4 @@ mod Ordered
 mod Loaded
 mod Pieces
 mod Lawful
+mod Treed

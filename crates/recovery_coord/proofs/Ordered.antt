@@ -1,6 +1,6 @@
 -- Records in the order of their places: what a change of one of them, of each, or of their number leaves.
 use Rattle.std.proofs.Common.{◌≡◌, ◌∙◌, inl, inr, ℕ, zero, suc, ◌+◌, ◌<◌, ◌≤◌, Bool, true, false, cond, not, ltb, ltb-true, ◌&&◌, List, [], ◌∷◌, ◌++◌, length, get_or, set, map, Option, Some, None, refl, sym, ap, subst, arith}
-use Rattle.std.specs.Prelude.{◌==◌, find}
+use Rattle.std.specs.Prelude.{◌==◌, find, Result, Ok, Err, IfOk, IfErr, is_ok}
 use Rattle.std.specs.List.{insert, remove}
 use Rattle.std.specs.Option.{option_map}
 use Rattle.std.specs.List.Sorted.{IsNonDecreasingBy, IsPartitionPoint}
@@ -85,7 +85,7 @@ none_at place i rs gap k d within e = elim (cases_lt k i) [
 -- ---- an answer is heard
 
 module _ (n : CallNumber) (h : Heard) where
-  same_place : (r : Held) → (record_after n h r).place ≡ r.place
+  pub same_place : (r : Held) → (record_after n h r).place ≡ r.place
   same_place r = by_test (r.place == n.generation)
     where
       by_test : (b : Bool) → (cond b (held_after n.serial h r) r).place ≡ r.place
@@ -166,7 +166,7 @@ module _ (n : CallNumber) (h : Heard) (rs : List Held) (rise : RiseFrom 0 rs) (i
 
 -- ---- complete records are told again
 
-retold_place : (r : Held) → (retold r).place ≡ r.place
+pub retold_place : (r : Held) → (retold r).place ≡ r.place
 retold_place r = by_test (is_complete r)
   where
     by_test : (b : Bool) → (cond b (record r { parties = map recalled r.parties }) r).place ≡ r.place
@@ -177,6 +177,19 @@ pub rise_retold : (from : ℕ) (rs : List Held) → RiseFrom from rs → RiseFro
 rise_retold from [] rise = tt
 rise_retold from (r ∷ rs) rise =
     (omega (arith, rise.0, retold_place r), later ((retold r).place + 1) (r.place + 1) (map retold rs) (omega (arith, retold_place r)) (rise_retold (r.place + 1) rs rise.1))
+
+-- ---- whether a record is held
+
+not_held : (place i : ℕ) (rs : List Held) → IsGap place i rs → is_held place rs ≡ false
+not_held place i rs gap = list_any_none (λ (r : Held). r.place == place) rs (λ k d within. not_equal (get_or rs k d).place place (none_at place i rs gap k d within))
+
+pub held_at : (place i : ℕ) (rs : List Held) → IsAt place i rs → is_held place rs ≡ true
+held_at place i [] at = absurd (omega (arith, at.within))
+held_at place i (r ∷ rs) at = list_any_at (λ (x : Held). x.place == place) (r ∷ rs) i r at.within (equal (get_or (r ∷ rs) i r).place place (at.same r))
+
+pub held_by : (place : ℕ) (rs : List Held) (found : Result ℕ ℕ) → IfOk found (λ i. IsAt place i rs) → IfErr found (λ i. IsGap place i rs) → is_ok found ≡ is_held place rs
+held_by place rs (Ok i) at gap = sym (held_at place i rs at)
+held_by place rs (Err i) at gap = sym (not_held place i rs gap)
 
 -- ---- one more record
 
@@ -196,7 +209,7 @@ all_behind place from (r ∷ rs) lt rise =
     ∙ ap (λ (xs : List Held). r ∷ xs) (all_behind place (r.place + 1) rs (omega (arith, lt, rise.0)) rise.1)
 
 module _ (x : Held) where
-  tail_gap : (i : ℕ) (r : Held) (rs : List Held) → IsGap x.place (suc i) (r ∷ rs) → IsGap x.place i rs
+  pub tail_gap : (i : ℕ) (r : Held) (rs : List Held) → IsGap x.place (suc i) (r ∷ rs) → IsGap x.place i rs
   tail_gap i r rs gap = record {
     within = omega (arith, gap.within);
     below = λ k d lt. gap.below (suc k) d (omega arith);
@@ -226,18 +239,12 @@ module _ (x : Held) where
       let lt : r.place < x.place = gap.below zero r (omega arith) in
       (rise.0, rise_inserted (r.place + 1) rs rise.1 (omega (arith, lt)) i (tail_gap i r rs gap))
 
-  not_held : (i : ℕ) (rs : List Held) → IsGap x.place i rs → is_held x.place rs ≡ false
-  not_held i rs gap = list_any_none (λ (r : Held). r.place == x.place) rs (λ k d within. not_equal (get_or rs k d).place x.place (none_at x.place i rs gap k d within))
-
-  held_there : (i : ℕ) (rs : List Held) → IsAt x.place i rs → is_held x.place rs ≡ true
-  held_there i rs at = list_any_at (λ (r : Held). r.place == x.place) rs i x at.within (equal (get_or rs i x).place x.place (at.same x))
-
   pub taken_there : (i : ℕ) (rs : List Held) → IsAt x.place i rs → taken (Some x) rs ≡ rs
-  taken_there i rs at = ap (λ (b : Bool). cond b rs (before x.place rs ++ x ∷ behind x.place rs)) (held_there i rs at)
+  taken_there i rs at = ap (λ (b : Bool). cond b rs (before x.place rs ++ x ∷ behind x.place rs)) (held_at x.place i rs at)
 
   pub taken_in : (rs : List Held) → RiseFrom 0 rs → (i : ℕ) → IsGap x.place i rs → taken (Some x) rs ≡ insert rs i x
   taken_in rs rise i gap =
-      ap (λ (b : Bool). cond b rs (before x.place rs ++ x ∷ behind x.place rs)) (not_held i rs gap) ∙ inserted 0 rs rise i gap
+      ap (λ (b : Bool). cond b rs (before x.place rs ++ x ∷ behind x.place rs)) (not_held x.place i rs gap) ∙ inserted 0 rs rise i gap
 
 -- ---- one record less
 

@@ -5,4 +5,5 @@ pub mod Hearing
 pub mod Telling
 pub mod Replay
 pub mod Order
+pub mod Trees
 pub mod Laws

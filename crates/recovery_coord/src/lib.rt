@@ -13,3 +13,4 @@ mod parties;
 mod records;
 mod recovered;
 mod telling;
+mod trees;

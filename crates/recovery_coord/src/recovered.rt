@@ -1,4 +1,4 @@
-ghost use Rattle.std.specs.Prelude.{◌≡◌, ◌≢◌, ◌==◌, ◌++◌, ◌≤◌, map, find, Some, IfOk, OnOk, OnErr, IsErrOf};
+ghost use Rattle.std.specs.Prelude.{◌≡◌, ◌≢◌, ◌==◌, ◌++◌, false, map, find, Some, IfOk, OnOk, OnErr, IsErrOf};
 ghost use Rattle.std.specs.List.{filter_map};
 ghost use Rattle.std.specs.Option.{option_copied, option_to_list};
 ghost use Rattle.ior_refs.specs.Reference.{canonical_octets, nil};
@@ -6,12 +6,12 @@ ghost use Rattle.recovery_coord.specs.Held as holding;
 ghost use Rattle.recovery_coord.specs.Hearing as hearing;
 ghost use Rattle.recovery_coord.specs.Telling as telling;
 ghost use Rattle.recovery_coord.specs.Replay as replay;
-ghost use Rattle.recovery_coord.specs.Order.{RiseFrom};
 
 use crate::held::{Held, Party, held_of};
 use crate::outbox::Outbox;
-use crate::records::{hear, let_go, recall_all, take_in};
+use crate::records::{hear, holds, let_go, recall_all, search, take_in};
 use crate::telling::{RETOLD_SLOT, tell_all};
+use crate::trees::{Trees, tree_named, tree_of};
 use decision_journal::{Journal, JournalRecord, Standing};
 use ior_refs::{ObjectKey, ObjectRef};
 use ots_model::tree::Heard;
@@ -42,17 +42,18 @@ pub struct Recovered {
     service: u64,
     life: u32,
     records: Vec<Held>,
+    trees: Trees,
 }
 
 impl Model for Recovered {
     ghost use Rattle.recovery_coord.specs.Held.{Recoveries};
-    ghost use Rattle.recovery_coord.specs.Order.{RiseFrom};
+    ghost use Rattle.recovery_coord.specs.Trees.{AreFound};
 
     ghost Value = { Recoveries };
 
     ghost view = { λ r. record { service = r.service; life = r.life; records = r.records.items } };
 
-    ghost invariant = { λ r. RiseFrom 0 r.records.items };
+    ghost invariant = { λ r. AreFound r.trees.firsts r.records.items };
 }
 
 impl Recovered {
@@ -64,11 +65,13 @@ impl Recovered {
         ensures records { IfOk result (λ r. r.records ≡ filter_map holding.loaded journal.now.found.standing) }
     {
         let records = load_all(alloc, journal.standing())?;
+        let trees = Trees::of(alloc, &records)?;
         Ok(Recovered {
             alloc,
             service: journal.service(),
             life: journal.life(),
             records,
+            trees,
         })
     }
 
@@ -77,6 +80,13 @@ impl Recovered {
         ensures { result.now ≡ self.now.records }
     {
         self.records.as_slice()
+    }
+
+    /// Whether a record is held at this place.
+    pub fn holds(&self, place: u64) -> bool
+        ensures { result ≡ holding.is_held place self.now.records }
+    {
+        holds(self.records.as_slice(), place)
     }
 
     /// What a recovery coordinator answers by the records alone. It needs no memory.
@@ -102,8 +112,24 @@ impl Recovered {
     fn record_named(&self, key: &ObjectKey) -> Option<&Held>
         ensures { option_copied result ≡ replay.record_named self.now.service key.now self.now.records }
     {
-        let service = self.service;
-        self.records.iter().find(|r| key.kind == RECOVERY_KIND && is_of_tree(service, key, r))
+        if key.kind != RECOVERY_KIND {
+            return None;
+        }
+        self.record_of(key)
+    }
+
+    /// The first record of the tree that a key of this service names.
+    pub fn record_of(&self, key: &ObjectKey) -> Option<&Held>
+        ensures { option_copied result ≡ find (replay.is_of_tree self.now.service key.now) self.now.records }
+    {
+        if key.service != self.service {
+            return None;
+        }
+        let first = self.trees.first(tree_named(key))?;
+        match search(self.records.as_slice(), u64::from(first.place)) {
+            Ok(index) => Some(&self.records[index]),
+            Err(_) => None,
+        }
     }
 
     /// Puts each word that is still to be told behind the others, in record order, and within a record in the order of its
@@ -154,28 +180,37 @@ impl Recovered {
         }) }
         ensures err { OnErr result (self.new ≡ self.old) }
     {
+        if self.holds(u64::from(place)) {
+            return Ok(());
+        }
         match held_of(self.alloc, place, item, commits, forgets)? {
-            Some(held) => take_in(&mut self.records, held),
+            Some(held) => self.take_in(held),
             None => Ok(()),
         }
+    }
+
+    /// One more record is held, where none is at its place.
+    fn take_in(&mut self, held: Held) -> Result<(), AllocError>
+        requires free { holding.is_held held.place self.old.records ≡ false }
+        ensures ok { OnOk result (self.new ≡ record self.old { records = holding.taken (Some held) self.old.records }) }
+        ensures err { OnErr result (self.new ≡ self.old) }
+    {
+        self.trees.reserve()?;
+        let tree = tree_of(&held);
+        let place = held.place;
+        take_in(&mut self.records, held)?;
+        self.trees.join(tree, place);
+        Ok(())
     }
 
     /// The Done of the record at this place stands: it is held no more.
     pub fn done(&mut self, place: u32)
         ensures { self.new ≡ record self.old { records = holding.without place self.old.records } }
     {
-        let_go(&mut self.records, place);
+        if let Some(tree) = let_go(&mut self.records, place) {
+            self.trees.part(tree, self.records.as_slice());
+        }
     }
-}
-
-/// Whether a record is that of the tree which a key of this service names.
-fn is_of_tree(service: u64, key: &ObjectKey, held: &Held) -> bool
-    ensures { result ≡ replay.is_of_tree service key.now held.now }
-{
-    key.service == service
-        && key.life == held.life
-        && key.slot == held.slot
-        && key.generation == held.generation
 }
 
 /// The answer by the record of a tree.

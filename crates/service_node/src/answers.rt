@@ -1,15 +1,15 @@
 // What a node answers by its records alone.
-ghost use Rattle.std.specs.Prelude.{◌≡◌, ◌==◌, ◌≤◌};
-ghost use Rattle.std.specs.List.{list_any};
-ghost use Rattle.std.specs.Option.{option_map};
+ghost use Rattle.std.specs.Prelude.{◌≡◌, ◌≤◌};
+ghost use Rattle.std.specs.Option.{option_copied, option_map};
 ghost use Rattle.coordinator.specs.NodeCalls as calls;
+ghost use Rattle.coordinator.specs.NodeRecords as records;
 ghost use Rattle.recovery_coord.specs.Held.{is_held};
 ghost use Rattle.service_node.specs.Crashes.{IsCrashSafe};
 ghost use Rattle.service_node.specs.Journaling.{IsAnsweredOrStarved, completed_by, records_take};
 
 use crate::hearing::conclude;
 use crate::node::Node;
-use crate::says::{record_of, record_says};
+use crate::says::record_says;
 use coordinator::{Act, Answers, Effect, Effects, Event, NodeFault, Said, StepAnswer};
 use ior_refs::ObjectKey;
 use ots_model::CallNumber;
@@ -62,7 +62,7 @@ impl<D: Disk> Node<D> {
     fn say(&self, key: &ObjectKey, event: &Event) -> Result<StepAnswer, NodeFault>
         ensures { result ≡ (calls.by_record key.now event.entry.now self.now.node).answer }
     {
-        let held = match record_of(self.journal.service(), key, self.recovered.records()) {
+        let held = match self.record_for(key) {
             Some(held) => held,
             None => return Err(NodeFault::ObjectNotExist),
         };
@@ -70,6 +70,13 @@ impl<D: Disk> Node<D> {
             Some(said) => Ok(alone(self.alloc, said, Vec::new(self.alloc))),
             None => Err(NodeFault::ObjectNotExist),
         }
+    }
+
+    /// The record of the family that a key names.
+    fn record_for(&self, key: &ObjectKey) -> Option<&Held>
+        ensures { option_copied result ≡ records.record_of key.now self.now.node }
+    {
+        self.recovered.record_of(key)
     }
 
     /// An answer to a word that was told again.
@@ -80,7 +87,7 @@ impl<D: Disk> Node<D> {
             (calls.hears_record number.now heard.now) }
         ensures later { D.faults self.old.journal.disk ≤ D.faults self.new.journal.disk }
     {
-        if !holds(self.recovered.records(), number.generation) {
+        if !self.recovered.holds(number.generation) {
             return Err(NodeFault::ObjectNotExist);
         }
         let mut happened = Vec::with_capacity(self.alloc, 1)?;
@@ -103,13 +110,6 @@ pub(crate) fn retold_answer(act: &Act) -> Option<(&CallNumber, &Heard)>
         Act::Answer(number, heard) if number.slot == RETOLD_SLOT => Some((number, heard)),
         _ => None,
     }
-}
-
-/// Whether a record at this place is held.
-fn holds(records: &[Held], place: u64) -> bool
-    ensures { result ≡ list_any (λ r. r.place == place) records.now }
-{
-    records.iter().any(|held| u64::from(held.place) == place)
 }
 
 /// An answer without a family: nothing waits for it there.

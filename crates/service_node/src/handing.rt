@@ -17,16 +17,16 @@ use std::alloc::{AllocError, Global};
 fn left_record<'a, D: Disk>(journal: &'a Journal<D>, family: &Family) -> Option<&'a Standing>
     ensures { option_copied result ≡ slots.left_record journal.now.found (family.now).family }
 {
-    if !family.finished() {
-        return None;
-    }
-    match family.record_place() {
-        Some(place) => decision_at(journal.standing(), place),
-        None => None,
+    let place = family.record_place()?;
+    if family.finished() {
+        decision_at(journal.standing(), place)
+    } else {
+        None
     }
 }
 
-/// The record that a family leaves goes on without it, with the words that are left over.
+/// The record that a family leaves goes on without it, with the words that are left over. Nothing is copied where it is held
+/// already.
 fn hold(
     alloc: Global,
     family: &Family,
@@ -38,6 +38,9 @@ fn hold(
     }) }
     ensures err { OnErr result (recovered.new ≡ recovered.old) }
 {
+    if recovered.holds(u64::from(left.place)) {
+        return Ok(());
+    }
     let mut commits = Vec::new(alloc);
     let mut forgets = Vec::new(alloc);
     family.pending(&mut commits, &mut forgets)?;

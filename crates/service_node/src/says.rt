@@ -125,20 +125,3 @@ fn word_said(word: Word) -> Said
         _ => Said::Transient,
     }
 }
-
-/// The record of the family that a key of this service names.
-pub(crate) fn record_of<'a>(service: u64, key: &ObjectKey, records: &'a [Held]) -> Option<&'a Held>
-    ensures { option_copied result ≡ find (replay.is_of_tree service key.now) records.now }
-{
-    records.iter().find(|held| is_of_tree(service, key, held))
-}
-
-/// Whether a record is that of the family which a key of this service names.
-fn is_of_tree(service: u64, key: &ObjectKey, held: &Held) -> bool
-    ensures { result ≡ replay.is_of_tree service key.now held.now }
-{
-    key.service == service
-        && key.life == held.life
-        && key.slot == held.slot
-        && key.generation == held.generation
-}

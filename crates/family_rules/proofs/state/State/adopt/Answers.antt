@@ -25,6 +25,7 @@ invariant_of-self c =
       seats = c.self.invariant.seats ∙ sym kept;
       synchronizations = c.self.invariant.synchronizations;
       order = c.self.invariant.order;
+      synchronization_order = c.self.invariant.synchronization_order;
       lists = handed_few ballots.lists b above (length ballots.registrations) differ c.self.invariant.lists;
       once = handed_once ballots.lists b above (length ballots.registrations) differ c.self.invariant.once;
       tasks = c.self.invariant.tasks;

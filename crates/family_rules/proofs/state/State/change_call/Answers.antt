@@ -22,6 +22,7 @@ invariant_of-self c =
       seats = c.self.invariant.seats;
       synchronizations = c.self.invariant.synchronizations;
       order = c.self.invariant.order;
+      synchronization_order = c.self.invariant.synchronization_order;
       lists = c.self.invariant.lists;
       once = c.self.invariant.once;
       tasks = tasks_set rs seats b c.set_out.new.seat c.self.invariant.tasks (subst (λ (x : Seat). AreTasks rs x.left.items) (sym c.set_out.ensures) all);

@@ -25,6 +25,7 @@ invariant_of-self c =
       seats = omega (arith, seats, len, count);
       synchronizations = c.self.invariant.synchronizations;
       order = c.self.invariant.order;
+      synchronization_order = c.self.invariant.synchronization_order;
       lists = c.self.invariant.lists;
       once = c.self.invariant.once;
       tasks = subst (λ (xs : List Seat). AllTasks s.votes.ballots.registrations xs) (sym c.push_reserved.ensures.items)

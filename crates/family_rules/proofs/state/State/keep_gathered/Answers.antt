@@ -26,6 +26,7 @@ invariant_of-self c =
       seats = c.self.invariant.seats;
       synchronizations = c.self.invariant.synchronizations;
       order = c.self.invariant.order;
+      synchronization_order = c.self.invariant.synchronization_order;
       lists = c.self.invariant.lists;
       once = c.self.invariant.once;
       tasks = tasks_set rs seats c.args.branch _ c.self.invariant.tasks all;

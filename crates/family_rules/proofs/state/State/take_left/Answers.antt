@@ -27,6 +27,7 @@ invariant_of-self c =
       seats = c.self.invariant.seats;
       synchronizations = c.self.invariant.synchronizations;
       order = c.self.invariant.order;
+      synchronization_order = c.self.invariant.synchronization_order;
       lists = c.self.invariant.lists;
       once = c.self.invariant.once;
       tasks = tasks_set rs seats b c.take_task.new.seat c.self.invariant.tasks (still_tasks rs s c.take_task.new.seat.left.items c.take_task.ensures.left all);

@@ -45,6 +45,7 @@ invariant_of-self c =
       seats = c.self.invariant.seats;
       synchronizations = c.self.invariant.synchronizations;
       order = c.self.invariant.order;
+      synchronization_order = c.self.invariant.synchronization_order;
       lists = c.self.invariant.lists;
       once = c.self.invariant.once;
       tasks = tasks_set rs seats b c.vacate.new.seat c.self.invariant.tasks (tasks_left_below rs s c.vacate.new.seat.left.items c.vacate.ensures.left all);

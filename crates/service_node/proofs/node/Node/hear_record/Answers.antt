@@ -1,8 +1,7 @@
 use Rattle.std.proofs.lemmas.Result.{err_from_is_err_and}
-use Rattle.std.proofs.Common.{◌∙◌, Err, List, Ok, inl, inr, refl, sym, ap, subst}
+use Rattle.std.proofs.Common.{◌∙◌, Err, Ok, inl, inr, refl, sym, ap, subst}
 use Rattle.recovery_coord.specs.Held.{is_held}
 use Rattle.recovery_coord.specs.Hearing.{completed}
-use Rattle.recovery_coord.specs.declared.held.Held.{Held}
 use Rattle.coordinator.specs.declared.node.NodeFault.{NodeFault}
 use Rattle.coordinator.specs.declared.said.StepAnswer.{StepAnswer}
 use Rattle.coordinator.specs.Node.{life}
@@ -16,7 +15,6 @@ pub returns-then-not-holds-clause-answered : goal.returns-then-not-holds-clause-
 returns-then-not-holds-clause-answered g c =
     inl (unheld g.D.Disk.wants_memory g.D.Disk.told g.D.Disk.faults c.args.self.now c.args.number.now c.args.heard.now
     (ap (λ (s : NodeState g.row.D.Denot). is_held c.args.number.now.generation s.node.recovered) (sym c.self.view_is)
-    ∙ ap (λ (xs : List Held). is_held c.args.number.now.generation xs) (sym c.records.ensures)
     ∙ sym c.holds.ensures ∙ c.if-not-holds.true))
 
 pub invariant_of-self : goal.invariant_of-self
@@ -42,7 +40,7 @@ returns-clause-answered g c =
     (inl (answered g.D.Disk.wants_memory told g.D.Disk.faults c.self.inside.journal c.conclude.new.journal c.self.inside.recovered c.heard-complete.new.self c.conclude.new.recovered
     c.self.inside.slots c.self.inside.last c.self.inside.generation n h c.heard-complete.result c.conclude.new.happened.items
     c.self.invariant c.heard-complete.ensures.records c.conclude.ensures.concluded c.conclude.ensures.sure
-    (ap (λ (xs : List Held). is_held n.generation xs) (sym c.records.ensures) ∙ sym c.holds.ensures ∙ c.if-not-holds.false)
+    (sym c.holds.ensures ∙ c.if-not-holds.false)
     c.heard-complete.ensures.complete)))
 
 pub returns-in_err-happened-clause-answered : goal.returns-in_err-happened-clause-answered
@@ -50,7 +48,6 @@ returns-in_err-happened-clause-answered g c =
     let gone = err_from_is_err_and c.from_residual.result c.from_residual.ensures.1 in
     inr (record {
       wanted = ap (λ (s : NodeState g.row.D.Denot). is_held c.args.number.now.generation s.node.recovered) (sym c.self.view_is)
-          ∙ ap (λ (xs : List Held). is_held c.args.number.now.generation xs) (sym c.records.ensures)
           ∙ sym c.holds.ensures ∙ c.if-not-holds.false;
       same = refl;
       answer = gone.1 ∙ ap (λ (fault : NodeFault). Err fault) gone.2;
