@@ -1,2 +1,9 @@
 mod Begun
 mod Named
+mod Come
+mod Carried
+mod Answered
+mod Kept
+mod Heard
+mod Makes
+mod Behind

@@ -1,2 +1,2 @@
-mod EndChanged
+pub mod EndChanged
 mod Obeying

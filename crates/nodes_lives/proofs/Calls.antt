@@ -17,7 +17,7 @@ use Rattle.decision_journal.proofs.Append.{body}
 use Rattle.decision_journal.proofs.Scans.{length_front}
 use Rattle.nodes_world.specs.Disks.{Broken, Stop, Struck, Whole, left_by, strikes}
 use Rattle.nodes_world.specs.Journals.{Answers, Stops, answered_by, append_strokes}
-use Rattle.nodes_world.specs.Laws.{IsWanted, RecordsAreRead, StoppedAppendsAreSafe}
+use Rattle.nodes_world.specs.Laws.{IsWanted, StoppedAppendsAreSafe}
 use Rattle.nodes_parts.specs.Gated.{place_behind}
 use Rattle.nodes_parts.specs.Striking.{HasGone, in_first, in_second}
 use Rattle.nodes_parts.specs.declared.disks.Appended.{Appended}
@@ -26,7 +26,7 @@ use Rattle.nodes_lives.specs.Calling.{stop_of}
 use Rattle.service_node.specs.Given.{node_makes}
 use Rattle.nodes_lives.specs.First.{heard_by, told_before}
 use Rattle.nodes_lives.specs.Living.{Living}
-use Rattle.nodes_lives.specs.Loads.{HoldsJournal}
+use Rattle.nodes_lives.specs.Loads.{StoresJournal}
 use Rattle.nodes_lives.specs.Striking.{left_in}
 use Rattle.nodes_lives.specs.Writing.{HasWritten, Writes, asked_by, nothing, one}
 use Rattle.nodes_lives.proofs.Firsts.{comes_before}
@@ -72,19 +72,19 @@ module _ (k : ObjectKey) (e : Event) (loaded : List ℕ) (before : Living) (afte
       ∙ ap (λ (d : DiskState). Answers stood d None) (sym has.disk)
 
   -- what a stop leaves holds a journal
-  pub image_holds : RecordsAreRead → StoppedAppendsAreSafe → Writes k e loaded before after stood end now → (s : Stop) (image : List ℕ) → asked_by k e before (Some s) ≡ Stops image
-      → HoldsJournal before.node.service image
-  image_holds read safe (nothing same stays asks) s image stops = absurd (no (sym (asks (Some s)) ∙ stops))
+  pub image_holds : StoppedAppendsAreSafe → Writes k e loaded before after stood end now → (s : Stop) (image : List ℕ) → asked_by k e before (Some s) ≡ Stops image
+      → StoresJournal before.node.service image
+  image_holds safe (nothing same stays asks) s image stops = absurd (no (sym (asks (Some s)) ∙ stops))
     where
       no : Answers stood before.disk (Some s) ≡ Stops image → ⊥
       no e = cc
-  image_holds read safe (one rs r at wanted was is_now own can stands has asks) s image stops =
+  image_holds safe (one rs r at wanted was is_now own can stands has asks) s image stops =
       let broken = broken_by (answers.Stands at) (strikes (append_strokes (place_behind rs) r) before.disk (Some s)) image (sym (asks (Some s)) ∙ stops) in
       let left = safe before.node.service rs r before.disk (Some s) image has.settled own can
       (ap (λ (g : ℕ). strikes (append_strokes g r) before.disk (Some s)) (length_front before.node.service rs) ∙ broken) in
       elim left [
-        | inl old ↦ record { records = rs; read = read before.node.service image rs old }
-        | inr new ↦ record { records = rs ++ r ∷ []; read = read before.node.service image (rs ++ r ∷ []) new }
+        | inl old ↦ record { records = rs; stands = old }
+        | inr new ↦ record { records = rs ++ r ∷ []; stands = new }
       ]
 
   -- nothing was written

@@ -6,9 +6,8 @@ use Rattle.decision_journal.specs.Journal.{Found, StandsFor}
 use Rattle.decision_journal.specs.State.{IsAtRest, IsKept, JournalState, MayFind, StaysWithinArea}
 use Rattle.decision_journal.specs.declared.record.JournalRecord.{JournalRecord}
 use Rattle.decision_journal.proofs.Kept.{at_rest}
-use Rattle.nodes_world.specs.Laws.{RecordsAreRead}
 use Rattle.service_node.specs.NodeState.{NodeState}
-use Rattle.nodes_lives.specs.Loads.{HoldsJournal}
+use Rattle.nodes_lives.specs.Loads.{StoresJournal}
 use Rattle.nodes_lives.specs.Running.{IsRunning, told}
 
 finds_own : (octets : List ℕ) (found : Found) (doubted : Option JournalRecord) → doubted ≡ None → MayFind octets found doubted octets found
@@ -28,9 +27,9 @@ current_of j x is working sure kept each =
     (current x (ap (λ (y : JournalState MemDiskState). y.failed) is ∙ working) (ap (λ (y : JournalState MemDiskState). y.doubted) is ∙ sure) kept each)
 
 -- so the disk of a node that is up holds a journal
-pub holds_own : RecordsAreRead → (s : NodeState MemDiskState) (loaded : List ℕ) (end : ℕ) → IsRunning s loaded end → IsCurrent told s.journal
-    → HoldsJournal s.node.service s.journal.disk.disk.reads
-holds_own read s loaded end r now =
+pub holds_own : (s : NodeState MemDiskState) (loaded : List ℕ) (end : ℕ) → IsRunning s loaded end → IsCurrent told s.journal
+    → StoresJournal s.node.service s.journal.disk.disk.reads
+holds_own s loaded end r now =
     let rs = now.within.filled.0 in
     let are = now.within.filled.1 in
     let rest : IsAtRest s.journal.octets s.journal.disk.disk = now.rest in
@@ -43,5 +42,5 @@ holds_own read s loaded end r now =
       in_turn = are.in_turn;
       within = are.within;
     } in
-    subst (λ (n : ℕ). HoldsJournal n s.journal.disk.disk.reads) (sym r.service)
-    (record { records = rs; read = read s.journal.service s.journal.disk.disk.reads rs stands })
+    subst (λ (n : ℕ). StoresJournal n s.journal.disk.disk.reads) (sym r.service)
+    (record { records = rs; stands = stands })

@@ -10,7 +10,7 @@ use Rattle.nodes_world.specs.Journals.{Answers, Stops}
 use Rattle.nodes_parts.specs.declared.disks.Stop.{Stop as KeptStop}
 use Rattle.nodes_lives.specs.First.{heard_by}
 use Rattle.nodes_lives.specs.Living.{Living}
-use Rattle.nodes_lives.specs.Loads.{HoldsJournal}
+use Rattle.nodes_lives.specs.Loads.{StoresJournal}
 use Rattle.nodes_lives.specs.declared.calling.Answered.{Answered}
 use Rattle.nodes_lives.specs.declared.calling.Called.{Called}
 use Rattle.nodes_lives.specs.declared.calling.Called.TheVariants as called
@@ -32,7 +32,7 @@ pub record HasAnswered (k : ObjectKey) (e : Event) (before : Living) (stop : Opt
 -- A crash inside a write of the journal has left these octets, which hold a journal; and this is what the family had heard before.
 pub record HasStopped (k : ObjectKey) (e : Event) (before : Living) (stop : Option Stop) (s : Stopped) : Type 0 where
   pub asked : asked_by k e before stop ≡ Stops s.image.items
-  pub holds : HoldsJournal before.node.service s.image.items
+  pub holds : StoresJournal before.node.service s.image.items
   pub heard : s.heard ≡ heard_by (family_for k e before.node) e.act
 
 abbrev pub HasCalled : ObjectKey → Event → Living → Option Stop → Called → Type 0

@@ -3,6 +3,7 @@ use Rattle.std.specs.Prelude.{◌≡◌, ℕ, List, Some, true, false}
 use Rattle.ots_outside.specs.Disk.{at_first}
 use Rattle.ots_world.specs.declared.fault.WorldFault.{WorldFault}
 use Rattle.ots_world.specs.declared.fault.WorldFault.TheVariants as faults
+use Rattle.decision_journal.specs.Journal.{Holds, StandsFor}
 use Rattle.decision_journal.specs.Loading.{loaded}
 use Rattle.decision_journal.specs.declared.journal.JournalFault.TheVariants.{Full}
 use Rattle.decision_journal.specs.declared.record.JournalRecord.{JournalRecord}
@@ -17,7 +18,12 @@ use Rattle.nodes_lives.specs.Living.{Living}
 -- the octets hold a journal of this service, or are not yet one
 pub record HoldsJournal (service : ℕ) (octets : List ℕ) : Type 0 where
   pub records : List JournalRecord
-  pub read : records_on service (at_first octets) ≡ Some records
+  pub held : Holds service octets records
+
+-- the octets are a journal of this service
+pub record StoresJournal (service : ℕ) (octets : List ℕ) : Type 0 where
+  pub records : List JournalRecord
+  pub stands : StandsFor service octets records
 
 -- it was loaded: the node is in the next life, and the disk is as the load leaves it
 pub record IsLoaded (service : ℕ) (octets : List ℕ) (n : Living) : Type 0 where

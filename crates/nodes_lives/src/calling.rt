@@ -15,7 +15,7 @@ use coordinator::{Effects, Event, NodeFault, StepAnswer};
 use family_laws::families_close_last;
 use ior_refs::ObjectKey;
 use nodes_parts::{Appended, Gates, Stop};
-use nodes_world::{records_are_read, stopped_appends_are_safe};
+use nodes_world::stopped_appends_are_safe;
 use ots_world::WorldFault;
 use recovery_coord::{Outbox, completes_once};
 use std::alloc::{AllocError, Global};
@@ -102,7 +102,6 @@ fn call_before(
     ensures fault { IfErr result (λ fault. fault ≡ Memory) }
 {
     stopped_appends_are_safe();
-    records_are_read();
     families_close_last();
     completes_once();
     let last = running.end;

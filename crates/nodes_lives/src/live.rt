@@ -5,7 +5,7 @@ ghost use Rattle.coordinator.specs.Family.{FamilyParts as TheFamily};
 ghost use Rattle.coordinator.specs.Node as nodes;
 ghost use Rattle.ots_world.specs.declared.fault.WorldFault.TheVariants.{Memory};
 ghost use Rattle.family_laws.specs.SoundNode.{IsSoundNode};
-ghost use Rattle.nodes_lives.specs.Loads.{HoldsJournal, IsLoadRefusal, IsLoaded, refusal_of};
+ghost use Rattle.nodes_lives.specs.Loads.{HoldsJournal, IsLoadRefusal, IsLoaded, StoresJournal, refusal_of};
 ghost use Rattle.nodes_lives.specs.Making.{HasMade, IsStarved};
 ghost use Rattle.nodes_lives.specs.Shown.{Runs, living};
 ghost use Rattle.nodes_lives.specs.Ticking.{HasTicked};
@@ -66,9 +66,8 @@ impl LiveNode {
     /// Its families are sound, and each decision that stands is told again or has its family. Its disk holds a journal.
     pub fn kept(&self)
         ensures sound { IsSoundNode self.now.node }
-        ensures journal { HoldsJournal self.now.node.service self.now.disk.reads }
+        ensures journal { StoresJournal self.now.node.service self.now.disk.reads }
     {
-        records_are_read();
         is_current(&self.running.node);
     }
 

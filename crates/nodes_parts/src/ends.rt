@@ -122,7 +122,8 @@ impl End {
     pub fn put(&mut self, resource: &Resource, cell: u64, value: u64) -> Result<(), AllocError>
         requires there { resource_numbered ((resource.now).key).generation self.old ≡ Some (flat resource.now) }
         requires nothing { (resource.now).put ≡ None }
-        ensures ok { OnOk result (self.new ≡ ends.with_resource (ends.put_into cell value (flat resource.now)) self.old) }
+        ensures ok { OnOk result (self.new
+            ≡ ends.with_resource (ends.put_into cell value (flat resource.now)) self.old) }
         ensures err { OnErr result (self.new ≡ self.old) }
     {
         self.cells.add(cell)?;

@@ -1,8 +1,8 @@
 -- A world in which something else stands at a seat is whole.
-use Rattle.std.proofs.Common.{◌≡◌, ◌⊎◌, inl, inr, ℕ, zero, suc, ◌<◌, ◌≤◌, Bool, false, find, bytes_eq, List, [], ◌∷◌, length, map, slice_get, slice_set, Option, Some, None, refl, sym, ap, subst, ◌∙◌, arith, Bor, MatchOption}
+use Rattle.std.proofs.Common.{◌≡◌, ◌⊎◌, inl, inr, ℕ, zero, suc, ◌<◌, ◌≤◌, false, bytes_eq, List, [], ◌∷◌, length, map, get_or, slice_get, slice_set, Option, Some, None, refl, sym, ap, subst, ◌∙◌, arith, Bor, MatchOption}
 use Rattle.std.specs.List.{HoldsAt}
 use Rattle.std.specs.Option.{option_copied, option_map, option_map_or}
-use Rattle.std.proofs.lemmas.List.{length-map, length-set, map-set}
+use Rattle.std.proofs.lemmas.List.{length-set, map-set}
 use Rattle.std.proofs.lemmas.Option.{slice_get-map, slice_get_past, slice_get_read}
 use Rattle.ior_refs.specs.declared.key.ObjectKey.{ObjectKey}
 use Rattle.ots_outside.specs.Disk.{DiskState}
@@ -133,3 +133,11 @@ pub no_server : (place : ℕ) (server : Server) (disk : DiskState) (stop : Optio
 no_server place server disk stop w none =
     ap (λ (v : World). with_server place server v) (no_seat place (λ (x : Seat). record x { disk = disk; stop = stop }) w none)
     ∙ no_seat place (λ (x : Seat). record x { server = server }) w none
+
+-- ---- what stands at a place in the code
+
+pub at_place : (xs : List Kept) (place : ℕ) (k : Kept) → place < length xs → k ≡ get_or xs place k → slice_get xs place ≡ Some k
+at_place xs place k within has = slice_get_read xs (length xs) place k refl within has
+
+pub past_places : (s : State) (place : ℕ) → length s.seats.items ≤ place → slice_get (shown s).seats place ≡ None
+past_places s place past = seat_shown s place None (slice_get_past s.seats.items place past)

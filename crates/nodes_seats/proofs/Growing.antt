@@ -1,5 +1,5 @@
 -- A world that has one more seat is whole.
-use Rattle.std.proofs.Common.{◌≡◌, ◌⊎◌, inl, inr, ℕ, zero, suc, ◌+◌, ◌<◌, ◌≤◌, Bool, cond, false, find, bytes_eq, List, [], ◌∷◌, ◌++◌, length, map, filter_map, slice_get, Contains, Option, Some, None, refl, sym, ap, subst, ◌∙◌, append-nil, arith}
+use Rattle.std.proofs.Common.{◌≡◌, ◌⊎◌, inl, inr, ℕ, zero, suc, ◌+◌, ◌<◌, Bool, cond, false, find, bytes_eq, List, [], ◌∷◌, ◌++◌, length, map, filter_map, slice_get, Contains, Option, Some, refl, sym, ap, subst, ◌∙◌, append-nil, arith}
 use Rattle.std.specs.Option.{option_map, option_map_or}
 use Rattle.std.proofs.lemmas.List.{length_push, length-map, map-append}
 use Rattle.std.proofs.lemmas.List.Elements.{Contains-append_right, filter_map-append}
@@ -13,7 +13,7 @@ use Rattle.nodes_world.specs.declared.thing.Thing.TheVariants as things
 use Rattle.nodes_parts.specs.Naming.{IsNamedToo, name_of_key}
 use Rattle.nodes_parts.specs.Referring.{referred_in}
 use Rattle.nodes_state.specs.Seated.{seat_of}
-use Rattle.nodes_state.specs.Shown.{HasNames, shown}
+use Rattle.nodes_state.specs.Shown.{shown}
 use Rattle.nodes_state.specs.declared.seats.Seat.{Seat as Kept}
 use Rattle.nodes_state.specs.declared.state.State.{State}
 use Rattle.nodes_seats.specs.Whole.{ArePlaced, IsServed, IsWhole}

@@ -1,3 +1,10 @@
 mod Growing
 mod Telling
 mod Changing
+mod Crashing
+mod Standings
+mod Rising
+mod BySlot
+mod Ticks
+mod Waits
+mod Ticked

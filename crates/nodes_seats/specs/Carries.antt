@@ -17,3 +17,7 @@ IsPassed limit (Err faults.Names) = ⊥
 abbrev pub Carries : Option ℕ → Done → World → List ℕ → List ℕ → Result (Unit {0}) WorldFault → Type 0
 Carries (Some limit) d w before after result = IsPassed limit result × (after ≡ before)
 Carries None d w before after result = Does d w before after result
+
+-- it is done, and nothing is told
+abbrev pub DoesUntold : Done → World → Type 0
+DoesUntold d w = (lines : List ℕ) → Does d w lines lines (Ok tt)

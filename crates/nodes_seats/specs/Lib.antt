@@ -1,3 +1,6 @@
 pub mod Whole
 pub mod Carries
 pub mod Placed
+pub mod Waiting
+pub mod Ticking
+pub mod Ready

@@ -1,5 +1,6 @@
 pub mod Reading
 mod Indexed
+pub mod InOrder
 mod Registered
 pub mod Doing
 pub mod Failing

@@ -1,11 +1,12 @@
 -- What a call that tells lines has done, and whom the lines speak of (our profile).
 use Rattle.std.specs.Prelude.{◌≡◌, ℕ, ◌+◌, ◌++◌, List, take, slice_get, Option, Some, None, Result, Ok, Err}
+use Rattle.std.specs.Option.{option_map, option_and_then}
 use Rattle.ior_refs.specs.declared.key.ObjectKey.{ObjectKey}
+use Rattle.resource_votes.specs.Ballots.{numbered}
 use Rattle.resource_votes.specs.declared.registration.Registration.{Registration}
-use Rattle.coordinator.specs.Family.{Family}
 use Rattle.nodes_world.specs.Told.{Told, text}
-use Rattle.nodes_world.specs.World.{World, transaction_name, referred}
-use Rattle.nodes_world.specs.Happenings.{Cast, cast_of_key}
+use Rattle.nodes_world.specs.World.{NamedKey, World, transaction_name, referred}
+use Rattle.nodes_world.specs.Happenings.{Cast}
 use Rattle.nodes_parts.specs.Naming.{Names, name_of_key}
 use Rattle.nodes_parts.specs.Referring.{referred_in}
 
@@ -33,14 +34,13 @@ pub record AreNamesOf (n : Names) (w : World) : Type 0 where
   pub transactions : (key : ObjectKey) → name_of_key n.things key ≡ transaction_name w key
   pub references : (to : List ℕ) → referred_in n.referred to ≡ referred w to
 
--- whom the effects of a family speak of, where it may be gone
-abbrev pub cast_by : ObjectKey → Option Family → Cast
-cast_by key (Some f) = record {
-  key = key;
-  registrations = f.ballots.registrations;
-  synchronizations = f.ballots.synchronizations;
-}
-cast_by key None = cast_of_key key
+-- the name of the object that is registered
+abbrev pub name_in : World → Registration → Option (List ℕ)
+name_in w r = option_map (λ (n : NamedKey). n.name) (referred w r.to)
+
+-- the name that is kept for a number, where names are kept in order
+abbrev pub kept_name : List (Option (List ℕ)) → ℕ → Option (List ℕ)
+kept_name some number = option_and_then (λ (o : Option (List ℕ)). o) (numbered some number)
 
 -- each registration has the number of its place
 abbrev pub AreIndexed : List Registration → Type 0

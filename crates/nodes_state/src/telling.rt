@@ -4,8 +4,8 @@ ghost use Rattle.std.specs.Option.{option_map, option_to_list};
 ghost use Rattle.nodes_world.specs.Happenings as happenings;
 ghost use Rattle.nodes_world.specs.Told as told;
 ghost use Rattle.nodes_world.specs.World.{World};
-ghost use Rattle.nodes_state.specs.Casting.{cast_of};
-ghost use Rattle.nodes_state.specs.Telling.{AreNamesOf, IsIndexed, TellsOne, TellsSome};
+ghost use Rattle.nodes_state.specs.Casting.{StandsFor};
+ghost use Rattle.nodes_state.specs.Telling.{AreNamesOf, TellsOne, TellsSome};
 
 use crate::casts::Cast;
 use coordinator::{Effect, Entry, Finished};
@@ -24,9 +24,8 @@ pub fn tell_effects(
     cast: Cast<'_>,
     effects: &[Effect],
 ) -> Result<(), AllocError>
-    requires indexed { IsIndexed (cast_of cast) }
-    ensures { (w : World) → AreNamesOf names.now w
-        → TellsSome (happenings.all_effect_lines w (cast_of cast.entry) effects.now)
+    ensures { (w : World) (c : happenings.Cast) → AreNamesOf names.now w → StandsFor cast.entry c w
+        → TellsSome (happenings.all_effect_lines w c effects.now)
         lines.old.items lines.new.items result }
 {
     for effect in effects {
@@ -42,9 +41,8 @@ fn tell_effect(
     cast: Cast<'_>,
     effect: Effect,
 ) -> Result<(), AllocError>
-    requires indexed { IsIndexed (cast_of cast) }
-    ensures { (w : World) → AreNamesOf names.now w
-        → TellsOne (happenings.effect_lines w (cast_of cast.entry) effect) lines.old.items lines.new.items result }
+    ensures { (w : World) (c : happenings.Cast) → AreNamesOf names.now w → StandsFor cast.entry c w
+        → TellsOne (happenings.effect_lines w c effect) lines.old.items lines.new.items result }
 {
     match effect {
         Effect::Voted(number, vote) => match cast.registered(names, number) {
@@ -98,9 +96,8 @@ fn tell_outcome(
     outcome: Outcome,
     transaction: Name,
 ) -> Result<(), AllocError>
-    requires indexed { IsIndexed (cast_of cast) }
-    ensures { (w : World) → AreNamesOf names.now w
-        → TellsOne (happenings.outcome_lines w (cast_of cast.entry) outcome transaction)
+    ensures { (w : World) (c : happenings.Cast) → AreNamesOf names.now w → StandsFor cast.entry c w
+        → TellsOne (happenings.outcome_lines w c outcome transaction)
         lines.old.items lines.new.items result }
 {
     match outcome {
@@ -134,9 +131,8 @@ fn tell_rollback(
     transaction: Name,
     reason: Reason,
 ) -> Result<(), AllocError>
-    requires indexed { IsIndexed (cast_of cast) }
-    ensures { (w : World) → AreNamesOf names.now w
-        → TellsOne (happenings.rollback_lines w (cast_of cast.entry) transaction reason)
+    ensures { (w : World) (c : happenings.Cast) → AreNamesOf names.now w → StandsFor cast.entry c w
+        → TellsOne (happenings.rollback_lines w c transaction reason)
         lines.old.items lines.new.items result }
 {
     match reason {

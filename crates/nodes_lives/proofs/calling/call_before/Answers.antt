@@ -55,7 +55,7 @@ returns-clause-called c =
     ∙ ap (λ (xs : List ℕ). Stops xs) (sym c.in_ok-image.ensures) in
     record {
       asked = stops;
-      holds = image_holds c.args.key.now c.args.event.now c.args.running.loaded.items before later g.stood c.args.running.end through.running.end c.records_are_read.ensures
+      holds = image_holds c.args.key.now c.args.event.now c.args.running.loaded.items before later g.stood c.args.running.end through.running.end
           c.stopped_appends_are_safe.ensures.stopped g.writes (stop_of c.args.stop) c.in_ok-image.image.items stops;
       heard = c.in_ok-heard.ensures ∙ ap told_before g.answer
           ∙ has_heard c.args.key.now c.args.event.now c.args.running.loaded.items before later g.stood c.args.running.end through.running.end
@@ -65,4 +65,9 @@ returns-clause-called c =
 pub returns-in_err-heard-clause-fault : goal.returns-in_err-heard-clause-fault
 returns-in_err-heard-clause-fault c =
     let p = err_from_is_err_and c.from_residual-in_err-heard.result c.from_residual-in_err-heard.ensures.1 in
+    rw p.1 p.2
+
+pub returns-in_err-image-clause-fault : goal.returns-in_err-image-clause-fault
+returns-in_err-image-clause-fault c =
+    let p = err_from_is_err_and c.from_residual-in_err-image.result c.from_residual-in_err-image.ensures.1 in
     rw p.1 p.2

@@ -1,4 +1,4 @@
-use Rattle.std.proofs.Common.{ℕ, length, [], ◌∷◌, ◌++◌, refl, sym, ap, subst, ◌∙◌}
+use Rattle.std.proofs.Common.{length, refl, sym, subst}
 use Rattle.nodes_world.specs.declared.thing.Thing.TheVariants as things
 use Rattle.nodes_state.specs.declared.seats.Seat.{Seat}
 use Rattle.nodes_seats.specs.Whole.{IsServed}

@@ -1,0 +1,7 @@
+mod Keeping
+mod Growing
+mod Answering
+mod Named
+mod Ends
+mod Drawn
+mod Registered
