@@ -42,7 +42,7 @@ bind_err {A} {B} (Err d) f fault e = inl (ap (failed {A = A}) (err_is {A = B} d 
 -- ---- tests of the octets in front
 
 -- there is no mark in front, as far as the octets go
-abbrev lacks : List ℕ → List ℕ → Bool
+abbrev pub lacks : List ℕ → List ℕ → Bool
 lacks mark octets = not (starts_with nat_eq mark octets)
 
 -- a fact that more octets tell
@@ -79,7 +79,7 @@ octet_there octets i n lt = ⊎_elim {A = i < length octets} {B = length octets 
 -- ---- a header that stands in front, and its faults
 
 -- octets up to the n-th stand from the i-th on, whatever follows
-slice_same : (i n : ℕ) (octets more : List ℕ) → i + n ≤ length octets → take n (drop i (octets ++ more)) ≡ take n (drop i octets)
+pub slice_same : (i n : ℕ) (octets more : List ℕ) → i + n ≤ length octets → take n (drop i (octets ++ more)) ≡ take n (drop i octets)
 slice_same i n octets more long = ap (take n) (drop-append-le i octets more (omega arith)) ∙ take-append-le n (drop i octets) more (omega (arith, length-drop i octets))
 
 -- twelve octets tell the header
@@ -101,7 +101,7 @@ header_same versions octets more long =
     rw (first, second, behind) refl
 
 -- a bad magic is found before the rest
-bad_magic : (versions : List Version) (octets more : List ℕ) → lacks magic (take 4 octets) ≡ true → header_at versions (octets ++ more) ≡ Err BadMagic
+pub bad_magic : (versions : List Version) (octets more : List ℕ) → lacks magic (take 4 octets) ≡ true → header_at versions (octets ++ more) ≡ Err BadMagic
 unfolding header_at
 bad_magic versions octets more m = rw (lacks_first magic 4 octets more m) refl
 
@@ -123,7 +123,7 @@ none_more (w ∷ ws) octets more e =
     rw no (none_more ws octets more a.1)
 
 -- a bad version stands behind a whole magic
-bad_version : (versions : List Version) (octets more : List ℕ) → lacks magic (take 4 octets) ≡ false → 4 < length octets → version_at versions (take 2 (drop 4 octets)) ≡ None → header_at versions (octets ++ more) ≡ Err BadVersion
+pub bad_version : (versions : List Version) (octets more : List ℕ) → lacks magic (take 4 octets) ≡ false → 4 < length octets → version_at versions (take 2 (drop 4 octets)) ≡ None → header_at versions (octets ++ more) ≡ Err BadVersion
 unfolding header_at
 bad_version versions octets more m long v =
     let t = take_more 2 (drop 4 octets) more in
@@ -132,7 +132,7 @@ bad_version versions octets more m long v =
     rw (take-append-le 4 octets more (omega (arith, long)), m, behind, none, lt-ltb 4 (length (octets ++ more)) (omega (arith, long, length-append octets more))) refl
 
 -- a bad type stands behind a whole version
-bad_type : (versions : List Version) (version : Version) (octets more : List ℕ) → lacks magic (take 4 octets) ≡ false → version_at versions (take 2 (drop 4 octets)) ≡ Some version → ltb 7 (slice_index octets 7) ≡ true → header_at versions (octets ++ more) ≡ Err BadType
+pub bad_type : (versions : List Version) (version : Version) (octets more : List ℕ) → lacks magic (take 4 octets) ≡ false → version_at versions (take 2 (drop 4 octets)) ≡ Some version → ltb 7 (slice_index octets 7) ≡ true → header_at versions (octets ++ more) ≡ Err BadType
 unfolding header_at
 bad_type versions version octets more m v t =
     let long : 7 < length octets = octet_there octets 7 7 (ltb-true _ _ t) in

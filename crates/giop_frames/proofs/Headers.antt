@@ -59,9 +59,9 @@ one_version : (v w : Version) → starts_with nat_eq (version_octets v) (version
 one_version v w e = one_minor v w (sym (ap (λ (x : List ℕ). slice_index x 1) (marked (version_octets v) (version_octets w) refl e)))
 
 -- a version that is found is admitted, and the octets are its octets so far
-record IsFound (versions : List Version) (octets : List ℕ) (v : Version) : Type 0 where
-  admitted : Contains versions v
-  stands : starts_with nat_eq (version_octets v) octets ≡ true
+pub record IsFound (versions : List Version) (octets : List ℕ) (v : Version) : Type 0 where
+  pub admitted : Contains versions v
+  pub stands : starts_with nat_eq (version_octets v) octets ≡ true
 
 found_by : (b : Bool) (w : Version) (ws : List Version) (octets : List ℕ) (v : Version) → starts_with nat_eq (version_octets w) octets ≡ b → cond b (Some w) (version_at ws octets) ≡ Some v → (version_at ws octets ≡ Some v → IsFound ws octets v) → IsFound (w ∷ ws) octets v
 found_by true w ws octets v is e later =
@@ -71,7 +71,7 @@ found_by false w ws octets v is e later =
     let f = later e in
     record { admitted = (suc f.admitted.0, omega (arith, f.admitted.1), f.admitted.2); stands = f.stands }
 
-found : (versions : List Version) (octets : List ℕ) (v : Version) → version_at versions octets ≡ Some v → IsFound versions octets v
+pub found : (versions : List Version) (octets : List ℕ) (v : Version) → version_at versions octets ≡ Some v → IsFound versions octets v
 found [] octets v e = absurd cc
 found (w ∷ ws) octets v e = found_by (starts_with nat_eq (version_octets w) octets) w ws octets v refl e (found ws octets v)
 

@@ -14,3 +14,4 @@ pub mod Followed
 pub mod Walking
 pub mod Near
 pub mod Further
+pub mod Fronts

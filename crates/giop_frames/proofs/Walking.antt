@@ -1,15 +1,19 @@
 -- A step of a walk leaves what follows to the next step.
 use Rattle.std.proofs.Common.{◌≡◌, ℕ, zero, suc, ◌+◌, ◌-◌, ◌<◌, ◌≤◌, arith, List, [], ◌∷◌, ◌++◌, length, take, drop, set, map, get_or, take_all, Option, Some, None, Result, Ok, Err, refl, sym, ap, subst, ◌∙◌, append_assoc}
 use Rattle.std.proofs.lemmas.Bool.{le-ltb}
-use Rattle.std.proofs.lemmas.List.{append-nil, drop-drop, drop_at, take_at, drop-append-le, length-append, length-drop, take_more_set, map_push}
+use Rattle.std.proofs.lemmas.List.{append-nil, drop-drop, drop_at, take_at, drop-append-le, length-append, length-drop, take-append-le, take_more_set, map_push}
 use Rattle.cdr_values.specs.declared.order.Order.{Order}
-use Rattle.cdr_values.specs.Value.{Octet, UShort, ULong, OctetSequence, Text}
-use Rattle.cdr_values.specs.Reading.{Reading, ◌>>=◌, octet_at, ushort_at, ulong_at, octets_at, string_at}
+use Rattle.cdr_values.specs.Value.{Octet, UShort, ULong, OctetSequence, Text, number_in}
+use Rattle.cdr_values.specs.Reading.{Reading, ◌>>=◌, number_at, sized_at, octet_at, ushort_at, ulong_at, octets_at, string_at}
 use Rattle.cdr_values.specs.Sequence.{each_at, sequence_at}
 use Rattle.cdr_values.specs.Tagged.{reference_at, tagged_at}
 use Rattle.cdr_values.specs.Laws.{ReadingLaws}
 use Rattle.giop_frames.specs.declared.fault.FrameFault.{FrameFault}
 use Rattle.giop_frames.specs.declared.header.Header.{Header}
+use Rattle.giop_frames.specs.declared.header.Kind.{Kind}
+use Rattle.giop_frames.specs.declared.header.Kind.TheVariants as kinds
+use Rattle.giop_frames.specs.declared.layout.Version.{Version}
+use Rattle.giop_frames.specs.declared.layout.Version.TheVariants.{V1_2}
 use Rattle.giop_frames.specs.declared.layout.Field.{Field}
 use Rattle.giop_frames.specs.declared.layout.Field.TheVariants as fields
 use Rattle.giop_frames.specs.declared.found.Span.{Span}
@@ -22,7 +26,7 @@ use Rattle.giop_frames.specs.declared.message.ServiceContext.{ServiceContext}
 use Rattle.giop_frames.specs.declared.message.Target.{Target}
 use Rattle.giop_frames.specs.declared.message.Target.TheVariants.{Reference}
 use Rattle.giop_frames.specs.Fault.{fault_of, too_long}
-use Rattle.giop_frames.specs.Layout.{Fields, kept_tail, message_with, tail_start}
+use Rattle.giop_frames.specs.Layout.{Fields, blank, kept_tail, layout, message_with, tail_start}
 use Rattle.giop_frames.specs.Content.{as_target, telling_target, key_at, profile_at, indexed_at, target_at, context_at, field_at, fields_at, message_by, message_of, start_by, start_of}
 use Rattle.giop_frames.specs.Walk.{FindsOctets, FindsTagged, GoesOn, IsBehind, IsDone, IsWalked, StandsBefore, StandsIn, context_of, fields_by, followed, left_at, standing, step_at, telling_contexts, told_by, walk_left}
 use Rattle.giop_frames.specs.Limits.{context_limit, key_limit, profile_limit}
@@ -457,3 +461,34 @@ start_walked header content w is done = rw (all_walked header content w is done)
 pub message_fails : (header : Header) (content : List ℕ) (fault : FrameFault) → fields_by header content ≡ Err fault → message_by header content ≡ Err fault
 unfolding message_of
 message_fails header content fault e = rw e refl
+
+-- ---- behind a request_id
+
+-- a request_id in front of a content
+id_read : (order : Order) (octets : List ℕ) (told : Fields) → 4 ≤ length octets → field_at fields.Id told (standing order octets 12) ≡ Ok (record told { id = number_in order 4 (take 4 octets) }, standing order octets 16)
+unfolding field_at number_at sized_at
+id_read order octets told long = rw (le-ltb (length octets) 4 long) refl
+
+-- a walk behind it has found it
+pub walked_id : (header : Header) (content : List ℕ) (id : ℕ) (w : Walk) → layout header.version header.kind ≡ fields.Id ∷ w.fields.now → w.step ≡ None → w.place ≡ 16 → ((octets : List ℕ) → told_by octets w.found ≡ record blank { id = id }) → 4 ≤ length content → id ≡ number_in header.order 4 (take 4 content) → IsWalked header content w
+walked_id header content id w table step place told long is = record {
+  behind_header = omega (arith, place);
+  within = omega (arith, place, long);
+  room = rw step tt;
+  same = λ more.
+      let all : List ℕ = content ++ more in
+      let number : number_in header.order 4 (take 4 all) ≡ id = ap (number_in header.order 4) (take-append-le 4 content more long) ∙ sym is in
+      let read = id_read header.order all blank (omega (arith, long, length-append content more)) in
+      rw (table, read, number, step, told all, place) refl;
+}
+
+-- the table of each message that has fields begins with it
+pub id_first : (version : Version) (kind : Kind) (xs : List Field) → xs ≡ layout version kind → 1 ≤ length xs → layout version kind ≡ fields.Id ∷ take (length xs - 1) (drop 1 xs)
+id_first V1_2 kinds.Request xs is some = rw is refl
+id_first V1_2 kinds.Reply xs is some = rw is refl
+id_first V1_2 kinds.CancelRequest xs is some = rw is refl
+id_first V1_2 kinds.LocateRequest xs is some = rw is refl
+id_first V1_2 kinds.LocateReply xs is some = rw is refl
+id_first V1_2 kinds.CloseConnection xs is some = absurd (omega (arith, ap length is, some))
+id_first V1_2 kinds.MessageError xs is some = absurd (omega (arith, ap length is, some))
+id_first V1_2 kinds.Fragment xs is some = absurd (omega (arith, ap length is, some))

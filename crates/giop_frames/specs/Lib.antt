@@ -7,6 +7,7 @@ pub mod Content
 pub mod ContentInside
 pub mod Decode
 pub mod Walk
+pub mod HeaderWalk
 pub mod Sizes
 pub mod Encode
 pub mod EncodeInside

@@ -110,7 +110,7 @@ pub fn read_header(versions: &[Version], octets: &[u8]) -> Result<Header, FrameF
 }
 
 /// The header of this version behind its magic and version.
-fn read_behind(version: Version, octets: &[u8]) -> Result<Header, FrameFault>
+pub fn read_behind(version: Version, octets: &[u8]) -> Result<Header, FrameFault>
     ensures header { result ≡ header_of (Some version) octets.now }
     ensures small { IfOk result (λ header. header.size ≤ size_limit) }
     ensures memory { IfErr result (λ fault. fault ≢ FrameFault.Memory) }
@@ -136,7 +136,7 @@ fn read_behind(version: Version, octets: &[u8]) -> Result<Header, FrameFault>
 }
 
 /// The version whose octets these are, of those that are admitted; where octets are wanting, the first that they begin.
-fn version_at(versions: &[Version], octets: &[u8]) -> Option<Version>
+pub fn version_at(versions: &[Version], octets: &[u8]) -> Option<Version>
     ensures { result ≡ version_at versions.now octets.now }
 {
     for version in versions {

@@ -7,6 +7,7 @@ pub use decoding::{Decoded, decode, decode_as};
 pub use encoding::{encode, encode_as};
 pub use fault::{CONTEXT_LIMIT, FrameFault, KEY_LIMIT, PROFILE_LIMIT, SIZE_LIMIT};
 pub use header::{HEADER_LENGTH, Header, Kind, behind, front, read_header};
+pub use header_walk::HeaderWalk;
 pub use laws::{
     a_message_is_its_content, bodies_begin_at_eight, headers_are_read_exactly,
     no_message_begins_another,
@@ -22,6 +23,7 @@ mod fault;
 mod fields;
 mod found;
 mod header;
+mod header_walk;
 mod laws;
 mod layout;
 mod message;

@@ -1,5 +1,6 @@
-ghost use Rattle.std.specs.Prelude.{◌≡◌, ◌+◌, ◌<◌, ◌≤◌, ℕ, List, [], length, IfErr, IsOk, OnOk, None, Some, Ok, Err};
+ghost use Rattle.std.specs.Prelude.{◌≡◌, ◌+◌, ◌<◌, ◌≤◌, ℕ, List, [], length, take, IfErr, IsOk, OnOk, None, Some, Ok, Err};
 ghost use Rattle.cdr_values.specs.Reading.{octets_at, string_at};
+ghost use Rattle.cdr_values.specs.Value.{number_in};
 ghost use Rattle.giop_frames.specs.Limits.{context_limit, size_limit};
 ghost use Rattle.giop_frames.specs.Layout.{Fields};
 ghost use Rattle.giop_frames.specs.Walk.{HasRoom, IsAsFar, IsDone, IsWalked, MakesStep, ReadsSpan, ReadsTagged, StandsBefore, fields_by};
@@ -55,6 +56,24 @@ impl Walk {
             fields: layout(header.version, header.kind),
             place: HEADER_LENGTH as u32,
             found: Found::nothing(),
+        }
+    }
+
+    /// A walk behind the request_id with which the content of a message begins that has one; else at the front.
+    pub fn behind_id(header: Header, id: u32) -> Walk
+        ensures walked { (content : List ℕ) → 4 ≤ length content → id ≡ number_in header.order 4 (take 4 content)
+            → IsWalked header content result }
+    {
+        let [Field::Id, others @ ..] = layout(header.version, header.kind) else {
+            return Walk::new(header);
+        };
+        let mut found = Found::nothing();
+        found.id = id;
+        Walk {
+            step: None,
+            fields: others,
+            place: HEADER_LENGTH as u32 + 4,
+            found,
         }
     }
 

@@ -1,18 +1,19 @@
 -- A part that stands in front of octets stands there too where more octets follow, and a part that is refused stays
 -- refused.
-use Rattle.std.proofs.Common.{◌≡◌, ℕ, ◌+◌, false, List, ◌∷◌, ◌++◌, ◌≤◌, inl, inr, not, ltb, length, take, drop, subst, Option, None, Some, Ok, Err, refl, sym, ap, ◌∙◌, append_assoc, arith, cond}
-use Rattle.std.specs.Prelude.{◌≢◌, IfSome}
+use Rattle.std.proofs.Common.{◌≡◌, ℕ, ◌+◌, false, List, ◌∷◌, ◌++◌, ◌≤◌, inl, inr, not, ltb, length, take, drop, Ok, Err, refl, sym, ap, ◌∙◌, append_assoc, arith, cond}
+use Rattle.std.specs.Prelude.{◌≢◌}
 use Rattle.std.proofs.lemmas.Bool.{le-ltb}
-use Rattle.std.proofs.lemmas.List.{take_at, drop-append-le, drop_at, length-append}
+use Rattle.std.proofs.lemmas.List.{take_at, drop-append-le, drop_at, length-append, take-append-le}
 use Rattle.giop_frames.specs.declared.fault.FrameFault.{FrameFault}
 use Rattle.giop_frames.specs.declared.fault.FrameFault.TheVariants.{BadFragment, Short}
-use Rattle.giop_frames.specs.declared.header.Header.{Header}
+use Rattle.giop_frames.specs.declared.header_walk.HeaderWalk.{HeaderWalk}
 use Rattle.giop_frames.specs.declared.layout.Version.{Version}
 use Rattle.giop_frames.specs.Header.{magic, version_octets, type_octet, header_at}
+use Rattle.giop_frames.specs.HeaderWalk.{IsSound}
 use Rattle.giop_frames.specs.Laws.{HeaderLaws}
 use Rattle.giop_streams.specs.Stream.{Part, IsStreamPart, may_be_part, part_at, part_header_at}
-use Rattle.giop_streams.specs.StreamInside.{IsRead}
-use Rattle.giop_streams.proofs.Results.{bind_err, bind_ok, guard_err}
+use Rattle.giop_streams.specs.StreamInside.{Follows}
+use Rattle.giop_streams.proofs.Results.{bind_err, guard_err}
 use Rattle.giop_streams.proofs.Holding.{part_found}
 
 -- a part is found, whatever follows it
@@ -35,20 +36,19 @@ part_stays laws versions octets more p rest e =
     let f = part_found laws versions octets p rest e in
     ap (part_at versions) (ap (λ (x : List ℕ). x ++ more) f.parts ∙ append_assoc f.front rest more) ∙ part_only laws versions p f.front (rest ++ more) f.is_part
 
--- a part's header stays
-pub known_stays : HeaderLaws → (versions : List Version) → (octets more : List ℕ) (header : Header) → IsRead versions octets header → IsRead versions (octets ++ more) header
-unfolding part_header_at
-known_stays laws versions octets more header is =
-    let a = bind_ok (header_at versions octets) (λ h. cond (not (may_be_part h)) (Err BadFragment) (Ok h)) header is.header_is in
-    record {
-      header_is = rw (laws.same versions octets more (laws.long versions octets a.0 a.1), a.1) a.2;
-      few = is.few;
-    }
+-- a walk over a header follows more octets too
+pub follows_more : (versions : List Version) (start : ℕ) (buffer more : List ℕ) (w : HeaderWalk) → start ≤ length buffer → Follows versions (drop start buffer) w → Follows versions (drop start (buffer ++ more)) w
+follows_more versions start buffer more w within f =
+    let is : drop start (buffer ++ more) ≡ drop start buffer ++ more = drop-append-le start buffer more within in
+    rw is (record {
+      sound = f.sound;
+      within = omega (arith, f.within, length-append (drop start buffer) more);
+      front = f.front ∙ sym (take-append-le w.count (drop start buffer) more f.within);
+    })
 
--- a header that is known stays known
-pub header_stays : HeaderLaws → (versions : List Version) → (start : ℕ) (buffer more : List ℕ) (known : Option Header) → start ≤ length buffer → IfSome known (IsRead versions (drop start buffer)) → IfSome known (IsRead versions (drop start (buffer ++ more)))
-header_stays laws versions start buffer more None within read = tt
-header_stays laws versions start buffer more (Some header) within read = subst (λ (x : List ℕ). IsRead versions x header) (sym (drop-append-le start buffer more within)) (known_stays laws versions (drop start buffer) more header read)
+-- a walk that begins follows any octets
+pub follows_none : (versions : List Version) (octets : List ℕ) (w : HeaderWalk) → IsSound versions w → w.count ≡ 0 → Follows versions octets w
+follows_none versions octets w sound none = record { sound = sound; within = omega (arith, none); front = rw none refl }
 
 -- a fault of a part's header stays
 part_header_stays : HeaderLaws → (versions : List Version) → (octets more : List ℕ) (fault : FrameFault) → part_header_at versions octets ≡ Err fault → fault ≢ Short → part_header_at versions (octets ++ more) ≡ Err fault

@@ -1,5 +1,5 @@
 -- What a stream holds back between two calls, of a stream of messages (CORBA, GIOP Message Formats, Fragment Message).
-use Rattle.std.specs.Prelude.{◌≡◌, ◌≢◌, ◌⊎◌, ◌<◌, ◌≤◌, ◌+◌, ℕ, Bool, true, false, List, [], ◌∷◌, ◌++◌, length, drop, Option, Some, None, IfSome, IsSome, IsSomeAnd, Result, Ok, Err, IfOk, OnErr, OnOk}
+use Rattle.std.specs.Prelude.{◌≡◌, ◌≢◌, ◌⊎◌, ◌<◌, ◌≤◌, ◌+◌, ◌-◌, min, ℕ, Bool, true, false, List, [], ◌∷◌, ◌++◌, length, drop, Option, Some, None, IfSome, IsSome, IsSomeAnd, Result, Ok, Err, IfOk, OnErr, OnOk}
 use Rattle.std.specs.List.{AllByRecursion}
 use Rattle.giop_frames.specs.declared.fault.FrameFault.{FrameFault}
 use Rattle.giop_frames.specs.declared.fault.FrameFault.TheVariants.{Short, Memory}
@@ -8,22 +8,29 @@ use Rattle.giop_frames.specs.declared.header.Header.{Header}
 use Rattle.giop_frames.specs.declared.layout.Version.{Version}
 use Rattle.giop_frames.specs.declared.message.Message.{Message}
 use Rattle.giop_frames.specs.Limits.{size_limit}
-use Rattle.giop_streams.specs.Limits.{unfinished_limit}
+use Rattle.giop_streams.specs.Limits.{memory_limit, partial_limit, unfinished_limit}
 use Rattle.giop_frames.specs.Fault.{IfRefused}
 use Rattle.giop_frames.specs.Header.{is_fragment}
 use Rattle.giop_frames.specs.Content.{GivesKept, message_by}
 use Rattle.giop_streams.specs.Stream.{Part, Unfinished, IsRefused, IsStream, Splits, Refuses, earliest, id_of, numbered, offset, part_at, so_far, unfinished}
 
 -- the versions that it admits, the unfinished messages, the octets of no whole part yet and their offset in the stream,
--- the refusal that is answered for good, how many octets its buffer has, and how many more it takes without memory
+-- how many of these octets it has looked at, the refusal that is answered for good, how many octets its buffer has, for
+-- how many it has memory, and for how many it keeps memory beside its buffer
 pub record Held : Type 0 where
   pub versions : List Version
   pub unfinished : List Unfinished
   pub place : ℕ
   pub rest : List ℕ
+  pub looked : ℕ
   pub refused : Option FrameFault
   pub kept : ℕ
-  pub room : ℕ
+  pub memory : ℕ
+  pub spare : ℕ
+
+-- for how many more octets it has memory
+abbrev pub room : Held → ℕ
+room h = h.memory - h.kept
 
 -- what a stream of these versions holds of which nothing has come
 abbrev pub nothing_of : List Version → Held
@@ -32,10 +39,16 @@ nothing_of versions = record {
   unfinished = [];
   place = 0;
   rest = [];
+  looked = 0;
   refused = None;
   kept = 0;
-  room = 0;
+  memory = 0;
+  spare = 0;
 }
+
+-- the same behind a look at the header of the part at its place, as far as that has come
+abbrev pub looking : Held → Held
+looking h = record h { looked = min 12 (length h.rest) }
 
 -- no unfinished message is longer than a message may be, and there are at most 8
 pub record AreShort (messages : List Unfinished) : Type 0 where
@@ -43,11 +56,12 @@ pub record AreShort (messages : List Unfinished) : Type 0 where
   pub short : AllByRecursion (λ u. length u.content ≤ size_limit) messages
 
 -- what a stream holds is bounded: its unfinished messages, and in its buffer the octets of parts that were taken, of
--- which it has at most as many as of no whole part (our profile)
+-- which it has at most as many as of no whole part; and the memory beside it (our profile)
 pub record IsBounded (h : Held) : Type 0 where
   pub unfinished_are : AreShort h.unfinished
   pub held : length h.rest ≤ h.kept
   pub taken : h.kept ≤ length h.rest + length h.rest
+  pub beside : h.spare ≤ partial_limit
 
 -- Of a stream of these versions and octets these messages were given, and this is held back.
 pub record Holds (versions : List Version) (octets : List ℕ) (messages : List Framed) (h : Held) : Type 0 where
@@ -132,7 +146,9 @@ abbrev pub WantsMemory : Held → Type 0
 WantsMemory h = (p : Part) × (behind : List ℕ) × (part_at h.versions h.rest ≡ Ok (p, behind)) × MayWantMemory h.unfinished p
 
 -- A call asked for the next message: it was given so, or there is none, or a part is refused. A refusal is answered for
--- good, and loses nothing. Want of memory is answered only where memory may be wanted. It takes no room for octets.
+-- good, and loses nothing. Want of memory is answered only where memory may be wanted. Where there is none, all that is
+-- there of a header was looked at. Its buffer grows in no way; memory is given back where there is none and it was more
+-- than the limit, and then down to that.
 pub record GivesNext {X : Type 0} (Gave : X → Held → Held → Type 0) (result : Result (Option X) FrameFault)
     (old new : Held) : Type 0 where
   pub message : IfOk result (λ found. IfSome found (λ m. Gave m old new))
@@ -145,4 +161,7 @@ pub record GivesNext {X : Type 0} (Gave : X → Held → Held → Type 0) (resul
   pub accepts : OnOk result (new.refused ≡ None)
   pub partial : result ≡ Ok None → part_at new.versions new.rest ≡ Err Short
   pub shorter : IfOk result (λ found. IsSome found → length new.rest < length old.rest)
-  pub room : old.room ≤ new.room
+  pub looked : result ≡ Ok None → new.looked ≡ min 12 (length new.rest)
+  pub kept : new.kept ≤ old.kept
+  pub given_back : result ≡ Ok None → (new.memory ≤ memory_limit) × (new.spare ≡ 0)
+  pub stays : (result ≢ Ok None) ⊎ (old.memory ≤ memory_limit) → new.memory ≡ old.memory

@@ -5,6 +5,10 @@ use Rattle.std.specs.Prelude.{ℕ}
 abbrev pub partial_limit : ℕ
 partial_limit = 65547
 
+-- the octets for which a stream has memory in its buffer once it gave all that is whole
+abbrev pub memory_limit : ℕ
+memory_limit = 262188
+
 -- the unfinished messages of a stream
 abbrev pub unfinished_limit : ℕ
 unfinished_limit = 8

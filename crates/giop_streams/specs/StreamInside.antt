@@ -1,5 +1,5 @@
 -- How the code finds a part and an unfinished message, and what its calls do.
-use Rattle.std.specs.Prelude.{◌≡◌, ℕ, ◌+◌, ◌≤◌, ◌<◌, ◌==◌, nat_lt, Bool, true, false, List, ◌++◌, length, take, drop, Option, Some, None, IfSome, Result, Ok, Err, IfOk, if◌then◌else◌}
+use Rattle.std.specs.Prelude.{◌≡◌, ℕ, ◌+◌, ◌≤◌, ◌<◌, ◌==◌, nat_lt, Bool, true, false, List, ◌++◌, length, take, drop, Option, Some, None, Result, Ok, Err, if◌then◌else◌}
 use Rattle.std.specs.List.{position_or_len}
 use Rattle.cdr_values.specs.declared.order.Order.{Order}
 use Rattle.cdr_values.specs.declared.fault.CdrFault.TheVariants as cdr
@@ -7,11 +7,13 @@ use Rattle.cdr_values.specs.Value.{number_in}
 use Rattle.giop_frames.specs.declared.fault.FrameFault.{FrameFault}
 use Rattle.giop_frames.specs.declared.fault.FrameFault.TheVariants.{Body, Short, TooLarge}
 use Rattle.giop_frames.specs.declared.header.Header.{Header}
+use Rattle.giop_frames.specs.declared.header_walk.HeaderWalk.{HeaderWalk}
 use Rattle.giop_frames.specs.declared.layout.Version.{Version}
 use Rattle.giop_frames.specs.Limits.{size_limit}
 use Rattle.giop_frames.specs.Header.{content_behind}
+use Rattle.giop_frames.specs.HeaderWalk.{IsSound, taken}
 use Rattle.giop_frames.specs.Content.{message_by}
-use Rattle.giop_streams.specs.Stream.{Judgement, Unfinished, part_at, part_header_at, part_of, so_far, whole_by, without_id}
+use Rattle.giop_streams.specs.Stream.{Judgement, Unfinished, part_at, part_of, so_far, whole_by, without_id}
 
 -- a whole part with this header stands in front
 pub record IsInFront (versions : List Version) (header : Header) (octets : List ℕ) : Type 0 where
@@ -19,14 +21,11 @@ pub record IsInFront (versions : List Version) (header : Header) (octets : List 
   pub whole : 12 + header.size ≤ length octets
   pub few : header.size ≤ size_limit
 
--- the header of the part in front of octets was read, and the part may be whole or not
-pub record IsRead (versions : List Version) (octets : List ℕ) (header : Header) : Type 0 where
-  pub header_is : part_header_at versions octets ≡ Ok header
-  pub few : header.size ≤ size_limit
-
--- where a header stands in front it is known, and no other
-abbrev pub Keeps : List Version → List ℕ → Option Header → Type 0
-Keeps versions octets known = IfOk (part_header_at versions octets) (λ header. known ≡ Some header) × IfSome known (IsRead versions octets)
+-- a walk over a header has taken the octets in front, or some of them
+pub record Follows (versions : List Version) (octets : List ℕ) (w : HeaderWalk) : Type 0 where
+  pub sound : IsSound versions w
+  pub within : w.count ≤ length octets
+  pub front : taken w ≡ take w.count octets
 
 -- a call found the header of the whole part in front, or less than a part
 abbrev pub FindsPart : List Version → List ℕ → Option Header → Type 0

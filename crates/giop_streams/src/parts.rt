@@ -1,4 +1,4 @@
-ghost use Rattle.std.specs.Prelude.{◌≡◌, ℕ, true, false, ◌≢◌, ◌==◌, ◌<◌, ◌≤◌, ◌+◌, length, drop, None, Err, IfNone, IfSome, Ok, IfErr, IfOk, OnErr, OnOk};
+ghost use Rattle.std.specs.Prelude.{◌≡◌, ℕ, true, false, ◌≢◌, ◌==◌, ◌<◌, ◌≤◌, ◌+◌, min, length, drop, None, Err, IfNone, IfSome, Ok, IfErr, IfOk, OnErr, OnOk};
 ghost use Rattle.std.specs.List.{position as position_of};
 ghost use Rattle.giop_frames.specs.Limits.{size_limit};
 ghost use Rattle.giop_streams.specs.Limits.{unfinished_limit};
@@ -8,34 +8,35 @@ ghost use Rattle.giop_frames.specs.Header.{content_behind, is_fragment};
 ghost use Rattle.giop_streams.specs.Held.{AreShort};
 ghost use Rattle.giop_streams.specs.HeldInside.{Judges};
 ghost use Rattle.giop_streams.specs.Stream.{id_of, may_be_fragmented, may_be_part, may_go_on, may_stand, opening, numbered, part_at, part_header_at, part_of, so_far, with_begun};
-ghost use Rattle.giop_streams.specs.StreamInside.{FindsPart, IsAt, IsRead, Keeps, ReadsId};
+ghost use Rattle.giop_streams.specs.StreamInside.{FindsPart, Follows, IsAt, ReadsId};
 
 use crate::framed::{Framed, frame};
 use crate::unfinished::Unfinished;
 use cdr_values::{Order, Reader};
 use giop_frames::{
-    FrameFault, HEADER_LENGTH, Header, Kind, Version, behind, front, read_header, read_message,
+    FrameFault, HEADER_LENGTH, Header, HeaderWalk, Kind, Version, behind, front, read_message,
 };
 use std::alloc::Global;
 
 /// How many messages of a stream are unfinished at once (our profile).
 pub const UNFINISHED_LIMIT: usize = 8;
 
-/// The header of the part in front of the octets, where the part is whole. It is kept once it was read.
+/// The header of the part in front of the octets, where the part is whole. A walk goes on over it, as its octets come.
 #[tactic(auto, unfolding(crate::specs::Stream::part_at))]
 pub fn whole_part(
     versions: &[Version],
-    known: &mut Option<Header>,
+    walk: &mut HeaderWalk,
     octets: &[u8],
 ) -> Result<Option<Header>, FrameFault>
-    requires known { IfSome known.old (IsRead versions.now octets.now) }
-    ensures kept { Keeps versions.now octets.now known.new }
+    requires follows { Follows versions.now octets.now walk.old }
+    ensures follows { Follows versions.now octets.now walk.new }
+    ensures looked { result ≡ Ok None → walk.new.count ≡ min 12 (length octets.now) }
     ensures part { IfOk result (FindsPart versions.now octets.now) }
     ensures refused { IfErr result
         (λ fault. (part_at versions.now octets.now ≡ Err fault) × (fault ≢ FrameFault.Short)) }
     ensures memory { IfErr result (λ fault. fault ≢ FrameFault.Memory) }
 {
-    match know_header(versions, known, octets) {
+    match walk_header(versions, walk, octets) {
         Err(FrameFault::Short) => Ok(None),
         Err(fault) => Err(fault),
         Ok(header) if octets.len() < HEADER_LENGTH + header.size as usize => Ok(None),
@@ -51,34 +52,23 @@ pub fn content_of(header: Header, octets: &[u8]) -> &[u8]
     front(behind(octets, HEADER_LENGTH), header.size as usize)
 }
 
-/// The header of the part in front of the octets, or its first fault. One that is known isn't read again.
-fn know_header(
+/// The header of the part in front of the octets, or its first fault. The walk goes on over those that it hasn't taken.
+#[tactic(auto, unfolding(crate::specs::Stream::part_header_at))]
+fn walk_header(
     versions: &[Version],
-    known: &mut Option<Header>,
+    walk: &mut HeaderWalk,
     octets: &[u8],
 ) -> Result<Header, FrameFault>
-    requires known { IfSome known.old (IsRead versions.now octets.now) }
-    ensures kept { Keeps versions.now octets.now known.new }
+    requires follows { Follows versions.now octets.now walk.old }
+    ensures follows { Follows versions.now octets.now walk.new }
     ensures header { result ≡ part_header_at versions.now octets.now }
+    ensures looked { IfErr result (λ fault. fault ≡ FrameFault.Short → walk.new.count ≡ length octets.now) }
+    ensures whole { OnOk result (walk.new.count ≡ 12) }
     ensures small { IfOk result (λ header. header.size ≤ size_limit) }
     ensures memory { IfErr result (λ fault. fault ≢ FrameFault.Memory) }
 {
-    if let Some(header) = *known {
-        return Ok(header);
-    }
-    let header = read_part_header(versions, octets)?;
-    *known = Some(header);
-    Ok(header)
-}
-
-/// The header of the part in front of the octets, or its first fault, as its octets come.
-#[tactic(auto, unfolding(crate::specs::Stream::part_header_at))]
-fn read_part_header(versions: &[Version], octets: &[u8]) -> Result<Header, FrameFault>
-    ensures header { result ≡ part_header_at versions.now octets.now }
-    ensures small { IfOk result (λ header. header.size ≤ size_limit) }
-    ensures memory { IfErr result (λ fault. fault ≢ FrameFault.Memory) }
-{
-    let header = read_header(versions, octets)?;
+    let further = behind(octets, walk.count());
+    let header = walk.go_on(versions, further)?;
     if !can_be_part(header) {
         return Err(FrameFault::BadFragment);
     }

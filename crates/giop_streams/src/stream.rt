@@ -1,24 +1,25 @@
-ghost use Rattle.std.specs.Prelude.{◌≡◌, ◌≢◌, ◌↔◌, ◌+◌, ◌-◌, ◌<◌, ◌≤◌, ◌^◌, [], length, drop, vec_capacity, vec_len, Option, None, Some, Ok, Err, IfSome, IsTrue, OnErr, OnOk};
+ghost use Rattle.std.specs.Prelude.{◌≡◌, ◌≢◌, ◌↔◌, ◌+◌, ◌-◌, ◌<◌, ◌≤◌, ◌^◌, ◌++◌, max, [], length, drop, vec_capacity, vec_len, Option, None, Some, Ok, Err, IfOk, IfSome, IsTrue, OnErr, OnOk};
 ghost use Rattle.giop_frames.specs.Fault.{IfRefused};
-ghost use Rattle.giop_streams.specs.Held.{Held, Holds, GivesNext, nothing_of, HasCome, HasGiven, HasGivenFramed, IsBounded, IsUnfinished, place_of};
+ghost use Rattle.giop_streams.specs.Held.{Held, Holds, GivesNext, nothing_of, HasCome, HasGiven, HasGivenFramed, IsBounded, IsUnfinished, place_of, room};
 ghost use Rattle.giop_frames.specs.Header.{profile_versions};
-ghost use Rattle.giop_streams.specs.Limits.{partial_limit};
+ghost use Rattle.giop_streams.specs.Limits.{memory_limit, partial_limit};
 ghost use Rattle.giop_streams.specs.Stream.{part_at};
-ghost use Rattle.giop_streams.specs.HeldInside.{IsMostlyHeld, Takes, remembering};
+ghost use Rattle.giop_streams.specs.HeldInside.{HasSpare, IsMostlyHeld, Takes, remembering};
 
 use crate::framed::Framed;
 use crate::parts::{content_of, judge, whole_part};
 use crate::unfinished::Unfinished;
 use giop_frames::{
-    FrameFault, HEADER_LENGTH, Header, Message, Version, behind, headers_are_read_exactly,
+    FrameFault, HEADER_LENGTH, HeaderWalk, Message, Version, behind, headers_are_read_exactly,
     profile_versions,
 };
 use std::alloc::{AllocError, Global};
 use std::marker::Model;
+use std::mem::replace;
 
 /// Messages of a stream of octets that comes in pieces, with fragments of up to 8 unfinished messages. Contracts see the
 /// versions that it admits, and what it holds back: the unfinished messages, the octets of no whole part yet and their
-/// offset, the refusal that it answers for good, and for how many more octets it has room.
+/// offset, how many of these it has looked at, the refusal that it answers for good, and how much memory it has.
 #[derive(Drop)]
 pub struct Stream {
     alloc: Global,
@@ -26,17 +27,19 @@ pub struct Stream {
     messages: Vec<Unfinished>,
     buffer: Vec<u8>,
     start: usize,
-    /// What the header of the part at the place says, once it was read.
-    header: Option<Header>,
+    /// Memory for what is left once that of a large buffer is given back. It has no octets.
+    spare: Vec<u8>,
+    /// A walk over the header of the part at the place.
+    header: HeaderWalk,
     place: u64,
     refused: Option<FrameFault>,
 }
 
 impl Model for Stream {
-    ghost use Rattle.std.specs.Prelude.{◌-◌, ◌≤◌, IfSome, length, drop, vec_capacity, vec_len};
+    ghost use Rattle.std.specs.Prelude.{◌≡◌, ◌≤◌, ◌⊎◌, [], length, drop, vec_capacity};
     ghost use Rattle.giop_streams.specs.Held.{AreShort, Held};
-    ghost use Rattle.giop_streams.specs.HeldInside.{IsMostlyHeld};
-    ghost use Rattle.giop_streams.specs.StreamInside.{IsRead};
+    ghost use Rattle.giop_streams.specs.HeldInside.{HasSpare, IsMostlyHeld};
+    ghost use Rattle.giop_streams.specs.StreamInside.{Follows};
 
     ghost Value = { Held };
 
@@ -45,14 +48,23 @@ impl Model for Stream {
       unfinished = s.messages.items;
       place = s.place;
       rest = drop s.start s.buffer.items;
+      looked = s.header.count;
       refused = s.refused;
       kept = length s.buffer.items;
-      room = vec_capacity s.buffer - vec_len s.buffer;
+      memory = vec_capacity s.buffer;
+      spare = vec_capacity s.spare;
     } };
 
     ghost invariant = { λ s. IsMostlyHeld s.start s.buffer.items × AreShort s.messages.items
-        × IfSome s.header (IsRead s.versions.now (drop s.start s.buffer.items)) };
+        × Follows s.versions.now (drop s.start s.buffer.items) s.header × (s.spare.items ≡ [])
+        × HasSpare (vec_capacity s.buffer) (vec_capacity s.spare) };
 }
+
+/// The octets of a part, its header included, of which one octet is still to come (our profile).
+const PARTIAL_LIMIT: usize = 65_547;
+
+/// The octets for which a stream has memory in its buffer once it gave all that is whole (our profile).
+const MEMORY_LIMIT: usize = 262_188;
 
 /// What a stream found at its place.
 enum Taken {
@@ -84,23 +96,24 @@ impl Stream {
             messages: Vec::new(alloc),
             buffer: Vec::new(alloc),
             start: 0,
-            header: None,
+            spare: Vec::new(alloc),
+            header: HeaderWalk::new(),
             place: 0,
             refused: None,
         }
     }
 
-    /// Takes memory for so many more octets, where there is none yet.
+    /// Takes memory for so many more octets, where there is none yet: then for at least as many as its buffer has, so that
+    /// octets are seldom moved. What is beyond the limit stays until a call gives no message.
     pub fn reserve(&mut self, count: usize) -> Result<(), AllocError>
-        ensures ok { OnOk result (count ≤ self.new.room) }
-        ensures there { OnErr result (self.old.room < count) }
-        ensures same { self.new ≡ record self.old { room = self.new.room } }
-        ensures room { self.old.room ≤ self.new.room }
+        ensures ok { OnOk result (count ≤ room self.new) }
+        ensures err { OnErr result (self.new ≡ self.old) }
+        ensures there { OnErr result (room self.old < count) }
+        ensures same { self.new ≡ record self.old { memory = self.new.memory; spare = self.new.spare } }
+        ensures memory { self.old.memory ≤ self.new.memory }
+        ensures bounded { self.new.memory ≤ max self.old.memory (self.old.kept + max count self.old.kept) }
     {
-        if count > 0 {
-            self.buffer.reserve(count)?;
-        }
-        Ok(())
+        grow(self.alloc, &mut self.buffer, &mut self.spare, count)
     }
 
     /// These octets have come. It needs no memory where there is room for them.
@@ -110,18 +123,19 @@ impl Stream {
         ensures refused { IfRefused result (λ fault. self.old.refused ≡ Some fault) }
         ensures again { IfSome self.old.refused (λ fault. result ≡ Err fault) }
         ensures accepts { OnOk result (self.new.refused ≡ None) }
-        ensures memory { self.old.refused ≡ None → OnErr result (self.old.room < length piece.now) }
-        ensures room { self.old.room ≤ self.new.room + length piece.now }
+        ensures memory { self.old.refused ≡ None → OnErr result (room self.old < length piece.now) }
+        ensures room { room self.old ≤ room self.new + length piece.now }
+        ensures looked { self.new.looked ≡ self.old.looked }
+        ensures bounded { self.new.memory ≤ max self.old.memory (self.new.kept + self.new.kept) }
     {
-        headers_are_read_exactly();
         if let Some(fault) = self.refused {
             return Err(fault);
         }
         if piece.is_empty() {
             return Ok(());
         }
-        self.buffer.reserve(piece.len())?;
-        self.buffer.extend_from_slice(piece)?;
+        grow(self.alloc, &mut self.buffer, &mut self.spare, piece.len())?;
+        append(&mut self.buffer, piece);
         Ok(())
     }
 
@@ -149,7 +163,10 @@ impl Stream {
         }
         loop {
             match self.take_part() {
-                Ok(Taken::Nothing) => return Ok(None),
+                Ok(Taken::Nothing) => {
+                    self.give_memory_back();
+                    return Ok(None);
+                }
                 Ok(Taken::Piece) => {}
                 Ok(Taken::Whole(framed)) => return Ok(Some(framed)),
                 Err(fault) => {
@@ -200,6 +217,24 @@ impl Stream {
         }
     }
 
+    /// Gives back the memory of its buffer where that is more than the limit: what is left of it, which is less than a
+    /// part, moves to memory that was taken before.
+    fn give_memory_back(&mut self)
+        requires { length self.old.rest ≤ partial_limit }
+        ensures same { self.new ≡ record self.old { kept = self.new.kept; memory = self.new.memory; spare = 0 } }
+        ensures kept { self.new.kept ≤ self.old.kept }
+        ensures given_back { self.new.memory ≤ memory_limit }
+        ensures stays { self.old.memory ≤ memory_limit → self.new.memory ≡ self.old.memory }
+    {
+        let mut spare = replace(&mut self.spare, Vec::new(self.alloc));
+        if self.buffer.capacity() <= MEMORY_LIMIT {
+            return;
+        }
+        append(&mut spare, behind(&self.buffer, self.start));
+        self.buffer = spare;
+        self.start = 0;
+    }
+
     /// Takes the part at its place, where it is whole.
     fn take_part(&mut self) -> Result<Taken, FrameFault>
         requires { self.old.refused ≡ None }
@@ -212,7 +247,7 @@ impl Stream {
         let content = content_of(header, rest);
         let framed = judge(self.alloc, &mut self.messages, self.place, header, content)?;
         let length = HEADER_LENGTH + header.size as usize;
-        self.header = None;
+        self.header = HeaderWalk::new();
         self.start = give_back(&mut self.buffer, self.start + length);
         self.place = self.place.saturating_add(length as u64);
         let Some(framed) = framed else {
@@ -222,13 +257,65 @@ impl Stream {
     }
 }
 
+/// Takes memory for so many more octets of a buffer, where there is none yet, and then what is kept beside it.
+fn grow(
+    alloc: Global,
+    buffer: &mut Vec<u8>,
+    spare: &mut Vec<u8>,
+    count: usize,
+) -> Result<(), AllocError>
+    requires { (spare.old.items ≡ []) × HasSpare (vec_capacity buffer.old) (vec_capacity spare.old) }
+    ensures items { (buffer.new.items ≡ buffer.old.items) × (spare.new.items ≡ []) }
+    ensures beside { HasSpare (vec_capacity buffer.new) (vec_capacity spare.new) }
+    ensures ok { OnOk result (length buffer.old.items + count ≤ vec_capacity buffer.new) }
+    ensures there { OnErr result (vec_capacity buffer.old - length buffer.old.items < count) }
+    ensures err { OnErr result ((vec_capacity buffer.new ≡ vec_capacity buffer.old)
+        × (vec_capacity spare.new ≡ vec_capacity spare.old)) }
+    ensures memory { vec_capacity buffer.old ≤ vec_capacity buffer.new }
+    ensures bounded { vec_capacity buffer.new
+        ≤ max (vec_capacity buffer.old) (length buffer.old.items + max count (length buffer.old.items)) }
+{
+    let kept = buffer.len();
+    if count <= buffer.capacity().saturating_sub(kept) {
+        return Ok(());
+    }
+    let more = if count < kept { kept } else { count };
+    let beside = spare_beside(alloc, kept.saturating_add(more))?;
+    buffer.reserve_exact(more)?;
+    *spare = beside;
+    Ok(())
+}
+
+/// The memory that is kept beside a buffer with so much: that of a part, where the buffer has more than the limit.
+fn spare_beside(alloc: Global, memory: usize) -> Result<Vec<u8>, AllocError>
+    ensures none { IfOk result (λ spare. spare.items ≡ []) }
+    ensures spare { IfOk result (λ spare. HasSpare memory (vec_capacity spare)) }
+{
+    if memory <= MEMORY_LIMIT {
+        return Ok(Vec::new(alloc));
+    }
+    Vec::with_capacity(alloc, PARTIAL_LIMIT)
+}
+
+/// Appends octets to a buffer that has room for them, and takes no memory.
+fn append(buffer: &mut Vec<u8>, octets: &[u8])
+    requires { vec_len buffer.old + length octets.now ≤ vec_capacity buffer.old }
+    ensures items { buffer.new.items ≡ buffer.old.items ++ octets.now }
+    ensures memory { vec_capacity buffer.new ≡ vec_capacity buffer.old }
+{
+    for octet in octets {
+        buffer.push_reserved(*octet);
+    }
+}
+
 /// Gives the front of a buffer back, where it is the larger part. So each octet that is moved stands for one that is
 /// given back. The answer is how many octets of that front are left.
 fn give_back(buffer: &mut Vec<u8>, taken: usize) -> usize
     requires { taken ≤ length buffer.old.items }
     ensures held { drop result buffer.new.items ≡ drop taken buffer.old.items }
     ensures mostly { IsMostlyHeld result buffer.new.items }
-    ensures room { vec_capacity buffer.old - vec_len buffer.old ≤ vec_capacity buffer.new - vec_len buffer.new }
+    ensures kept { length buffer.new.items ≤ length buffer.old.items }
+    ensures memory { vec_capacity buffer.new ≡ vec_capacity buffer.old }
 {
     if taken <= buffer.len() - taken {
         return taken;

@@ -6,7 +6,7 @@ ghost use Rattle.giop_frames.specs.Walk.{IsAsFar, IsWalked};
 ghost use Rattle.giop_streams.specs.Held.{MayEnd, MayJoin};
 ghost use Rattle.giop_streams.specs.StreamInside.{wants_octets, WantsRoom, limited_so_far, limited_whole};
 ghost use Rattle.giop_frames.specs.Content.{message_by};
-ghost use Rattle.giop_streams.specs.Stream.{begun_as, joined, part_of, so_far, with_more};
+ghost use Rattle.giop_streams.specs.Stream.{begun_as, id_of, joined, part_of, so_far, with_more};
 
 use crate::framed::{Framed, finish_framed};
 use cdr_values::CdrFault;
@@ -43,7 +43,7 @@ impl Model for Unfinished {
 }
 
 impl Unfinished {
-    /// A message of which this is the first part.
+    /// A message of which this is the first part, whose request_id was read.
     pub fn new(
         alloc: Global,
         id: u32,
@@ -53,13 +53,15 @@ impl Unfinished {
     ) -> Result<Unfinished, FrameFault>
         requires content { length content.now ≤ size_limit }
         requires first { is_fragment header.kind ≡ false }
+        requires long { 4 ≤ length content.now }
+        requires id { id ≡ id_of (part_of header content.now) }
         ensures begun { IfOk result (λ begun. begun ≡ begun_as id place (part_of header content.now)) }
         ensures sound { OnOk result (so_far (message_by header content.now) ≡ Ok None) }
         ensures refused { IfErr result (λ fault. Fails fault (so_far (message_by header content.now))) }
         ensures memory { IfErr result (λ fault. fault ≡ FrameFault.Memory →
             so_far (message_by header content.now) ≡ Ok None) }
     {
-        let mut walk = Walk::new(header);
+        let mut walk = Walk::behind_id(header, id);
         walk_so_far(&mut walk, header, content)?;
         let mut octets = Vec::new(alloc);
         join(&mut octets, content)?;

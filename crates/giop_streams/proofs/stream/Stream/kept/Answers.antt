@@ -13,6 +13,7 @@ returns-clause-bounded c =
       unfinished_are = c.self.invariant.1;
       held = omega (arith, size);
       taken = omega (arith, size, c.self.invariant.0);
+      beside = c.self.invariant.4.few;
     })
 
 pub returns-clause-partial : goal.returns-clause-partial

@@ -8,7 +8,7 @@ use Rattle.giop_streams.proofs.SoFar.{limited_is}
 use Rattle.giop_streams.proofs.unfinished.Unfinished.new.Goals as goal
 
 pub walk_so_far-requires-clause-walked : goal.walk_so_far-requires-clause-walked
-walk_so_far-requires-clause-walked c = c.new-walk.ensures.walked c.args.content.now
+walk_so_far-requires-clause-walked c = c.behind_id-walk.ensures.walked c.args.content.now c.requires.long c.requires.id
 
 pub returns-in_err-walk_so_far-clause-refused : goal.returns-in_err-walk_so_far-clause-refused
 returns-in_err-walk_so_far-clause-refused c =
