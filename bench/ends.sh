@@ -4,7 +4,8 @@
 # prepares and commits there were in a second, the ratio of the two times, and how the first grows with the cells. Loads aren't
 # counted. Run it anywhere; it builds the program first. How many resources there are, the folder of the files, and how many
 # rounds there are, may be given as arguments. In each round both are made, one right after the other, on copies of the same
-# file: a ratio is the median of the rounds' ratios, and a time the median of their times.
+# file: a ratio is the median of the rounds' ratios, and a time the median of their times. At last resources put 65,536 cells,
+# 64 each or 1,024 each: prints the ratio of the two times.
 set -euo pipefail
 . "$(dirname "$0")/timing.sh"
 count=${1:-500}
@@ -59,3 +60,17 @@ for cells, each in rounds.items():
     print(f"{cells:>9,} cells stored: {speed:,} prepares and commits in a second; ratio to the bare appends: {ratio:.2f}")
 print(f"ratio of the time per prepare and commit, 1,000,000 cells to 1,000: {times[1000000] / times[1000]:.2f}")
 ' "$count"
+
+# Each line has the two times of a round.
+for round in $(seq "$rounds"); do
+  for cells in 64 1024; do
+    rm -f "$file"
+    "$program" puts "$file" "$cells" >"$work/puts.$cells"
+  done
+  echo "$(cat "$work/puts.64") $(cat "$work/puts.1024")"
+done | python3 -c '
+import statistics, sys
+rounds = [tuple(map(int, line.split())) for line in sys.stdin]
+print(f"time per put: {statistics.median(many for few, many in rounds) // 65536} ns where a resource puts 1,024 cells")
+print(f"ratio of the time per put, 1,024 cells of a resource to 64: {statistics.median(many / few for few, many in rounds):.2f}")
+'

@@ -4,9 +4,12 @@ use Rattle.std.specs.Prelude.{IfOk, OnErr, OnOk, IfSome, is_ok}
 use Rattle.ots_outside.specs.Disk.{DiskState, Tells, synced}
 use Rattle.ots_outside.specs.Asked.{DiskCall, AskLength, AskRead, AskSync, AskWrite, HasAnswered, HasBegun, HasRefused, IsAsked}
 use Rattle.decision_journal.specs.Limits.{piece_length}
-use Rattle.decision_journal.specs.Asking.{AreReads, AsksBehind, AsksLoad, AsksLoadSome, AsksReads, AsksReady, AsksReread, AsksSome, AsksStart, AsksStartSome, append_calls, clear_calls, create_calls, start_calls, write_calls}
-use Rattle.decision_journal.specs.declared.record.JournalRecord.TheVariants.{Life}
-use Rattle.decision_journal.specs.Journal.{is_fresh}
+use Rattle.decision_journal.specs.Asking.{AreReads, AsksBehind, AsksLoad, AsksLoadSome, AsksReads, AsksReady, AsksReread, AsksSome, AsksStart, AsksStartSome, AsksThen, append_calls, clear_calls, create_calls, done_calls, record_calls, start_calls, write_calls}
+use Rattle.decision_journal.specs.declared.record.JournalRecord.TheVariants.{Done, Life}
+use Rattle.decision_journal.specs.Journal.{AreRecords, Found, Holds, IsFilled, front, is_decision_at, is_fresh}
+use Rattle.decision_journal.specs.Calls.{IsReady}
+use Rattle.decision_journal.specs.Loading.{IsStarted, next_life}
+use Rattle.std.specs.List.{list_any}
 use Rattle.decision_journal.specs.Laws.{behind_gate, is_letter_due}
 use Rattle.decision_journal.specs.declared.journal.JournalFault.{JournalFault}
 use Rattle.decision_journal.specs.declared.record.JournalRecord.{JournalRecord}
@@ -196,14 +199,6 @@ module _ {D : Type 0} (asked : D → DiskCall → Bool → D → Type 0) where
     pub ready_at_once : failed ≡ false → AsksReady asked told failed before before
     ready_at_once is = subst (λ (b : Bool). AsksReady asked told b before before) (sym is) refl
 
-    pub some_reread : (calls : List DiskCall) (after : D) → failed ≡ true → IfSome (told before) (λ _. AsksReread asked told false before after) → AsksSome asked told failed calls before after
-    some_reread calls after is begun =
-        told_weaker (told before) (AsksReread asked told false before after) ((failed ≡ true) × AsksReread asked told false before after ⊎ AsksBehind asked told failed calls false before after) (λ b. inl (is, b)) begun
-
-    pub some_behind : (calls : List DiskCall) (between after : D) → AsksReady asked told failed before between → HasBegun asked calls between after → AsksSome asked told failed calls before after
-    some_behind calls between after ready begun =
-        for_told (told before) ((failed ≡ true) × AsksReread asked told false before after ⊎ AsksBehind asked told failed calls false before after) (inr (between, ready, begun))
-
     -- an append, whose gate its answer tells
     module _ (behind : List ℕ) (gate : ℕ) (between after : D) (ready : AsksReady asked told failed before between) where
       pub append_asked : (r : Result ℕ JournalFault) → IfOk r (λ place. place ≡ gate) → IsAsked asked (is_ok r) (append_calls gate behind) between after
@@ -211,10 +206,28 @@ module _ {D : Type 0} (asked : D → DiskCall → Bool → D → Type 0) where
       append_asked (Ok place) is a = (between, ready, subst (λ (n : ℕ). HasAnswered asked (append_calls n behind) between after) (sym is) a)
       append_asked (Err fault) is a = tt
 
-      pub append_begun : (r : Result ℕ JournalFault) → IsAsked asked (is_ok r) (append_calls gate behind) between after
-          → OnErr r ((place : ℕ) × AsksSome asked told failed (append_calls place behind) before after)
+  -- a refused call
+  module _ (told : D → Option DiskState) (before : JournalState D) (calls : JournalState D → List DiskCall) where
+    pub some_reread : (after : D) → before.failed ≡ true → IfSome (told before.disk) (λ _. AsksReread asked told false before.disk after) → AsksSome asked told calls before after
+    some_reread after is begun =
+        told_weaker (told before.disk) (AsksReread asked told false before.disk after) ((before.failed ≡ true) × AsksReread asked told false before.disk after ⊎ AsksThen asked told calls false before after) (λ b. inl (is, b)) begun
+
+    module _ (ready : JournalState D) (after : D) (is : IsReady told before ready) (asks : AsksReady asked told before.failed before.disk ready.disk) where
+      pub some_then : HasBegun asked (calls ready) ready.disk after → AsksSome asked told calls before after
+      some_then begun =
+          for_told (told before.disk) ((before.failed ≡ true) × AsksReread asked told false before.disk after ⊎ AsksThen asked told calls false before after) (inr (ready, is, asks, begun))
+
+      pub append_begun : (r : Result ℕ JournalFault) → IsAsked asked (is_ok r) (calls ready) ready.disk after → OnErr r (AsksSome asked told calls before after)
       append_begun (Ok place) a = tt
-      append_begun (Err fault) a = (gate, some_behind (append_calls gate behind) between after ready a)
+      append_begun (Err fault) a = some_then a
+
+  -- the calls of a Done, by whether the record stands
+  pub done_asked : (answered : Bool) (place : ℕ) (ready : JournalState D) (after : D) → list_any (is_decision_at place) ready.found.standing ≡ true
+      → IsAsked asked answered (record_calls (Done place) ready) ready.disk after → IsAsked asked answered (done_calls place ready) ready.disk after
+  done_asked answered place ready after is a = subst (λ (b : Bool). IsAsked asked answered (cond b (record_calls (Done place) ready) []) ready.disk after) (sym is) a
+
+  pub done_unasked : (place : ℕ) (ready : JournalState D) → list_any (is_decision_at place) ready.found.standing ≡ false → HasAnswered asked (done_calls place ready) ready.disk ready.disk
+  done_unasked place ready is = subst (λ (b : Bool). HasAnswered asked (cond b (record_calls (Done place) ready) []) ready.disk ready.disk) (sym is) refl
 
 pub place_of : {D : Type 0} (before after : JournalState D) (item : JournalRecord) (r : Result ℕ JournalFault) → IfOk r (HasMore before after item) → IfOk r (λ place. place ≡ length before.octets)
 place_of before after item (Ok place) more = more.place_is
@@ -271,14 +284,43 @@ module _ {D : Type 0} (asked : D → DiskCall → Bool → D → Type 0) where
   start_left told service before after start = inr (start.0, start.1, (start.2.0, start.2.1, begun_all (start_calls service start.0) start.2.0 after start.2.2))
 
   -- a load, of which the append was answered, or not
-  module _ (told : D → Option DiskState) (service life : ℕ) (before between after : D) (start : AsksStart asked told service true before between) where
-    pub load_asked : (gate : ℕ) → AsksBehind asked told false (append_calls gate (behind_gate (Life life))) true between after → AsksLoad asked told service true before after
-    load_asked gate a = (between, start, (gate, (life, subst (λ (d : D). HasAnswered asked (append_calls gate (behind_gate (Life life))) d after) a.1 a.2)))
+  module _ (told : D → Option DiskState) (service : ℕ) (octets : List ℕ) (found : Found) (before between after : D) (start : AsksStart asked told service true before between)
+      (rs : List JournalRecord) (held : IfSome (told before) (λ s. Holds service s.reads rs)) (are : AreRecords service octets found rs) (life : ℕ) (next : life ≡ found.life + 1) where
+    same_append : (answered : Bool) (gate : ℕ) → gate ≡ length octets → IsAsked asked answered (append_calls gate (behind_gate (Life life))) between after
+        → IsAsked asked answered (append_calls (length (front service rs)) (behind_gate (next_life rs))) between after
+    same_append answered gate is a =
+        asked_as asked answered gate (length (front service rs)) (behind_gate (Life life)) (behind_gate (next_life rs)) between after (is ∙ ap length are.octets_are)
+        (ap (λ (n : ℕ). behind_gate (Life n)) (next ∙ ap (λ (f : Found). f.life + 1) are.found_is)) a
 
-    append_left : (gate : ℕ) → ((false ≡ true) × AsksReread asked told false between after ⊎ AsksBehind asked told false (append_calls gate (behind_gate (Life life))) false between after)
-        → AsksStartSome asked told service before after ⊎ AsksLoad asked told service false before after
-    append_left gate (inl never) = absurd cc
-    append_left gate (inr a) = inr (between, start, (gate, (life, subst (λ (d : D). HasBegun asked (append_calls gate (behind_gate (Life life))) d after) a.1 a.2)))
+    pub load_asked : (gate : ℕ) → gate ≡ length octets → AsksBehind asked told false (append_calls gate (behind_gate (Life life))) true between after → AsksLoad asked told service true before after
+    load_asked gate is a = (between, start, (rs, held, same_append true gate is (subst (λ (d : D). HasAnswered asked (append_calls gate (behind_gate (Life life))) d after) a.1 a.2)))
 
-    pub load_begun : (R : DiskState → DiskState → Type 0) → Tells (told before) (told between) R → ((gate : ℕ) × AsksSome asked told false (append_calls gate (behind_gate (Life life))) between after) → AsksLoadSome asked told service before after
-    load_begun R tells some = told_earlier (told before) (told between) R _ (AsksStartSome asked told service before after ⊎ AsksLoad asked told service false before after) tells (append_left some.0) some.1
+    module _ (area room : ℕ) where
+      -- the journal before the append
+      abbrev loading : JournalState D
+      loading = record { disk = between; area = area; service = service; octets = octets; found = found; failed = false; doubted = None; room = room }
+
+      append_left : ((false ≡ true) × AsksReread asked told false between after ⊎ AsksThen asked told (record_calls (Life life)) false loading after)
+          → AsksStartSome asked told service before after ⊎ AsksLoad asked told service false before after
+      append_left (inl never) = absurd cc
+      append_left (inr a) =
+          inr (
+            between,
+            start,
+            (
+              rs,
+              held,
+              same_append false (length a.0.octets) (ap length a.1.journal.known.0)
+                  (subst (λ (d : D). HasBegun asked (append_calls (length a.0.octets) (behind_gate (Life life))) d after) a.2 a.3),
+            ),
+          )
+
+      pub load_begun : (R : DiskState → DiskState → Type 0) → Tells (told before) (told between) R → AsksSome asked told (record_calls (Life life)) loading after → AsksLoadSome asked told service before after
+      load_begun R tells some = told_earlier (told before) (told between) R _ (AsksStartSome asked told service before after ⊎ AsksLoad asked told service false before after) tells append_left some
+
+-- the records that a load read
+pub start_records : (service : ℕ) (octets : List ℕ) (found : Found) (before between : Option DiskState) → IsFilled service octets found → Tells before between (IsStarted service octets found)
+    → (rs : List JournalRecord) × IfSome before (λ s. Holds service s.reads rs) × AreRecords service octets found rs
+start_records service octets found None between filled started = (filled.0, tt, filled.1)
+start_records service octets found (Some s) None filled started = absurd started
+start_records service octets found (Some s) (Some t) filled started = (started.records, started.held, started.are)

@@ -32,3 +32,4 @@ pub mod Refused
 pub mod Left
 pub mod Lined
 pub mod Asking
+pub mod Fitting

@@ -2,8 +2,13 @@
 use Rattle.std.specs.Prelude.{◌≡◌, ℕ, ◌+◌, ◌-◌, ◌<◌, ◌⊎◌, Bool, true, false, List, [], ◌∷◌, ◌++◌, length, min, Option, IfSome, if◌then◌else◌}
 use Rattle.ots_outside.specs.Disk.{DiskState}
 use Rattle.ots_outside.specs.Asked.{DiskCall, AskLength, AskRead, AskSync, AskWrite, IsAsked}
-use Rattle.decision_journal.specs.declared.record.JournalRecord.TheVariants.{Done, Life}
-use Rattle.decision_journal.specs.Journal.{first_letter, is_fresh}
+use Rattle.decision_journal.specs.declared.record.JournalRecord.{JournalRecord}
+use Rattle.decision_journal.specs.declared.record.JournalRecord.TheVariants.{Done}
+use Rattle.decision_journal.specs.Journal.{Holds, first_letter, front, is_decision_at, is_fresh}
+use Rattle.decision_journal.specs.Calls.{IsReady}
+use Rattle.decision_journal.specs.Loading.{next_life}
+use Rattle.decision_journal.specs.State.{JournalState}
+use Rattle.std.specs.List.{list_any}
 use Rattle.decision_journal.specs.Laws.{behind_gate, behind_letter, is_letter_due}
 use Rattle.decision_journal.specs.Limits.{piece_length}
 
@@ -39,6 +44,18 @@ create_calls service due = clear_calls due ++ (write_calls 1 (behind_letter serv
 abbrev pub start_calls : ℕ → List ℕ → List DiskCall
 start_calls service octets = if is_fresh octets then create_calls service (is_letter_due octets) else []
 
+-- the calls by which a journal appends a record
+abbrev pub record_calls : {D : Type 0} → JournalRecord → JournalState D → List DiskCall
+record_calls r journal = append_calls (length journal.octets) (behind_gate r)
+
+-- the calls by which it appends a Done of the record at this place, where one stands; else there are none
+abbrev pub done_calls : {D : Type 0} → ℕ → JournalState D → List DiskCall
+done_calls place journal = if list_any (is_decision_at place) journal.found.standing then record_calls (Done place) journal else []
+
+-- no calls
+abbrev pub no_calls : {D : Type 0} → JournalState D → List DiskCall
+no_calls journal = []
+
 module _ {D : Type 0} (asked : D → DiskCall → Bool → D → Type 0) where
   -- a disk was asked to read so many octets: these calls, all of them answered Ok, or the first of them
   abbrev pub AsksReads : ℕ → Bool → D → D → Type 0
@@ -60,16 +77,16 @@ module _ {D : Type 0} (asked : D → DiskCall → Bool → D → Type 0) where
   AsksBehind told failed calls answered before after =
       (between : D) × AsksReady told failed before between × IsAsked asked answered calls between after
 
-  -- where a disk tells its state: the first calls of reading it again were asked, where a call had failed, or all of those and
-  -- then the first of these calls
-  abbrev pub AsksSome : (D → Option DiskState) → Bool → List DiskCall → D → D → Type 0
-  AsksSome told failed calls before after = IfSome (told before)
-      (λ _. ((failed ≡ true) × AsksReread told false before after) ⊎ AsksBehind told failed calls false before after)
+  -- behind that a disk was asked the calls that its journal wants, once it has what the disk holds: all of them, or the first
+  abbrev pub AsksThen : (D → Option DiskState) → (JournalState D → List DiskCall) → Bool → JournalState D → D → Type 0
+  AsksThen told calls answered before after =
+      (ready : JournalState D) × IsReady told before ready × AsksReady told before.failed before.disk ready.disk × IsAsked asked answered (calls ready) ready.disk after
 
-  -- a Done of the record at this place was appended, or it didn't stand; the disk was read again before where a call had failed
-  abbrev pub AsksDone : (D → Option DiskState) → ℕ → Bool → D → D → Type 0
-  AsksDone told place failed before after =
-      AsksReady told failed before after ⊎ ((gate : ℕ) × AsksBehind told failed (append_calls gate (behind_gate (Done place))) true before after)
+  -- where a disk tells its state: the first calls of reading it again were asked, where a call had failed, or all of those and
+  -- then the first of the calls that its journal wants
+  abbrev pub AsksSome : (D → Option DiskState) → (JournalState D → List DiskCall) → JournalState D → D → Type 0
+  AsksSome told calls before after = IfSome (told before.disk)
+      (λ _. ((before.failed ≡ true) × AsksReread told false before.disk after) ⊎ AsksThen told calls false before after)
 
   -- a disk was read again, and asked to be made a journal where it was none
   abbrev pub AsksStart : (D → Option DiskState) → ℕ → Bool → D → D → Type 0
@@ -81,11 +98,12 @@ module _ {D : Type 0} (asked : D → DiskCall → Bool → D → Type 0) where
   abbrev pub AsksStartSome : (D → Option DiskState) → ℕ → D → D → Type 0
   AsksStartSome told service before after = AsksReread told false before after ⊎ AsksStart told service false before after
 
-  -- all of that, and then an append of a Life
+  -- all of that, and then an append of the next life behind the records that the disk read
   abbrev pub AsksLoad : (D → Option DiskState) → ℕ → Bool → D → D → Type 0
   AsksLoad told service answered before after =
       (between : D) × AsksStart told service true before between
-      × ((gate : ℕ) × ((life : ℕ) × IsAsked asked answered (append_calls gate (behind_gate (Life life))) between after))
+      × ((rs : List JournalRecord) × IfSome (told before) (λ s. Holds service s.reads rs)
+      × IsAsked asked answered (append_calls (length (front service rs)) (behind_gate (next_life rs))) between after)
 
   -- where a disk tells its state: the first calls of a load
   abbrev pub AsksLoadSome : (D → Option DiskState) → ℕ → D → D → Type 0

@@ -21,10 +21,11 @@ pub record IsIndexed (standing : List Standing) (decisions : ℕ) : Type 0 where
   pub order : AreInOrder standing
   pub count : decisions ≡ count_by (λ s. is_decision s.item) standing
 
--- what stands, in order, and for how many more there is room
+-- what stands, in order, for how many more there is room, and how much of that is before what stands
 pub record Lined : Type 0 where
   pub standing : List Standing
   pub spare : ℕ
+  pub gone : ℕ
 
 abbrev pub is_done : JournalRecord → Bool
 is_done (Life life) = false

@@ -1,4 +1,4 @@
-ghost use Rattle.std.specs.Prelude.{◌≡◌, ℕ, ◌+◌, ◌≤◌, ◌<◌, ◌++◌, ◌∷◌, [], ◌==◌, is_some, position, OnOk};
+ghost use Rattle.std.specs.Prelude.{◌≡◌, ℕ, ◌+◌, ◌*◌, ◌≤◌, ◌<◌, ◌++◌, ◌∷◌, [], ◌==◌, is_some, position, OnOk};
 ghost use Rattle.std.specs.List.{list_any};
 ghost use Rattle.decision_journal.specs.Limits.{standing_limit};
 ghost use Rattle.decision_journal.specs.Journal.{are_cells_at, can_follow, is_cells_prepared, is_decision, is_decision_at, nothing_found, taken_away, with_record};
@@ -93,7 +93,7 @@ impl Index {
     /// Takes memory for all decisions that may stand beside those that do, for as many that are gone, and for two records more.
     pub(crate) fn reserve(&mut self) -> Result<(), AllocError>
         ensures same { self.new.found ≡ self.old.found }
-        ensures ok { OnOk result (standing_limit + 2 ≤ decisions self.new.found + self.new.spare) }
+        ensures ok { OnOk result (2 * standing_limit + 2 ≤ decisions self.new.found + self.new.spare) }
         ensures two { OnOk result (2 ≤ self.new.spare) }
         ensures spare { self.old.spare ≤ self.new.spare }
     {

@@ -1,5 +1,5 @@
 ghost use Rattle.std.specs.Prelude.{◌≡◌, ℕ, ◌<◌, ◌≤◌, ◌+◌, ◌++◌, ◌∷◌, [], is_ok, length, false, true, None, IsTrue, Err, IfOk, IfErr, IfSome, OnOk, OnErr};
-ghost use Rattle.std.specs.List.{list_any};
+ghost use Rattle.std.specs.List.{All, list_any};
 ghost use Rattle.std.specs.Option.{ForSome};
 ghost use Rattle.ots_outside.specs.Disk.{Tells, synced};
 ghost use Rattle.decision_journal.specs.Layout.{Fits, record_octets};
@@ -61,7 +61,7 @@ impl<D: Disk> Journal<D> {
     ghost use Rattle.decision_journal.specs.Loading.{IsDiskFault, IsLoadFault, IsRefusedLoad, LoadIsDone, LoadIsSafe};
     ghost use Rattle.decision_journal.specs.State.{AppendIsDone, AppendIsSafe, HasMore, HasReread, DoneIsDone, IsAppendFault, IsReadFault, IsRoomFault, IsUnread, IsUnsure, IsKept, LeavesFound, StaysWithinArea, MayFollow, ReadIsDone, ReadIsSafe, cells_in, decisions, need, used};
     ghost use Rattle.ots_outside.specs.Asked.{IsAsked};
-    ghost use Rattle.decision_journal.specs.Asking.{AsksBehind, AsksDone, AsksLoad, AsksLoadSome, AsksReady, AsksReread, AsksSome, append_calls};
+    ghost use Rattle.decision_journal.specs.Asking.{AsksBehind, AsksLoad, AsksLoadSome, AsksReady, AsksReread, AsksSome, AsksThen, append_calls, done_calls, no_calls, record_calls};
     ghost use Rattle.decision_journal.specs.Calls.{HasAppended, IsAfterDone, IsCurrent, IsReady, IsRefusedAppend, IsRefusedReading, IsUnwritten, reread};
 
     /// Whether the next call reads the disk again.
@@ -89,6 +89,7 @@ impl<D: Disk> Journal<D> {
     pub fn standing(&self) -> &[Standing]
         ensures same { result.now ≡ self.now.found.standing }
         ensures order { AreInOrder self.now.found.standing }
+        ensures fit { All (λ s. Fits s.item) self.now.found.standing }
     {
         self.index.standing()
     }
@@ -289,8 +290,8 @@ impl<D: Disk> Journal<D> {
         ensures full { (used need : ℕ) → result ≡ Err (JournalFault.Full used need) → self.old.room ≤ self.new.room }
         ensures asked { IfOk result (λ place. AsksBehind D.asked D.told self.old.failed
             (append_calls place (behind_gate item)) true self.old.disk self.new.disk) }
-        ensures begun { OnErr result ((place : ℕ) × AsksSome D.asked D.told self.old.failed
-            (append_calls place (behind_gate item)) self.old.disk self.new.disk) }
+        ensures begun { OnErr result
+            (AsksSome D.asked D.told (record_calls item) self.old self.new.disk) }
     {
         ok!(self.ready());
         ok!(self.has_room(&item));
@@ -313,9 +314,10 @@ impl<D: Disk> Journal<D> {
         ensures safe { Tells (D.told self.old.disk) (D.told self.new.disk)
             (AppendIsSafe self.old.service (JournalRecord.Done place)) }
         ensures room { self.old.room ≤ self.new.room }
-        ensures asked { OnOk result (AsksDone D.asked D.told place self.old.failed self.old.disk self.new.disk) }
-        ensures begun { OnErr result ((gate : ℕ) × AsksSome D.asked D.told self.old.failed
-            (append_calls gate (behind_gate (JournalRecord.Done place))) self.old.disk self.new.disk) }
+        ensures asked { OnOk result
+            (AsksThen D.asked D.told (done_calls place) true self.old self.new.disk) }
+        ensures begun { OnErr result
+            (AsksSome D.asked D.told (done_calls place) self.old self.new.disk) }
     {
         ok!(self.ready());
         if !self.stands(place) {
@@ -345,7 +347,7 @@ impl<D: Disk> Journal<D> {
         ensures asked { OnOk result
             (AsksReady D.asked D.told self.old.failed self.old.disk self.new.disk) }
         ensures begun { OnErr result
-            (AsksSome D.asked D.told self.old.failed [] self.old.disk self.new.disk) }
+            (AsksSome D.asked D.told no_calls self.old self.new.disk) }
     {
         ok!(self.ready());
         self.put_bytes(into)?;

@@ -8,7 +8,7 @@ use std::alloc::{AllocError, Global};
 use std::marker::Model;
 
 /// What stands, in order, behind those at the front that are gone. So the first can go without a move of the others. Contracts
-/// see what stands, and for how many more there is room.
+/// see what stands, for how many more there is room, and how many are gone.
 #[derive(Drop)]
 pub(crate) struct Line {
     items: Vec<Standing>,
@@ -25,6 +25,7 @@ impl Model for Line {
     ghost view = { λ line. record {
       standing = drop line.gone line.items.items;
       spare = vec_capacity line.items + line.gone - vec_len line.items;
+      gone = line.gone;
     } };
 
     ghost invariant = { λ line. line.gone ≤ vec_len line.items };
@@ -49,6 +50,7 @@ impl Line {
     /// Takes memory for so many more.
     pub(crate) fn reserve(&mut self, more: usize) -> Result<(), AllocError>
         ensures same { self.new.standing ≡ self.old.standing }
+        ensures gone { self.new.gone ≡ self.old.gone }
         ensures ok { OnOk result (more ≤ self.new.spare) }
         ensures spare { self.old.spare ≤ self.new.spare }
     {
@@ -60,6 +62,7 @@ impl Line {
         requires { 0 < self.old.spare }
         ensures standing { self.new.standing ≡ self.old.standing ++ item ∷ [] }
         ensures spare { self.old.spare ≡ self.new.spare + 1 }
+        ensures stays { self.old.gone < self.old.spare → self.new.gone ≡ self.old.gone }
         ensures fits { length self.new.standing < 2 ^ 64 }
     {
         if self.items.len() == self.items.capacity() {
@@ -82,6 +85,8 @@ impl Line {
         requires { index < length self.old.standing }
         ensures standing { self.new.standing ≡ remove self.old.standing index }
         ensures spare { self.new.spare ≡ self.old.spare + 1 }
+        ensures front { index + index < length self.old.standing → self.new.gone ≡ self.old.gone + 1 }
+        ensures back { length self.old.standing ≤ index + index → self.new.gone ≡ self.old.gone }
     {
         let at = self.gone + index;
         if self.items.len() - at <= index {

@@ -23,6 +23,34 @@ fn commits(rt: &HostRuntime, end: &mut ResourceEnd<FileDisk>, count: u32) -> io:
     Ok(start.elapsed(rt)?.as_nanos())
 }
 
+/// How many puts are made.
+const PUTS: u32 = 65_536;
+
+/// Resources of the end that a disk holds put so many cells each, with no order among them, and are rolled back.
+pub fn puts(rt: &HostRuntime, disk: FileDisk, cells: u32) -> io::Result<u128> {
+    let Ok(mut end) = ResourceEnd::load(rt.alloc(), disk, AREA, 1) else {
+        return Err(ErrorKind::InvalidData.into());
+    };
+    let start = Instant::now(rt)?;
+    if put_all(&mut end, cells).is_err() {
+        return Err(ErrorKind::Other.into());
+    }
+    Ok(start.elapsed(rt)?.as_nanos())
+}
+
+/// Each resource puts so many of 1,024 cells.
+fn put_all(end: &mut ResourceEnd<FileDisk>, cells: u32) -> Result<(), EndFault> {
+    let mut key = end.fresh(b'R')?;
+    for number in 0..PUTS {
+        if let Some(0) = number.checked_rem(cells) {
+            end.rollback(&key)?;
+            key = end.fresh(b'R')?;
+        }
+        end.put(&key, 613 * u64::from(number) % 1024, 1)?;
+    }
+    Ok(())
+}
+
 /// The cells of those that follow one another stand apart.
 fn commit_one(end: &mut ResourceEnd<FileDisk>, value: u32) -> Result<(), EndFault> {
     let value = u64::from(value);

@@ -7,6 +7,7 @@
 //!   stand. `bare_dones`: as `bare`, with the octets of Dones.
 //! - `retells`: the decisions that stand in it are told again, with so many words, each of which is done.
 //! - `ends`: so many resources of the end in the file put a cell, prepare and commit, one after the other.
+//! - `puts`: resources of that end put so many cells each, 65,536 together.
 //! - `cells`: the records of as many are appended to the journal in the file, with no end.
 //!
 //! But for `load` the time of the load isn't counted.
@@ -35,6 +36,7 @@ fn main(rt: HostRuntime) -> io::Result<()> {
         "bare_dones" => journals::bare_dones(&rt, disk, count)?,
         "load" => journals::load(&rt, disk)?,
         "ends" => ends::ends(&rt, disk, count)?,
+        "puts" => ends::puts(&rt, disk, count)?,
         kind => journals::journal(&rt, disk, kind, count)?,
     };
     writeln!(rt.stdout(), "{took}")

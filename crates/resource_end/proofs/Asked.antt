@@ -46,7 +46,7 @@ abbrev pub asks_among : List Resource → List Id → List Outward
 asks_among all ids = flat_map (λ id. asks_by (numbered id all)) ids
 
 -- the resource of each entry is found among these
-abbrev IsAmong : List Resource → Id × Kept → Type 0
+abbrev pub IsAmong : List Resource → Id × Kept → Type 0
 IsAmong all e = numbered e.0 all ≡ Some (resource_at e.0 e.1)
 
 among : (all : List Resource) (es : List (Id × Kept)) → AllByRecursion (IsAmong all) es → asks_of (resources_of es) ≡ asks_among all (unfinished_ids es)
@@ -61,7 +61,7 @@ among all (e ∷ es) found =
     by true h = ap (λ o. asks_by o ++ asks_among all (unfinished_ids es)) (sym found.0)
     by false h = ap (λ xs. xs ++ asks_among all (unfinished_ids es)) (none_asks (resource_at e.0 e.1) (over_waits_not e.1.state h))
 
-all_among : (es : List (Id × Kept)) → IsStrictlySortedBy id_cmp (keys_of es) → AllByRecursion (IsAmong (resources_of es)) es
+pub all_among : (es : List (Id × Kept)) → IsStrictlySortedBy id_cmp (keys_of es) → AllByRecursion (IsAmong (resources_of es)) es
 all_among es sorted =
     each_weaker (λ e. lookup (is_at (id_cmp e.0)) es ≡ Some e.1) (IsAmong (resources_of es)) es (λ e h. sym (found e.0 es) ∙ ap (option_map (resource_at e.0)) h)
     (each_found id_cmp id_total id_tied (λ (kept : Kept). is_unfinished kept.state) es sorted)

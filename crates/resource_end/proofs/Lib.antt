@@ -32,3 +32,4 @@ mod Reloading
 mod Resting
 mod Staying
 mod Leaving
+mod Holders

@@ -219,9 +219,12 @@ it_passes test r h = ap (λ b. cond b (Some r) None) h
 pub it_fails : (test : Resource → Bool) (r : Resource) → test r ≡ false → if_passes test (Some r) ≡ None
 it_fails test r h = ap (λ b. cond b (Some r) None) h
 
--- the same, by what the map has there
+-- what passes of that of a number, by what the map has there
+pub passes_by : (test : Resource → Bool) (k : Id) (es : List (Id × Kept)) (now : List Resource) → resources_of es ≡ now
+    → (o : Option Kept) → o ≡ lookup (is_at (id_cmp k)) es → if_passes test (numbered k now) ≡ if_passes test (option_map (resource_at k) o)
+passes_by test k es now is o there = ap (if_passes test) (ap (numbered k) (sym is) ∙ sym (found k es) ∙ ap (option_map (resource_at k)) (sym there))
+
+-- the same, where one alone may pass
 pub find_by : (test : Resource → Bool) (k : Id) (es : List (Id × Kept)) (now : List Resource) → resources_of es ≡ now → IsStrictlySortedBy id_cmp (keys_of es)
     → PassesAlone test k now → (o : Option Kept) → o ≡ lookup (is_at (id_cmp k)) es → find test now ≡ if_passes test (option_map (resource_at k) o)
-find_by test k es now is sorted alone o there =
-    only_now test k es now is sorted alone
-    ∙ ap (if_passes test) (ap (numbered k) (sym is) ∙ sym (found k es) ∙ ap (option_map (resource_at k)) (sym there))
+find_by test k es now is sorted alone o there = only_now test k es now is sorted alone ∙ passes_by test k es now is o there

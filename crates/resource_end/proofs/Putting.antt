@@ -55,7 +55,7 @@ module _ (p : Put) where
   rising_by q qs h false true e l = and_from _ _ l h
   rising_by q qs h false false e l = rises_put q.cell qs (behind q e l) h
 
-  rising_put : (ps : List Put) → is_rising ps ≡ true → is_rising (with_put p ps) ≡ true
+  pub rising_put : (ps : List Put) → is_rising ps ≡ true → is_rising (with_put p ps) ≡ true
   rising_put [] h = refl
   rising_put (q ∷ qs) h = rising_by q qs h (p.cell == q.cell) (nat_lt p.cell q.cell) refl refl
 

@@ -45,7 +45,7 @@ resource_at id kept = record {
   kind = kept.kind;
   state = kept.state;
   recovery = kept.recovery;
-  puts = kept.puts.items;
+  puts = kept.puts;
   record_place = kept.record_place;
 }
 

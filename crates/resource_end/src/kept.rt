@@ -8,7 +8,7 @@ ghost use Rattle.resource_end.specs.Recall.{is_recorded_at};
 ghost use Rattle.resource_end.specs.Inside as inside;
 
 use crate::cells::Cells;
-use crate::puts::{copy_puts, set_put, value_at};
+use crate::puts::{RisingPuts, copy_puts};
 use crate::state::State;
 use decision_journal::{JournalRecord, Put, Puts};
 use ior_refs::ObjectKey;
@@ -35,7 +35,7 @@ pub(crate) struct Kept {
     /// Its recovery coordinator.
     pub(crate) recovery: RefBytes,
     /// What it put, while that is its own, by rising cell.
-    pub(crate) puts: Vec<Put>,
+    pub(crate) puts: RisingPuts,
     /// The place of its record, once it has prepared.
     pub(crate) record_place: Option<u32>,
 }
@@ -52,7 +52,7 @@ impl Kept {
             kind: Some(letter),
             state: State::Fresh,
             recovery: RefBytes::from_vec(Vec::new(alloc)),
-            puts: Vec::new(alloc),
+            puts: RisingPuts::new(alloc),
             record_place: None,
         }
     }
@@ -62,7 +62,7 @@ impl Kept {
         ensures { (id : ℕ × ℕ) → result ≡ inside.own cell (inside.resource_at id self.now) }
     {
         if self.state.holds() {
-            return value_at(self.puts.as_slice(), cell);
+            return self.puts.value_at(cell);
         }
         None
     }
@@ -71,7 +71,7 @@ impl Kept {
     pub(crate) fn has_room(&self, cell: u64) -> bool
         ensures { (id : ℕ × ℕ) → result ≡ calls.has_room cell (inside.resource_at id self.now) }
     {
-        value_at(self.puts.as_slice(), cell).is_some() || self.puts.len() < CELL_LIMIT
+        self.puts.value_at(cell).is_some() || self.puts.len() < CELL_LIMIT
     }
 
     /// Whether a key with this letter may be its own.
@@ -98,7 +98,7 @@ impl Kept {
     fn holds_cell(&self, cell: u64) -> bool
         ensures { (id : ℕ × ℕ) → result ≡ inside.holds_cell cell (inside.resource_at id self.now) }
     {
-        self.state.holds() && value_at(self.puts.as_slice(), cell).is_some()
+        self.state.holds() && self.puts.value_at(cell).is_some()
     }
 
     /// The record that has to stand before it changes its state.
@@ -133,7 +133,7 @@ impl Kept {
     }
 
     fn copy_puts(&self, alloc: Global) -> Result<Puts, AllocError>
-        ensures { IfOk result (λ copy. copy ≡ self.now.puts.items) }
+        ensures { IfOk result (λ copy. copy ≡ self.now.puts) }
     {
         Ok(Puts::from_vec(ok!(copy_puts(alloc, self.puts.as_slice()))))
     }
@@ -146,7 +146,7 @@ impl Kept {
         ensures stored { inside.stored_cells cells.new ≡ inside.stored_cells cells.old }
     {
         let mut contested = false;
-        for put in &self.puts {
+        for put in self.puts.as_slice() {
             let before = ok!(cells.hold(put.cell, id));
             contested = either(is_another(before, id), contested);
         }
@@ -159,7 +159,7 @@ impl Kept {
             ≡ calls.with_cell put.cell put.value (inside.resource_at id self.old)) }
         ensures err { OnErr result ((id : ℕ × ℕ) → inside.resource_at id self.new ≡ inside.resource_at id self.old) }
     {
-        ok!(set_put(&mut self.puts, put));
+        ok!(self.puts.set(put));
         self.state = State::Working;
         Ok(())
     }
@@ -195,9 +195,9 @@ impl Kept {
         if next.holds() {
             return Vec::new(alloc);
         }
-        let puts = std::mem::replace(&mut self.puts, Vec::new(alloc));
+        let puts = std::mem::replace(&mut self.puts, RisingPuts::new(alloc));
         if stores {
-            return puts;
+            return puts.into_vec();
         }
         Vec::new(alloc)
     }
@@ -299,22 +299,32 @@ impl Resources {
         requires { inside.PassesAlone (inside.holds_cell cell) holder self.now }
         ensures { result ≡ option_map (λ r. r.number) (find (inside.is_other_holder id cell) self.now) }
     {
+        let _known = &self.map;
+        self.holder_at(id, holder, cell)
+    }
+
+    /// The number of the first resource other than this one that holds a cell. Those that are over aren't looked at.
+    pub(crate) fn first_other_holder(&self, id: Id, cell: u64) -> Option<u64>
+        ensures { result ≡ option_map (λ r. r.number) (find (inside.is_other_holder id cell) self.now) }
+    {
+        for other in &self.unfinished {
+            let number = self.holder_at(id, *other, cell);
+            if number.is_some() {
+                return number;
+            }
+        }
+        None
+    }
+
+    /// The number of a resource, where it is another one than the first, and holds a cell.
+    fn holder_at(&self, id: Id, holder: Id, cell: u64) -> Option<u64>
+        ensures { result ≡ option_map (λ r. r.number)
+            (inside.if_passes (inside.is_other_holder id cell) (inside.numbered holder self.now)) }
+    {
         match self.map.get(&holder) {
             Some(kept) if !is_same(holder, id) && kept.holds_cell(cell) => Some(holder.1),
             _ => None,
         }
-    }
-
-    /// The number of the first resource other than this one that holds a cell.
-    pub(crate) fn first_other_holder(&self, id: Id, cell: u64) -> Option<u64>
-        ensures { result ≡ option_map (λ r. r.number) (find (inside.is_other_holder id cell) self.now) }
-    {
-        for (other, kept) in &self.map {
-            if !is_same(*other, id) && kept.holds_cell(cell) {
-                return Some(other.1);
-            }
-        }
-        None
     }
 
     /// Puts a resource into its turn, or in the place of the one that has its number.

@@ -1,8 +1,9 @@
 // What the records of a journal tell of resources and cells.
-ghost use Rattle.std.specs.Prelude.{◌≡◌, ℕ, [], find, IfSome, IfOk, OnOk, Some, None};
+ghost use Rattle.std.specs.Prelude.{◌≡◌, ℕ, [], find, IfSome, IfOk, IsTrue, OnOk, Some, None};
 ghost use Rattle.std.specs.Option.{option_and_then};
-ghost use Rattle.std.specs.List.{Contains};
+ghost use Rattle.std.specs.List.{All, Contains};
 ghost use Rattle.decision_journal.specs.Index.{AreInOrder};
+ghost use Rattle.decision_journal.specs.Layout.{Fits, is_rising};
 ghost use Rattle.resource_end.specs.States.{state_of};
 ghost use Rattle.resource_end.specs.Cells.{with_puts};
 ghost use Rattle.resource_end.specs.End.{End, with_resource};
@@ -12,7 +13,7 @@ ghost use Rattle.resource_end.specs.Recall.{is_recorded_at, recalls_all};
 use crate::cells::Cells;
 use crate::contents::Contents;
 use crate::kept::{Id, Kept, Resources};
-use crate::puts::copy_puts;
+use crate::puts::RisingPuts;
 use crate::standing::prepared_at;
 use crate::state::State;
 use decision_journal::{CellsEnd, JournalRecord, Puts, Standing};
@@ -30,6 +31,7 @@ struct Loading {
 /// What these records tell.
 pub(crate) fn load_all(alloc: Global, standing: &[Standing]) -> Result<Contents, AllocError>
     requires order { AreInOrder standing.now }
+    requires fit { All (λ s. Fits s.item) standing.now }
     ensures contents { IfOk result (λ c. (e : End)
         → recalls_all standing.now (inside.with_contents inside.no_contents e) ≡ inside.with_contents c e) }
     ensures recorded { IfOk result (λ c. inside.AreRecorded standing.now c.resources) }
@@ -51,6 +53,7 @@ impl Loading {
     fn recall(&mut self, standing: &[Standing], each: &Standing) -> Result<(), AllocError>
         requires order { AreInOrder standing.now }
         requires among { Contains standing.now each.now }
+        requires fits { Fits each.now.item }
         requires recorded { inside.AreRecorded standing.now self.old.resources }
         requires writable { inside.AreWritable 0 self.old.resources }
         ensures told { OnOk result (inside.IsToldBy each.now
@@ -79,6 +82,7 @@ impl Loading {
         puts: &Puts,
         place: u32,
     ) -> Result<(), AllocError>
+        requires { IsTrue (is_rising puts.now) }
         ensures resources { OnOk result (self.new.resources ≡ with_resource
             (inside.put_by_record State.Prepared id recovery.now puts.now (Some place) self.old.resources) self.old.resources) }
         ensures cells { inside.stored_cells self.new.cells ≡ inside.stored_cells self.old.cells }
@@ -87,7 +91,7 @@ impl Loading {
             kind: self.letter_of(id),
             state: State::Prepared,
             recovery: ok!(recovery.copy(self.alloc)),
-            puts: ok!(copy_puts(self.alloc, puts.items())),
+            puts: ok!(RisingPuts::of(self.alloc, puts.items())),
             record_place: Some(place),
         };
         self.resources.insert(id, kept)
@@ -121,7 +125,7 @@ impl Loading {
             kind: self.letter_of(id),
             state: State::Applied,
             recovery: RefBytes::from_vec(Vec::new(self.alloc)),
-            puts: Vec::new(self.alloc),
+            puts: RisingPuts::new(self.alloc),
             record_place: None,
         };
         ok!(self.resources.insert(id, kept));

@@ -1,5 +1,7 @@
 use Rattle.std.proofs.Common.{◌≡◌, ◌∙◌, suc, ◌+◌, take, ap, sym, subst, arith}
 use Rattle.std.specs.Prelude.{IfSome}
+use Rattle.decision_journal.specs.Layout.{Fits}
+use Rattle.decision_journal.specs.declared.journal.Standing.{Standing}
 use Rattle.resource_end.specs.Recall.{recalls, recalls_all}
 use Rattle.resource_end.specs.Inside.{AreRecorded, AreWritable, IsRecorded, IsWritable, contents_of, no_contents, numbered, with_contents}
 use Rattle.resource_end.proofs.Claims.{if_ok}
@@ -28,6 +30,7 @@ pub recall-requires : goal.recall-requires
 recall-requires c = record {
   order = c.requires.order;
   among = (c.loop-each.each-index, c.loop-each-test.true, sym c.each-item.is);
+  fits = subst (λ (s : Standing). Fits s.item) (sym c.each-item.is) (c.requires.fit c.loop-each.each-index c.each-item.result c.loop-each-test.true);
   recorded = c.loop-each.invariant.1;
   writable = c.loop-each.invariant.2;
 }

@@ -2,10 +2,10 @@ use Rattle.std.proofs.Common.{length}
 use Rattle.std.proofs.lemmas.Result.{on_ok_weaker}
 use Rattle.decision_journal.specs.State.{AppendIsDone, AppendIsSafe}
 use Rattle.decision_journal.proofs.Joined.{append_fault, read_only, room_fault, safe_then, done_then, at_service, if_err_weaker}
-use Rattle.decision_journal.proofs.Calls.{append_fault_then, appended_write, refused_ready, refused_unready, refused_write}
-use Rattle.decision_journal.specs.Asking.{append_calls}
+use Rattle.decision_journal.proofs.Calls.{append_fault_then, appended_write, ready_of, refused_ready, refused_unready, refused_write}
+use Rattle.decision_journal.specs.Asking.{record_calls}
 use Rattle.decision_journal.specs.Laws.{behind_gate}
-use Rattle.decision_journal.proofs.Asking.{append_asked, append_begun, begun_none, place_of, some_behind, some_reread}
+use Rattle.decision_journal.proofs.Asking.{append_asked, append_begun, begun_none, place_of, some_reread, some_then}
 use Rattle.decision_journal.proofs.keeping.Journal.append.Goals as goal
 
 pub returns-in-Err-clause-safe : goal.returns-in-Err-clause-safe
@@ -56,12 +56,16 @@ pub returns-clause-asked : goal.returns-clause-asked
 returns-clause-asked g c = append_asked g.D.Disk.asked g.D.Disk.told c.args.self.now.failed c.args.self.now.disk (behind_gate c.args.item) (length c.ready.new.self.octets) c.ready.new.self.disk c.write.new.self.disk c.in-Ok.ensures.asked c.write.result (place_of c.ready.new.self c.write.new.self c.args.item c.write.result c.write.ensures.more) c.write.ensures.asked
 
 pub returns-clause-begun : goal.returns-clause-begun
-returns-clause-begun g c = append_begun g.D.Disk.asked g.D.Disk.told c.args.self.now.failed c.args.self.now.disk (behind_gate c.args.item) (length c.ready.new.self.octets) c.ready.new.self.disk c.write.new.self.disk c.in-Ok.ensures.asked c.write.result c.write.ensures.asked
+returns-clause-begun g c =
+    append_begun g.D.Disk.asked g.D.Disk.told c.args.self.now (record_calls c.args.item) c.ready.new.self c.write.new.self.disk
+    (ready_of g.D.Disk.told c.args.self.now c.ready.new.self c.in-Ok.ensures.read c.in-Ok.ensures.disk c.in-Ok.ensures.current) c.in-Ok.ensures.asked c.write.result c.write.ensures.asked
 
 pub returns-in-Err-clause-begun : goal.returns-in-Err-clause-begun
-returns-in-Err-clause-begun g c = (0, some_reread g.D.Disk.asked g.D.Disk.told c.args.self.now.failed c.args.self.now.disk (append_calls 0 (behind_gate c.args.item)) c.ready.new.self.disk c.in-Err.ensures.was c.in-Err.ensures.begun)
+returns-in-Err-clause-begun g c =
+    some_reread g.D.Disk.asked g.D.Disk.told c.args.self.now (record_calls c.args.item) c.ready.new.self.disk c.in-Err.ensures.was c.in-Err.ensures.begun
 
 pub returns-in-Err-has_room-clause-begun : goal.returns-in-Err-has_room-clause-begun
 returns-in-Err-has_room-clause-begun g c =
-    let calls = append_calls 0 (behind_gate c.args.item) in
-    (0, some_behind g.D.Disk.asked g.D.Disk.told c.args.self.now.failed c.args.self.now.disk calls c.ready.new.self.disk c.ready.new.self.disk c.in-Ok.ensures.asked (begun_none g.D.Disk.asked calls c.ready.new.self.disk))
+    some_then g.D.Disk.asked g.D.Disk.told c.args.self.now (record_calls c.args.item) c.ready.new.self c.ready.new.self.disk
+    (ready_of g.D.Disk.told c.args.self.now c.ready.new.self c.in-Ok.ensures.read c.in-Ok.ensures.disk c.in-Ok.ensures.current) c.in-Ok.ensures.asked
+    (begun_none g.D.Disk.asked (record_calls c.args.item c.ready.new.self) c.ready.new.self.disk)

@@ -1,11 +1,10 @@
-use Rattle.std.proofs.Common.{◌∙◌, ap, inl, inr, not, sym, length}
+use Rattle.std.proofs.Common.{◌∙◌, ap, false, inl, inr, not, sym, true}
 use Rattle.decision_journal.specs.declared.record.JournalRecord.TheVariants.{Done}
 use Rattle.decision_journal.specs.State.{AppendIsDone, AppendIsSafe}
 use Rattle.decision_journal.proofs.Joined.{read_only, safe_then, done_then, done_unwritten, done_written, at_service}
 use Rattle.decision_journal.proofs.Calls.{done_fault_then, ready_of, refused_doubt, refused_unready}
-use Rattle.decision_journal.specs.Asking.{append_calls}
-use Rattle.decision_journal.specs.Laws.{behind_gate}
-use Rattle.decision_journal.proofs.Asking.{some_behind, some_reread}
+use Rattle.decision_journal.specs.Asking.{done_calls}
+use Rattle.decision_journal.proofs.Asking.{done_asked, done_unasked, some_reread, some_then}
 use Rattle.decision_journal.proofs.keeping.Journal.done.Goals as goal
 
 pub returns-in-Err-clause-safe : goal.returns-in-Err-clause-safe
@@ -61,13 +60,27 @@ returns-then-not-stands-clause-done g c =
     done_unwritten c.args.self.now.service c.args.place _ _ c.ready.ensures.safe c.in-Ok.ensures.done
 
 pub returns-clause-asked : goal.returns-clause-asked
-returns-clause-asked g c = inr (length c.ready.new.self.octets, (c.ready.new.self.disk, c.in-Ok.ensures.asked, c.in-Ok-write.ensures.asked))
+returns-clause-asked g c = (
+  c.ready.new.self,
+  ready_of g.D.Disk.told c.args.self.now c.ready.new.self c.in-Ok.ensures.read c.in-Ok.ensures.disk c.in-Ok.ensures.current,
+  c.in-Ok.ensures.asked,
+  done_asked g.D.Disk.asked true c.args.place c.ready.new.self c.write.new.self.disk (sym c.stands.ensures.stands ∙ c.if-not-stands.false) c.in-Ok-write.ensures.asked,
+)
 
 pub returns-then-not-stands-clause-asked : goal.returns-then-not-stands-clause-asked
-returns-then-not-stands-clause-asked g c = inl c.in-Ok.ensures.asked
+returns-then-not-stands-clause-asked g c = (
+  c.ready.new.self,
+  ready_of g.D.Disk.told c.args.self.now c.ready.new.self c.in-Ok.ensures.read c.in-Ok.ensures.disk c.in-Ok.ensures.current,
+  c.in-Ok.ensures.asked,
+  done_unasked g.D.Disk.asked c.args.place c.ready.new.self (sym c.stands.ensures.stands ∙ c.if-not-stands.true),
+)
 
 pub returns-in-Err-clause-begun : goal.returns-in-Err-clause-begun
-returns-in-Err-clause-begun g c = (0, some_reread g.D.Disk.asked g.D.Disk.told c.args.self.now.failed c.args.self.now.disk (append_calls 0 (behind_gate (Done c.args.place))) c.ready.new.self.disk c.in-Err.ensures.was c.in-Err.ensures.begun)
+returns-in-Err-clause-begun g c =
+    some_reread g.D.Disk.asked g.D.Disk.told c.args.self.now (done_calls c.args.place) c.ready.new.self.disk c.in-Err.ensures.was c.in-Err.ensures.begun
 
 pub returns-in-Err-write-clause-begun : goal.returns-in-Err-write-clause-begun
-returns-in-Err-write-clause-begun g c = (length c.ready.new.self.octets, some_behind g.D.Disk.asked g.D.Disk.told c.args.self.now.failed c.args.self.now.disk (append_calls (length c.ready.new.self.octets) (behind_gate (Done c.args.place))) c.ready.new.self.disk c.write.new.self.disk c.in-Ok.ensures.asked c.in-Err-write.ensures.asked)
+returns-in-Err-write-clause-begun g c =
+    some_then g.D.Disk.asked g.D.Disk.told c.args.self.now (done_calls c.args.place) c.ready.new.self c.write.new.self.disk
+    (ready_of g.D.Disk.told c.args.self.now c.ready.new.self c.in-Ok.ensures.read c.in-Ok.ensures.disk c.in-Ok.ensures.current) c.in-Ok.ensures.asked
+    (done_asked g.D.Disk.asked false c.args.place c.ready.new.self c.write.new.self.disk (sym c.stands.ensures.stands ∙ c.if-not-stands.false) c.in-Err-write.ensures.asked)

@@ -6,7 +6,7 @@ use Rattle.decision_journal.proofs.Joined.{known_now}
 use Rattle.decision_journal.proofs.Starts.{load_done, load_safe}
 use Rattle.decision_journal.proofs.Refused.{life_fault, life_refused}
 use Rattle.decision_journal.specs.Asking.{AsksLoad, AsksLoadSome, AsksStartSome}
-use Rattle.decision_journal.proofs.Asking.{for_told, load_asked, load_begun}
+use Rattle.decision_journal.proofs.Asking.{for_told, load_asked, load_begun, start_records}
 use Rattle.decision_journal.proofs.keeping.Journal.load.Goals as goal
 
 pub returns-in-Ok-append-clause-done : goal.returns-in-Ok-append-clause-done
@@ -33,7 +33,12 @@ returns-in-Err-append-clause-safe_err g c =
     subst (λ d. Tells (g.D.Disk.told c.args.disk) (g.D.Disk.told d) (LoadIsSafe c.args.service)) (sym c.into_disk.ensures) (load_safe c.args.service c.in-Ok.start.octets.items c.in-Ok.start.index.found c.next_life.result c.next_life.ensures (g.D.Disk.told c.args.disk) (g.D.Disk.told c.start_within.new.disk) (g.D.Disk.told c.append.new.self.disk) c.in-Ok.ensures.started c.start_within.ensures.safe c.append.ensures.safe)
 
 pub returns-in-Ok-append-clause-asked : goal.returns-in-Ok-append-clause-asked
-returns-in-Ok-append-clause-asked g c = load_asked g.D.Disk.asked g.D.Disk.told c.args.service c.next_life.result c.args.disk c.start_within.new.disk c.append.new.self.disk c.in-Ok.ensures.asked _ c.in-Ok-append.ensures.asked
+returns-in-Ok-append-clause-asked g c =
+    let m = c.in-Ok-append.ensures.more in
+    let same = known_now m.ready.octets c.in-Ok.start.octets.items m.ready.found c.in-Ok.start.index.found None refl m.is_ready.journal.known in
+    let s = start_records c.args.service c.in-Ok.start.octets.items c.in-Ok.start.index.found (g.D.Disk.told c.args.disk) (g.D.Disk.told c.start_within.new.disk) c.in-Ok.ensures.filled c.in-Ok.ensures.started in
+    load_asked g.D.Disk.asked g.D.Disk.told c.args.service c.in-Ok.start.octets.items c.in-Ok.start.index.found c.args.disk c.start_within.new.disk c.append.new.self.disk c.in-Ok.ensures.asked
+    s.0 s.1 s.2 c.next_life.result c.next_life.ensures _ (m.appended.journal.place_is ∙ ap length same.0) c.in-Ok-append.ensures.asked
 
 pub returns-in-Err-clause-begun : goal.returns-in-Err-clause-begun
 returns-in-Err-clause-begun g c =
@@ -41,4 +46,7 @@ returns-in-Err-clause-begun g c =
 
 pub returns-in-Err-append-clause-begun : goal.returns-in-Err-append-clause-begun
 returns-in-Err-append-clause-begun g c =
-    subst (λ d. AsksLoadSome g.D.Disk.asked g.D.Disk.told c.args.service c.args.disk d) (sym c.into_disk.ensures) (load_begun g.D.Disk.asked g.D.Disk.told c.args.service c.next_life.result c.args.disk c.start_within.new.disk c.append.new.self.disk c.in-Ok.ensures.asked _ c.start_within.ensures.safe c.in-Err-append.ensures.begun)
+    let s = start_records c.args.service c.in-Ok.start.octets.items c.in-Ok.start.index.found (g.D.Disk.told c.args.disk) (g.D.Disk.told c.start_within.new.disk) c.in-Ok.ensures.filled c.in-Ok.ensures.started in
+    subst (λ d. AsksLoadSome g.D.Disk.asked g.D.Disk.told c.args.service c.args.disk d) (sym c.into_disk.ensures)
+    (load_begun g.D.Disk.asked g.D.Disk.told c.args.service c.in-Ok.start.octets.items c.in-Ok.start.index.found c.args.disk c.start_within.new.disk c.append.new.self.disk c.in-Ok.ensures.asked
+    s.0 s.1 s.2 c.next_life.result c.next_life.ensures c.args.area 0 _ c.start_within.ensures.safe c.in-Err-append.ensures.begun)

@@ -7,5 +7,5 @@ use Rattle.decision_journal.proofs.line.Line.set.Goals as goal
 
 pub returns : goal.returns
 returns c =
-    ap (λ (xs : List Standing). record { standing = xs; spare = vec_capacity c.self.inside.items + c.self.inside.gone - vec_len c.self.inside.items }) (drop-set-add c.self.inside.gone c.self.inside.items.items c.args.index c.args.item)
-    ∙ ap (λ (l : Lined). record { standing = set l.standing c.args.index c.args.item; spare = l.spare }) c.self.view_is
+    ap (λ (xs : List Standing). record { standing = xs; spare = vec_capacity c.self.inside.items + c.self.inside.gone - vec_len c.self.inside.items; gone = c.self.inside.gone }) (drop-set-add c.self.inside.gone c.self.inside.items.items c.args.index c.args.item)
+    ∙ ap (λ (l : Lined). record { standing = set l.standing c.args.index c.args.item; spare = l.spare; gone = l.gone }) c.self.view_is

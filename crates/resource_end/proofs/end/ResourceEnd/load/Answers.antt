@@ -1,4 +1,5 @@
 use Rattle.std.proofs.Common.{◌∙◌, None, ap, sym, subst}
+use Rattle.decision_journal.specs.Index.{AreInOrder}
 use Rattle.decision_journal.specs.State.{IsWithinArea}
 use Rattle.resource_end.specs.End.{End}
 use Rattle.resource_end.specs.Recall.{new_end, recalls_all}
@@ -32,3 +33,6 @@ pub returns-in-Ok-load_all-clause-stays : goal.returns-in-Ok-load_all-clause-sta
 returns-in-Ok-load_all-clause-stays g c =
     loaded_on_record (seen c.in-Ok.journal 0 c.in-Ok-load_all.contents None) c.args.service (returns-in-Ok-load_all-clause-end g c) c.in-Ok.ensures.service
     c.in-Ok.ensures.current.within.filled c.in-Ok.ensures.doubted c.in-Ok.ensures.failed
+
+pub load_all-requires-clause-order : goal.load_all-requires-clause-order
+load_all-requires-clause-order g c = subst AreInOrder (sym c.standing.ensures.same) c.standing.ensures.order

@@ -1,5 +1,6 @@
 use Rattle.std.proofs.Common.{◌∙◌, [], Some, None, ap, sym, subst}
 use Rattle.std.specs.Prelude.{find}
+use Rattle.decision_journal.specs.Layout.{Fits}
 use Rattle.resource_end.specs.declared.state.State.TheVariants as states
 use Rattle.resource_end.specs.Recall.{is_recorded_at}
 use Rattle.resource_end.specs.Inside.{AreRecorded, AreWritable, IsRecorded, IsWritable, contents_of, prepared_id, put_by_record, stored_cells}
@@ -68,3 +69,6 @@ returns-in-CellsOnePhase-clause-writable c =
     (all_with (λ id r. IsWritable 0 r.state r) c.args.self.now.resources
     (put_by_record states.Applied (c.in-CellsOnePhase.life, c.in-CellsOnePhase.number) [] [] None c.args.self.now.resources)
     c.requires.writable tt))
+
+pub prepare-requires : goal.prepare-requires
+prepare-requires c = (subst Fits c.in-CellsPrepared.is c.requires.fits).3.2
