@@ -1,11 +1,12 @@
 #!/usr/bin/env bash
 # Makes calls on trees of transactions of growing size, on their registrations and on their completions, by the cases of
-# crates/ots_rows, and prints the time per call and how it grows with the size. What the trees take that the calls are made
-# on is timed alone, and taken off. Run it anywhere; it builds the program first. How many calls a row makes may be given as
-# an argument.
+# crates/ots_rows, and prints the processor time per call and how it grows with the size. What the trees take that the calls
+# are made on is timed alone, and taken off. Run it anywhere; it builds the program first. How many calls a row makes may be
+# given as an argument.
 set -euo pipefail
 . "$(dirname "$0")/timing.sh"
 calls=${1:-200000}
+clock=processor
 ots=$here/crates/ots_rows/out/ots_rows
 (cd "$here/crates/ots_rows" && rt run </dev/null >/dev/null 2>&1) || true
 
@@ -42,10 +43,16 @@ echo "live_under and end_sub, from the leaves up, with a look below the parent o
 rollbacks leaves
 echo "live_under and end_sub, pairs of one and its only child, by the same:"
 rollbacks pairs
+echo "mark of one that stays marked, by the transactions of a tree:"
+row mark 16 128 1024
+echo "status, parent_status and top_status, by the transactions of a tree:"
+row status 16 128 1024
 echo "register, by the registrations of a tree:"
 row register 2 16 64
 echo "vote and vote_of, by the registrations of a tree:"
 row vote 2 16 64
+echo "aware, each behind the one before it, by the aware resources of a subtransaction:"
+row told 2 16 64
 echo "is_ancestor, is_related and is_same, by the depth of a branch:"
 row ancestry 2 4 16
 echo "end_sub and adopt, by the subtransactions that hand one registration each to the top:"
@@ -56,3 +63,5 @@ echo "participants of the top, by its registrations:"
 row participants 2 16 64
 echo "next and answer, by the participants of a completion:"
 row completion 2 16 64
+echo "root_join, sub_join, report, dispositions and what is pending, by the participants of a completion:"
+each=look times=3 row join 2 16 64

@@ -7,7 +7,7 @@ use Rattle.ots_model.specs.declared.completion.Stood.TheVariants as answers
 use Rattle.ots_model.specs.declared.service.Status.TheVariants as status
 use Rattle.ots_model.specs.declared.tree.Heard.{Heard}
 use Rattle.ots_model.specs.declared.tree.Reason.{Reason}
-use Rattle.flat_phases.specs.Poll.{same_number}
+use Rattle.two_phase.specs.Course.{same_number}
 use Rattle.decision_journal.specs.declared.record.JournalRecord.{JournalRecord}
 use Rattle.two_phase.specs.Course as course
 use Rattle.two_phase.specs.Course.{Course}

@@ -21,7 +21,7 @@ use Rattle.two_phase.specs.LawsOfReached.{IsReached, TreeBecomes}
 use Rattle.two_phase.specs.LawsOfReached.IsReached.{begins, rolls_back, goes_on}
 use Rattle.two_phase.specs.LawsOfReached.TreeBecomes.{by_word, by_answer, by_record, by_reread, by_rollback}
 use Rattle.two_phase.specs.Parties.{has_completed, completes, is_told, is_through, is_owed, lets_go, is_heuristic}
-use Rattle.flat_phases.specs.Poll.{same_number}
+use Rattle.two_phase.specs.Course.{same_number}
 use Rattle.two_phase.specs.Reports as reports
 use Rattle.two_phase.specs.Stages as stages
 use Rattle.two_phase.specs.Stages.{Standing, Waiting, Going as UnderWay}

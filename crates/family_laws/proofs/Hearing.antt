@@ -29,7 +29,7 @@ use Rattle.two_phase.specs.Course.{Course}
 use Rattle.two_phase.specs.LawsOfCourses.{TreeWordsGoRightly}
 use Rattle.two_phase.specs.LawsOfReached.IsReached.{goes_on as reached_on}
 use Rattle.two_phase.specs.LawsOfReached.TreeBecomes.{by_answer, by_record, by_reread}
-use Rattle.flat_phases.specs.Poll.{same_number}
+use Rattle.two_phase.specs.Course.{same_number}
 use Rattle.two_phase.specs.Stages as stages
 use Rattle.two_phase.specs.Stages.{Standing, Waiting, Going as UnderWay}
 use Rattle.two_phase.specs.declared.party.Errand.{Errand}

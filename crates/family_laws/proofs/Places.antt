@@ -19,7 +19,7 @@ use Rattle.txn_tree.specs.declared.row.TreeFault.{TreeFault}
 use Rattle.resource_votes.specs.Ballots.{Ballots, adopted}
 use Rattle.resource_votes.specs.declared.registration.Registration.{Registration}
 use Rattle.resource_votes.specs.declared.registration.VoteFault.{VoteFault}
-use Rattle.flat_phases.specs.Poll.{same_number}
+use Rattle.two_phase.specs.Course.{same_number}
 use Rattle.two_phase.specs.Course as course
 use Rattle.two_phase.specs.Course.{Course}
 use Rattle.two_phase.specs.Stages as stages

@@ -23,7 +23,7 @@ use Rattle.recovery_coord.specs.declared.held.Party.{Party}
 use Rattle.two_phase.specs.Course as course
 use Rattle.two_phase.specs.Course.{Course}
 use Rattle.two_phase.specs.Parties.{has_voted_commit, has_completed, is_owed}
-use Rattle.flat_phases.specs.Poll.{is_commit_vote}
+use Rattle.two_phase.specs.Parties.{is_commit_vote}
 use Rattle.two_phase.specs.Reports as reports
 use Rattle.two_phase.specs.Stages as stages
 use Rattle.two_phase.specs.Stages.{Standing as Completion, Waiting, Going as UnderWay}

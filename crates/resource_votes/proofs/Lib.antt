@@ -5,3 +5,4 @@ pub mod Upward
 pub mod Tallies
 pub mod Few
 pub mod Members
+pub mod Numbered

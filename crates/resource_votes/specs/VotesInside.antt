@@ -1,6 +1,7 @@
-use Rattle.std.specs.Prelude.{◌≡◌, ◌-◌, ◌≤◌, length, min, vec_len, vec_capacity}
+use Rattle.std.specs.Prelude.{◌≡◌, ℕ, ◌+◌, ◌-◌, ◌≤◌, List, [], ◌∷◌, length, min, vec_len, vec_capacity}
 use Rattle.resource_votes.specs.Limits.{registration_limit, synchronization_limit}
 use Rattle.resource_votes.specs.Ballots.{VotesParts}
+use Rattle.resource_votes.specs.declared.registration.Registration.{Registration}
 use Rattle.resource_votes.specs.declared.votes.Votes.TheInside.{Inside}
 
 abbrev pub shown : Inside → VotesParts
@@ -15,9 +16,15 @@ shown v = record {
       (min (vec_capacity v.synchronizations - vec_len v.synchronizations) v.links.room);
 }
 
--- each registration has a vote or none yet, and a number that may be in a list
+-- they have the numbers from this one up
+abbrev pub AreNumbered : ℕ → List Registration → Type 0
+AreNumbered n [] = Unit {0}
+AreNumbered n (r ∷ rs) = (r.index ≡ n) × AreNumbered (n + 1) rs
+
+-- each registration has a vote or none yet, the number of its place, and a number that may be in a list
 pub record IsSound (v : Inside) : Type 0 where
   pub votes : length v.votes.items ≡ length v.registrations.items
   pub numbers : v.links.count ≡ length v.registrations.items
   pub few : length v.registrations.items ≤ registration_limit
   pub few_synchronizations : length v.synchronizations.items ≤ synchronization_limit
+  pub in_order : AreNumbered 1 v.registrations.items

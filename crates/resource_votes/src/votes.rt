@@ -1,7 +1,8 @@
-ghost use Rattle.std.specs.Prelude.{◌≡◌, ◌≢◌, ℕ, ◌+◌, ◌<◌, ◌≤◌, ◌↔◌, length, Some, None, IsTrue, IsOk, IsErr, IfOk, OnOk, OnErr, IfSome, IfNone, IsErrOf};
+ghost use Rattle.std.specs.Prelude.{◌≡◌, ◌≢◌, ℕ, ◌+◌, ◌<◌, ◌≤◌, ◌↔◌, length, Some, None, IsTrue, IsOk, IsErr, IfOk, OnOk, OnErr, IfSome, IfNone, IsErrOf, find};
 ghost use Rattle.std.specs.Option.{option_copied};
 ghost use Rattle.resource_votes.specs.Limits.{list_count, registration_limit, synchronization_limit};
 ghost use Rattle.resource_votes.specs.Ballots as ballots;
+ghost use Rattle.resource_votes.specs.VotesInside.{AreNumbered};
 
 use crate::links::Links;
 use crate::registration::{Registration, VoteFault};
@@ -188,9 +189,7 @@ impl Votes {
     pub fn aware(&self, branch: u32, after: u32) -> Option<&Registration>
         ensures { option_copied result ≡ ballots.aware branch after self.now.ballots }
     {
-        self.registrations
-            .iter()
-            .find(|r| r.aware && r.branch == branch && after < r.index)
+        aware_behind(&self.registrations, branch, after)
     }
 
     /// The registration with this number.
@@ -251,6 +250,7 @@ impl Votes {
     }
 
     /// Adds a resource that takes part. It needs no memory.
+    #[tactic(auto, using(crate::proofs::Numbered::numbered_more))]
     fn add(&mut self, branch: u32, to: RefBytes, aware: bool) -> u32
         requires room { 0 < self.old.room }
         requires there { branch < list_count }
@@ -271,6 +271,7 @@ impl Votes {
     }
 
     /// Adds a resource that takes no part. It needs no memory.
+    #[tactic(auto, using(crate::proofs::Numbered::numbered_more))]
     fn add_aware(&mut self, branch: u32, to: RefBytes) -> u32
         requires room { 0 < self.old.room }
         requires few { length self.old.ballots.registrations < registration_limit }
@@ -305,6 +306,23 @@ impl Votes {
         });
         index
     }
+}
+
+/// The first of these above this number that is told of the end of this subtransaction. The look begins behind its place.
+fn aware_behind(list: &[Registration], branch: u32, after: u32) -> Option<&Registration>
+    requires numbered { AreNumbered 1 list.now }
+    ensures { option_copied result ≡ find (ballots.is_aware_after branch after) list.now }
+{
+    let passed = list.len().min(after as usize);
+    first_aware(&list[passed..], branch, after)
+}
+
+/// The first of these above this number that is told of the end of this subtransaction.
+fn first_aware(list: &[Registration], branch: u32, after: u32) -> Option<&Registration>
+    ensures { option_copied result ≡ find (ballots.is_aware_after branch after) list.now }
+{
+    list.iter()
+        .find(|r| r.aware && r.branch == branch && after < r.index)
 }
 
 /// The one of these with this number.

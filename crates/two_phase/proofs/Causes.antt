@@ -14,7 +14,8 @@ use Rattle.ots_model.specs.declared.tree.Reason.{Reason}
 use Rattle.ots_model.specs.declared.tree.Reason.TheVariants as reasons
 use Rattle.ots_model.specs.declared.tree.Outcome.{Outcome}
 use Rattle.ots_model.specs.declared.tree.Outcome.TheVariants as outcomes
-use Rattle.flat_phases.specs.Poll.{same_number, consents}
+use Rattle.two_phase.specs.Course.{same_number}
+use Rattle.two_phase.specs.Parties.{consents}
 use Rattle.two_phase.specs.Course.{Course, is_outside, decides_alone, all_consent, some_commit, first_refuser, by_refusal, by_record, by_one, by_votes, outcome, errand, answered, wants_decision, is_doubtful, may_roll_back}
 use Rattle.two_phase.specs.LawsOfReached.{TreeBecomes, IsReached}
 use Rattle.two_phase.specs.LawsOfReached.TreeBecomes.{by_word, by_answer as by_heard, by_record as by_stood, by_reread as by_found, by_rollback}

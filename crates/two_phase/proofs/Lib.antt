@@ -10,3 +10,4 @@ pub mod Causes
 pub mod Silence
 pub mod Settling
 pub mod SettledSilent
+pub mod Deciding

@@ -13,7 +13,7 @@ use Rattle.ots_model.specs.declared.tree.Outcome.{Outcome}
 use Rattle.ots_model.specs.declared.tree.Outcome.TheVariants as outcomes
 use Rattle.ots_model.specs.declared.tree.Reason.{Reason}
 use Rattle.resource_votes.specs.History.{times}
-use Rattle.flat_phases.specs.Poll.{same_number}
+use Rattle.two_phase.specs.Course.{same_number}
 use Rattle.two_phase.specs.Course.{Course, decides_alone, outcome, outcome_word, first_word, errand, next_word, word_of, after_next, answered, heard_at, wants_decision, is_doubtful, is_outside, may_roll_back, after_rollback}
 use Rattle.two_phase.specs.CourseInside.{IsOpen, OpenAt, answer_at}
 use Rattle.two_phase.specs.LawsOfReached.{TreeBecomes, IsReached, TreeGoesOn, HaveOwnNumbers, numbers}

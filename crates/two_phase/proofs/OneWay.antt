@@ -16,7 +16,7 @@ use Rattle.ots_model.specs.declared.tree.Outward.{Outward}
 use Rattle.ots_model.specs.declared.tree.Outcome.{Outcome}
 use Rattle.ots_model.specs.declared.tree.Outcome.TheVariants as outcomes
 use Rattle.ots_model.specs.declared.tree.Reason.{Reason}
-use Rattle.flat_phases.specs.Poll.{same_number}
+use Rattle.two_phase.specs.Course.{same_number}
 use Rattle.two_phase.specs.Course.{Course, decides_alone, all_consent, some_commit, outcome_word, by_one, outcome, errand, next_word, word_of, outward_of, outward, after_next, answered, heard_at, heard_by, wants_decision, after_decided, is_doubtful, after_reread, is_outside, may_roll_back, after_rollback}
 use Rattle.two_phase.specs.CourseInside.{IsOpen}
 use Rattle.two_phase.specs.LawsOfCourses.{MayBeTold, MayBeAsked, MayBeRolledBack, IsRollback, RestsOn}

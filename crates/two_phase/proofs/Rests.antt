@@ -22,7 +22,7 @@ use Rattle.two_phase.specs.declared.party.Party.{Party}
 use Rattle.two_phase.specs.declared.party.Stage.{Stage}
 use Rattle.two_phase.specs.declared.party.Stage.TheVariants as stages
 use Rattle.two_phase.specs.declared.party.Errand.{Errand}
-use Rattle.flat_phases.specs.Poll.{is_commit_vote}
+use Rattle.two_phase.specs.Parties.{is_commit_vote}
 use Rattle.two_phase.proofs.Opened.{nobody, none_is}
 use Rattle.two_phase.proofs.Overtaken.{overtaken_ends}
 

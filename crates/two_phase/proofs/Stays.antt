@@ -12,7 +12,8 @@ use Rattle.ots_model.specs.declared.completion.Stood.TheVariants as answers
 use Rattle.ots_model.specs.declared.tree.Outcome.{Outcome}
 use Rattle.ots_model.specs.declared.tree.Outcome.TheVariants as outcomes
 use Rattle.ots_model.specs.declared.tree.Reason.{Reason}
-use Rattle.flat_phases.specs.Poll.{same_number, consents}
+use Rattle.two_phase.specs.Course.{same_number}
+use Rattle.two_phase.specs.Parties.{consents}
 use Rattle.two_phase.specs.Course.{Course, decides_alone, all_consent, some_commit, first_refuser, by_refusal, by_record, by_one, outcome, errand, after_next, answered, heard_at, wants_decision, after_decided, is_unsure, is_doubtful, after_reread, is_outside, may_roll_back, after_rollback}
 use Rattle.two_phase.specs.CourseInside.{IsOpen, answer_at}
 use Rattle.two_phase.specs.LawsOfReached.{TreeBecomes, IsReached}
@@ -82,25 +83,25 @@ rec_nothing None false one None false some rec other e = refl
 rec_nothing None false one None true some rec other e = absurd (cc (e))
 
 -- a participant in a list, which is set to one that is alike
-alike_any : (f : Party → Bool) (ps : List Party) (i : ℕ) (x y : Party) → slice_get ps i ≡ Some x → f y ≡ f x → list_any f (slice_set ps i y) ≡ list_any f ps
+pub alike_any : (f : Party → Bool) (ps : List Party) (i : ℕ) (x y : Party) → slice_get ps i ≡ Some x → f y ≡ f x → list_any f (slice_set ps i y) ≡ list_any f ps
 alike_any f [] i x y at e = absurd (cc (at))
 alike_any f (p ∷ ps) zero x y at e = rw (e, same_Some p x at) refl
 alike_any f (p ∷ ps) (suc i) x y at e = rw (alike_any f ps i x y at e) refl
 
-alike_all : (f : Party → Bool) (ps : List Party) (i : ℕ) (x y : Party) → slice_get ps i ≡ Some x → f y ≡ f x → list_all f (slice_set ps i y) ≡ list_all f ps
+pub alike_all : (f : Party → Bool) (ps : List Party) (i : ℕ) (x y : Party) → slice_get ps i ≡ Some x → f y ≡ f x → list_all f (slice_set ps i y) ≡ list_all f ps
 alike_all f [] i x y at e = absurd (cc (at))
 alike_all f (p ∷ ps) zero x y at e = rw (e, same_Some p x at) refl
 alike_all f (p ∷ ps) (suc i) x y at e = rw (alike_all f ps i x y at e) refl
 
 -- what an answer to the outcome or to forget leaves as it is
-record Alike (x y : Party) : Type 0 where
-  consents : has_consented y ≡ has_consented x
-  refuses : has_refused y ≡ has_refused x
-  votes : has_voted_commit y ≡ has_voted_commit x
-  refusal : by_refusal y ≡ by_refusal x
-  alone : by_one (Some y) ≡ by_one (Some x)
+pub record Alike (x y : Party) : Type 0 where
+  pub consents : has_consented y ≡ has_consented x
+  pub refuses : has_refused y ≡ has_refused x
+  pub votes : has_voted_commit y ≡ has_voted_commit x
+  pub refusal : by_refusal y ≡ by_refusal x
+  pub alone : by_one (Some y) ≡ by_one (Some x)
 
-alike_of : (stage : Stage) (h : Heard) (x : Party) → (stage ≡ stages.Asking → ⊥) → Alike x (heard_at stage h x)
+pub alike_of : (stage : Stage) (h : Heard) (x : Party) → (stage ≡ stages.Asking → ⊥) → Alike x (heard_at stage h x)
 alike_of stages.Asking h x never = absurd (never refl)
 alike_of stages.Telling h x never = record { consents = refl; refuses = refl; votes = refl; refusal = refl; alone = refl }
 alike_of stages.Forgetting h x never = record { consents = refl; refuses = refl; votes = refl; refusal = refl; alone = refl }

@@ -1,7 +1,7 @@
 -- The completion of a tree of transactions: whom it asks and tells next, and its outcome (Transaction Service, the
 -- operations of interface Resource; that words go out one at a time and in list order, and what becomes of a record that
 -- nobody knows of, are our profile).
-use Rattle.std.specs.Prelude.{ℕ, ◌+◌, ◌==◌, Bool, true, false, not, ◌&&◌, ◌||◌, List, length, map, find, position, slice_set, Option, Some, None, is_none, is_some, if◌then◌else◌}
+use Rattle.std.specs.Prelude.{ℕ, ◌+◌, ◌==◌, Bool, true, false, not, ◌&&◌, ◌||◌, List, length, map, take, drop, find, position, slice_set, Option, Some, None, is_none, is_some, if◌then◌else◌}
 use Rattle.std.specs.List.{slice_get, list_any, list_all}
 use Rattle.std.specs.Option.{option_map, option_and_then}
 use Rattle.ots_model.specs.declared.completion.CallNumber.{CallNumber}
@@ -18,8 +18,7 @@ use Rattle.ots_model.specs.declared.tree.Outcome.{Outcome}
 use Rattle.ots_model.specs.declared.tree.Outcome.TheVariants as outcomes
 use Rattle.ots_model.specs.declared.tree.Outward.{Outward}
 use Rattle.resource_votes.specs.declared.registration.Registration.{Registration}
-use Rattle.flat_phases.specs.Poll.{same_number}
-use Rattle.two_phase.specs.Parties.{party_of, has_consented, has_refused, has_voted_commit, is_unasked, reason_of, by_answer, is_untold, is_incomplete, is_unforgotten}
+use Rattle.two_phase.specs.Parties.{party_of, has_consented, has_refused, has_voted_commit, is_unasked, has_answered, reason_of, by_answer, is_untold, is_incomplete, is_unforgotten}
 use Rattle.two_phase.specs.declared.party.Party.{Party}
 use Rattle.two_phase.specs.declared.party.Stage.{Stage}
 use Rattle.two_phase.specs.declared.party.Stage.TheVariants as stages
@@ -244,6 +243,21 @@ voter_at c e = elim e.stage [
 abbrev pub voter : Course → Option ℕ
 voter c = option_and_then (voter_at c) c.out
 
+-- each participant but the one at this place has answered its first word
+unfoldable pub others_have_answered : ℕ → List Party → Bool
+others_have_answered place parties = list_all has_answered (take place parties) && list_all has_answered (drop (place + 1) parties)
+
+-- the word that is out is the last that asks: each other participant has answered its own
+abbrev pub asks_last : List Party → Errand → Bool
+asks_last parties e = elim e.stage [
+  | stages.Asking ↦ others_have_answered e.place parties
+  | stages.Telling ↦ false
+  | stages.Forgetting ↦ false
+]
+
+abbrev pub is_last_asked : Course → Bool
+is_last_asked c = elim c.out [ Some e ↦ asks_last c.parties e | None ↦ false ]
+
 -- the next number
 abbrev pub following : CallNumber → CallNumber
 following n = record n { serial = n.serial + 1 }
@@ -260,6 +274,10 @@ heard_by parties e h = elim (slice_get parties e.place) [ Some p ↦ slice_set p
 -- an answer counts for the word that is out; with any other number it changes nothing
 abbrev pub answered : Heard → Course → Errand → Course
 answered h c e = record c { parties = heard_by c.parties e h; number = following c.number; out = None }
+
+-- two numbers name the same call
+abbrev pub same_number : CallNumber → CallNumber → Bool
+same_number a b = a.life == b.life && a.slot == b.slot && a.generation == b.generation && a.serial == b.serial
 
 abbrev pub after_answer : CallNumber → Heard → Course → Course
 after_answer n h c = elim c.out [ Some e ↦ if same_number n c.number then answered h c e else c | None ↦ c ]

@@ -11,4 +11,5 @@ pub mod LawsOfReached
 pub mod LawsOfParticipants
 pub mod LawsOfSilence
 pub mod LawsOfOutcomes
+pub mod LawsOfDeciding
 pub mod LawsOfSettling

@@ -1,6 +1,6 @@
 -- One participant of a completion, and what it has answered to each word that it may be sent: the first one, prepare or
 -- commit_one_phase; the one that tells the outcome; and forget (Transaction Service, the operations of interface Resource).
-use Rattle.std.specs.Prelude.{ℕ, ◌+◌, Bool, true, false, not, ◌&&◌, ◌||◌, List, ◌++◌, Option, Some, None, is_none}
+use Rattle.std.specs.Prelude.{ℕ, ◌+◌, Bool, true, false, not, ◌&&◌, ◌||◌, List, ◌++◌, Option, Some, None, is_none, is_some}
 use Rattle.std.specs.Option.{option_map, option_map_or, option_to_list}
 use Rattle.ots_model.specs.declared.line.Decision.{Decision}
 use Rattle.ots_model.specs.declared.line.Decision.TheVariants.{Commit, Rollback}
@@ -8,14 +8,13 @@ use Rattle.ots_model.specs.declared.completion.Disposition.{Disposition}
 use Rattle.ots_model.specs.declared.completion.Disposition.TheVariants as dispositions
 use Rattle.ots_model.specs.declared.completion.Heard.{Heard}
 use Rattle.ots_model.specs.declared.completion.Heard.TheVariants as hears
-use Rattle.ots_model.specs.declared.completion.Vote.TheVariants.{VoteRollback, VoteReadOnly}
+use Rattle.ots_model.specs.declared.completion.Vote.TheVariants.{VoteCommit, VoteRollback, VoteReadOnly}
 use Rattle.ots_model.specs.declared.completion.Ground.TheVariants.{OnePhase}
 use Rattle.ots_model.specs.declared.tree.Reason.{Reason}
 use Rattle.ots_model.specs.declared.tree.Reason.TheVariants as reasons
 use Rattle.ots_model.specs.declared.tree.Outcome.{Outcome}
 use Rattle.ots_model.specs.declared.tree.Outcome.TheVariants as outcomes
 use Rattle.resource_votes.specs.declared.registration.Registration.{Registration}
-use Rattle.flat_phases.specs.Poll.{consents, is_commit_vote}
 use Rattle.two_phase.specs.declared.party.Party.{Party}
 use Rattle.two_phase.specs.declared.party.Stage.{Stage}
 use Rattle.two_phase.specs.declared.party.Stage.TheVariants as stages
@@ -23,6 +22,16 @@ use Rattle.two_phase.specs.declared.party.Stage.TheVariants as stages
 -- a registration that takes part, and has answered nothing yet
 abbrev pub party_of : Registration → Party
 party_of r = record { index = r.index; to = r.to; ballot = None; told = None; forgot = None }
+
+-- an answer to prepare that lets the asking go on
+abbrev pub consents : Heard → Bool
+consents (hears.Voted VoteCommit) = true
+consents (hears.Voted VoteReadOnly) = true
+consents _ = false
+
+abbrev pub is_commit_vote : Heard → Bool
+is_commit_vote (hears.Voted VoteCommit) = true
+is_commit_vote _ = false
 
 -- it has answered its first word by VoteCommit or VoteReadOnly
 abbrev pub has_consented : Party → Bool
@@ -39,6 +48,10 @@ has_voted_commit p = option_map_or is_commit_vote p.ballot false
 -- it hasn't answered its first word
 abbrev pub is_unasked : Party → Bool
 is_unasked p = is_none p.ballot
+
+-- it has answered its first word
+abbrev pub has_answered : Party → Bool
+has_answered p = is_some p.ballot
 
 -- why a vote that is no consent rolls the transaction back
 abbrev pub reason_of : ℕ → Heard → Reason

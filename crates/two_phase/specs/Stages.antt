@@ -90,6 +90,11 @@ abbrev pub voter : Standing → Option ℕ
 voter (Waiting room) = None
 voter (Going c) = course.voter c
 
+-- the word that is out is the last that asks
+abbrev pub is_last_asked : Standing → Bool
+is_last_asked (Waiting room) = false
+is_last_asked (Going c) = course.is_last_asked c
+
 -- nobody knew at some time whether the record stands
 abbrev pub was_doubtful : Standing → Bool
 was_doubtful (Waiting room) = false

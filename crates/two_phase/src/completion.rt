@@ -268,6 +268,16 @@ impl Completion {
         }
     }
 
+    /// Whether the word that is out is the last that asks for a first answer: each other participant has given its own.
+    pub fn is_last_asked(&self) -> bool
+        ensures last { result ≡ stages.is_last_asked self.now }
+    {
+        match &self.state {
+            Standing::Waiting(_) => false,
+            Standing::Going(course) => course.is_last_asked(),
+        }
+    }
+
     /// Whether nobody knew at some time whether the decision record stands.
     pub fn was_doubtful(&self) -> bool
         ensures doubtful { result ≡ stages.was_doubtful self.now }

@@ -1,17 +1,18 @@
 // The completion of a tree of transactions, under way.
 ghost use Rattle.std.specs.Prelude.{◌≡◌, ℕ, ◌+◌, ◌^◌, ◌<◌, ◌≤◌, ◌++◌, length, None, Some, IfSome, IsOk, OnOk, OnErr, vec_len, vec_capacity};
 ghost use Rattle.std.specs.Option.{option_copied, option_map, option_to_list};
-ghost use Rattle.std.specs.List.{slice_get};
+ghost use Rattle.std.specs.List.{slice_get, list_all};
 ghost use Rattle.two_phase.specs.Limits.{disposition_limit, registration_limit};
 ghost use Rattle.two_phase.specs.Course as course;
+ghost use Rattle.two_phase.specs.Parties.{has_answered};
 ghost use Rattle.two_phase.specs.Reports as reports;
 ghost use Rattle.two_phase.specs.declared.party.Stage.TheVariants as stages;
 ghost use Rattle.two_phase.specs.CourseInside.{IsOpen};
 
 use crate::dispositions::Dispositions;
 use crate::party::{Errand, Party, Stage, by_answer, cause_of, disposition_of_ballot};
+use crate::room::Blank;
 use crate::stock::{Stock, enter};
-use flat_phases::Blank;
 use heuristic_join::{join_root, join_sub};
 use ots_model::tree::{Outcome, Outward, Reason, Word};
 use ots_model::{CallNumber, Decision, Disposition, Ground, Heard, Join, Receipt, Stood};
@@ -460,6 +461,27 @@ impl Course {
         }
     }
 
+    /// Whether the word that is out is the last that asks: each other participant has answered its own.
+    pub fn is_last_asked(&self) -> bool
+        ensures { result ≡ course.is_last_asked self.now }
+    {
+        match self.out {
+            Some(errand) => self.asks_last(errand),
+            None => false,
+        }
+    }
+
+    /// Whether this word is the last that asks.
+    fn asks_last(&self, errand: Errand) -> bool
+        requires there { errand.place < length (self.now).parties }
+        ensures { result ≡ course.asks_last (self.now).parties errand }
+    {
+        match errand.stage {
+            Stage::Asking => others_have_answered(errand.place, &self.parties),
+            Stage::Telling | Stage::Forgetting => false,
+        }
+    }
+
     /// Whether nobody knew at some time whether the record stands.
     pub fn was_doubtful(&self) -> bool
         ensures { result ≡ course.is_unsure (self.now).stood }
@@ -502,6 +524,22 @@ fn errand_at(stage: Stage, place: Option<usize>) -> Option<Errand>
         Some(place) => Some(errand_to(stage, place)),
         None => None,
     }
+}
+
+/// Whether each participant but the one at this place has answered its first word.
+#[tactic(auto, unfolding(crate::specs::Course::others_have_answered))]
+fn others_have_answered(place: usize, parties: &[Party]) -> bool
+    requires there { place < length parties.now }
+    ensures { result ≡ course.others_have_answered place parties.now }
+{
+    all_have_answered(&parties[..place]) && all_have_answered(&parties[place + 1..])
+}
+
+/// Whether each of these has answered its first word.
+fn all_have_answered(parties: &[Party]) -> bool
+    ensures { result ≡ list_all has_answered parties.now }
+{
+    parties.iter().all(|p| p.has_answered())
 }
 
 /// The first participant whose answer is no consent.

@@ -1,6 +1,7 @@
 // Laws of the definitions: these functions do nothing, and their contracts are the laws. A body calls the laws of registrations
 // that its own law follows from.
 ghost use Rattle.two_phase.specs.LawsOfCourses.{TreeWordsGoRightly};
+ghost use Rattle.two_phase.specs.LawsOfDeciding.{LastAnswerDecides};
 ghost use Rattle.two_phase.specs.LawsOfOutcomes.{OutcomesHaveCauses};
 ghost use Rattle.two_phase.specs.LawsOfParticipants.{NoParticipantHearsTwice, ParticipantsHaveNumbers};
 ghost use Rattle.two_phase.specs.LawsOfSettling.{SettledIsNothingPending, SettledIsSilent, SettledIsThrough};
@@ -29,6 +30,11 @@ pub fn a_settled_one_is_through()
     ensures through { SettledIsThrough }
     ensures pending { SettledIsNothingPending }
     ensures silent { SettledIsSilent }
+{}
+
+/// A decision begins to be wanted in a completion of a tree only while the word that is out is the last that asks.
+pub fn the_last_answer_decides()
+    ensures { LastAnswerDecides }
 {}
 
 /// In a completion of a tree an outcome that is fixed stays, whatever goes out, is answered, is recorded, or comes from

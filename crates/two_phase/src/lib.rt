@@ -5,13 +5,15 @@ pub use completion::Completion;
 pub use dispositions::Dispositions;
 pub use laws::{
     a_participant_hears_once, a_settled_one_is_through, a_tree_goes_one_way, a_tree_outcome_stays,
-    a_tree_word_goes_out_once, no_tree_word_is_left_out, tree_outcomes_have_causes,
-    tree_words_go_rightly,
+    a_tree_word_goes_out_once, no_tree_word_is_left_out, the_last_answer_decides,
+    tree_outcomes_have_causes, tree_words_go_rightly,
 };
+pub use room::Blank;
 
 mod completion;
 mod course;
 mod dispositions;
 mod laws;
 mod party;
+mod room;
 mod stock;

@@ -4,7 +4,6 @@ ghost use Rattle.std.specs.Option.{option_map};
 ghost use Rattle.two_phase.specs.Course as course;
 ghost use Rattle.two_phase.specs.Parties as parties;
 
-use flat_phases::consents;
 use ots_model::tree::{Outcome, Reason};
 use ots_model::{Decision, Disposition, Ground, Heard, RefBytes, Vote};
 
@@ -34,6 +33,13 @@ pub(crate) struct Errand {
     pub place: usize,
 }
 
+/// Whether an answer to prepare lets the asking go on.
+fn consents(heard: Heard) -> bool
+    ensures { result ≡ parties.consents heard }
+{
+    matches!(heard, Heard::Voted(Vote::VoteCommit | Vote::VoteReadOnly))
+}
+
 impl Party {
     /// Whether it has answered its first word by a vote that lets the asking go on.
     pub fn has_consented(&self) -> bool
@@ -61,6 +67,13 @@ impl Party {
         ensures { result ≡ parties.is_unasked self.now }
     {
         self.ballot.is_none()
+    }
+
+    /// Whether it has answered its first word.
+    pub fn has_answered(&self) -> bool
+        ensures { result ≡ parties.has_answered self.now }
+    {
+        self.ballot.is_some()
     }
 
     /// Whether this outcome is told to it, where `alone` says that it was to decide alone.

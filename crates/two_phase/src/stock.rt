@@ -3,7 +3,7 @@ ghost use Rattle.std.specs.Prelude.{◌≡◌, ℕ, ◌+◌, ◌*◌, ◌<◌, �
 ghost use Rattle.two_phase.specs.Parties.{party_of};
 
 use crate::party::Party;
-use flat_phases::{Blank, add_blanks};
+use crate::room::{Blank, add_blanks};
 use resource_votes::{Registration, Walk};
 use std::alloc::{AllocError, Global};
 use std::marker::Model;

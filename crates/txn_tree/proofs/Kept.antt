@@ -4,7 +4,7 @@ use Rattle.std.specs.Prelude.{if◌then◌else◌, slice_set, take}
 use Rattle.std.specs.List.{slice_index_or}
 use Rattle.std.proofs.lemmas.Grind.{common_steps}
 use Rattle.std.proofs.lemmas.Bool.Decides.{nat_tests}
-use Rattle.txn_tree.specs.Links.{kept, last, before, AreWide}
+use Rattle.txn_tree.specs.Links.{depth_count, kept, last, before, AreWide}
 use Rattle.txn_tree.specs.declared.links.Links.{Links}
 
 pub same_or_not : (a b : ℕ) → (a ≡ b) ⊎ (a ≢ b)
@@ -67,17 +67,17 @@ before_there (j ∷ links) zero (suc b) n k h = refl
 before_there (j ∷ links) (suc a) zero n k h = refl
 before_there (j ∷ links) (suc a) (suc b) n k h = before_there links a b n k (λ e. h (ap (λ (x : ℕ). suc x) e))
 
-pub wide_at : (links : List Links) (a : ℕ) (d : Links) → AreWide links → a < length links → (length (slice_index_or links a d).last ≡ 17) × (length (slice_index_or links a d).before ≡ 17)
+pub wide_at : (links : List Links) (a : ℕ) (d : Links) → AreWide links → a < length links → (length (slice_index_or links a d).last ≡ depth_count) × (length (slice_index_or links a d).before ≡ depth_count)
 wide_at [] a d w h = absurd (omega arith)
 wide_at (k ∷ links) zero d w h = (w.0, w.1)
 wide_at (k ∷ links) (suc a) d w h = wide_at links a d w.2 (omega arith)
 
-pub wide_put : (links : List Links) (a : ℕ) (k : Links) → AreWide links → length k.last ≡ 17 → length k.before ≡ 17 → AreWide (slice_set links a k)
+pub wide_put : (links : List Links) (a : ℕ) (k : Links) → AreWide links → length k.last ≡ depth_count → length k.before ≡ depth_count → AreWide (slice_set links a k)
 wide_put [] a k w h i = w
 wide_put (j ∷ links) zero k w h i = (h, i, w.2)
 wide_put (j ∷ links) (suc a) k w h i = (w.0, w.1, wide_put links a k w.2 h i)
 
-pub wide_push : (links : List Links) (k : Links) → AreWide links → length k.last ≡ 17 → length k.before ≡ 17 → AreWide (links ++ k ∷ [])
+pub wide_push : (links : List Links) (k : Links) → AreWide links → length k.last ≡ depth_count → length k.before ≡ depth_count → AreWide (links ++ k ∷ [])
 wide_push [] k w h i = (h, i, tt)
 wide_push (j ∷ links) k w h i = (w.0, w.1, wide_push links k w.2 h i)
 
@@ -105,7 +105,7 @@ chosen a b l n r o p both one other =
       | inr ne ↦ let x = one ne in grind (arith, nat_tests)
     ]
 
-pub last_written : (links : List Links) (b n : ℕ) (o : Option ℕ) (d : Links) → AreWide links → b < length links → n < 17 → (a l : ℕ)
+pub last_written : (links : List Links) (b n : ℕ) (o : Option ℕ) (d : Links) → AreWide links → b < length links → n < depth_count → (a l : ℕ)
     → last (slice_set links b (record { last = slice_set (slice_index_or links b d).last n o; before = (slice_index_or links b d).before })) a l ≡ (if a == b && l == n then o else last links a l)
 last_written links b n o d w h k a l =
     let its : Links = record { last = slice_set (slice_index_or links b d).last n o; before = (slice_index_or links b d).before } in
@@ -118,7 +118,7 @@ last_written links b n o d w h k a l =
       | inr ne ↦ last_there links b a l its ne
     ])
 
-pub before_written : (links : List Links) (b n : ℕ) (o : Option ℕ) (d : Links) → AreWide links → b < length links → n < 17 → (a l : ℕ)
+pub before_written : (links : List Links) (b n : ℕ) (o : Option ℕ) (d : Links) → AreWide links → b < length links → n < depth_count → (a l : ℕ)
     → before (slice_set links b (record { last = (slice_index_or links b d).last; before = slice_set (slice_index_or links b d).before n o })) a l ≡ (if a == b && l == n then o else before links a l)
 before_written links b n o d w h k a l =
     let its : Links = record { last = (slice_index_or links b d).last; before = slice_set (slice_index_or links b d).before n o } in

@@ -4,7 +4,7 @@ use Rattle.std.specs.Prelude.{slice_set}
 use Rattle.std.proofs.lemmas.Grind.{common_steps}
 use Rattle.txn_tree.specs.Rows.{parent, IsTree, depth, is_live, is_live_branch}
 use Rattle.txn_tree.specs.Calls.{created, with_state, top_alone}
-use Rattle.txn_tree.specs.Links.{kept, last, is_below, LooksBack, IsFound, AreLinked, AreLinkedBut}
+use Rattle.txn_tree.specs.Links.{depth_count, kept, last, is_below, LooksBack, IsFound, AreLinked, AreLinkedBut}
 use Rattle.txn_tree.specs.declared.row.Row.{Row}
 use Rattle.txn_tree.specs.declared.row.State.{State}
 use Rattle.txn_tree.specs.declared.row.State.TheVariants.{Active}
@@ -77,7 +77,7 @@ grows_on rows b t = record {
   dead = λ q k off. live_before rows (record { parent = Some b; state = Active }) q k ∙ off;
 }
 
-pub links_grow : (rows : List Row) (links : List Links) (b : ℕ) (k : Links) → IsTree rows → AreLinked rows links (length rows) → ((l : ℕ) → kept k.last l ≡ None) → length k.last ≡ 17 → length k.before ≡ 17 → AreLinked (created rows b) (links ++ k ∷ []) (length rows)
+pub links_grow : (rows : List Row) (links : List Links) (b : ℕ) (k : Links) → IsTree rows → AreLinked rows links (length rows) → ((l : ℕ) → kept k.last l ≡ None) → length k.last ≡ depth_count → length k.before ≡ depth_count → AreLinked (created rows b) (links ++ k ∷ []) (length rows)
 links_grow rows links b k t linked fresh wide also = record {
   ways = record {
     each_has_one =
@@ -99,7 +99,7 @@ links_grow rows links b k t linked fresh wide also = record {
     found_on a l (Some q) h f = live_before rows (record { parent = Some b; state = Active }) q h.earlier ∙ f
 
 -- the top alone
-pub links_begin : (k : Links) → ((l : ℕ) → kept k.last l ≡ None) → length k.last ≡ 17 → length k.before ≡ 17 → AreLinked top_alone (k ∷ []) 1
+pub links_begin : (k : Links) → ((l : ℕ) → kept k.last l ≡ None) → length k.last ≡ depth_count → length k.before ≡ depth_count → AreLinked top_alone (k ∷ []) 1
 links_begin k fresh wide also = record {
   ways = record {
     each_has_one = refl;

@@ -19,10 +19,14 @@ last links a l = option_and_then (λ (k : Links). kept k.last l) (slice_get link
 abbrev pub before : List Links → ℕ → ℕ → Option ℕ
 before links q d = option_and_then (λ (k : Links). kept k.before d) (slice_get links q)
 
+-- how many depths there are, with 0, at which no branch lies
+abbrev pub depth_count : ℕ
+depth_count = depth_limit + 1
+
 -- there is a place for each depth
 abbrev pub AreWide : List Links → Type 0
 AreWide [] = Unit {0}
-AreWide (k ∷ links) = (length k.last ≡ 17) × (length k.before ≡ 17) × AreWide links
+AreWide (k ∷ links) = (length k.last ≡ depth_count) × (length k.before ≡ depth_count) × AreWide links
 
 -- a branch is a descendant of another one, and not that one
 abbrev pub is_below : List Row → ℕ → ℕ → Bool
@@ -71,10 +75,11 @@ pub record AreLinkedBut (rows : List Row) (links : List Links) (ended : ℕ) : T
   pub ways : LeaveNoneOut rows links (length rows)
   pub live : (a l : ℕ) → last links a l ≢ Some ended → IsFound rows (last links a l)
 
--- of those that are kept of a branch, the one for the largest depth
+-- none is kept of a branch for a depth from this one on
 abbrev pub NoneKept : List Links → ℕ → ℕ → Type 0
 NoneKept links a low = (l : ℕ) → low ≤ l → l ≤ depth_limit → last links a l ≡ None
 
+-- of those that are kept of a branch, the one for the largest depth
 pub record IsDeepestAt (links : List Links) (a t : ℕ) : Type 0 where
   pub at : ℕ
   pub its : last links a at ≡ Some t

@@ -1,10 +1,9 @@
-use Rattle.std.specs.Prelude.{◌≡◌, ℕ, ◌-◌, ◌<◌, ◌≤◌, List, length, min, vec_len, vec_capacity, slice_index}
+use Rattle.std.specs.Prelude.{◌≡◌, ℕ, ◌+◌, ◌*◌, ◌-◌, ◌<◌, ◌≤◌, List, length, min, vec_len, vec_capacity, slice_index}
 use Rattle.txn_tree.specs.Limits.{depth_limit, transaction_limit}
 use Rattle.txn_tree.specs.Rows.{IsTree, depth}
 use Rattle.txn_tree.specs.Calls.{TreeParts}
 use Rattle.txn_tree.specs.Links.{AreLinked}
 use Rattle.txn_tree.specs.declared.row.Row.{Row}
-use Rattle.txn_tree.specs.declared.links.Links.{Links}
 use Rattle.txn_tree.specs.declared.tree.Tree.TheInside.{Inside}
 
 -- the rows, and how many more fit into each of the vectors
@@ -23,10 +22,14 @@ pub record HaveDepths (rows : List Row) (depths : List ℕ) : Type 0 where
   pub depths_are : (b : ℕ) → b < length rows → slice_index depths b ≡ depth rows b
   pub shallow : (b : ℕ) → b < length rows → depth rows b ≤ depth_limit
 
--- and all are linked
-pub record HaveLinks (rows : List Row) (depths : List ℕ) (links : List Links) : Type 0 where
-  pub shape : HaveDepths rows depths
-  pub linked : AreLinked rows links (length rows)
+-- memory is taken for as many more as there are at most, but for two at the beginning
+abbrev pub HasSpare : ℕ → ℕ → Type 0
+HasSpare count capacity = capacity ≤ 2 * count + 2
 
-abbrev pub IsSound : Inside → Type 0
-IsSound t = HaveLinks t.rows.items t.depths.items t.links.items
+-- each branch has its depth, all are linked, and no more memory is taken than doubling wants
+pub record IsSound (t : Inside) : Type 0 where
+  pub shape : HaveDepths t.rows.items t.depths.items
+  pub linked : AreLinked t.rows.items t.links.items (length t.rows.items)
+  pub rows_spare : HasSpare (vec_len t.rows) (vec_capacity t.rows)
+  pub depths_spare : HasSpare (vec_len t.depths) (vec_capacity t.depths)
+  pub links_spare : HasSpare (vec_len t.links) (vec_capacity t.links)

@@ -5,13 +5,14 @@ ghost use Rattle.std.specs.Prelude.{◌≡◌, ℕ, ◌+◌, ◌<◌, ◌≤◌,
 ghost use Rattle.txn_tree.specs.Limits.{depth_limit, transaction_limit};
 ghost use Rattle.txn_tree.specs.Rows.{is_live_branch, depth as depth_of};
 ghost use Rattle.txn_tree.specs.TreeInside.{HaveDepths};
-ghost use Rattle.txn_tree.specs.Links.{AreLinked, AreLinkedBut, AreWide, LeaveNoneOut, LooksBack, IsDeepest, IsFound};
+ghost use Rattle.txn_tree.specs.Links.{depth_count, AreLinked, AreLinkedBut, AreWide, LeaveNoneOut, LooksBack, IsDeepest, IsFound};
 ghost use Rattle.txn_tree.specs.Links as links_of;
 
 use crate::row::{Row, parent_of};
+use crate::tree::DEPTH_LIMIT;
 
 /// How many depths there are, with 0, at which no branch lies.
-const DEPTHS: usize = 17;
+const DEPTHS: usize = DEPTH_LIMIT as usize + 1;
 
 /// The links of a branch. They take 136 bytes, so 136 KiB in the largest tree.
 #[derive(Clone, Copy)]
@@ -26,7 +27,7 @@ pub(crate) struct Links {
 /// The links of a branch with none below it, and none before it.
 pub(crate) fn unlinked() -> Links
     ensures last { (l : ℕ) → links_of.kept result.last l ≡ None }
-    ensures wide { (length result.last ≡ 17) × (length result.before ≡ 17) }
+    ensures wide { (length result.last ≡ depth_count) × (length result.before ≡ depth_count) }
 {
     Links {
         last: [None; DEPTHS],

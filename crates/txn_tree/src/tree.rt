@@ -20,6 +20,9 @@ pub const TRANSACTION_LIMIT: usize = 1024;
 /// The branch of the top-level transaction.
 const TOP: u32 = 0;
 
+/// For how many transactions a tree takes memory at first.
+const FIRST_ROOM: usize = 4;
+
 /// A top-level transaction with its subtransactions. A branch names one of them; they count up from 0, the top, in the
 /// order of their making. Contracts see the parent and the state of each, and for how many more memory is taken.
 #[derive(Drop)]
@@ -46,15 +49,15 @@ impl Tree {
     pub fn new(alloc: Global) -> Result<Tree, AllocError>
         ensures top { IfOk result (λ tree. tree.rows ≡ calls.top_alone) }
     {
-        let mut rows = Vec::new(alloc);
-        let mut depths = Vec::new(alloc);
-        let mut links = Vec::new(alloc);
-        rows.push(Row {
+        let mut rows = Vec::with_capacity(alloc, FIRST_ROOM)?;
+        let mut depths = Vec::with_capacity(alloc, FIRST_ROOM)?;
+        let mut links = Vec::with_capacity(alloc, FIRST_ROOM)?;
+        rows.push_reserved(Row {
             parent: None,
             state: State::Active,
-        })?;
-        depths.push(1)?;
-        links.push(unlinked())?;
+        });
+        depths.push_reserved(1);
+        links.push_reserved(unlinked());
         Ok(Tree {
             rows,
             depths,
@@ -71,7 +74,7 @@ impl Tree {
         self.rows.len() as u32
     }
 
-    /// Takes memory for one more transaction, where there is none yet.
+    /// Takes memory for one more transaction, where there is none yet: for as many more as there are.
     pub fn reserve(&mut self) -> Result<(), AllocError>
         ensures ok { OnOk result (0 < self.new.room) }
         ensures there { 0 < self.old.room → IsOk result }
@@ -79,9 +82,10 @@ impl Tree {
         ensures room { self.old.room ≤ self.new.room }
     {
         if self.is_packed() {
-            self.rows.reserve(1)?;
-            self.depths.reserve(1)?;
-            self.links.reserve(1)?;
+            let more = self.rows.len();
+            self.rows.reserve_exact(more)?;
+            self.depths.reserve_exact(more)?;
+            self.links.reserve_exact(more)?;
         }
         Ok(())
     }

@@ -1,6 +1,7 @@
 use Rattle.std.proofs.Common.{◌≡◌, None, ◌+◌, ◌<◌, ◌∙◌, length, arith}
 use Rattle.std.specs.Prelude.{drop}
 use Rattle.std.proofs.lemmas.List.{get_or_default}
+use Rattle.txn_tree.specs.Limits.{depth_limit, transaction_limit}
 use Rattle.txn_tree.specs.Rows.{depth}
 use Rattle.txn_tree.specs.Calls.{creating}
 use Rattle.txn_tree.specs.Links.{AreLinked}
@@ -14,7 +15,7 @@ pub link-requires-clause-shape : goal.link-requires-clause-shape
 link-requires-clause-shape c =
     let there : c.args.parent < length c.self.inside.rows.items = rw (← c.self.view_is) at c.requires.there in
     let allowed : creating c.self.inside.rows.items c.args.parent ≡ None = rw (← c.self.view_is) at c.requires.allowed in
-    let space : (depth c.self.inside.rows.items c.args.parent < 16) × (length c.self.inside.rows.items < 1024) = has_space _ _ allowed in
+    let space : (depth c.self.inside.rows.items c.args.parent < depth_limit) × (length c.self.inside.rows.items < transaction_limit) = has_space _ _ allowed in
     let same : c.index.result.now ≡ depth c.self.inside.rows.items c.args.parent =
     c.index.ensures ∙ get_or_default c.self.inside.depths.items c.args.parent _ 0 (omega (arith, there, c.self.invariant.shape.each_has_one))
     ∙ c.self.invariant.shape.depths_are c.args.parent there in
@@ -32,7 +33,7 @@ pub invariant_of-self : goal.invariant_of-self
 invariant_of-self c =
     let there : c.args.parent < length c.self.inside.rows.items = rw (← c.self.view_is) at c.requires.there in
     let allowed : creating c.self.inside.rows.items c.args.parent ≡ None = rw (← c.self.view_is) at c.requires.allowed in
-    let space : (depth c.self.inside.rows.items c.args.parent < 16) × (length c.self.inside.rows.items < 1024) = has_space _ _ allowed in
+    let space : (depth c.self.inside.rows.items c.args.parent < depth_limit) × (length c.self.inside.rows.items < transaction_limit) = has_space _ _ allowed in
     let same : c.index.result.now ≡ depth c.self.inside.rows.items c.args.parent =
     c.index.ensures ∙ get_or_default c.self.inside.depths.items c.args.parent _ 0 (omega (arith, there, c.self.invariant.shape.each_has_one))
     ∙ c.self.invariant.shape.depths_are c.args.parent there in
@@ -43,4 +44,10 @@ invariant_of-self c =
     let linked : AreLinked c.push_reserved-3.new.self.items c.link.new.links (length c.push_reserved-3.new.self.items) =
     rw more (rw c.deref.ensures.value at c.link.ensures) in
     let len : c.push_reserved-2.new.self.len ≡ length c.link.new.links = omega arith in
-    rw (written_back c.link.new.links (drop (length c.link.new.links) c.push_reserved-2.new.self.items) c.push_reserved-2.new.self.len len) (record { shape = shape; linked = linked })
+    record {
+      shape = shape;
+      linked = rw (written_back c.link.new.links (drop (length c.link.new.links) c.push_reserved-2.new.self.items) c.push_reserved-2.new.self.len len) linked;
+      rows_spare = omega (arith, c.self.invariant.rows_spare, c.push_reserved-3.ensures.capacity, c.push_reserved-3.ensures.len);
+      depths_spare = omega (arith, c.self.invariant.depths_spare, c.push_reserved.ensures.capacity, c.push_reserved.ensures.len);
+      links_spare = omega (arith, c.self.invariant.links_spare, c.push_reserved-2.ensures.capacity, c.push_reserved-2.ensures.len);
+    }

@@ -28,10 +28,13 @@ invariant_of-self c =
     let same : c.parent_of-parent.result ≡ parent c.self.inside.rows.items c.args.branch =
     rw c.deref.ensures.value at c.parent_of-parent.ensures in
     let len : c.self.inside.links.len ≡ length c.unlink.new.links = omega arith in
-    rw (written_back c.unlink.new.links (drop (length c.unlink.new.links) c.self.inside.links.items) c.self.inside.links.len len) (record {
+    record {
       shape = rw same (depths_kept _ _ c.self.invariant.shape c.args.branch c.args.state);
-      linked = rw c.deref-then-not-is_live.ensures.value at c.unlink.ensures;
-    })
+      linked = rw (written_back c.unlink.new.links (drop (length c.unlink.new.links) c.self.inside.links.items) c.self.inside.links.len len) (rw c.deref-then-not-is_live.ensures.value at c.unlink.ensures);
+      rows_spare = c.self.invariant.rows_spare;
+      depths_spare = c.self.invariant.depths_spare;
+      links_spare = c.self.invariant.links_spare;
+    }
 
 pub relink-requires-clause-shape : goal.relink-requires-clause-shape
 relink-requires-clause-shape c =
@@ -44,10 +47,13 @@ invariant_of-self-then-not-was_live c =
     let same : c.parent_of-parent.result ≡ parent c.self.inside.rows.items c.args.branch =
     rw c.deref.ensures.value at c.parent_of-parent.ensures in
     let len : c.self.inside.links.len ≡ length c.relink.new.links = omega arith in
-    rw (written_back c.relink.new.links (drop (length c.relink.new.links) c.self.inside.links.items) c.self.inside.links.len len) (record {
+    record {
       shape = rw same (depths_kept _ _ c.self.invariant.shape c.args.branch c.args.state);
-      linked = rw c.deref-then-not-was_live.ensures.value at c.relink.ensures;
-    })
+      linked = rw (written_back c.relink.new.links (drop (length c.relink.new.links) c.self.inside.links.items) c.self.inside.links.len len) (rw c.deref-then-not-was_live.ensures.value at c.relink.ensures);
+      rows_spare = c.self.invariant.rows_spare;
+      depths_spare = c.self.invariant.depths_spare;
+      links_spare = c.self.invariant.links_spare;
+    }
 
 pub invariant_of-self-else-not-was_live : goal.invariant_of-self-else-not-was_live
 invariant_of-self-else-not-was_live c =
@@ -60,4 +66,7 @@ invariant_of-self-else-not-was_live c =
       shape = depths_kept _ _ c.self.invariant.shape c.args.branch c.args.state;
       linked = state_lives c.self.inside.rows.items c.self.inside.links.items c.args.branch c.args.state c.self.invariant.shape.tree there
           (sym c.is_live.ensures ∙ c.if-not-is_live.false) was c.self.invariant.linked;
+      rows_spare = c.self.invariant.rows_spare;
+      depths_spare = c.self.invariant.depths_spare;
+      links_spare = c.self.invariant.links_spare;
     })
