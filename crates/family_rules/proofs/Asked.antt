@@ -68,6 +68,7 @@ sound_same s v p is = subst (λ (x : Ballots). IsSound (record s { votes = recor
   once = p.once;
   tasks = p.tasks;
   places = p.places;
+  tally = p.tally;
 })
 
 -- one more registration
@@ -90,6 +91,7 @@ one_more s v b to aware lists p some few once =
       once = subst (λ (n : ℕ). AreOnce lists n) (sym more) once;
       tasks = all_stay rs r s.seats.items p.tasks;
       places = places_stay s.completion rs r some;
+      tally = p.tally;
     }
 
 pub sound_registered : (s : Inside) (v : VotesParts) (b : ℕ) (to : List ℕ) (aware : Bool) → IsSound s → 0 < spare s.completion (length s.votes.ballots.registrations)
@@ -119,6 +121,7 @@ sound_sync s v b to p fits is = subst (λ (x : Ballots). IsSound (record s { vot
       once = p.once;
       tasks = p.tasks;
       places = p.places;
+      tally = p.tally;
     })
 
 -- the synchronizations are fewer than there may be where one was taken

@@ -1,5 +1,5 @@
 -- No call has more left to tell of a rollback below it than its seat keeps.
-use Rattle.std.proofs.Common.{◌≡◌, ◌≤◌, ◌∙◌, ap, sym, subst, ℕ, zero, suc, ◌<◌, ◌+◌, Bool, true, false, List, [], ◌∷◌, length, drop, get_or, drop-cons, add-one, Option, None, Some, arith, if◌then◌else◌}
+use Rattle.std.proofs.Common.{◌≡◌, ◌≤◌, ◌∙◌, ap, ℕ, zero, suc, Bool, true, false, List, [], ◌∷◌, length, Option, None, Some, arith, if◌then◌else◌}
 use Rattle.std.specs.List.{slice_get}
 use Rattle.std.specs.Option.{option_and_then, option_map}
 use Rattle.resource_votes.specs.declared.registration.Registration.{Registration}
@@ -42,11 +42,3 @@ most_is f rs seats b most is all =
     let same : length (left_by (call_at f b)) ≡ length (left_by (option_and_then (seated rs) (slice_get seats b))) = ap (λ (o : Option Call). length (left_by o)) at in
     let few = few_at rs seats b most all in
     omega (arith, same, few)
-
--- what is left begins with the seat
-pub next_left : (seats : List Seat) (i : ℕ) (s : Seat) (most : ℕ) → i < length seats → s ≡ get_or seats i s → length s.left.items ≤ most → AllLeft (drop (i + 1) seats) most
-    → AllLeft (drop i seats) most
-next_left seats i s most within is few all =
-    let split : drop i seats ≡ s ∷ drop (suc i) seats = drop-cons seats i s within ∙ ap (λ (x : Seat). x ∷ drop (suc i) seats) (sym is) in
-    let rest : AllLeft (drop (suc i) seats) most = subst (λ (n : ℕ). AllLeft (drop n seats) most) (add-one i) all in
-    subst (λ (xs : List Seat). AllLeft xs most) (sym split) (few, rest)

@@ -17,4 +17,5 @@ mod Counted
 mod Handed
 mod Asked
 mod Lefts
+mod Tallied
 mod Made

@@ -2,7 +2,7 @@ use Rattle.std.specs.Prelude.{◌≡◌, ◌-◌, ◌≤◌, [], map, min, Optio
 use Rattle.std.specs.Option.{option_to_list, IsSome}
 use Rattle.std.specs.VecDeque.{deque_capacity}
 use Rattle.ots_model.specs.declared.tree.Outward.{Outward}
-use Rattle.flat_phases.specs.declared.room.Blank.{Blank}
+use Rattle.two_phase.specs.declared.room.Blank.{Blank}
 use Rattle.family_rules.specs.Changes.{DraftParts, finished_of}
 use Rattle.family_rules.specs.declared.draft.Draft.TheInside.{Inside}
 

@@ -4,6 +4,7 @@ pub mod Changes
 pub mod Order
 pub mod DraftInside
 pub mod Going
+pub mod Tallies
 pub mod StateInside
 pub mod Asking
 pub mod Recording

@@ -6,6 +6,7 @@ use Rattle.family_rules.specs.Calls.{all_seated, AllTasks}
 use Rattle.family_rules.specs.Order.{AreInOrder}
 use Rattle.coordinator.specs.Limits.{history_limit}
 use Rattle.family_rules.specs.Room.{StateParts, spare}
+use Rattle.family_rules.specs.Tallies.{IsTallied}
 use Rattle.family_rules.specs.declared.state.State.TheInside.{Inside}
 
 -- a completion that hasn't started, without its room
@@ -51,7 +52,8 @@ HasPlaces (UnderWay c) count = Unit {0}
 
 -- the history and the synchronizations keep to their limits; each entry has sent one word at most, and so has the step that
 -- goes on; each transaction has a seat, and what it has left to tell is of registrations that there are; each registration and each
--- synchronization has the number of its place; each registration is in one list at most; and all who are registered can take part
+-- synchronization has the number of its place; each registration is in one list at most; all who are registered can take part;
+-- and what is counted over the seats is so
 pub record IsSound (s : Inside) : Type 0 where
   pub few : vec_len s.entries ≤ history_limit
   pub serial : s.serial ≤ vec_len s.entries + 1
@@ -63,3 +65,4 @@ pub record IsSound (s : Inside) : Type 0 where
   pub once : AreOnce s.votes.ballots.lists (length s.votes.ballots.registrations)
   pub tasks : AllTasks s.votes.ballots.registrations s.seats.items
   pub places : HasPlaces s.completion (length s.votes.ballots.registrations)
+  pub tally : IsTallied s.tally s.seats.items

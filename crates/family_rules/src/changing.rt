@@ -10,7 +10,6 @@ ghost use Rattle.coordinator.specs.Step as steps;
 ghost use Rattle.coordinator.specs.Table as table;
 ghost use Rattle.two_phase.specs.Stages as stages;
 ghost use Rattle.family_rules.specs.Asking.{Creates, Registers};
-ghost use Rattle.family_rules.specs.Calls.{AllLeft};
 
 use crate::call::Seat;
 use crate::state::State;
@@ -196,23 +195,10 @@ impl State {
         self.entries.push_reserved(entry);
     }
 
-    /// The most that a call of its has left to tell of a rollback below it.
+    /// No call of its has more left to tell of a rollback below it.
     pub fn most_left(&self) -> usize
         ensures { (b : ℕ) → length (left_by (call_at self.now.family b)) ≤ result }
     {
-        most_left(&self.seats)
+        self.tally.most
     }
-}
-
-/// The most that a seat keeps.
-fn most_left(seats: &[Seat]) -> usize
-    ensures { AllLeft seats.now result }
-{
-    let mut most = 0;
-    for seat in seats {
-        if most < seat.left.len() {
-            most = seat.left.len();
-        }
-    }
-    most
 }

@@ -11,13 +11,13 @@ ghost use Rattle.std.specs.List.{find};
 
 use crate::call::{Reply, Task};
 use coordinator::{Answers, Effect, Effects, Finished, Said};
-use flat_phases::Blank;
 use ots_model::CallNumber;
 use ots_model::tree::{Outcome, Outward, Word};
 use resource_votes::Registration;
 use std::alloc::{AllocError, Global};
 use std::collections::VecDeque;
 use std::marker::Model;
+use two_phase::Blank;
 
 /// The answer to the call of that entry.
 #[derive(Clone, Copy)]

@@ -16,4 +16,5 @@ mod recording;
 mod registered;
 mod running;
 mod state;
+mod tally;
 mod tasks;

@@ -46,7 +46,7 @@ impl State {
     }
 
     /// A call waits.
-    #[tactic(auto, using(crate::proofs::Seated::set_plain, crate::proofs::Kept::tasks_set, crate::proofs::Kept::tasks_at))]
+    #[tactic(auto, using(crate::proofs::Seated::set_plain, crate::proofs::Kept::tasks_set, crate::proofs::Kept::tasks_at, crate::proofs::Tallied::tallied_called, crate::proofs::Tallied::few_open))]
     pub(crate) fn set_call(&mut self, branch: u32, call: Call)
         requires there { branch < length (self.old.family).rows }
         requires plain { call.owes ≡ false }
@@ -54,18 +54,22 @@ impl State {
         ensures kept { self.old.history_room ≤ self.new.history_room }
     {
         let seat = &mut self.seats[branch as usize];
+        let had = seat.call.is_some();
         seat.call = Some(call);
+        self.tally = self.tally.with_call(had);
     }
 
     /// No call ends this transaction any more.
-    #[tactic(auto, using(crate::proofs::Seated::set_none, crate::proofs::Kept::tasks_set, crate::proofs::Kept::tasks_at))]
+    #[tactic(auto, using(crate::proofs::Seated::set_none, crate::proofs::Kept::tasks_set, crate::proofs::Kept::tasks_at, crate::proofs::Tallied::tallied_cleared, crate::proofs::Tallied::some_open))]
     pub(crate) fn clear_call(&mut self, branch: u32)
         requires there { branch < length (self.old.family).rows }
         ensures does { self.new.family ≡ families.without_call branch self.old.family }
         ensures kept { self.old.history_room ≤ self.new.history_room }
     {
         let seat = &mut self.seats[branch as usize];
+        let had = seat.call.is_some();
         seat.call = None;
+        self.tally = self.tally.without_call(had);
     }
 
     /// The next word is out, and a call waits for its answer.

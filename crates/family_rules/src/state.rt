@@ -1,8 +1,6 @@
 // How the transactions of a family stand, and what they are called.
-ghost use Rattle.std.specs.Prelude.{◌≡◌, ◌++◌, ◌<◌, ◌≤◌, is_none, is_some, IfOk, OnOk};
-ghost use Rattle.std.specs.List.{list_all};
+ghost use Rattle.std.specs.Prelude.{◌≡◌, ◌++◌, ◌<◌, ◌≤◌, is_some, IfOk, OnOk};
 ghost use Rattle.std.specs.Option.{option_copied};
-ghost use Rattle.family_rules.specs.declared.call.Seat.{Seat as Seated};
 ghost use Rattle.family_rules.specs.Calls as calls;
 ghost use Rattle.coordinator.specs.Family.{call_at, new_family};
 ghost use Rattle.coordinator.specs.History as history;
@@ -12,7 +10,8 @@ ghost use Rattle.coordinator.specs.Table as table;
 ghost use Rattle.two_phase.specs.Stages as stages;
 
 use crate::call::Seat;
-use coordinator::{Column, Entry, Event, Phase, Said, Stage, Superior, kept};
+use crate::tally::Tally;
+use coordinator::{Column, Entry, Phase, Said, Stage, Superior, kept};
 use ior_refs::ObjectKey;
 use ots_model::tree::Outcome;
 use ots_model::{RetryKey, Status, Stood};
@@ -41,6 +40,7 @@ pub struct State {
     pub(crate) closed: Option<Stood>,
     pub(crate) serial: u32,
     pub(crate) entries: Vec<Entry>,
+    pub(crate) tally: Tally,
 }
 
 impl Model for State {
@@ -78,24 +78,8 @@ impl State {
             closed: None,
             serial: 0,
             entries: Vec::new(alloc),
+            tally: Tally { most: 0, calls: 0 },
         })
-    }
-
-    /// Whether the history has room for an event, or the event is a call that comes again.
-    pub fn has_room(&self, event: &Event) -> bool
-        ensures { result ≡ history.has_room (self.now.family).entries event.entry.now }
-    {
-        self.is_known(event) || (self.entries.len() as u32) < event.act.history_limit()
-    }
-
-    /// Whether an event is a call that comes again.
-    pub fn is_known(&self, event: &Event) -> bool
-        ensures { result ≡ is_some (history.kept_for (self.now.family).entries (event.entry.now).key) }
-    {
-        match &event.key {
-            Some(key) => kept(&self.entries, key).is_some(),
-            None => false,
-        }
     }
 
     /// Takes memory for one more entry, subtransaction and registration.
@@ -268,7 +252,7 @@ impl State {
         ensures { result ≡ steps.is_finished self.now.family }
     {
         match self.stage {
-            Stage::Over => has_no_call(&self.seats),
+            Stage::Over => self.tally.calls == 0,
             _ => false,
         }
     }
@@ -322,13 +306,6 @@ fn has_call(seats: &[Seat], place: usize) -> bool
         Some(seat) => seat.call.is_some(),
         None => false,
     }
-}
-
-/// Whether no call is under way.
-fn has_no_call(seats: &[Seat]) -> bool
-    ensures { result ≡ list_all (λ (s : Seated). is_none s.call) seats.now }
-{
-    seats.iter().all(|s| s.call.is_none())
 }
 
 /// How a subtransaction with this status stands, whose commit isn't under way.

@@ -124,7 +124,11 @@ impl State {
         ensures tasks_room { out.old.tasks_room ≤ out.new.tasks_room }
         ensures kept { self.old.history_room ≤ self.new.history_room }
     {
-        vacate(&mut self.seats[branch as usize], &mut out.tasks)
+        let seat = &mut self.seats[branch as usize];
+        let had = seat.call.is_some();
+        let caller = vacate(seat, &mut out.tasks);
+        self.tally = self.tally.without_call(had);
+        caller
     }
 
     /// Gathers the tasks of a subtransaction's rollback: to those that are told of its end, and then to its list.
@@ -179,6 +183,7 @@ impl State {
     }
 
     /// A call keeps the tasks that were gathered.
+    #[tactic(auto, using(crate::proofs::Tallied::few_open))]
     fn keep_gathered(&mut self, branch: u32, call: Call, out: &mut Draft)
         requires there { branch < length (self.old.family).rows }
         requires tasks { AreTasks (self.old.family).ballots.registrations out.old.changes.tasks }
@@ -191,9 +196,13 @@ impl State {
         ensures others { out.new.changes ≡ record out.old.changes { tasks = out.new.changes.tasks } }
         ensures kept { self.old.history_room ≤ self.new.history_room }
     {
+        let tasks = out.tasks.len();
         let seat = &mut self.seats[branch as usize];
+        let had = seat.call.is_some();
         mem::swap(&mut seat.left, &mut out.tasks);
         seat.call = Some(Call { owes: true, ..call });
+        let called = self.tally.with_call(had);
+        self.tally = called.with_tasks(tasks);
     }
 
     /// Whether a call has something left to tell.

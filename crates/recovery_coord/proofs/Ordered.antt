@@ -191,6 +191,29 @@ pub held_by : (place : ℕ) (rs : List Held) (found : Result ℕ ℕ) → IfOk f
 held_by place rs (Ok i) at gap = sym (held_at place i rs at)
 held_by place rs (Err i) at gap = sym (not_held place i rs gap)
 
+-- ---- the record at a place
+
+pub place_found : (place from : ℕ) (rs : List Held) → RiseFrom from rs → (i : ℕ) (d : Held) → IsAt place i rs
+    → find (λ (r : Held). r.place == place) rs ≡ Some (get_or rs i d)
+place_found place from [] rise i d at = absurd (omega (arith, at.within))
+place_found place from (r ∷ rs) rise zero d at =
+    ap (λ (b : Bool). cond b (Some r) (find (λ (x : Held). x.place == place) rs)) (equal r.place place (at.same d))
+place_found place from (r ∷ rs) rise (suc i) d at =
+    let lt : r.place + 1 ≤ (get_or rs i d).place = at_least (r.place + 1) rs rise.1 i d (omega (arith, at.within)) in
+    let no : (r.place == place) ≡ false = not_equal r.place place (λ e. omega (arith, lt, e, at.same d)) in
+    ap (λ (b : Bool). cond b (Some r) (find (λ (x : Held). x.place == place) rs)) no
+    ∙ place_found place (r.place + 1) rs rise.1 i d (record { within = omega (arith, at.within); same = at.same })
+
+none_placed : (place : ℕ) (rs : List Held) → ((k : ℕ) (d : Held) → k < length rs → (get_or rs k d).place ≡ place → ⊥)
+    → find (λ (r : Held). r.place == place) rs ≡ None
+none_placed place [] none = refl
+none_placed place (r ∷ rs) none =
+    ap (λ (b : Bool). cond b (Some r) (find (λ (x : Held). x.place == place) rs)) (not_equal r.place place (none zero r (omega arith)))
+    ∙ none_placed place rs (λ k d lt. none (suc k) d (omega arith))
+
+pub place_free : (place i : ℕ) (rs : List Held) → IsGap place i rs → find (λ (r : Held). r.place == place) rs ≡ None
+place_free place i rs gap = none_placed place rs (none_at place i rs gap)
+
 -- ---- one more record
 
 not_ltb : (a b : ℕ) → b ≤ a → ltb a b ≡ false

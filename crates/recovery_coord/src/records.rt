@@ -1,6 +1,7 @@
 // Held records in the order of their places.
-ghost use Rattle.std.specs.Prelude.{◌≡◌, ◌&&◌, false, map, find, not, Some, None, if◌then◌else◌, IfOk, IfErr, OnOk, OnErr};
-ghost use Rattle.std.specs.Option.{option_map};
+ghost use Rattle.std.specs.Prelude.{◌≡◌, ◌==◌, ◌&&◌, false, map, find, not, Some, None, if◌then◌else◌, IfOk, IfErr, OnOk, OnErr};
+ghost use Rattle.std.specs.Option.{option_copied, option_map};
+ghost use Rattle.recovery_coord.specs.declared.held.Held.{Held as HeldRecord};
 ghost use Rattle.recovery_coord.specs.Held as holding;
 ghost use Rattle.recovery_coord.specs.Hearing as hearing;
 ghost use Rattle.recovery_coord.specs.Telling as telling;
@@ -35,6 +36,17 @@ pub(crate) fn holds(records: &[Held], place: u64) -> bool
     ensures { result ≡ holding.is_held place records.now }
 {
     search(records, place).is_ok()
+}
+
+/// The record at this place.
+pub(crate) fn record_at(records: &[Held], place: u64) -> Option<&Held>
+    requires order { RiseFrom 0 records.now }
+    ensures { option_copied result ≡ find (λ (r : HeldRecord). r.place == place) records.now }
+{
+    match search(records, place) {
+        Ok(index) => Some(&records[index]),
+        Err(_) => None,
+    }
 }
 
 /// The record at the place that the number of the call names hears an answer. The result is that place, where the record is

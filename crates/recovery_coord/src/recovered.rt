@@ -2,6 +2,7 @@ ghost use Rattle.std.specs.Prelude.{◌≡◌, ◌≢◌, ◌==◌, ◌++◌, fa
 ghost use Rattle.std.specs.List.{filter_map};
 ghost use Rattle.std.specs.Option.{option_copied, option_to_list};
 ghost use Rattle.ior_refs.specs.Reference.{canonical_octets, nil};
+ghost use Rattle.recovery_coord.specs.declared.held.Held.{Held as HeldRecord};
 ghost use Rattle.recovery_coord.specs.Held as holding;
 ghost use Rattle.recovery_coord.specs.Hearing as hearing;
 ghost use Rattle.recovery_coord.specs.Telling as telling;
@@ -9,7 +10,7 @@ ghost use Rattle.recovery_coord.specs.Replay as replay;
 
 use crate::held::{Held, Party, held_of};
 use crate::outbox::Outbox;
-use crate::records::{hear, holds, let_go, recall_all, search, take_in};
+use crate::records::{hear, holds, let_go, recall_all, record_at, search, take_in};
 use crate::telling::{RETOLD_SLOT, tell_all};
 use crate::trees::{Trees, tree_named, tree_of};
 use decision_journal::{Journal, JournalRecord, Standing};
@@ -87,6 +88,13 @@ impl Recovered {
         ensures { result ≡ holding.is_held place self.now.records }
     {
         holds(self.records.as_slice(), place)
+    }
+
+    /// The record at a place.
+    pub fn record_at(&self, place: u64) -> Option<&Held>
+        ensures { option_copied result ≡ find (λ (r : HeldRecord). r.place == place) self.now.records }
+    {
+        record_at(self.records.as_slice(), place)
     }
 
     /// What a recovery coordinator answers by the records alone. It needs no memory.

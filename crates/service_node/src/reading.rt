@@ -1,6 +1,7 @@
 // What a node shows of itself.
-ghost use Rattle.std.specs.Prelude.{◌≡◌, ◌==◌, ◌&&◌};
+ghost use Rattle.std.specs.Prelude.{◌≡◌, ◌==◌, ◌&&◌, find};
 ghost use Rattle.std.specs.Option.{option_and_then, option_copied, option_map};
+ghost use Rattle.recovery_coord.specs.declared.held.Held.{Held as HeldRecord};
 ghost use Rattle.coordinator.specs.Family.{FamilyParts as TheFamily};
 ghost use Rattle.coordinator.specs.Node as nodes;
 
@@ -31,6 +32,13 @@ impl<D: Disk> Node<D> {
         ensures { result.now ≡ (self.now.node).recovered }
     {
         self.recovered.records()
+    }
+
+    /// The record at a place, where it is one of these.
+    pub fn record_at(&self, place: u64) -> Option<&Held>
+        ensures { option_copied result ≡ find (λ (r : HeldRecord). r.place == place) (self.now.node).recovered }
+    {
+        self.recovered.record_at(place)
     }
 
     /// The family that a key names, where its slot holds it.

@@ -30,4 +30,5 @@ invariant_of-self c =
       once = handed_once ballots.lists b above (length ballots.registrations) differ c.self.invariant.once;
       tasks = c.self.invariant.tasks;
       places = c.self.invariant.places;
+      tally = c.self.invariant.tally;
     })

@@ -6,6 +6,7 @@ use Rattle.family_rules.specs.StateInside.{shown}
 use Rattle.family_rules.specs.declared.call.Seat.{Seat}
 use Rattle.family_rules.proofs.AtSeat.{call_changes}
 use Rattle.family_rules.proofs.Kept.{tasks_at, tasks_set}
+use Rattle.family_rules.proofs.Tallied.{tallied_changed}
 use Rattle.family_rules.proofs.state.State.change_call.Goals as goal
 
 pub invariant_of-self : goal.invariant_of-self
@@ -27,6 +28,7 @@ invariant_of-self c =
       once = c.self.invariant.once;
       tasks = tasks_set rs seats b c.set_out.new.seat c.self.invariant.tasks (subst (λ (x : Seat). AreTasks rs x.left.items) (sym c.set_out.ensures) all);
       places = c.self.invariant.places;
+      tally = tallied_changed c.self.inside.tally seats b c.index_mut.result.now c.set_out.new.seat c.args.caller c.args.out within c.index_mut.ensures.value c.self.invariant.tally c.set_out.ensures;
     }
 
 pub returns-clause-does : goal.returns-clause-does

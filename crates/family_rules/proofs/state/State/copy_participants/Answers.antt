@@ -1,4 +1,4 @@
-use Rattle.std.proofs.Common.{◌∙◌, ℕ, ◌≤◌, List, map, Result, Ok, Err, ap, sym, subst}
+use Rattle.std.proofs.Common.{◌∙◌, ◌≤◌, List, map, Result, Ok, Err, ap, sym, subst}
 use Rattle.std.specs.Result.{IfOk}
 use Rattle.decision_journal.specs.declared.record.Registration.{Registration as Recorded}
 use Rattle.resource_votes.specs.History.{times}

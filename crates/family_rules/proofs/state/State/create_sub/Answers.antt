@@ -9,6 +9,8 @@ use Rattle.family_rules.specs.StateInside.{shown}
 use Rattle.family_rules.specs.declared.call.Seat.{Seat}
 use Rattle.family_rules.proofs.Added.{seats_more, tasks_more}
 use Rattle.family_rules.proofs.Made.{at_ok, creates_one}
+use Rattle.family_rules.specs.Tallies.{IsTallied}
+use Rattle.family_rules.proofs.Tallied.{tallied_more}
 use Rattle.family_rules.proofs.state.State.create_sub.Goals as goal
 
 pub invariant_of-self : goal.invariant_of-self
@@ -31,6 +33,8 @@ invariant_of-self c =
       tasks = subst (λ (xs : List Seat). AllTasks s.votes.ballots.registrations xs) (sym c.push_reserved.ensures.items)
           (tasks_more s.votes.ballots.registrations s.seats.items _ c.new.ensures.items c.self.invariant.tasks);
       places = c.self.invariant.places;
+      tally = subst (λ (xs : List Seat). IsTallied s.tally xs) (sym c.push_reserved.ensures.items)
+          (tallied_more s.tally s.seats.items _ c.new.ensures.items refl c.self.invariant.tally);
     }
 
 pub returns-then-is_ok-clause-made : goal.returns-then-is_ok-clause-made

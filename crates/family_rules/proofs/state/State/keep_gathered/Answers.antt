@@ -1,4 +1,4 @@
-use Rattle.std.proofs.Common.{◌≡◌, ◌∙◌, refl, sym, ap, subst, ◌<◌, List, length, slice_set, true, Some, arith}
+use Rattle.std.proofs.Common.{◌≡◌, ◌∙◌, refl, sym, ap, subst, ◌+◌, ◌<◌, max, Bool, if◌then◌else◌, is_some, List, length, slice_set, true, Some, arith}
 use Rattle.resource_votes.specs.declared.registration.Registration.{Registration}
 use Rattle.family_rules.specs.Calls.{AreTasks, all_seated, duties_in, plain_call}
 use Rattle.family_rules.specs.Changes.{DraftParts}
@@ -6,9 +6,12 @@ use Rattle.coordinator.specs.Family.{with_call}
 use Rattle.family_rules.specs.Room.{StateParts}
 use Rattle.family_rules.specs.StateInside.{shown}
 use Rattle.family_rules.specs.declared.call.Seat.{Seat}
+use Rattle.family_rules.specs.Tallies.{IsTallied}
 use Rattle.family_rules.specs.declared.call.Task.{Task}
+use Rattle.family_rules.specs.declared.tally.Tally.{Tally}
 use Rattle.family_rules.proofs.AtSeat.{put, put_there}
 use Rattle.family_rules.proofs.Kept.{tasks_set}
+use Rattle.family_rules.proofs.Tallied.{tallied_gathered}
 use Rattle.family_rules.proofs.state.State.keep_gathered.Goals as goal
 
 pub invariant_of-self : goal.invariant_of-self
@@ -20,6 +23,18 @@ invariant_of-self c =
     let ours : rs ≡ c.args.self.now.family.ballots.registrations = ap (λ (v : StateParts). v.family.ballots.registrations) c.self.view_is in
     let all : AreTasks rs c.swap.new.x.items =
     subst (λ (xs : List Task). AreTasks rs xs) (sym same) (subst (λ (qs : List Registration). AreTasks qs c.args.out.now.changes.tasks) (sym ours) c.requires.tasks) in
+    let b = c.args.branch in
+    let rows = ap (λ (v : StateParts). length v.family.rows) c.self.view_is in
+    let within : b < length seats = omega (arith, c.requires.there, rows, c.self.invariant.seats, c.self.inside.seats.ok.0) in
+    let s = c.index_mut-seat.result.now in
+    let t = c.self.inside.tally in
+    let new : Seat = record { call = Some (record c.args.call { owes = true }); left = c.swap.new.x } in
+    let moved : length c.swap.new.x.items ≡ length c.out.inside.tasks.items = ap (λ (xs : List Task). length xs) (same ∙ sym kept) in
+    let many : length c.swap.new.x.items ≡ c.len-tasks.result = omega (arith, moved, c.len-tasks.ensures, c.out.inside.tasks.ok.0) in
+    let called : c.with_call-called.result ≡ record t { calls = if is_some s.call then t.calls else t.calls + 1 } =
+    c.with_call-called.ensures ∙ ap {B = Tally} (λ (had : Bool). record t { calls = if had then t.calls else t.calls + 1 }) c.is_some-had.ensures in
+    let tallied : c.with_tasks-self-inside.result ≡ record t { most = max t.most c.len-tasks.result; calls = if is_some s.call then t.calls else t.calls + 1 } =
+    c.with_tasks-self-inside.ensures ∙ ap {B = Tally} (λ (x : Tally). record x { most = max x.most c.len-tasks.result }) called in
     record {
       few = c.self.invariant.few;
       serial = c.self.invariant.serial;
@@ -31,6 +46,8 @@ invariant_of-self c =
       once = c.self.invariant.once;
       tasks = tasks_set rs seats c.args.branch _ c.self.invariant.tasks all;
       places = c.self.invariant.places;
+      tally = subst (λ (x : Tally). IsTallied x (slice_set seats b new)) (sym tallied)
+          (tallied_gathered t seats b s new c.len-tasks.result within c.index_mut-seat.ensures.value c.self.invariant.tally refl many);
     }
 
 pub returns-clause-family : goal.returns-clause-family

@@ -10,6 +10,7 @@ use Rattle.family_rules.specs.declared.call.Task.{Task}
 use Rattle.family_rules.specs.Calls.{duty_in}
 use Rattle.family_rules.proofs.AtSeat.{first_is, first_task_there, still_tasks, tells_first}
 use Rattle.family_rules.proofs.Kept.{tasks_at, tasks_set}
+use Rattle.family_rules.proofs.Tallied.{tallied_told}
 use Rattle.family_rules.proofs.state.State.take_left.Goals as goal
 
 pub invariant_of-self : goal.invariant_of-self
@@ -32,6 +33,7 @@ invariant_of-self c =
       once = c.self.invariant.once;
       tasks = tasks_set rs seats b c.take_task.new.seat c.self.invariant.tasks (still_tasks rs s c.take_task.new.seat.left.items c.take_task.ensures.left all);
       places = c.self.invariant.places;
+      tally = tallied_told c.self.inside.tally seats b s c.take_task.new.seat within c.index_mut.ensures.value c.self.invariant.tally c.take_task.ensures.call c.take_task.ensures.left;
     }
 
 pub returns-clause-first : goal.returns-clause-first

@@ -1,0 +1,35 @@
+use Rattle.std.proofs.Common.{◌≡◌, ◌∙◌, refl, sym, ap, subst, ◌+◌, ◌<◌, Bool, if◌then◌else◌, is_some, length, slice_set, Some, arith}
+use Rattle.family_rules.specs.Room.{StateParts}
+use Rattle.family_rules.specs.Tallies.{IsTallied}
+use Rattle.family_rules.specs.declared.call.Seat.{Seat}
+use Rattle.family_rules.specs.declared.tally.Tally.{Tally}
+use Rattle.family_rules.proofs.Kept.{tasks_at, tasks_set}
+use Rattle.family_rules.proofs.Tallied.{tallied_called}
+use Rattle.family_rules.proofs.state.State.set_call.Goals as goal
+
+pub invariant_of-self : goal.invariant_of-self
+invariant_of-self c =
+    let rs = c.self.inside.votes.ballots.registrations in
+    let seats = c.self.inside.seats.items in
+    let b = c.args.branch in
+    let rows = ap (λ (v : StateParts). length v.family.rows) c.self.view_is in
+    let within : b < length seats = omega (arith, c.requires.there, rows, c.self.invariant.seats, c.self.inside.seats.ok.0) in
+    let s = c.index_mut-seat.result.now in
+    let t = c.self.inside.tally in
+    let new : Seat = record { call = Some c.args.call; left = s.left } in
+    let tallied : c.with_call-self-inside.result ≡ record t { calls = if is_some s.call then t.calls else t.calls + 1 } =
+    c.with_call-self-inside.ensures ∙ ap {B = Tally} (λ (had : Bool). record t { calls = if had then t.calls else t.calls + 1 }) c.is_some-had.ensures in
+    record {
+      few = c.self.invariant.few;
+      serial = c.self.invariant.serial;
+      seats = c.self.invariant.seats;
+      synchronizations = c.self.invariant.synchronizations;
+      order = c.self.invariant.order;
+      synchronization_order = c.self.invariant.synchronization_order;
+      lists = c.self.invariant.lists;
+      once = c.self.invariant.once;
+      tasks = tasks_set rs seats b new c.self.invariant.tasks (tasks_at rs seats b s within c.self.invariant.tasks c.index_mut-seat.ensures.value);
+      places = c.self.invariant.places;
+      tally = subst (λ (x : Tally). IsTallied x (slice_set seats b new)) (sym tallied)
+          (tallied_called t seats b s new within c.index_mut-seat.ensures.value c.self.invariant.tally (omega arith) refl);
+    }
