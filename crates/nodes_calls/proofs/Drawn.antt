@@ -21,7 +21,7 @@ use Rattle.nodes_ends.proofs.EndChanged.{end_changed, end_keeps}
 use Rattle.nodes_calls.specs.Drawing.{DrawsObject, HasDrawn, IsLast, IsLastIn}
 use Rattle.nodes_calls.specs.declared.objects.Object.{Object}
 use Rattle.nodes_calls.proofs.Ends.{end_becomes, no_end_becomes}
-use Rattle.nodes_calls.proofs.Keeping.{named_nodes}
+use Rattle.nodes_ready.proofs.Keeping.{named_nodes}
 
 -- ---- an end at a place
 

@@ -1,5 +1,3 @@
-mod Keeping
-mod Growing
 mod Answering
 mod Named
 mod Ends

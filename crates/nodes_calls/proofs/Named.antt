@@ -16,7 +16,7 @@ use Rattle.nodes_state.specs.Seated.{seat_of}
 use Rattle.nodes_state.specs.Shown.{shown}
 use Rattle.nodes_state.specs.declared.state.State.{State}
 use Rattle.nodes_state.proofs.Named.{name_is}
-use Rattle.nodes_seats.specs.Ready.{IsReady}
+use Rattle.nodes_ready.specs.Ready.{IsReady}
 
 abbrev resource_of : List ℕ × Thing → Option NamedKey
 resource_of entry = resource_in entry.0 entry.1

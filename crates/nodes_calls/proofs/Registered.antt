@@ -4,34 +4,26 @@ use Rattle.std.specs.Option.{option_and_then, option_map}
 use Rattle.ior_refs.specs.declared.key.ObjectKey.{ObjectKey}
 use Rattle.ots_world.specs.declared.fault.WorldFault.{WorldFault}
 use Rattle.ots_world.specs.declared.fault.WorldFault.TheVariants as faults
-use Rattle.service_node.specs.Given.{node_makes}
 use Rattle.coordinator.specs.declared.event.Act.{Act}
 use Rattle.coordinator.specs.declared.said.Said.{Said}
 use Rattle.nodes_world.specs.declared.deed.Manner.{Manner}
-use Rattle.nodes_world.specs.declared.deed.Manner.TheVariants as manners
-use Rattle.nodes_world.specs.Clients.{registered, registered_if, registering, registers, registers_at, registers_object}
+use Rattle.nodes_world.specs.Clients.{registered, registered_if, registers, registers_at, registers_object}
 use Rattle.nodes_world.specs.Ends.{drawn_once, with_end, with_fresh}
 use Rattle.nodes_world.specs.Happenings.{Done, changes, nothing, ◌▹◌}
 use Rattle.nodes_world.specs.Objects.{place_of, resource_key}
-use Rattle.nodes_world.specs.World.{FlatEnd, OfEnd, Seat, World, end_at, end_in, on_seat, seat_name, with_seat, with_server}
+use Rattle.nodes_world.specs.World.{FlatEnd, Seat, World, end_at, end_in, seat_name}
 use Rattle.nodes_state.specs.Does.{Does}
 use Rattle.nodes_state.specs.Shown.{shown}
 use Rattle.nodes_state.specs.declared.state.State.{State}
 use Rattle.nodes_state.proofs.Doing.{Grows}
-use Rattle.nodes_ends.specs.Ending.{KeepsNodes}
 use Rattle.nodes_clients.specs.Keeping.{KeepsSeats}
 use Rattle.nodes_calls.specs.Registered.{was_registered}
 use Rattle.nodes_clients.specs.Called.{called, comes_of}
 use Rattle.nodes_calls.specs.Drawing.{HasMadeObject, IsOfEnd}
-use Rattle.nodes_seats.specs.Ready.{AreClients, IsReady}
 use Rattle.nodes_calls.specs.declared.objects.Object.{Object}
 use Rattle.nodes_calls.proofs.Ends.{called_kept}
-use Rattle.nodes_calls.proofs.Keeping.{named_kept, whole_nodes}
-
-pub registering_given : (manner : Manner) (to : List ℕ) → node_makes (registering manner to) ≡ false
-registering_given manners.Resource to = refl
-registering_given manners.Aware to = refl
-registering_given manners.Double to = refl
+use Rattle.nodes_ready.proofs.EndsGrow.{end_messages}
+use Rattle.nodes_ready.proofs.Keeping.{named_kept}
 
 -- ---- the end at a place
 
@@ -90,20 +82,6 @@ module _ (manner : Manner) (transaction : ObjectKey) (place : ℕ) (name : List 
 
 -- ---- what comes of the answer
 
-seat_messages : (place : ℕ) (change : Seat → Seat) (w : World) → (on_seat place change w).messages ≡ w.messages
-seat_messages place change w = by_seat (slice_get w.seats place)
-  where
-    by_seat : (o : Option Seat) → (elim o as (λ _. World) [ Some s ↦ with_seat place (change s) w | None ↦ w ]).messages ≡ w.messages
-    by_seat (Some s) = refl
-    by_seat None = refl
-
-end_messages : (place : ℕ) (change : FlatEnd → FlatEnd) (w : World) → (with_end place change w).messages ≡ w.messages
-end_messages place change w = by_end (end_at w place)
-  where
-    by_end : (o : Option FlatEnd) → (elim o as (λ _. World) [ Some e ↦ with_server place (OfEnd (Some (change e))) w | None ↦ w ]).messages ≡ w.messages
-    by_end (Some e) = seat_messages place (λ (s : Seat). record s { server = OfEnd (Some (change e)) }) w
-    by_end None = refl
-
 module _ (manner : Manner) (key : ObjectKey) (end : List ℕ) (transaction : ObjectKey) (name : List ℕ) where
   if_grows : (b : Bool) → Grows (registered_if b manner key end transaction name)
   if_grows true = λ w. let e = ap (λ ms. length ms) (end_messages (place_of key) (with_fresh key) w) in omega arith
@@ -119,12 +97,6 @@ module _ (manner : Manner) (key : ObjectKey) (end : List ℕ) (transaction : Obj
   registered_by None w = refl
 
 -- ---- what stays
-
-pub ready_nodes : (old new : State) → KeepsNodes old new → new.messages ≡ old.messages → IsReady old → IsReady new
-ready_nodes old new keeps same ready = record {
-  whole = whole_nodes old new keeps ready.whole;
-  clients = subst AreClients (sym same) ready.clients;
-}
 
 -- a client's call leaves the object that an end made last
 pub object_kept : (old new : State) (o : Object) (to : ObjectKey) (act : Act) → shown new ≡ (called to act (shown old)).done.world → KeepsSeats old new

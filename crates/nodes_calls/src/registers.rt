@@ -9,7 +9,7 @@ ghost use Rattle.nodes_state.specs.Shown.{shown};
 ghost use Rattle.nodes_state.specs.Telling.{TellsOne};
 ghost use Rattle.nodes_clients.specs.Called.{comes_of};
 ghost use Rattle.nodes_calls.specs.Drawing.{IsOfEnd};
-ghost use Rattle.nodes_seats.specs.Ready.{IsReady};
+ghost use Rattle.nodes_ready.specs.Ready.{IsReady};
 ghost use Rattle.nodes_calls.specs.Registered.{was_registered};
 
 use crate::objects::{Object, draw_object, make_resource};

@@ -18,15 +18,17 @@ use Rattle.nodes_world.specs.declared.thing.Thing.TheVariants as things
 use Rattle.nodes_world.specs.Clients.{begins, begins_at, begun_with, fault_said}
 use Rattle.nodes_world.specs.Happenings.{Done, nothing, tells}
 use Rattle.nodes_world.specs.Told.{Known, Refused, text}
-use Rattle.nodes_world.specs.World.{OfEnd, OfNode, Seat, Server, World, node_in, with_name, with_seat, with_server}
+use Rattle.nodes_world.specs.World.{OfEnd, OfNode, Seat, Server as Runs, World, node_in, with_name, with_seat, with_server}
 use Rattle.nodes_lives.specs.Living.{Living}
 use Rattle.nodes_lives.specs.Calling.{stop_of}
 use Rattle.nodes_lives.specs.Making.{HasMade, IsStarved}
 use Rattle.nodes_state.specs.Does.{Does}
 use Rattle.nodes_state.specs.Seated.{disk_of, seat_of, server_of}
 use Rattle.nodes_state.specs.declared.seats.Seat.{Seat as Kept}
+use Rattle.nodes_state.specs.declared.seats.Server.{Server}
 use Rattle.nodes_state.specs.declared.seats.Server.TheVariants as servers
 use Rattle.nodes_clients.specs.Beginning.{HasMadeAt, begun_named, is_starved}
+use Rattle.nodes_clients.specs.Keeping.{KeepsSeat, KeepsServer}
 
 -- ---- at a seat
 
@@ -47,9 +49,37 @@ pub made_at : (seconds : ℕ) (k : Kept) (n m : Living) (said : Result ObjectKey
 made_at seconds k n m said is (inl h) fed = made seconds k n m said is h
 made_at seconds k n m said is (inr s) fed = let starved : is_starved said ≡ true = ap (λ x. is_starved x) s.answer in absurd cc
 
+abbrev makes_by : Bool → ℕ → (ObjectKey → Family) → Node → Created
+makes_by b slot make n = if b then record { node = with_new make slot n; answer = Ok (next_key n slot) } else makes_no_family n
+
+service_in : (slot : Option ℕ) (make : ObjectKey → Family) (n : Node) → (makes_in slot make n).node.service ≡ n.service
+service_in None make n = refl
+service_in (Some slot) make n = cases (nat_lt n.generation generation_limit)
+  where
+    cases : (b : Bool) → (makes_by b slot make n).node.service ≡ n.service
+    cases true = refl
+    cases false = refl
+
+service_made : (now seconds : ℕ) (n : Node) → (creates now seconds n).node.service ≡ n.service
+unfolding creates makes
+service_made now seconds n = service_in (free_slot n) _ n
+
+service_keeps : (now seconds : ℕ) (n m : Living) (said : Result ObjectKey NodeFault) → HasMade now seconds n m said ⊎ IsStarved now seconds n m said
+    → m.node.service ≡ n.node.service
+service_keeps now seconds n m said (inl h) = ap (λ (x : Node). x.service) h.node ∙ service_made now seconds n.node
+service_keeps now seconds n m said (inr s) = ap (λ (x : Living). x.node.service) s.same
+
+-- the node that made a family is of its service
+pub made_keeps : (seconds : ℕ) (k : Kept) (n m : Living) (said : Result ObjectKey NodeFault) → k.server ≡ servers.Up n
+    → HasMade k.clock seconds n m said ⊎ IsStarved k.clock seconds n m said → KeepsSeat k (record k { server = servers.Up m })
+made_keeps seconds k n m said is made = record {
+  name = refl;
+  server = subst (λ (x : Server). KeepsServer x (servers.Up m)) (sym is) (service_keeps k.clock seconds n m said made);
+}
+
 -- ---- in a world
 
-with_server_there : (w : World) (place : ℕ) (s : Seat) (server : Server) → slice_get w.seats place ≡ Some s
+with_server_there : (w : World) (place : ℕ) (s : Seat) (server : Runs) → slice_get w.seats place ≡ Some s
     → with_server place server w ≡ with_seat place (record s { server = server }) w
 with_server_there w place s server there =
     ap (λ (o : Option Seat). elim o [ Some x ↦ with_seat place (record x { server = server }) w | None ↦ w ]) there
@@ -65,7 +95,7 @@ unfolding begins
 begins_nowhere w place seconds name there =
     ap (λ (o : Option Seat). elim o [ Some x ↦ begins_at place name seconds x (node_in x.server) w | None ↦ nothing w ]) there
 
-is_node : (s : Server) (n : Node) → node_in s ≡ Some n → s ≡ OfNode (Some n)
+is_node : (s : Runs) (n : Node) → node_in s ≡ Some n → s ≡ OfNode (Some n)
 is_node (OfNode up) n e = ap (λ o. OfNode o) e
 is_node (OfEnd up) n e = absurd cc
 
@@ -73,9 +103,6 @@ set_same : {A : Type 0} (xs : List A) (place : ℕ) (x : A) → slice_get xs pla
 set_same [] place x is = refl
 set_same (y ∷ xs) zero x is = let e : y ≡ x = cc in ap (λ z. z ∷ xs) (sym e)
 set_same (y ∷ xs) (suc place) x is = ap (λ ys. y ∷ ys) (set_same xs place x is)
-
-abbrev makes_by : Bool → ℕ → (ObjectKey → Family) → Node → Created
-makes_by b slot make n = if b then record { node = with_new make slot n; answer = Ok (next_key n slot) } else makes_no_family n
 
 refused_in : (slot : Option ℕ) (make : ObjectKey → Family) (n : Node) (fault : NodeFault) → (makes_in slot make n).answer ≡ Err fault → (makes_in slot make n).node ≡ n
 refused_in None make n fault e = refl

@@ -48,14 +48,27 @@ referred_keeps xs m names place s x to there same =
     (seat_keeps xs place (place_of r.key) s x there same))
     (resources before)
 
+-- no resource is named where a transaction is
+pub resources_more : (names : List (List ℕ × Thing)) (name : List ℕ) (key : ObjectKey)
+    → filter_map (λ (entry : List ℕ × Thing). resource_in entry.0 entry.1) (names ++ (name, things.Transaction key) ∷ [])
+    ≡ filter_map (λ (entry : List ℕ × Thing). resource_in entry.0 entry.1) names
+resources_more names name key =
+    filter_map-append (λ (entry : List ℕ × Thing). resource_in entry.0 entry.1) names ((name, things.Transaction key) ∷ [])
+    ∙ append-nil (filter_map (λ (entry : List ℕ × Thing). resource_in entry.0 entry.1) names)
+
+pub resources_named : (n later : Names) (name : List ℕ) (key : ObjectKey) → IsNamedToo n later name (things.Transaction key)
+    → filter_map (λ (entry : List ℕ × Thing). resource_in entry.0 entry.1) later.things
+    ≡ filter_map (λ (entry : List ℕ × Thing). resource_in entry.0 entry.1) n.things
+resources_named n later name key named =
+    ap (λ (some : List (List ℕ × Thing)). filter_map (λ (entry : List ℕ × Thing). resource_in entry.0 entry.1) some) named
+    ∙ resources_more n.things name key
+
 referred_more : (xs : List Seat) (m : List Message) (names : List (List ℕ × Thing)) (name : List ℕ) (key : ObjectKey) (to : List ℕ)
     → referred (record { seats = xs; messages = m; names = names ++ (name, things.Transaction key) ∷ [] }) to
     ≡ referred (record { seats = xs; messages = m; names = names }) to
 unfolding referred
 referred_more xs m names name key to =
-    ap (λ (rs : List NamedKey). find (is_referred_to (record { seats = xs; messages = m; names = names }) to) rs)
-    (filter_map-append (λ (entry : List ℕ × Thing). resource_in entry.0 entry.1) names ((name, things.Transaction key) ∷ [])
-    ∙ append-nil (filter_map (λ (entry : List ℕ × Thing). resource_in entry.0 entry.1) names))
+    ap (λ (rs : List NamedKey). find (is_referred_to (record { seats = xs; messages = m; names = names }) to) rs) (resources_more names name key)
 
 -- a seat in place of another one with its name
 pub names_keep : (n : Names) (xs : List Kept) (m : List Message) (place : ℕ) (k x : Kept) → slice_get xs place ≡ Some k → (seat_of x).name ≡ (seat_of k).name

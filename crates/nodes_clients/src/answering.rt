@@ -1,7 +1,6 @@
 // What is told of a call to a node.
 ghost use Rattle.std.specs.Prelude.{◌≡◌, ◌==◌, IfOk, List, [], ◌∷◌, ◌++◌, find, Some};
 ghost use Rattle.std.specs.Option.{option_copied, option_map};
-ghost use Rattle.recovery_coord.specs.declared.held.Held.{Held as HeldRecord};
 ghost use Rattle.coordinator.specs.Node.{Node};
 ghost use Rattle.coordinator.specs.NodeCalls as calls;
 ghost use Rattle.nodes_world.specs.Happenings as happenings;
@@ -85,15 +84,8 @@ fn recorded_key(node: &LiveNode, act: &Act) -> Option<ObjectKey>
         ≡ nodes.cast_of_record (calls.retold_answer act.now) node.now.node }
 {
     let number = retold_number(act)?;
-    let held = held_at(node.records(), number.generation)?;
+    let held = node.record_at(number.generation)?;
     Some(key_of_record(node.service(), held))
-}
-
-/// The record at a place.
-fn held_at(records: &[Held], place: u64) -> Option<&Held>
-    ensures { option_copied result ≡ find (λ (r : HeldRecord). r.place == place) records.now }
-{
-    records.iter().find(|held| u64::from(held.place) == place)
 }
 
 /// Tells what a call was answered that went through, to a family or to a record.

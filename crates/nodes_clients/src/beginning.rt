@@ -7,6 +7,7 @@ ghost use Rattle.nodes_state.specs.Shown.{HasNames, shown};
 ghost use Rattle.nodes_state.specs.Seated.{seat_of};
 ghost use Rattle.nodes_state.specs.Does.{Does};
 ghost use Rattle.nodes_clients.specs.Beginning.{HasCreated, begun_named, is_starved};
+ghost use Rattle.nodes_clients.specs.Keeping.{KeepsSeat, KeepsSeats};
 
 use coordinator::{NodeFault, Said};
 use ior_refs::ObjectKey;
@@ -27,6 +28,8 @@ pub fn begin(
     requires free { world.thing_in (state.old).names.things name.now ≡ None }
     ensures does { Does (clients.begins place name.now seconds (shown state.old)) (shown state.new)
         lines.old.items lines.new.items result }
+    ensures seats { OnOk result (KeepsSeats state.old state.new) }
+    ensures resources { OnOk result (world.resources (shown state.new) ≡ world.resources (shown state.old)) }
     ensures names { OnOk result (HasNames state.new) }
 {
     let place = place as usize;
@@ -46,6 +49,7 @@ fn create_in(
     seconds: u32,
 ) -> Result<Option<Result<ObjectKey, NodeFault>>, WorldFault>
     ensures created { IfOk result (λ said. HasCreated seconds (seat_of seat.old) (seat_of seat.new) said) }
+    ensures keeps { OnOk result (KeepsSeat seat.old seat.new) }
     ensures fault { IfErr result (λ fault. fault ≡ Memory) }
 {
     let now = seat.clock;
@@ -78,6 +82,7 @@ fn begun_with(
     requires free { world.thing_in (state.old).names.things name.now ≡ None }
     ensures does { Does (begun_named name.now node answer (shown state.old)) (shown state.new)
         lines.old.items lines.new.items result }
+    ensures resources { OnOk result (world.resources (shown state.new) ≡ world.resources (shown state.old)) }
     ensures names { OnOk result (HasNames state.new) }
     ensures seats { (state.new).seats ≡ (state.old).seats }
 {

@@ -35,6 +35,7 @@ pub fn create_sub(
     ensures does { Does (clients.creates_sub parent.now name.now (shown state.old)) (shown state.new)
         lines.old.items lines.new.items result }
     ensures seats { OnOk result (KeepsSeats state.old state.new) }
+    ensures resources { OnOk result (world.resources (shown state.new) ≡ world.resources (shown state.old)) }
     ensures named { OnOk result (HasNames state.new) }
 {
     let made = make_call(state, lines, parent, Act::CreateSubtransaction)?;
@@ -55,6 +56,7 @@ fn name_created(
     ensures does { Does (comes_of (clients.created parent.now name.now) said.entry.now (shown state.old))
         (shown state.new) lines.old.items lines.new.items result }
     ensures seats { (state.new).seats ≡ (state.old).seats }
+    ensures resources { OnOk result (world.resources (shown state.new) ≡ world.resources (shown state.old)) }
     ensures named { OnOk result (HasNames state.new) }
 {
     match branch_made(said) {
@@ -86,6 +88,7 @@ fn name_sub(
     ensures does { Does (clients.created parent.now name.now (Made branch) (shown state.old)) (shown state.new)
         lines.old.items lines.new.items result }
     ensures seats { (state.new).seats ≡ (state.old).seats }
+    ensures resources { OnOk result (world.resources (shown state.new) ≡ world.resources (shown state.old)) }
     ensures named { OnOk result (HasNames state.new) }
 {
     let above = state.names.transaction(parent);

@@ -15,10 +15,10 @@ use Rattle.nodes_world.specs.Nodes.{Stepping, steps}
 use Rattle.nodes_world.specs.Objects.{place_of}
 use Rattle.nodes_world.specs.World.{Seat, World}
 use Rattle.nodes_state.specs.Does.{BreaksOff, Does}
-use Rattle.nodes_state.specs.Telling.{Tells, TellsOne}
+use Rattle.nodes_state.specs.Telling.{Tells}
 use Rattle.nodes_state.proofs.Doing.{Grows, breaks_first, breaks_later, does_then, part_none, tells_none}
 use Rattle.nodes_state.proofs.Failing.{does_fail}
-use Rattle.nodes_deliveries.proofs.Growing.{answer_keeps}
+use Rattle.nodes_ready.proofs.CallsGrow.{answer_keeps}
 use Rattle.nodes_deliveries.proofs.Heard.{clock_seat, no_clock}
 
 module _ (message : ℕ) (to : ObjectKey) (act : Act) (w : World) where

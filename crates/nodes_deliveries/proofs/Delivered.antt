@@ -1,7 +1,6 @@
 -- A message that is delivered.
-use Rattle.std.proofs.Common.{◌≡◌, ℕ, zero, suc, ◌+◌, ◌<◌, Bool, true, List, [], ◌∷◌, length, slice_get, slice_set, Option, Some, None, Result, Ok, Err, refl, sym, ap, subst, ◌∙◌, arith}
+use Rattle.std.proofs.Common.{◌≡◌, ℕ, zero, suc, ◌+◌, ◌<◌, Bool, true, List, [], ◌∷◌, length, slice_get, slice_set, Option, Some, None, Result, Ok, refl, sym, ap, subst, ◌∙◌}
 use Rattle.std.specs.Option.{option_and_then}
-use Rattle.std.proofs.lemmas.List.{append-nil}
 use Rattle.ots_model.specs.declared.line.Line.TheVariants as lines
 use Rattle.ots_world.specs.declared.fault.WorldFault.{WorldFault}
 use Rattle.ior_refs.specs.declared.key.ObjectKey.{ObjectKey}
@@ -24,8 +23,8 @@ use Rattle.nodes_state.specs.Telling.{Tells}
 use Rattle.nodes_state.specs.declared.state.State.{State}
 use Rattle.nodes_state.proofs.Doing.{does_then, tells_none}
 use Rattle.nodes_deliveries.specs.Arriving.{SaysAt, receiver_at}
-use Rattle.nodes_deliveries.proofs.Growing.{KeepsCalls, calls_stay, one_marked}
-use Rattle.nodes_deliveries.proofs.Keeping.{there_at}
+use Rattle.nodes_ready.proofs.Growing.{KeepsCalls, calls_stay, one_marked}
+use Rattle.nodes_ready.proofs.Keeping.{there_at}
 
 -- ---- what reaches it
 

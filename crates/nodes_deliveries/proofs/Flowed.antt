@@ -1,5 +1,5 @@
 -- Messages that are delivered one after another.
-use Rattle.std.proofs.Common.{◌≡◌, ℕ, zero, suc, ◌-◌, ◌<◌, List, Option, Some, None, Result, Ok, Err, refl, sym, ap, subst, ◌∙◌, arith}
+use Rattle.std.proofs.Common.{◌≡◌, ℕ, suc, ◌-◌, ◌<◌, List, Option, Some, None, Result, Ok, Err, refl, sym, ap, subst, ◌∙◌, arith}
 use Rattle.std.specs.Prelude.{position}
 use Rattle.ots_world.specs.declared.fault.WorldFault.{WorldFault}
 use Rattle.nodes_parts.specs.Sending.{is_waiting}
@@ -12,7 +12,7 @@ use Rattle.nodes_state.specs.Shown.{shown}
 use Rattle.nodes_state.specs.declared.state.State.{State}
 use Rattle.nodes_state.proofs.Failing.{does_fail}
 use Rattle.nodes_state.proofs.Progress.{IsDoing, doing_breaks, doing_ends, doing_goes_on}
-use Rattle.nodes_deliveries.proofs.Growing.{flows_grow}
+use Rattle.nodes_ready.proofs.FlowsGrow.{flows_grow}
 
 pub lowest_is : (w : World) → lowest w ≡ position is_waiting w.messages
 unfolding lowest

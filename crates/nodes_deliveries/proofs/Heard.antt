@@ -1,5 +1,5 @@
 -- A reply that is heard, and one that isn't.
-use Rattle.std.proofs.Common.{◌≡◌, ℕ, ◌-◌, Bool, true, false, List, slice_get, slice_set, Option, Some, None, Result, Ok, Err, if◌then◌else◌, refl, sym, ap, subst, ◌∙◌}
+use Rattle.std.proofs.Common.{◌≡◌, ℕ, ◌-◌, Bool, true, false, List, slice_get, slice_set, Option, Some, None, Result, Ok, if◌then◌else◌, refl, sym, ap, subst, ◌∙◌}
 use Rattle.std.specs.Option.{option_map, option_and_then}
 use Rattle.ior_refs.specs.declared.key.ObjectKey.{ObjectKey}
 use Rattle.ots_model.specs.declared.completion.CallNumber.{CallNumber}
@@ -13,7 +13,7 @@ use Rattle.nodes_world.specs.declared.message.Content.{Content}
 use Rattle.nodes_world.specs.declared.message.Content.TheVariants as contents
 use Rattle.nodes_world.specs.declared.message.Message.{Message}
 use Rattle.nodes_world.specs.Deliveries.{answer_event, heard_in, hears_answer, hears_if, hears_of, hears_reply, is_waited_for}
-use Rattle.nodes_world.specs.Happenings.{Done, changes, nothing, ◌▹◌}
+use Rattle.nodes_world.specs.Happenings.{Done, changes, nothing}
 use Rattle.nodes_world.specs.Nodes.{steps}
 use Rattle.nodes_world.specs.Objects.{family_key}
 use Rattle.nodes_world.specs.World.{Seat, World, message_numbered, with_message}
@@ -23,7 +23,7 @@ use Rattle.nodes_state.specs.Shown.{shown}
 use Rattle.nodes_state.specs.declared.state.State.{State}
 use Rattle.nodes_state.proofs.Doing.{does_then, tells_none}
 use Rattle.nodes_deliveries.specs.Arriving.{waits_for, waits_in}
-use Rattle.nodes_deliveries.proofs.Growing.{KeepsCalls, calls_stay, one_marked}
+use Rattle.nodes_ready.proofs.Growing.{KeepsCalls, calls_stay, one_marked}
 
 pub does_as_nothing : (d : Done) (w : World) (lines : List ℕ) → d ≡ nothing w → Does d w lines lines (Ok tt)
 does_as_nothing d w lines e = subst (λ (x : Done). Does x w lines lines (Ok tt)) (sym e) (refl, tells_none lines)

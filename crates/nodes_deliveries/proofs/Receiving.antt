@@ -1,5 +1,5 @@
 -- To whom a message goes, and who waits for a reply.
-use Rattle.std.proofs.Common.{◌≡◌, ℕ, Bool, true, false, slice_get, Option, Some, None, if◌then◌else◌, ◌==◌, refl, sym, ap, ◌∙◌}
+use Rattle.std.proofs.Common.{◌≡◌, ℕ, Bool, false, slice_get, Option, Some, None, if◌then◌else◌, ◌==◌, ap, ◌∙◌}
 use Rattle.std.specs.Option.{option_map, option_map_or, option_and_then}
 use Rattle.std.specs.Prelude.{not, ◌&&◌}
 use Rattle.ior_refs.specs.declared.key.ObjectKey.{ObjectKey}

@@ -10,7 +10,7 @@ ghost use Rattle.nodes_parts.specs.Sending.{called_in};
 ghost use Rattle.nodes_state.specs.Does.{Does};
 ghost use Rattle.nodes_state.specs.Shown.{shown};
 ghost use Rattle.nodes_state.specs.Telling.{TellsOne};
-ghost use Rattle.nodes_seats.specs.Ready.{IsReady};
+ghost use Rattle.nodes_ready.specs.Ready.{IsReady};
 
 use coordinator::{Act, NodeFault, StepAnswer};
 use ior_refs::ObjectKey;

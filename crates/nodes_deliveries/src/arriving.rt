@@ -7,7 +7,7 @@ ghost use Rattle.nodes_world.specs.declared.message.Content.{Content as Says};
 ghost use Rattle.nodes_state.specs.Does.{Does};
 ghost use Rattle.nodes_state.specs.Shown.{shown};
 ghost use Rattle.nodes_deliveries.specs.Arriving.{SaysAt};
-ghost use Rattle.nodes_seats.specs.Ready.{IsReady};
+ghost use Rattle.nodes_ready.specs.Ready.{IsReady};
 
 use crate::again::call_again;
 use crate::hearing::{hear, heard_in};

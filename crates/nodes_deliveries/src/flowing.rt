@@ -4,7 +4,7 @@ ghost use Rattle.nodes_world.specs.Deliveries as deliveries;
 ghost use Rattle.nodes_world.specs.Limits.{message_limit};
 ghost use Rattle.nodes_state.specs.Does.{Does};
 ghost use Rattle.nodes_state.specs.Shown.{shown};
-ghost use Rattle.nodes_seats.specs.Ready.{IsReady};
+ghost use Rattle.nodes_ready.specs.Ready.{IsReady};
 
 use crate::arriving::arrive;
 use crate::waiting::receiver_of;

@@ -4,7 +4,7 @@ ghost use Rattle.coordinator.specs.declared.said.Said.{Said as Answer};
 ghost use Rattle.nodes_world.specs.Deliveries as deliveries;
 ghost use Rattle.nodes_state.specs.Does.{Does};
 ghost use Rattle.nodes_state.specs.Shown.{shown};
-ghost use Rattle.nodes_seats.specs.Ready.{IsReady};
+ghost use Rattle.nodes_ready.specs.Ready.{IsReady};
 
 use crate::waiting::{message_place, waiting};
 use coordinator::{Act, Event, Said};

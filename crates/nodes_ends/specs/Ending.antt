@@ -59,8 +59,18 @@ IsRefused word None before after = after ≡ before
 IsRefused word (Some r) before after =
     (answer : Said) × (closed_by r.state ≡ Some answer) × Tells (Refused word answer ∷ []) before after
 
--- the resource that is there was given out; or it is refused; or memory ran out, and nothing was told
+-- no resource is there, or its state lets a script do something with it
+abbrev pub IsOpen : Option FlatResource → Type 0
+IsOpen None = Unit {0}
+IsOpen (Some r) = closed_by r.state ≡ None
+
+-- one is there, and its state doesn't let it
+abbrev pub IsShut : Option FlatResource → Type 0
+IsShut None = ⊥
+IsShut (Some r) = (answer : Said) × (closed_by r.state ≡ Some answer)
+
+-- the resource that is there was given out; or it is refused; or memory ran out where it is, and nothing was told
 abbrev pub IsOpened : List ℕ → Option FlatResource → List ℕ → List ℕ → Result (Option Resource) WorldFault → Type 0
 IsOpened word there before after (Ok (Some r)) = (there ≡ Some (flat r)) × (closed_by r.state ≡ None) × (after ≡ before)
 IsOpened word there before after (Ok None) = IsRefused word there before after
-IsOpened word there before after (Err fault) = (fault ≡ faults.Memory) × (after ≡ before)
+IsOpened word there before after (Err fault) = (fault ≡ faults.Memory) × (after ≡ before) × IsShut there

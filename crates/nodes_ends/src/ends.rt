@@ -1,5 +1,6 @@
 // What a script does with the resources of ends, and what they do by words.
 ghost use Rattle.std.specs.Prelude.{◌≡◌, IsTrue, None, OnOk, Some};
+ghost use Rattle.std.specs.Result.{IsOk};
 ghost use Rattle.nodes_parts.specs.Kept.{flat};
 ghost use Rattle.nodes_parts.specs.Referring.{named as as_named};
 ghost use Rattle.nodes_world.specs.Ends as ends;
@@ -8,7 +9,7 @@ ghost use Rattle.nodes_world.specs.World.{resource_at};
 ghost use Rattle.resource_end.specs.Table.{row};
 ghost use Rattle.nodes_state.specs.Shown.{shown};
 ghost use Rattle.nodes_state.specs.Does.{Does};
-ghost use Rattle.nodes_ends.specs.Ending.{HasResource, HasThere, IsOpened, KeepsNodes, heard_only, with_end_in, with_end_there};
+ghost use Rattle.nodes_ends.specs.Ending.{HasResource, HasThere, IsOpen, IsOpened, KeepsNodes, heard_only, with_end_in, with_end_there};
 
 use coordinator::Said;
 use ior_refs::ObjectKey;
@@ -129,6 +130,7 @@ pub fn put(
 pub fn refuse(state: &mut State, lines: &mut Vec<u8>, key: &ObjectKey) -> Result<(), WorldFault>
     ensures does { Does (ends.refuses_to key.now (shown state.old)) (shown state.new)
         lines.old.items lines.new.items result }
+    ensures quiet { IsOpen (resource_at (shown state.old) key.now) → IsOk result }
     ensures nodes { OnOk result (KeepsNodes state.old state.new) }
 {
     if let Some(resource) = open_resource(state, lines, key, b"refuse")? {

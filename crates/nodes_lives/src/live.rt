@@ -1,6 +1,7 @@
 // A node that is up.
-ghost use Rattle.std.specs.Prelude.{◌≡◌, ◌⊎◌, IfOk, IfErr};
+ghost use Rattle.std.specs.Prelude.{◌≡◌, ◌⊎◌, ◌==◌, find, IfOk, IfErr};
 ghost use Rattle.std.specs.Option.{option_copied, option_map};
+ghost use Rattle.recovery_coord.specs.declared.held.Held.{Held as HeldRecord};
 ghost use Rattle.coordinator.specs.Family.{FamilyParts as TheFamily};
 ghost use Rattle.coordinator.specs.Node as nodes;
 ghost use Rattle.ots_world.specs.declared.fault.WorldFault.TheVariants.{Memory};
@@ -71,6 +72,14 @@ impl LiveNode {
         is_current(&self.running.node);
     }
 
+    /// The node itself, over its disk.
+    pub fn node(&self) -> &Node<MemDisk>
+        ensures node { (result.now).node ≡ self.now.node }
+        ensures disk { (result.now).journal.disk.disk ≡ self.now.disk }
+    {
+        &self.running.node
+    }
+
     /// What its disk reads.
     pub fn octets(&self) -> &[u8]
         ensures { result.now ≡ self.now.disk.reads }
@@ -97,6 +106,13 @@ impl LiveNode {
         ensures { result.now ≡ self.now.node.recovered }
     {
         self.running.node.records()
+    }
+
+    /// The record at a place, where it is one of these.
+    pub fn record_at(&self, place: u64) -> Option<&Held>
+        ensures { option_copied result ≡ find (λ (r : HeldRecord). r.place == place) self.now.node.recovered }
+    {
+        self.running.node.record_at(place)
     }
 
     /// The family that a key names.

@@ -2,6 +2,7 @@
 #![tactic(auto)]
 
 pub use lines::resolve;
+pub use naming::node_named;
 
 mod accepting;
 mod calls;

@@ -1,10 +1,11 @@
 // The deed that a line of a script is in a world, or that it is none.
-ghost use Rattle.std.specs.Prelude.{◌≡◌, Some};
+ghost use Rattle.std.specs.Prelude.{◌≡◌, Some, IfOk};
 ghost use Rattle.std.specs.Option.{option_map};
 ghost use Rattle.nodes_world.specs.Resolve as resolving;
 ghost use Rattle.nodes_state.specs.Shown.{HasNames, shown};
 ghost use Rattle.nodes_resolve.specs.Lines as by_lines;
 ghost use Rattle.nodes_resolve.specs.Lines.{IsAnswered, has_octets, keeps_octets};
+ghost use Rattle.nodes_resolve.specs.Named.{IsNamed};
 
 use crate::calls::{asks_named, commits_named, ends_named, relates_named, status_act};
 use crate::makings::{begins_named, creates_named, puts_named, refuses_named, registers_named};
@@ -16,12 +17,13 @@ use ots_model::{Name, Octets};
 use ots_world::{Image, ScriptEvent, WorldFault};
 use std::alloc::Global;
 
-/// The deed that a line is. It is refused where a name isn't there, is of the wrong kind or is taken, and where the
-/// line isn't accepted there. Memory is taken for the octets of an image alone.
-#[tactic(auto, unfolding(nodes_world::specs::Resolve::resolve))]
+/// The deed that a line is, with what it needs there. It is refused where a name isn't there, is of the wrong kind or
+/// is taken, and where the line isn't accepted there. Memory is taken for the octets of an image alone.
+#[tactic(auto, unfolding(nodes_world::specs::Resolve::resolve), using(crate::proofs::Named::answer_named))]
 pub fn resolve(state: &State, event: &ScriptEvent) -> Result<Deed, WorldFault>
     requires names { HasNames state.now }
-    ensures { IsAnswered (keeps_octets event.now) (resolving.resolve event.now (shown state.now)) result }
+    ensures answered { IsAnswered (keeps_octets event.now) (resolving.resolve event.now (shown state.now)) result }
+    ensures named { IfOk result (λ deed. IsNamed deed (shown state.now)) }
 {
     match event {
         ScriptEvent::Stop {

@@ -36,7 +36,7 @@ fn seat_named(state: &State, name: &Name) -> Option<u32>
 }
 
 /// The place of the node that has this name and is up.
-pub(crate) fn node_named(state: &State, name: &Name) -> Option<u32>
+pub fn node_named(state: &State, name: &Name) -> Option<u32>
     ensures { result ≡ resolving.node_named (shown state.now) name.now }
 {
     let place = seat_named(state, name)?;

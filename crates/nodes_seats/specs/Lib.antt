@@ -3,4 +3,3 @@ pub mod Carries
 pub mod Placed
 pub mod Waiting
 pub mod Ticking
-pub mod Ready

@@ -1,8 +1,8 @@
 use Rattle.std.proofs.Common.{◌∙◌}
 use Rattle.nodes_world.specs.Objects.{place_of}
-use Rattle.nodes_calls.proofs.Keeping.{named_nodes}
+use Rattle.nodes_ready.proofs.Keeping.{named_nodes}
 use Rattle.nodes_calls.proofs.Named.{ready_resource}
-use Rattle.nodes_calls.proofs.Registered.{ready_nodes}
+use Rattle.nodes_ready.proofs.Readied.{ready_nodes}
 use Rattle.nodes_calls.proofs.registers.keep_registered.Goals as goal
 
 pub returns-clause-ready : goal.returns-clause-ready

@@ -6,7 +6,8 @@ use Rattle.nodes_state.proofs.Doing.{does_nothing}
 use Rattle.nodes_world.specs.World.{World}
 use Rattle.nodes_calls.specs.Drawing.{DrawsObject}
 use Rattle.nodes_calls.specs.declared.objects.Object.{Object}
-use Rattle.nodes_calls.proofs.Registered.{ready_nodes, registers_does, registers_nothing}
+use Rattle.nodes_ready.proofs.Readied.{ready_nodes}
+use Rattle.nodes_calls.proofs.Registered.{registers_does, registers_nothing}
 use Rattle.nodes_calls.proofs.registers.register.Goals as goal
 
 pub register_object-requires-clause-ready : goal.register_object-requires-clause-ready

@@ -6,8 +6,9 @@ use Rattle.nodes_world.specs.Clients.{calls, registered, registering}
 use Rattle.nodes_state.specs.Does.{Does}
 use Rattle.nodes_state.specs.Shown.{shown}
 use Rattle.nodes_calls.proofs.Answering.{behind_breaks, call_breaks, call_ends, call_starves}
-use Rattle.nodes_calls.proofs.Growing.{ready_called}
-use Rattle.nodes_calls.proofs.Registered.{object_kept, registered_grows, registering_given}
+use Rattle.nodes_ready.proofs.CallsGrow.{registering_given}
+use Rattle.nodes_ready.proofs.Readied.{ready_called}
+use Rattle.nodes_calls.proofs.Registered.{object_kept, registered_grows}
 use Rattle.nodes_calls.proofs.registers.register_object.Goals as goal
 
 pub returns-in_err-made-clause-does : goal.returns-in_err-made-clause-does

@@ -1,5 +1,6 @@
-use Rattle.std.proofs.Common.{◌≡◌, ℕ, ◌<◌, List, length, map, get_or, slice_get, slice_set, Option, Some, Result, Err, refl, ap, subst, ◌∙◌, arith}
+use Rattle.std.proofs.Common.{◌≡◌, ℕ, ◌<◌, List, length, map, get_or, slice_get, slice_set, Option, Some, Result, Err, refl, sym, ap, subst, ◌∙◌, arith}
 use Rattle.std.specs.Option.{option_map}
+use Rattle.std.specs.Vec.{with_item}
 use Rattle.std.proofs.lemmas.Option.{slice_get-map, slice_get_past, slice_get_read}
 use Rattle.ior_refs.specs.declared.key.ObjectKey.{ObjectKey}
 use Rattle.coordinator.specs.declared.node.NodeFault.{NodeFault}
@@ -10,8 +11,11 @@ use Rattle.nodes_state.specs.Does.{Does}
 use Rattle.nodes_state.specs.Seated.{seat_of}
 use Rattle.nodes_state.specs.Shown.{shown}
 use Rattle.nodes_state.specs.declared.seats.Seat.{Seat as Kept}
+use Rattle.nodes_state.specs.declared.state.State.{State}
 use Rattle.nodes_clients.specs.Beginning.{HasCreated, begun_named}
+use Rattle.nodes_clients.specs.Keeping.{KeepsSeat, KeepsSeats}
 use Rattle.nodes_clients.proofs.Begun.{begins_nowhere, begun_does, does_nothing, no_node_begins, shown_same}
+use Rattle.nodes_clients.proofs.Kept.{count_set, keeps_on, on_ok, seats_kept}
 use Rattle.nodes_clients.proofs.Named.{names_keep}
 use Rattle.nodes_clients.proofs.beginning.begin.Goals as goal
 
@@ -65,3 +69,25 @@ returns-in-None-clause-names c =
     names_keep s.names s.seats.items s.messages c.args.place c.index_mut.result.now c.create_in.new.seat
     (at_place s.seats.items c.args.place c.index_mut.result.now (omega (arith, c.if-place-len.false, c.len.ensures)) c.index_mut.ensures.value)
     (ap (λ (x : Seat). x.name) (subst (λ (o : Option (Result ObjectKey NodeFault)). HasCreated c.args.seconds (seat_of c.index_mut.result.now) (seat_of c.create_in.new.seat) o) c.in-None.is c.in_ok-answer.ensures.created).1) c.requires.names
+
+set_keeps : (s t : State) (place : ℕ) (k x : Kept) → slice_get s.seats.items place ≡ Some k → t.seats.items ≡ slice_set s.seats.items place x → KeepsSeat k x → KeepsSeats s t
+set_keeps s t place k x there is keeps = record {
+  count = ap (λ (xs : List Kept). length xs) is ∙ count_set s.seats.items place x;
+  each = λ i before after was now. seats_kept s.seats.items place k x there keeps i before after was (ap (λ (xs : List Kept). slice_get xs i) (sym is) ∙ now);
+}
+
+pub returns-in-Some-clause-seats : goal.returns-in-Some-clause-seats
+returns-in-Some-clause-seats c =
+    let s = c.args.state.now in
+    let k = c.index_mut.result.now in
+    let there = at_place s.seats.items c.args.place k (omega (arith, c.if-place-len.false, c.len.ensures)) c.index_mut.ensures.value in
+    let set = record s { seats = with_item s.seats c.args.place c.create_in.new.seat } in
+    on_ok c.begun_with.result _ (keeps_on s set c.begun_with.new.state
+    (set_keeps s set c.args.place k c.create_in.new.seat there refl c.in_ok-answer.ensures.keeps) c.begun_with.ensures.seats)
+
+pub returns-in-None-clause-seats : goal.returns-in-None-clause-seats
+returns-in-None-clause-seats c =
+    let s = c.args.state.now in
+    let k = c.index_mut.result.now in
+    let there = at_place s.seats.items c.args.place k (omega (arith, c.if-place-len.false, c.len.ensures)) c.index_mut.ensures.value in
+    set_keeps s (record s { seats = with_item s.seats c.args.place c.create_in.new.seat }) c.args.place k c.create_in.new.seat there refl c.in_ok-answer.ensures.keeps

@@ -1,9 +1,10 @@
-use Rattle.std.proofs.Common.{◌≡◌, Err, None, ap, sym, subst, ◌∙◌}
+use Rattle.std.proofs.Common.{◌≡◌, ℕ, List, filter_map, Err, None, ap, sym, subst, ◌∙◌}
 use Rattle.std.proofs.lemmas.Result.{err_from_is_err_and}
 use Rattle.coordinator.specs.declared.event.Act.TheVariants as acts
 use Rattle.nodes_parts.specs.Naming.{Names}
 use Rattle.nodes_world.specs.Clients.{created, creates_sub}
-use Rattle.nodes_world.specs.World.{thing_in}
+use Rattle.nodes_world.specs.World.{resource_in, thing_in}
+use Rattle.nodes_world.specs.declared.thing.Thing.{Thing}
 use Rattle.nodes_state.specs.Shown.{shown}
 use Rattle.nodes_clients.proofs.Behind.{behind_ends, behind_fails, created_keeps, line_fails, not_made}
 use Rattle.nodes_clients.proofs.Kept.{keeps_on}
@@ -49,3 +50,8 @@ returns-clause-does c =
 pub returns-clause-seats : goal.returns-clause-seats
 returns-clause-seats c =
     keeps_on c.args.state.now c.make_call.new.state c.name_created.new.state c.in_ok-made.ensures.seats c.name_created.ensures.seats
+
+pub returns-clause-resources : goal.returns-clause-resources
+returns-clause-resources c =
+    c.in_ok-name_created.ensures.resources
+    ∙ ap (λ (n : Names). filter_map (λ (entry : List ℕ × Thing). resource_in entry.0 entry.1) n.things) c.in_ok-made.ensures.names

@@ -14,7 +14,7 @@ use Rattle.nodes_state.specs.Shown.{shown}
 use Rattle.nodes_state.specs.Telling.{Tells}
 use Rattle.nodes_state.proofs.Doing.{part_none}
 use Rattle.nodes_state.proofs.Failing.{does_fail}
-use Rattle.nodes_clients.proofs.Named.{names_more}
+use Rattle.nodes_clients.proofs.Named.{names_more, resources_named}
 use Rattle.nodes_clients.proofs.making.name_sub.Goals as goal
 
 pub returns-in_err-name_transaction-clause-does : goal.returns-in_err-name_transaction-clause-does
@@ -48,3 +48,7 @@ pub returns-clause-named : goal.returns-clause-named
 returns-clause-named c =
     names_more c.args.state.now.names c.name_transaction.new.self (map seat_of c.args.state.now.seats.items) c.args.state.now.messages c.args.name.now
     c.branch_of.result c.in_ok-name_transaction.ensures.things c.name_transaction.ensures.referred c.requires.names
+
+pub returns-clause-resources : goal.returns-clause-resources
+returns-clause-resources c =
+    resources_named c.args.state.now.names c.name_transaction.new.self c.args.name.now c.branch_of.result c.in_ok-name_transaction.ensures.things

@@ -5,7 +5,7 @@ use Rattle.nodes_world.specs.Nodes.{steps}
 use Rattle.nodes_state.specs.Shown.{shown}
 use Rattle.nodes_deliveries.proofs.CalledAgain.{again_does, again_nowhere, step_broke, step_silent, step_told, step_untold}
 use Rattle.nodes_deliveries.proofs.Heard.{does_as_nothing}
-use Rattle.nodes_deliveries.proofs.Readied.{ready_carried}
+use Rattle.nodes_ready.proofs.Readied.{ready_carried}
 use Rattle.nodes_deliveries.proofs.again.act_again.Goals as goal
 
 pub returns-in_default-clause-does : goal.returns-in_default-clause-does

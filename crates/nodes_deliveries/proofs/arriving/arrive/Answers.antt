@@ -1,4 +1,4 @@
-use Rattle.std.proofs.Common.{◌≡◌, ◌+◌, Option, Some, None, true, false, refl, sym, ap, ◌∙◌, ℕ, rules, arith}
+use Rattle.std.proofs.Common.{◌≡◌, ◌+◌, Option, Some, None, true, false, refl, sym, ap, ◌∙◌, ℕ, rules}
 use Rattle.std.specs.Prelude.{is_none, is_some}
 use Rattle.ots_model.specs.declared.line.Line.TheVariants as lines
 use Rattle.nodes_world.specs.Told.{Known}

@@ -1,4 +1,4 @@
-use Rattle.std.proofs.Common.{ℕ, ◌+◌, List, Option, Some, None, Ok, refl, sym, ap, ◌∙◌}
+use Rattle.std.proofs.Common.{ℕ, ◌+◌, List, Option, Ok, refl, sym, ap, ◌∙◌}
 use Rattle.std.specs.Option.{option_and_then}
 use Rattle.nodes_parts.specs.Referring.{named, referred_in}
 use Rattle.nodes_parts.specs.Sending.{called_by}
@@ -8,7 +8,7 @@ use Rattle.nodes_world.specs.declared.message.Message.{Message}
 use Rattle.nodes_state.specs.Shown.{shown}
 use Rattle.nodes_state.proofs.Doing.{tells_none}
 use Rattle.nodes_deliveries.proofs.Delivered.{reached_node, reached_nobody, reached_resource, reached_sender}
-use Rattle.nodes_deliveries.proofs.Readied.{ready_obeying}
+use Rattle.nodes_ready.proofs.Readied.{ready_obeying}
 use Rattle.nodes_deliveries.proofs.arriving.reach.Goals as goal
 
 pub returns-in-Call-clause-does : goal.returns-in-Call-clause-does

@@ -2,8 +2,8 @@ use Rattle.std.proofs.Common.{List, sym, subst, ◌∙◌}
 use Rattle.nodes_world.specs.declared.message.Message.{Message}
 use Rattle.nodes_state.specs.Shown.{shown}
 use Rattle.nodes_deliveries.proofs.Delivered.{delivered_nowhere, delivered_to, marked_keeps}
-use Rattle.nodes_deliveries.proofs.Growing.{KeepsCalls}
-use Rattle.nodes_deliveries.proofs.Readied.{ready_messages}
+use Rattle.nodes_ready.proofs.Growing.{KeepsCalls}
+use Rattle.nodes_ready.proofs.Readied.{ready_messages}
 use Rattle.nodes_deliveries.proofs.flowing.deliver.Goals as goal
 
 pub arrive-requires-clause-ready : goal.arrive-requires-clause-ready

@@ -1,6 +1,5 @@
-use Rattle.std.proofs.Common.{◌-◌, Err, Ok, Some, None, sym, ap, subst, ◌∙◌, arith, refl, Result}
+use Rattle.std.proofs.Common.{◌-◌, Err, Ok, sym, ap, subst, ◌∙◌, arith, refl}
 use Rattle.std.proofs.lemmas.Result.{err_from_is_err_and}
-use Rattle.ots_world.specs.declared.fault.WorldFault.{WorldFault}
 use Rattle.nodes_world.specs.Deliveries.{delivers, flows}
 use Rattle.nodes_world.specs.World.{World}
 use Rattle.nodes_state.specs.Does.{BreaksOff, Does}

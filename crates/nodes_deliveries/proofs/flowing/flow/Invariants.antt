@@ -1,7 +1,7 @@
 use Rattle.nodes_world.specs.Deliveries.{flows}
 use Rattle.nodes_state.specs.Shown.{shown}
 use Rattle.nodes_state.proofs.Progress.{IsDoing}
-use Rattle.nodes_seats.specs.Ready.{IsReady}
+use Rattle.nodes_ready.specs.Ready.{IsReady}
 use Rattle.nodes_deliveries.proofs.flowing.flow.Given as goal
 
 abbrev pub invariant-loop-left : goal.invariant-loop-left

@@ -1,4 +1,4 @@
-use Rattle.std.proofs.Common.{ℕ, ◌-◌, List, Err, Ok, refl, sym, ap, subst, ◌∙◌, arith, slice_get}
+use Rattle.std.proofs.Common.{◌-◌, List, Err, Ok, refl, sym, ap, subst, ◌∙◌, arith, slice_get}
 use Rattle.std.proofs.lemmas.Option.{slice_get_within}
 use Rattle.std.proofs.lemmas.Result.{err_from_is_err_and}
 use Rattle.nodes_parts.specs.Sending.{marked_answered}
@@ -8,9 +8,9 @@ use Rattle.nodes_world.specs.declared.message.Message.{Message}
 use Rattle.nodes_state.specs.Shown.{shown}
 use Rattle.nodes_state.proofs.Failing.{does_fail}
 use Rattle.nodes_state.proofs.Named.{names_stay}
-use Rattle.nodes_deliveries.proofs.Growing.{KeepsCalls}
+use Rattle.nodes_ready.proofs.Growing.{KeepsCalls}
 use Rattle.nodes_deliveries.proofs.Heard.{answered_keeps, does_as_nothing, heard_event, no_clock, reply_heard, unheard, unseated, waits}
-use Rattle.nodes_deliveries.proofs.Readied.{ready_carried, ready_messages}
+use Rattle.nodes_ready.proofs.Readied.{ready_carried, ready_messages}
 use Rattle.nodes_deliveries.proofs.hearing.hear.Goals as goal
 
 pub returns-in_default-clause-does : goal.returns-in_default-clause-does

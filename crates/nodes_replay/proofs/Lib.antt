@@ -1,0 +1,5 @@
+mod Carried
+mod Flowing
+mod Promises
+mod Resolved
+mod Safely
