@@ -6,6 +6,10 @@ pub mod Fed
 pub mod Taken
 pub mod Carried
 pub mod Runs
+pub mod Spoken
+pub mod Lasting
+pub mod Followed
+pub mod Agreed
 pub mod Safely
 pub mod Showing
 pub mod MessageLineLemmas

@@ -3,20 +3,20 @@ use Rattle.std.proofs.Common.{◌≡◌, ℕ, ◌<◌, ◌≤◌, inl, inr, List
 use Rattle.std.specs.Option.{unwrap_or}
 use Rattle.std.proofs.lemmas.List.{take-append-drop}
 use Rattle.std.proofs.Math.Seq.{take-append_seam}
-use Rattle.ots_model.specs.declared.line.Line.{Line}
-use Rattle.ots_model.specs.Line.{text_of}
+use Rattle.nodes_world.specs.Told.{Told, text}
 use Rattle.ots_outside.specs.Source.{Gives, HasRisen}
-use Rattle.ots_world.specs.Agreement.{Agreement}
 use Rattle.ots_program.specs.declared.player.Player.{Player}
 use Rattle.ots_program.specs.declared.status.Status.{Status}
 use Rattle.ots_program.specs.declared.status.Status.TheVariants as statuses
 use Rattle.ots_program.specs.Answers.{IsReadToEnd, Replays, TakesFront, TakesLines, Writes}
+use Rattle.ots_program.specs.Laws.{WorldsAgree}
 use Rattle.ots_program.specs.PlayingInside.{left}
 use Rattle.ots_program.specs.Replay.{Replay, replay}
 use Rattle.ots_program.specs.ReplayInside.{Advances, BreaksOff, Halts, PlaysPiece}
+use Rattle.ots_program.proofs.Agreed.{replay-agrees, replay-lasts}
 use Rattle.ots_program.proofs.Safely.{IfSome-safely}
 use Rattle.ots_program.proofs.Taken.{Advances-none, Advances-trans, Halts-advanced, Halts-read}
-use Rattle.ots_program.proofs.Told.{text_of-append}
+use Rattle.ots_program.proofs.Told.{text-append}
 
 -- ---- what was read
 
@@ -71,14 +71,14 @@ Runs-more player next script now later before mid after places n room h gives on
 
 -- ---- how it ends
 
-TakesFront-lines : (some others : List Line) (taken : List ℕ) (after : Option (List ℕ)) → TakesLines some taken after → TakesFront (some ++ others) taken after
+TakesFront-lines : (some others : List Told) (taken : List ℕ) (after : Option (List ℕ)) → TakesLines some taken after → TakesFront (some ++ others) taken after
 TakesFront-lines some others taken after h =
-    (length (text_of some), rw (h, text_of-append some others, take-append_seam (text_of some) (text_of others)) refl)
+    (length (text some), rw (h, text-append some others, take-append_seam (text some) (text others)) refl)
 
-TakesFront-limit : (k : ℕ) (some others : List Line) (taken : List ℕ) (after : Option (List ℕ)) → TakesLines (some ++ take k others) taken after → TakesFront (some ++ others) taken after
+TakesFront-limit : (k : ℕ) (some others : List Told) (taken : List ℕ) (after : Option (List ℕ)) → TakesLines (some ++ take k others) taken after → TakesFront (some ++ others) taken after
 TakesFront-limit k some others taken after h =
     let e : (some ++ take k others) ++ drop k others ≡ some ++ others = append_assoc some (take k others) (drop k others) ∙ ap (λ lines. some ++ lines) (take-append-drop k others) in
-    subst (λ (lines : List Line). TakesFront lines taken after) e (TakesFront-lines (some ++ take k others) (drop k others) taken after h)
+    subst (λ (lines : List Told). TakesFront lines taken after) e (TakesFront-lines (some ++ take k others) (drop k others) taken after h)
 
 -- whatever the status, a front of the replay's lines was taken
 TakesFront-written : (status : Status) (r : Replay) (taken : List ℕ) (after : Option (List ℕ)) → Writes status r taken after → TakesFront (r.lines ++ r.further) taken after
@@ -91,19 +91,21 @@ TakesFront-written statuses.ReadFault r taken after h = h
 TakesFront-written statuses.WriteFault r taken after h = h
 TakesFront-written statuses.Memory r taken after h = h
 
-Replays-safe : Agreement → (status : Status) (octets : List ℕ) (before after : Option (List ℕ)) → Halts status (replay octets) before after → IfSome before (λ taken. TakesFront ((replay octets).lines ++ (replay octets).further) taken after)
-Replays-safe law status octets None after h = tt
-Replays-safe law status octets (Some taken) after h = TakesFront-written status (replay octets) taken after h.writes
+Replays-front : (status : Status) (octets : List ℕ) (before after : Option (List ℕ)) → Halts status (replay octets) before after → IfSome before (λ taken. TakesFront ((replay octets).lines ++ (replay octets).further) taken after)
+Replays-front status octets None after h = tt
+Replays-front status octets (Some taken) after h = TakesFront-written status (replay octets) taken after h.writes
 
 -- the replay of octets ended, which are all of the source's where it tells them
-Replays-halted : Agreement → (status : Status) (octets : List ℕ) (script before after : Option (List ℕ)) → IfSome script (λ all. all ≡ octets) → Halts status (replay octets) before after → Replays status script before after
+Replays-halted : WorldsAgree → (status : Status) (octets : List ℕ) (script before after : Option (List ℕ)) → IfSome script (λ all. all ≡ octets) → Halts status (replay octets) before after → Replays status script before after
 Replays-halted law status octets script before after e h = record {
   of_replay = h.of_replay;
   octets = octets;
   of_source = e;
   tells = h.tells;
   writes = h.writes;
-  safe = IfSome-safely law octets before after (Replays-safe law status octets before after h);
+  safe = IfSome-safely law octets before after (Replays-front status octets before after h);
+  agreed = replay-agrees law octets;
+  lasts = replay-lasts law octets;
 }
 
 Reads-all : (seen rest : List ℕ) (script now : Option (List ℕ)) → Reads seen rest script now → IfSome script (λ all. all ≡ seen ++ rest)
@@ -111,12 +113,12 @@ Reads-all seen rest None now h = tt
 Reads-all seen rest (Some all) now h = h.1
 
 -- reading failed
-pub Replays-read : Agreement → (player : Player) (script now before after : Option (List ℕ)) → Runs player script now before after → Replays statuses.ReadFault script before after
+pub Replays-read : WorldsAgree → (player : Player) (script now before after : Option (List ℕ)) → Runs player script now before after → Replays statuses.ReadFault script before after
 Replays-read law player script now before after h =
     Replays-halted law statuses.ReadFault (h.seen ++ h.rest) script before after (Reads-all h.seen h.rest script now h.reads) (Halts-read _ _ before after (h.advances h.rest))
 
 -- the replay broke off at a piece
-pub Replays-broken : Agreement → (player : Player) (status : Status) (script now later before mid after : Option (List ℕ)) (places n : ℕ) (room : List ℕ) → Runs player script now before mid
+pub Replays-broken : WorldsAgree → (player : Player) (status : Status) (script now later before mid after : Option (List ℕ)) (places n : ℕ) (room : List ℕ) → Runs player script now before mid
     → IfSome now (λ octets. Gives octets places n room later) → BreaksOff status player (take n room) mid after → Replays status script before after
 Replays-broken law player status script now later before mid after places n room h gives b =
     let all = Reads-all _ _ script later (Reads-more h.seen h.rest script now later places n room h.reads gives) in
@@ -132,7 +134,7 @@ IfSome-second None P Q h = tt
 IfSome-second (Some all) P Q h = h.1
 
 -- the source and the replay ended
-pub Replays-ended : Agreement → (player : Player) (status : Status) (script now later before mid after : Option (List ℕ)) (places n : ℕ) (room : List ℕ) → Runs player script now before mid
+pub Replays-ended : WorldsAgree → (player : Player) (status : Status) (script now later before mid after : Option (List ℕ)) (places n : ℕ) (room : List ℕ) → Runs player script now before mid
     → IfSome now (λ octets. Gives octets places n room later) → n ≡ 0 → 0 < places → Halts status (left player []) mid after → Replays status script before after
 Replays-ended law player status script now later before mid after places n room h gives none some halts =
     let end = Reads-end h.seen h.rest script now later places n room h.reads gives none some in

@@ -1,9 +1,8 @@
 -- What a sink has taken of a replay.
-use Rattle.std.proofs.Common.{◌≡◌, ℕ, ◌+◌, min, List, [], ◌++◌, length, take, Option, Some, None, Result, Ok, Err, OnOk, IfErr, IfSome, refl, append_assoc, arith}
+use Rattle.std.proofs.Common.{◌≡◌, ℕ, ◌+◌, min, List, [], ◌++◌, length, take, Option, Some, None, Result, Ok, Err, OnOk, IfErr, IfSome, refl, ap, ◌∙◌, append_assoc, arith}
 use Rattle.std.proofs.lemmas.Grind.{common_steps}
 use Rattle.std.proofs.Math.Seq.{take-append-add}
-use Rattle.ots_model.specs.declared.line.Line.{Line}
-use Rattle.ots_model.specs.Line.{text_of}
+use Rattle.nodes_world.specs.Told.{Told, text}
 use Rattle.ots_outside.specs.Sink.{Takes, TakesPart}
 use Rattle.ots_program.specs.declared.player.Player.{Player}
 use Rattle.ots_program.specs.declared.player.Stop.{Stop}
@@ -14,7 +13,7 @@ use Rattle.ots_program.specs.Answers.{OfReplay, TakesFront, Tells, Writes}
 use Rattle.ots_program.specs.PlayingInside.{Ends, IsFed, StopsAt, StopsIn, left, octets_fed}
 use Rattle.ots_program.specs.Replay.{Replay, ahead_of}
 use Rattle.ots_program.specs.ReplayInside.{Advances, BreaksOff, Halts, IsReady, PlaysPiece, StopsReplay, status_of}
-use Rattle.ots_program.proofs.Told.{IsFront, IsFront-ahead, IsFront-passed, IsFront-stopped, IsFront-ended, take-shorter, text_of-append}
+use Rattle.ots_program.proofs.Told.{IsFront, IsFront-ahead, IsFront-passed, IsFront-stopped, IsFront-ended, ahead_of-twice, take-shorter, text-append}
 
 pub Takes-none : (taken : Option (List ℕ)) → Takes taken [] taken
 Takes-none None = tt
@@ -41,7 +40,7 @@ Advances-none r taken = record { lines = []; whole = refl; taken = Takes-none ta
 
 pub Advances-trans : (r s t : Replay) (before mid after : Option (List ℕ)) → Advances r s before mid → Advances s t mid after → Advances r t before after
 Advances-trans r s t before mid after h k =
-    record { lines = h.lines ++ k.lines; whole = rw (h.whole, k.whole, append_assoc) refl; taken = rw (text_of-append h.lines k.lines) (Takes-trans (text_of h.lines) (text_of k.lines) before mid after h.taken k.taken) }
+    record { lines = h.lines ++ k.lines; whole = h.whole ∙ ap (ahead_of h.lines) k.whole ∙ ahead_of-twice h.lines k.lines t; taken = rw (text-append h.lines k.lines) (Takes-trans (text h.lines) (text k.lines) before mid after h.taken k.taken) }
 
 -- ---- a replay that ends
 
@@ -54,7 +53,7 @@ pub Halts-read : (r s : Replay) (before after : Option (List ℕ)) → Advances 
 Halts-read r s before after h = record {
   of_replay = tt;
   tells = tt;
-  writes = rw h.whole (TakesFront-part (text_of h.lines) (ahead_of h.lines s) before after (IsFront-ahead h.lines s) (Takes-part (text_of h.lines) before after h.taken));
+  writes = rw h.whole (TakesFront-part (text h.lines) (ahead_of h.lines s) before after (IsFront-ahead h.lines s) (Takes-part (text h.lines) before after h.taken));
 }
 
 -- the replay stopped, and the output was written
@@ -129,22 +128,22 @@ BreaksOff-cut (Err why) old fed piece before after none h stop k =
 -- ---- behind lines
 
 -- a front of what is left, behind the lines so far
-TakesFront-ahead : (lines : List Line) (r : Replay) (taken more : List ℕ) (after : Option (List ℕ)) → more ≡ taken ++ text_of lines → TakesFront (r.lines ++ r.further) more after → TakesFront ((lines ++ r.lines) ++ r.further) taken after
+TakesFront-ahead : (lines : List Told) (r : Replay) (taken more : List ℕ) (after : Option (List ℕ)) → more ≡ taken ++ text lines → TakesFront (r.lines ++ r.further) more after → TakesFront ((lines ++ r.lines) ++ r.further) taken after
 TakesFront-ahead lines r taken more after e h =
-    (length (text_of lines) + h.0, rw (h.1, e, append_assoc lines r.lines r.further, text_of-append lines (r.lines ++ r.further), take-append-add (text_of lines) (text_of (r.lines ++ r.further)) h.0, append_assoc) refl)
+    (length (text lines) + h.0, rw (h.1, e, append_assoc lines r.lines r.further, text-append lines (r.lines ++ r.further), take-append-add (text lines) (text (r.lines ++ r.further)) h.0, append_assoc) refl)
 
-Writes-ahead : (status : Status) (lines : List Line) (r : Replay) (taken more : List ℕ) (after : Option (List ℕ)) → more ≡ taken ++ text_of lines → Writes status r more after → Writes status (ahead_of lines r) taken after
-Writes-ahead statuses.Done lines r taken more after e h = rw (h, e, text_of-append lines r.lines, append_assoc) refl
-Writes-ahead (statuses.Script line) lines r taken more after e h = rw (h, e, text_of-append lines r.lines, append_assoc) refl
+Writes-ahead : (status : Status) (lines : List Told) (r : Replay) (taken more : List ℕ) (after : Option (List ℕ)) → more ≡ taken ++ text lines → Writes status r more after → Writes status (ahead_of lines r) taken after
+Writes-ahead statuses.Done lines r taken more after e h = rw (h, e, text-append lines r.lines, append_assoc) refl
+Writes-ahead (statuses.Script line) lines r taken more after e h = rw (h, e, text-append lines r.lines, append_assoc) refl
 Writes-ahead (statuses.Limit line number) lines r taken more after e h =
-    (h.0, rw (h.1, e, append_assoc lines r.lines (take h.0 r.further), text_of-append lines (r.lines ++ take h.0 r.further), append_assoc) refl)
+    (h.0, rw (h.1, e, append_assoc lines r.lines (take h.0 r.further), text-append lines (r.lines ++ take h.0 r.further), append_assoc) refl)
 Writes-ahead statuses.Usage lines r taken more after e h = TakesFront-ahead lines r taken more after e h
 Writes-ahead (statuses.BadMessage place fault) lines r taken more after e h = TakesFront-ahead lines r taken more after e h
 Writes-ahead statuses.ReadFault lines r taken more after e h = TakesFront-ahead lines r taken more after e h
 Writes-ahead statuses.WriteFault lines r taken more after e h = TakesFront-ahead lines r taken more after e h
 Writes-ahead statuses.Memory lines r taken more after e h = TakesFront-ahead lines r taken more after e h
 
-IfSome-ahead : (status : Status) (lines : List Line) (r : Replay) (before mid after : Option (List ℕ)) → Takes before (text_of lines) mid → IfSome mid (λ taken. Writes status r taken after) → IfSome before (λ taken. Writes status (ahead_of lines r) taken after)
+IfSome-ahead : (status : Status) (lines : List Told) (r : Replay) (before mid after : Option (List ℕ)) → Takes before (text lines) mid → IfSome mid (λ taken. Writes status r taken after) → IfSome before (λ taken. Writes status (ahead_of lines r) taken after)
 IfSome-ahead status lines r None mid after h k = tt
 IfSome-ahead status lines r (Some taken) None after h k = absurd (cc (h))
 IfSome-ahead status lines r (Some taken) (Some more) after h k = Writes-ahead status lines r taken more after (cc (h)) k

@@ -1,16 +1,18 @@
 -- What a line's turn makes of a replay.
-use Rattle.std.proofs.Common.{◌≡◌, ℕ, ◌+◌, ◌<◌, ◌≤◌, min, List, [], ◌∷◌, ◌++◌, length, true, false, Result, Ok, Err, OnOk, IfErr, refl, append_assoc, append-nil, arith}
-use Rattle.ots_world.specs.Does.{TellsPart}
-use Rattle.ots_world.specs.Standing.{Standing}
+use Rattle.std.proofs.Common.{◌≡◌, ℕ, ◌+◌, ◌<◌, ◌≤◌, min, List, [], ◌∷◌, ◌++◌, length, true, false, Result, Ok, Err, OnOk, IfErr, refl, ap, ◌∙◌, append_assoc, append-nil, arith}
+use Rattle.nodes_world.specs.Lives.{last_lines}
+use Rattle.nodes_world.specs.World.{World}
+use Rattle.nodes_state.specs.Telling.{Tells, TellsPart}
+use Rattle.nodes_replay.specs.Standing.{Standing}
 use Rattle.ots_program.specs.declared.player.Player.{Player}
 use Rattle.ots_program.specs.declared.player.Stop.{Stop}
 use Rattle.ots_program.specs.declared.player.Stop.TheVariants as stops
 use Rattle.ots_program.specs.Limits.{lines_limit, octets_limit}
 use Rattle.ots_program.specs.PlayingInside.{Passes, StopsAt, Ends, Turns, GoesOn, world_of, lines_of, place_of, row_of, left}
-use Rattle.ots_program.specs.Replay.{Row, Place, Turn, Goes, Stops, Limited, Refused, rows, size, behind, turn, replay_from}
+use Rattle.ots_program.specs.Replay.{Replay, Row, Place, Turn, Goes, Stops, Limited, Refused, rows, size, ahead_of, behind, completed, turn, replay_from}
 use Rattle.ots_program.proofs.Replays.{replay-ended, replay-goes, replay-stops, turn-past_lines, turn-past_octets}
 use Rattle.ots_program.proofs.Rows.{IsOneLine, rows-ended, rows-open, rows-begun}
-use Rattle.ots_program.proofs.Told.{Tells-none, take-shorter}
+use Rattle.ots_program.proofs.Told.{Passes-none, StopsAt-passed, Tells-none, Tells-trans, take-shorter}
 
 -- at a limit
 StopsAt-limit : (p : Place) (row : Row) (others : List Row) (number : ℕ) (before : List ℕ) → turn p row ≡ Stops (Limited (p.lines + 1) number) [] → StopsAt (stops.Limit (p.lines + 1) number) (replay_from p (row ∷ others)) before before
@@ -47,24 +49,34 @@ Passes-turned p row others now before after h =
     rw h.stands (record { lines = h.lines; whole = replay-goes p row others h.world h.lines h.goes; told = h.told })
 
 -- the last turn went on
-pub Ends-turned : (p : Place) (row : Row) (now : Standing) (before after : List ℕ) → GoesOn (turn p row) now before after → Ends (replay_from p (row ∷ [])) before after
-Ends-turned p row now before after h =
-    rw (replay-goes p row [] h.world h.lines h.goes, replay-ended) (record { ending = refl; told = rw append-nil h.told })
+pub Passes-last : (p : Place) (row : Row) (now : Standing) (before after : List ℕ) → GoesOn (turn p row) now before after → Passes (replay_from p (row ∷ [])) (completed (world_of now)) before after
+Passes-last p row now before after h =
+    rw h.stands (record { lines = h.lines; whole = replay-goes p row [] h.world h.lines h.goes ∙ ap (ahead_of h.lines) (replay-ended (behind p row h.world)); told = h.told })
 
 -- there was no last turn
-pub Ends-none : (p : Place) (before : List ℕ) → Ends (replay_from p []) before before
-Ends-none p before = rw replay-ended (record { ending = refl; told = Tells-none before })
+Passes-ended : (p : Place) (before : List ℕ) → Passes (replay_from p []) (completed p.world) before before
+Passes-ended p before = rw replay-ended (Passes-none (completed p.world) before)
 
-pub Ends-empty : (p : Place) (text before : List ℕ) → length text ≡ 0 → Ends (replay_from p (rows (text ++ []))) before before
-Ends-empty p [] before h = Ends-none p before
-Ends-empty p (octet ∷ text) before h = absurd (omega arith)
+pub Passes-empty : (p : Place) (text before : List ℕ) → length text ≡ 0 → Passes (replay_from p (rows (text ++ []))) (completed p.world) before before
+Passes-empty p [] before h = Passes-ended p before
+Passes-empty p (octet ∷ text) before h = absurd (omega arith)
 
 -- the last line had no line feed
-pub Ends-open : (result : Result (Unit {0}) Stop) (p : Place) (text : List ℕ) (now : Standing) (before after : List ℕ) → IsOneLine text → 0 < length text → Turns result (turn p (record { text = text; ended = false })) now before after → OnOk result (Ends (replay_from p (rows (text ++ []))) before after)
-Ends-open (Err stop) p text now before after one some h = tt
-Ends-open (Ok done) p [] now before after one some h = absurd (omega arith)
-Ends-open (Ok done) p (octet ∷ text) now before after one some h =
-    rw (append-nil text, rows-open octet text one) (Ends-turned p (record { text = octet ∷ text; ended = false }) now before after h)
+pub Passes-open : (result : Result (Unit {0}) Stop) (p : Place) (text : List ℕ) (now : Standing) (before after : List ℕ) → IsOneLine text → 0 < length text → Turns result (turn p (record { text = text; ended = false })) now before after → OnOk result (Passes (replay_from p (rows (text ++ []))) (completed (world_of now)) before after)
+Passes-open (Err stop) p text now before after one some h = tt
+Passes-open (Ok done) p [] now before after one some h = absurd (omega arith)
+Passes-open (Ok done) p (octet ∷ text) now before after one some h =
+    rw (append-nil text, rows-open octet text one) (Passes-last p (record { text = octet ∷ text; ended = false }) now before after h)
+
+-- behind the last line the journals were told
+pub Ends-told : (r : Replay) (w : World) (before mid after : List ℕ) → Passes r (completed w) before mid → Tells (last_lines w) mid after → Ends r before after
+Ends-told r w before mid after h k =
+    rw h.whole (record { ending = refl; told = Tells-trans h.lines (last_lines w) before mid after h.told k })
+
+-- or some of them, and then memory ran out
+pub StopsAt-told : (r : Replay) (w : World) (before mid after : List ℕ) → Passes r (completed w) before mid → TellsPart (last_lines w) mid after → StopsAt stops.Memory r before after
+StopsAt-told r w before mid after h k =
+    StopsAt-passed stops.Memory r (completed w) before mid after h (rw append-nil k)
 
 pub StopsAt-open : (result : Result (Unit {0}) Stop) (p : Place) (text : List ℕ) (now : Standing) (before after : List ℕ) → IsOneLine text → 0 < length text → Turns result (turn p (record { text = text; ended = false })) now before after → IfErr result (λ stop. StopsAt stop (replay_from p (rows (text ++ []))) before after)
 StopsAt-open (Ok done) p text now before after one some h = tt

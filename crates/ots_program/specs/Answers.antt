@@ -1,12 +1,16 @@
 -- What a replay answers, and what its sink has taken (our profile).
 use Rattle.std.specs.Prelude.{◌≡◌, ◌≢◌, ℕ, ◌<◌, List, [], ◌∷◌, ◌++◌, length, take, Option, Some, IfSome}
-use Rattle.ots_model.specs.declared.line.Line.{Line}
-use Rattle.ots_model.specs.Line.{spelling, text_of}
 use Rattle.ots_model.specs.Safe.{AreSafe}
+use Rattle.coordinator.specs.Node.{Node}
+use Rattle.nodes_world.specs.Agreement.{DonesAreComplete, IsKnown, OutcomesLast, Reaches}
+use Rattle.nodes_world.specs.Lives.{last_lines}
+use Rattle.nodes_world.specs.StandingDecisions.{AreToldDecided}
+use Rattle.nodes_world.specs.Told.{Told, known, spelled, text}
+use Rattle.nodes_world.specs.World.{World, node_at}
 use Rattle.ots_outside.specs.Source.{HasRisen}
 use Rattle.ots_program.specs.declared.status.Status.{Status}
 use Rattle.ots_program.specs.declared.status.Status.TheVariants as statuses
-use Rattle.ots_program.specs.Replay.{Replay, Ending, Completed, Refused, Limited, replay}
+use Rattle.ots_program.specs.Replay.{Replay, Row, Ending, Completed, Refused, Limited, replay, replay_from, rows, start}
 
 -- the source was read to its end, where it tells its octets
 abbrev pub IsReadToEnd : Option (List ℕ) → Option (List ℕ) → Type 0
@@ -42,12 +46,12 @@ Tells (statuses.Limit line number) ending = ending ≡ Limited line number
 Tells _ ending = Unit {0}
 
 -- the sink has taken these lines, whole, and nothing else
-abbrev pub TakesLines : List Line → List ℕ → Option (List ℕ) → Type 0
-TakesLines lines before after = after ≡ Some (before ++ text_of lines)
+abbrev pub TakesLines : List Told → List ℕ → Option (List ℕ) → Type 0
+TakesLines lines before after = after ≡ Some (before ++ text lines)
 
 -- the sink has taken a part of the text of these lines, from the front
-abbrev pub TakesFront : List Line → List ℕ → Option (List ℕ) → Type 0
-TakesFront lines before after = (n : ℕ) × (after ≡ Some (before ++ take n (text_of lines)))
+abbrev pub TakesFront : List Told → List ℕ → Option (List ℕ) → Type 0
+TakesFront lines before after = (n : ℕ) × (after ≡ Some (before ++ take n (text lines)))
 
 -- What the sink has taken, by the status: the replay's lines, and maybe some of the further ones at a limit. A fault or
 -- want of memory may cut the text short.
@@ -58,20 +62,42 @@ Writes (statuses.Limit line number) r before after = (k : ℕ) × TakesLines (r.
 Writes _ r before after = TakesFront (r.lines ++ r.further) before after
 
 -- a part of the first of these lines, less than the whole; nothing, where there are none
-abbrev pub IsPart : List ℕ → List Line → Type 0
+abbrev pub IsPart : List ℕ → List Told → Type 0
 IsPart octets [] = octets ≡ []
-IsPart octets (line ∷ others) = (n : ℕ) × (n < length (spelling line)) × (octets ≡ take n (spelling line))
+IsPart octets (line ∷ others) = (n : ℕ) × (n < length (spelled line)) × (octets ≡ take n (spelled line))
 
 -- The sink has taken whole lines, which are safe, and then maybe a part of the next one. They are what the replay of
 -- these octets tells first.
 pub record TakesSafely (octets before : List ℕ) (after : Option (List ℕ)) : Type 0 where
-  pub lines : List Line
-  pub others : List Line
+  pub lines : List Told
+  pub others : List Told
   pub of_replay : (replay octets).lines ++ (replay octets).further ≡ lines ++ others
   pub part : List ℕ
   pub of_next : IsPart part others
-  pub taken : after ≡ Some (before ++ (text_of lines ++ part))
-  pub safe : AreSafe lines
+  pub taken : after ≡ Some (before ++ (text lines ++ part))
+  pub safe : AreSafe (known lines)
+
+-- the journals that a replay tells in the end: those of its world, where all lines were carried out
+abbrev pub journals_by : Ending → World → List Told
+journals_by Completed w = last_lines w
+journals_by (Refused line) w = []
+journals_by (Limited line number) w = []
+
+-- Agreement of a replay: the world in which it stands in the end is one that a script can reach, telling what the replay
+-- has told but the journals. So all is known of it that is known of such worlds: no family is both decided and closed,
+-- numbers and keys name one thing each, decisions rest on votes, and the other parts; each decision that stands at a node
+-- that is up was told; and each Done names a decision that is over for all whom it names.
+pub record Agrees (r : Replay) : Type 0 where
+  pub lines : r.lines ≡ r.told ++ journals_by r.ending r.world
+  pub reached : Reaches r.world r.told
+  pub is_known : IsKnown r.world r.told
+  pub standing : (place : ℕ) (n : Node) → node_at r.world place ≡ Some n → AreToldDecided r.world r.told place n.found.standing
+  pub dones : DonesAreComplete r.world
+
+-- what is decided or closed behind some of a script's lines, from its first on, is so in the end
+abbrev pub OutcomesStay : List ℕ → Type 0
+OutcomesStay octets = (front others : List Row) → rows octets ≡ front ++ others
+    → OutcomesLast (replay_from start front).world (replay octets).world (replay_from start front).told (replay octets).told
 
 -- A replay with this status: the source had these octets left, and the sink had taken the octets before and has taken
 -- those after.
@@ -87,7 +113,11 @@ pub record Replays (status : Status) (left before after : Option (List ℕ)) : T
   pub writes : IfSome before (λ taken. Writes status (replay octets) taken after)
   -- and the whole lines among what it has taken are safe, whatever the status
   pub safe : IfSome before (λ taken. TakesSafely octets taken after)
+  -- the world in which that replay stands in the end agrees with what it has told
+  pub agreed : Agrees (replay octets)
+  -- and each family that was decided or closed on the way is so there
+  pub lasts : OutcomesStay octets
 
 -- all that a replay tells is safe, whatever the octets
 abbrev pub ReplaysAreSafe : Type 0
-ReplaysAreSafe = (octets : List ℕ) → AreSafe ((replay octets).lines ++ (replay octets).further)
+ReplaysAreSafe = (octets : List ℕ) → AreSafe (known ((replay octets).lines ++ (replay octets).further))

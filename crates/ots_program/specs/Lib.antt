@@ -2,6 +2,7 @@ pub mod Words
 pub mod Limits
 pub mod Replay
 pub mod Answers
+pub mod Laws
 pub mod PlayingInside
 pub mod ReplayInside
 pub mod MessageLine

@@ -1,6 +1,5 @@
 -- How much a script may have, and how much is read at once (our profile).
 use Rattle.std.specs.Prelude.{ℕ}
-pub use Rattle.ots_world.specs.Limits.{message_limit}
 
 -- lines
 abbrev pub lines_limit : ℕ

@@ -1,12 +1,12 @@
 -- The player of a replay: what it is fed, and what it tells (our profile).
 use Rattle.std.specs.Prelude.{◌≡◌, ◌≢◌, ℕ, ◌+◌, ◌<◌, ◌≤◌, Bool, List, [], ◌++◌, length, take, Result, Ok, Err}
 use Rattle.std.specs.List.{AllByRecursion}
-use Rattle.ots_model.specs.declared.line.Line.{Line}
 use Rattle.ots_world.specs.declared.fault.WorldFault.{WorldFault}
 use Rattle.ots_world.specs.declared.fault.WorldFault.TheVariants as faults
-use Rattle.ots_world.specs.World.{World, empty}
-use Rattle.ots_world.specs.Standing.{Standing}
-use Rattle.ots_world.specs.Does.{Tells, TellsPart}
+use Rattle.nodes_world.specs.Told.{Told}
+use Rattle.nodes_world.specs.World.{World, empty}
+use Rattle.nodes_state.specs.Telling.{Tells, TellsPart}
+use Rattle.nodes_replay.specs.Standing.{Standing}
 use Rattle.ots_program.specs.declared.player.Player.{Player}
 use Rattle.ots_program.specs.declared.player.Stop.{Stop}
 use Rattle.ots_program.specs.declared.player.Stop.TheVariants as stops
@@ -44,7 +44,7 @@ left p octets = replay_from (place_of p) (rows (p.line.items ++ octets))
 
 -- a replay went on to what is left of it, and its lines so far were told
 pub record Passes (from rest : Replay) (before after : List ℕ) : Type 0 where
-  pub lines : List Line
+  pub lines : List Told
   pub whole : from ≡ ahead_of lines rest
   pub told : Tells lines before after
 
@@ -78,21 +78,21 @@ stop_by (faults.Limit number) line = stops.Limit line number
 stop_by faults.Memory line = stops.Memory
 
 -- the lines that a turn tells
-abbrev pub lines_of : Turn → List Line
+abbrev pub lines_of : Turn → List Told
 lines_of (Goes world lines) = lines
 lines_of (Stops ending further) = further
 
 -- a turn went on, to a world that stands now, and its lines were told
 pub record GoesOn (turn : Turn) (now : Standing) (before after : List ℕ) : Type 0 where
   pub world : World
-  pub lines : List Line
+  pub lines : List Told
   pub goes : turn ≡ Goes world lines
   pub stands : now ≡ Ok world
   pub told : Tells lines before after
 
 -- a turn stopped at a limit, and some of its lines were told
 pub record StopsWithin (turn : Turn) (ending : Ending) (before after : List ℕ) : Type 0 where
-  pub further : List Line
+  pub further : List Told
   pub stops : turn ≡ Stops ending further
   pub told : TellsPart further before after
 

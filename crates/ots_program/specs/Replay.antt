@@ -1,9 +1,11 @@
 -- What the replay of a script writes, and how it ends, by the octets of the script (our profile).
 use Rattle.std.specs.Prelude.{ℕ, ◌+◌, Bool, true, false, ◌==◌, nat_lt, nat_le, List, [], ◌∷◌, ◌++◌, length, if◌then◌else◌}
-use Rattle.ots_model.specs.declared.line.Line.{Line}
+use Rattle.nodes_world.specs.Lives.{last_lines}
+use Rattle.nodes_world.specs.Step.{Stepped, Moves, Passes, Names, step}
+use Rattle.nodes_world.specs.Told.{Told}
+use Rattle.nodes_world.specs.World.{World, empty}
 use Rattle.ots_world.specs.Script.{Reading, Blank, Says, Bad, reading}
-use Rattle.ots_world.specs.World.{World, Stepped, Moves, Names, empty, step}
-use Rattle.ots_program.specs.Limits.{lines_limit, message_limit, octets_limit}
+use Rattle.ots_program.specs.Limits.{lines_limit, octets_limit}
 
 -- one line of a script, and whether a line feed ends it
 pub record Row : Type 0 where
@@ -33,9 +35,12 @@ pub data Ending : Type 0 where
 -- The lines that a replay tells, and how it ends. Where it ends inside a script's line, at a limit, some of the further
 -- lines may be told too.
 pub record Replay : Type 0 where
-  pub lines : List Line
-  pub further : List Line
+  pub lines : List Told
+  pub further : List Told
   pub ending : Ending
+  -- the world behind the last line of the script that was carried out, and the lines that were told on the way to it
+  pub world : World
+  pub told : List Told
 
 -- where a replay stands in front of a line: the world, and how many lines and octets were read
 pub record Place : Type 0 where
@@ -45,15 +50,14 @@ pub record Place : Type 0 where
 
 -- what one line of a script does: the replay goes on in another world, or it stops
 pub data Turn : Type 0 where
-  Goes : (world : World) → (lines : List Line) → Turn
-  Stops : (ending : Ending) → (further : List Line) → Turn
+  Goes : (world : World) → (lines : List Told) → Turn
+  Stops : (ending : Ending) → (further : List Told) → Turn
 
 -- by what the world makes of an event
 abbrev pub turn_by : Place → Stepped → Turn
 turn_by p Names = Stops (Refused (p.lines + 1)) []
-turn_by p (Moves to) = if nat_lt message_limit (length to.world.board.messages)
-    then Stops (Limited (p.lines + 1) message_limit) to.lines
-    else Goes to.world to.lines
+turn_by p (Moves done) = Goes done.world done.lines
+turn_by p (Passes limit some) = Stops (Limited (p.lines + 1) limit) some
 
 -- by what a line says
 abbrev pub turn_of : Place → Reading → Turn
@@ -72,15 +76,29 @@ abbrev pub behind : Place → Row → World → Place
 behind p row world = record { world = world; lines = p.lines + 1; octets = p.octets + size row }
 
 -- lines, and then a replay
-abbrev pub ahead_of : List Line → Replay → Replay
-ahead_of lines r = record { lines = lines ++ r.lines; further = r.further; ending = r.ending }
+abbrev pub ahead_of : List Told → Replay → Replay
+ahead_of lines r = record {
+  lines = lines ++ r.lines;
+  further = r.further;
+  ending = r.ending;
+  world = r.world;
+  told = lines ++ r.told;
+}
+
+-- the script has ended: the journal of each node is told
+abbrev pub completed : World → Replay
+completed w = record { lines = last_lines w; further = []; ending = Completed; world = w; told = [] }
+
+-- it stops at a line
+abbrev pub stopped : World → Ending → List Told → Replay
+stopped w ending further = record { lines = []; further = further; ending = ending; world = w; told = [] }
 
 -- the replay of lines, from a place on
 unfoldable pub replay_from : Place → List Row → Replay
-replay_from p [] = record { lines = []; further = []; ending = Completed }
+replay_from p [] = completed p.world
 replay_from p (row ∷ others) = elim (turn p row) [
   | Goes world lines ↦ ahead_of lines (replay_from (behind p row world) others)
-  | Stops ending further ↦ record { lines = []; further = further; ending = ending }
+  | Stops ending further ↦ stopped p.world ending further
 ]
 
 -- the start of a script, where nothing was made

@@ -1,7 +1,6 @@
 -- A replay at a piece of its source, and at the end: what its player told goes to the sink (our profile).
 use Rattle.std.specs.Prelude.{◌≡◌, ℕ, ◌+◌, List, [], ◌++◌, length, Option, IfSome}
-use Rattle.ots_model.specs.declared.line.Line.{Line}
-use Rattle.ots_model.specs.Line.{text_of}
+use Rattle.nodes_world.specs.Told.{Told, text}
 use Rattle.ots_outside.specs.Sink.{Takes}
 use Rattle.ots_program.specs.declared.player.Player.{Player}
 use Rattle.ots_program.specs.declared.player.Stop.{Stop}
@@ -19,9 +18,9 @@ pub record IsReady (p : Player) : Type 0 where
 
 -- a replay went on to what is left of it, and the sink has taken its lines so far
 pub record Advances (from rest : Replay) (before after : Option (List ℕ)) : Type 0 where
-  pub lines : List Line
+  pub lines : List Told
   pub whole : from ≡ ahead_of lines rest
-  pub taken : Takes before (text_of lines) after
+  pub taken : Takes before (text lines) after
 
 -- a replay ended with this status, and the sink has taken its lines
 pub record Halts (status : Status) (r : Replay) (before after : Option (List ℕ)) : Type 0 where

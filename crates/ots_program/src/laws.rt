@@ -1,10 +1,27 @@
 ghost use Rattle.ots_program.specs.Answers.{ReplaysAreSafe};
+ghost use Rattle.ots_program.specs.Laws.{WorldsAgree};
 
-use ots_world::lines_agree;
+use nodes_world::{
+    decisions_outlive_crashes, deeds_are_changes, dones_are_complete, names_that_are_read_fit,
+    outcomes_last, reached_lines_are_safe, reached_worlds_are_known,
+};
 
 /// A law: all lines that a replay tells are safe, whatever the script.
 pub fn replays_are_safe()
     ensures { ReplaysAreSafe }
 {
-    lines_agree();
+    worlds_agree();
+}
+
+/// The laws of worlds that a script reaches.
+pub fn worlds_agree()
+    ensures { WorldsAgree }
+{
+    reached_lines_are_safe();
+    reached_worlds_are_known();
+    decisions_outlive_crashes();
+    dones_are_complete();
+    outcomes_last();
+    deeds_are_changes();
+    names_that_are_read_fit();
 }

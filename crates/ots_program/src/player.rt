@@ -1,7 +1,11 @@
-ghost use Rattle.std.specs.Prelude.{◌≡◌, ℕ, ◌+◌, ◌<◌, ◌≤◌, List, [], ◌∷◌, IsOk, IfErr, OnOk};
+ghost use Rattle.std.specs.Prelude.{◌≡◌, ℕ, ◌+◌, ◌<◌, ◌≤◌, List, [], ◌∷◌, IfErr, Ok, OnErr, OnOk};
+ghost use Rattle.nodes_state.specs.Telling.{Tells, TellsPart};
+ghost use Rattle.nodes_world.specs.Lives.{last_lines};
+ghost use Rattle.ots_program.specs.PlayingInside.{world_of};
 
 use crate::limits::{LINES_LIMIT, OCTETS_LIMIT};
-use ots_world::{ScriptFault, World, WorldFault, parse_line};
+use nodes_replay::World;
+use ots_world::{ScriptFault, WorldFault, parse_line};
 use std::alloc::{AllocError, AllocFailed, Global};
 
 /// Why a replay stops.
@@ -68,8 +72,8 @@ pub struct Player {
 impl Player {
     ghost use Rattle.ots_world.specs.Script.{reading};
     ghost use Rattle.ots_program.specs.Limits.{lines_limit, octets_limit};
-    ghost use Rattle.ots_program.specs.PlayingInside.{Ends, IsFed, Plays, StopsAt, StopsIn, Turns, left, place_of, row_of};
-    ghost use Rattle.ots_program.specs.Replay.{replay, size, turn, turn_of};
+    ghost use Rattle.ots_program.specs.PlayingInside.{Ends, IsFed, Passes, Plays, StopsAt, StopsIn, Turns, left, place_of, row_of};
+    ghost use Rattle.ots_program.specs.Replay.{completed, replay, size, turn, turn_of};
 
     /// A replay at the start of its script.
     pub fn new(alloc: Global) -> Player
@@ -99,27 +103,23 @@ impl Player {
         Ok(())
     }
 
-    /// The script has ended, and its last line may lack its line feed. Answers the lines that are not written yet, and
-    /// how the replay ended.
+    /// The script has ended, and its last line may lack its line feed; then the journals are told. Answers the lines that
+    /// are not written yet, and how the replay ended.
     pub fn finish(mut self) -> (Vec<u8>, Result<(), Stop>)
         requires plays { Plays self }
         ensures ends { OnOk result.1 (Ends (left self []) self.output.items result.0.items) }
         ensures stops { IfErr result.1 (λ stop. StopsAt stop (left self []) self.output.items result.0.items) }
     {
-        let ended = self.end();
+        if let Err(stop) = self.end() {
+            return (self.output, Err(stop));
+        }
         let Player {
             world,
-            lines,
             mut output,
             ..
         } = self;
-        let ended = match ended {
-            Ok(()) => world
-                .finish(&mut output)
-                .map_err(|fault| Stop::by_world(fault, lines)),
-            Err(stop) => Err(stop),
-        };
-        (output, ended)
+        let told = tell_journals(world, &mut output);
+        (output, told)
     }
 
     /// The next octet of the script has come.
@@ -144,8 +144,9 @@ impl Player {
     /// The last line may be there without its line feed.
     fn end(&mut self) -> Result<(), Stop>
         requires plays { Plays self.old }
-        ensures stands { OnOk result (IsOk self.new.world) }
-        ensures ends { OnOk result (Ends (left self.old []) self.old.output.items self.new.output.items) }
+        ensures stands { OnOk result (self.new.world ≡ Ok (world_of self.new.world)) }
+        ensures passes { OnOk result (Passes (left self.old []) (completed (world_of self.new.world))
+            self.old.output.items self.new.output.items) }
         ensures stops { IfErr result (λ stop.
             StopsAt stop (left self.old []) self.old.output.items self.new.output.items) }
     {
@@ -192,5 +193,18 @@ impl Player {
             Err(ScriptFault::BadLine) => Err(Stop::Script(self.lines + 1)),
             Err(ScriptFault::Memory) => Err(Stop::Memory),
         }
+    }
+}
+
+/// The journals of the world are told, behind the last line of its script. Memory may run out.
+fn tell_journals(world: World, output: &mut Vec<u8>) -> Result<(), Stop>
+    requires stands { world ≡ Ok (world_of world) }
+    ensures told { OnOk result (Tells (last_lines (world_of world)) output.old.items output.new.items) }
+    ensures memory { IfErr result (λ stop. stop ≡ Stop.Memory) }
+    ensures part { OnErr result (TellsPart (last_lines (world_of world)) output.old.items output.new.items) }
+{
+    match world.finish(output) {
+        Ok(()) => Ok(()),
+        Err(_) => Err(Stop::Memory),
     }
 }

@@ -6,11 +6,11 @@ ghost use Rattle.ots_program.specs.PlayingInside.{left};
 ghost use Rattle.ots_program.specs.ReplayInside.{BreaksOff, Halts, IsReady, PlaysPiece};
 
 use crate::input::{PIECE, Pieces};
+use crate::laws::worlds_agree;
 use crate::output::write_out;
 use crate::player::Player;
 use crate::status::Status;
 use ots_outside::Sink;
-use ots_world::lines_agree;
 use std::alloc::Global;
 
 /// Replays the script on the source, of which it reads at most 8,192 octets at once. Its lines go to the sink.
@@ -20,8 +20,8 @@ pub fn replay_script<P: Pieces, K: Sink>(alloc: Global, source: &mut P, sink: &m
     ensures read_fault { HasReadFault result (P.faults source.old) (P.faults source.new) }
     ensures write_fault { HasWriteFault result (K.faults sink.old) (K.faults sink.new) }
 {
-    // The law by which the lines are safe.
-    lines_agree();
+    // The laws by which the lines are safe.
+    worlds_agree();
     let mut player = Player::new(alloc);
     let mut room = [0; PIECE];
     loop {

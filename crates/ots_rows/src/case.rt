@@ -10,6 +10,9 @@ use std::io;
 use std::io::{ErrorKind, Write};
 use std::sync::Wait;
 
+/// How many octets are shown of a line at most.
+const MOST: usize = 4000;
+
 /// What a case is of.
 #[derive(Clone, Copy)]
 enum Subject {
@@ -154,13 +157,22 @@ impl Case {
             writeln!(shown, ".. {} octets in {count} lines", text.len())?;
         }
         for line in &lines.as_slice()[count - count.min(self.last)..] {
-            shown.extend_from_slice(line)?;
+            show_line(&mut shown, line)?;
         }
         if text.last().is_some_and(|octet| *octet != b'\n') {
             shown.extend_from_slice(b"\\\n")?;
         }
         Ok(shown)
     }
+}
+
+/// Shows a line. Of a long one its front is shown, and how many octets it has with its line feed.
+fn show_line(shown: &mut Vec<u8>, line: &[u8]) -> io::Result<()> {
+    shown.extend_from_slice(&line[..line.len().min(MOST)])?;
+    if line.len() > MOST {
+        writeln!(shown, " .. {} octets", line.len())?;
+    }
+    Ok(())
 }
 
 /// Whether these words ask for a show.

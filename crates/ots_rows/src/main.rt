@@ -21,9 +21,9 @@
 //! The lines up to the next case are the input, each with a line feed. A line `= N M LINE` stands for N times M lines:
 //! in LINE `&` counts from 1 to N, and for each of these `%` from 1 to M. What stands before the first case is a remark.
 //!
-//! What is told of a command: its first line; what the sink has taken, with a `\` where its last line has no line feed;
-//! a line with the status, its number and how often the source and the sink have failed; and the line of the status on
-//! standard error.
+//! What is told of a command: its first line; what the sink has taken, with a `\` where its last line has no line feed,
+//! and of a line of more than 4,000 octets its front and how many they are; a line with the status, its number and how
+//! often the source and the sink have failed; and the line of the status on standard error.
 #![tactic(auto)]
 
 use case::Case;

@@ -1,6 +1,5 @@
 //! Tests of completions whose allocations fail.
 
-use flat_phases::FlatCompletion;
 use ots_model::tree::{Heard, Outcome};
 use ots_model::{CallNumber, Ground, RefBytes, Stood, Vote};
 use resource_votes::Votes;
@@ -52,20 +51,5 @@ fn what_comes_behind_reserve_needs_no_memory(rt: HostRuntime) -> Result<(), Fail
     }
     assert!(rt; completion.outcome() == Some(Outcome::Commit(Ground::Record)));
     assert!(rt; completion.is_settled() && completion.report().is_none());
-    Ok(())
-}
-
-/// The same of the completion of one transaction: where the N-th allocation is made to fail, `start` asks for no memory.
-#[test]
-fn the_start_of_one_transaction_needs_no_memory(rt: HostRuntime) -> Result<(), Fail> {
-    let Ok(to) = RefBytes::new(rt.alloc(), b"a participant") else {
-        return Ok(());
-    };
-    let mut completion = FlatCompletion::idle(rt.alloc());
-    if completion.reserve(1).is_err() {
-        return Ok(());
-    }
-    completion.start(&[to], true, FIRST, false);
-    assert!(rt; completion.next().is_some());
     Ok(())
 }

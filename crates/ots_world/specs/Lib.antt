@@ -1,16 +1,2 @@
 pub mod Limits
 pub mod Script
-pub mod Table
-pub mod Board
-pub mod BoardInside
-pub mod Does
-pub mod Clients
-pub mod Named
-pub mod Claim
-pub mod World
-pub mod StateInside
-pub mod Standing
-pub mod WorldInside
-pub mod Stands
-pub mod Agreement
-pub mod AgreementExamples

@@ -1,8 +1,6 @@
-ghost use Rattle.std.specs.Prelude.{◌≡◌, ◌++◌, IsErrOf, MatchResult};
-ghost use Rattle.ots_world.specs.Does.{Tells, TellsPart};
+ghost use Rattle.std.specs.Prelude.{◌≡◌};
 ghost use Rattle.ots_world.specs.declared.fault.WorldFault.TheVariants.{Memory};
 
-use ots_model::Line;
 use std::alloc::{AllocError, AllocFailed};
 
 /// How many messages a script sends at most.
@@ -33,15 +31,4 @@ impl<T: Drop> From<AllocFailed<T>> for WorldFault {
     fn from(_error: AllocFailed<T>) -> WorldFault {
         WorldFault::Memory
     }
-}
-
-/// Tells some lines, each whole or not at all.
-pub fn tell(lines: &mut Vec<u8>, some: &[Line]) -> Result<(), WorldFault>
-    ensures told { MatchResult result (λ _. Tells some.now lines.old.items lines.new.items)
-        (λ fault. (fault ≡ Memory) × TellsPart some.now lines.old.items lines.new.items) }
-{
-    for line in some {
-        line.write(lines)?;
-    }
-    Ok(())
 }

@@ -11,15 +11,15 @@ loop-count-init g c = record {
 }
 
 pub returns-in_default-clause-replays : goal.returns-in_default-clause-replays
-returns-in_default-clause-replays g c = Replays-read c.lines_agree.ensures c.loop-count.player _ _ _ _ c.loop-count.invariant.runs
+returns-in_default-clause-replays g c = Replays-read c.worlds_agree.ensures c.loop-count.player _ _ _ _ c.loop-count.invariant.runs
 
 pub returns-then-count-eq0-clause-replays : goal.returns-then-count-eq0-clause-replays
 returns-then-count-eq0-clause-replays g c =
-    Replays-ended c.lines_agree.ensures c.loop-count.player c.finish.result _ _ _ _ _ _ _ _ _ c.loop-count.invariant.runs c.in-Ok.ensures.octets c.if-count-eq0.true (omega arith) c.finish.ensures.halts
+    Replays-ended c.worlds_agree.ensures c.loop-count.player c.finish.result _ _ _ _ _ _ _ _ _ c.loop-count.invariant.runs c.in-Ok.ensures.octets c.if-count-eq0.true (omega arith) c.finish.ensures.halts
 
 pub returns-in-Err-clause-replays : goal.returns-in-Err-clause-replays
 returns-in-Err-clause-replays g c =
-    Replays-broken c.lines_agree.ensures c.loop-count.player c.in-Err.status _ _ _ _ _ _ _ _ _ c.loop-count.invariant.runs c.in-Ok.ensures.octets c.in-Err.ensures.breaks_off
+    Replays-broken c.worlds_agree.ensures c.loop-count.player c.in-Err.status _ _ _ _ _ _ _ _ _ c.loop-count.invariant.runs c.in-Ok.ensures.octets c.in-Err.ensures.breaks_off
 
 pub loop-count-preserved : goal.loop-count-preserved
 loop-count-preserved g c = record {

@@ -1,9 +1,0 @@
-pub mod Poll
-pub mod Progress
-pub mod Laws
-pub mod LawsOfPolls
-pub mod Judged
-pub mod Plan
-pub mod RoomInside
-pub mod RoundInside
-pub mod FlatCompletionInside

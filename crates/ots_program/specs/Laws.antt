@@ -1,0 +1,13 @@
+-- The laws of worlds on which agreement of a replay rests (our profile).
+use Rattle.nodes_world.specs.Agreement.{Agreement, ReachedDonesAreComplete, ReachedIsKnown, ReachedOutcomesLast, ReadNamesFit}
+use Rattle.nodes_world.specs.Changes.{DeedsAreChanges}
+use Rattle.nodes_world.specs.StandingDecisions.{StandingIsTold}
+
+pub record WorldsAgree : Type 0 where
+  pub safe : Agreement
+  pub known : ReachedIsKnown
+  pub standing : StandingIsTold
+  pub dones : ReachedDonesAreComplete
+  pub last : ReachedOutcomesLast
+  pub changes : DeedsAreChanges
+  pub fit : ReadNamesFit
