@@ -209,6 +209,10 @@ def bench(kind, size):
         return ending(kind, size)
     if kind == "few":
         return ["create 0"] * (size - 1) + ["create 1"], ["live 1"] * 4096
+    if kind in ("mark", "status"):
+        return ["create 0"] * (size - 1), [f"{kind} {size - 1}"] * 64
+    if kind == "told":
+        return ["create 0"] + ["aware 1"] * size, [f"told 1 {after}" for after in range(size)] * 16
     if kind == "ancestry":
         return chain(size), [f"relation 0 {size - 1}"] * 64
     if kind == "participants":
@@ -218,9 +222,10 @@ def bench(kind, size):
         return handed, [f"commit {branch + 1}" for branch in range(size)]
     if kind == "handed":
         return chain(DEPTH) + [f"register {DEPTH - 1}"] * size, [f"commit {branch}" for branch in range(DEPTH - 1, 0, -1)]
-    if kind == "completion":
-        votes = ["hear VoteCommit"] * size + ["decided stands"]
-        return ["register 0"] * size + ["begin no no"], votes + ["hear ok"] * size
+    if kind in ("completion", "join"):
+        begun, votes = ["register 0"] * size + ["begin no no"], ["hear VoteCommit"] * size + ["decided stands"]
+        told = votes + ["hear ok"] * size
+        return (begun, told) if kind == "completion" else (begun + told, ["state"] * 64)
     sys.exit(f"no such kind: {kind}")
 
 

@@ -5,13 +5,15 @@ usage: python3 examples/diagram.py <LINES >DIAGRAM
 
 The client, the nodes and the ends are the columns. A line that tells of a message on its way is an arrow between two of
 them; any other line is a note over the column where it happened. Each line stands there as it was printed, and in its
-place. A line that isn't one of a replay ends it, with the number of the line. It needs Python 3.10 and nothing else.
+place; of a journal the first octets stand. A line that isn't one of a replay ends it, with the number of the line. It
+needs Python 3.10 and nothing else.
 """
 import re
 import sys
 
 CLIENT = "client"
-WORDS = re.compile(r"\w+( \w+)*", re.ASCII)
+WORDS = re.compile(r"\S+( \S+)*", re.ASCII)
+JOURNAL_DIGITS = 16
 
 
 class Diagram:
@@ -56,17 +58,24 @@ class Diagram:
                 if server not in self.servers:
                     self.servers.append(server)
                 self.note(self.column(server), line)
+            case ["down", server]:
+                self.note(self.column(server), line)
+            case ["journal", server, digits]:
+                more = "..." if len(digits) > JOURNAL_DIGITS else ""
+                self.note(self.column(server), f"journal {server} {digits[:JOURNAL_DIGITS]}{more}")
             case ["top", transaction, node] | ["imp", transaction, _, node]:
                 self.node_of[transaction] = self.column(node)
                 self.note(self.column(node), line)
             case ["sub", transaction, parent]:
                 self.node_of[transaction] = self.node_of[parent]
                 self.note(self.node_of[parent], line)
-            case ["reg", registration, transaction, server]:
+            case ["reg" | "awr", registration, transaction, server]:
                 self.seat_of[registration] = self.node_of[transaction], self.column(server)
                 self.note(self.column(server), line)
             case ["call", message, _, transaction]:
                 self.request(message, CLIENT, self.node_of[transaction], line)
+            case ["no", "begin" | "put" | "refuse", _]:
+                self.note(CLIENT, line)
             case ["ans", call, _]:
                 client, node = self.way_of[call]
                 self.arrow(node, "-->>", client, line)
@@ -76,7 +85,7 @@ class Diagram:
                 sender, receiver = self.way_of[request]
                 self.way_of[message] = receiver, sender
                 self.arrow(receiver, "-->>", sender, line)
-            case ["recv", message]:
+            case ["recv" | "drop", message]:
                 self.note(self.way_of[message][1], line)
             case ["vote", registration, "VoteCommit" | "VoteRollback" | "VoteReadOnly"]:
                 self.note(self.seat_of[registration][0], line)
@@ -89,9 +98,10 @@ class Diagram:
                 ["decide", transaction, "commit", "record" | "phase" | "none"]
                 | ["decide", transaction, "rollback", "Vote" | "PrepareLost" | "PrepareStarved" | "PrepareFault", _]
                 | ["decide", transaction, "rollback", "JournalFull", _, _]
+                | ["decide", transaction, "rollback", "Asked" | "Marked" | "Timeout"]
                 | ["decide", transaction, "unknown"]
                 | ["subdone", transaction, "committed" | "rolledback"]
-                | ["done", transaction]
+                | ["done" | "marked" | "doubt", transaction]
             ):
                 self.note(self.node_of[transaction], line)
             case _:
