@@ -5,7 +5,7 @@ use Rattle.std.proofs.lemmas.List.Elements.{recursion_from_All}
 use Rattle.ots_model.specs.Piece.{Part, Fixed, Named, Number, word_of, IsWell}
 use Rattle.ots_model.specs.Line.{parts, outcome_parts, reason_parts}
 use Rattle.ots_model.specs.LineLaws.{IsLine}
-use Rattle.ots_model.proofs.WordsRead.{is_plain, vote_plain, told_plain, operation_plain, response_plain, state_plain, decision_plain, ground_plain, ending_plain}
+use Rattle.ots_model.proofs.WordsRead.{is_plain, vote_plain, told_plain, state_plain, decision_plain, ground_plain, ending_plain}
 use Rattle.ots_model.proofs.PlainWords.{IsPlain, ArePlain, first_of_both, last_of_both, fixed_is_plain, name_is_plain, number_is_plain}
 use Rattle.ots_model.specs.declared.completion.Reason.{Reason}
 use Rattle.ots_model.specs.declared.completion.Reason.TheVariants as reasons
@@ -34,7 +34,7 @@ outcome_plain (outcomes.Commit basis) = simp ground_plain
 outcome_plain (outcomes.Rollback reason) = reason_plain reason
 outcome_plain outcomes.Unknown = refl
 
-ruleset plains = (vote_plain, told_plain, operation_plain, response_plain, state_plain, decision_plain, ending_plain, outcome_plain)
+ruleset plains = (vote_plain, told_plain, state_plain, decision_plain, ending_plain, outcome_plain)
 
 line_can_be_parted : (line : Line) → can_be_parted (parts line) ≡ true
 unfolding parts

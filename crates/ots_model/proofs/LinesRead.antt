@@ -8,7 +8,7 @@ use Rattle.std.specs.Str.Parse.{digits_value}
 use Rattle.ots_model.specs.Piece.{Part, Fixed, Named, Number, word_of, IsWell}
 use Rattle.ots_model.specs.Line.{parts, outcome_parts, reason_parts}
 use Rattle.ots_model.specs.LineLaws.{IsLine}
-use Rattle.ots_model.proofs.WordsRead.{spelled, vote_of, told_of, operation_of, response_of, state_of, decision_of, ground_of, ending_of, vote_read, told_read, operation_read, response_read, state_read, decision_read, ground_read, ending_read}
+use Rattle.ots_model.proofs.WordsRead.{spelled, vote_of, told_of, state_of, decision_of, ground_of, ending_of, vote_read, told_read, state_read, decision_read, ground_read, ending_read}
 use Rattle.ots_model.specs.declared.completion.Reason.{Reason}
 use Rattle.ots_model.specs.declared.completion.Reason.TheVariants as reasons
 use Rattle.ots_model.specs.declared.completion.Outcome.{Outcome}
@@ -77,10 +77,7 @@ line_of c =
     ∷ lines.Sub (word c 1) (word c 2)
     ∷ lines.Imp (word c 1) (word c 2) (word c 3)
     ∷ lines.Reg (word c 1) (word c 2) (word c 3)
-    ∷ lines.Call (number c 1) (operation_of (word c 2)) (word c 3)
-    ∷ lines.Answered (number c 1) (response_of (word c 2))
     ∷ lines.Send (number c 1) (told_of (word c 2)) (word c 3)
-    ∷ lines.Back (number c 1) (number c 2) (response_of (word c 3))
     ∷ lines.Recv (number c 1)
     ∷ lines.Voted (word c 1) (vote_of (word c 2))
     ∷ lines.Decide (word c 1) (outcome_of (drop 2 c))
@@ -90,7 +87,7 @@ line_of c =
     ∷ [])
     (lines.Done (word c 1))
 
-ruleset reads = (vote_read, told_read, operation_read, response_read, state_read, decision_read, ending_read, outcome_read)
+ruleset reads = (vote_read, told_read, state_read, decision_read, ending_read, outcome_read)
 
 line_read : (line : Line) → line_of (cells (parts line)) ≡ line
 unfolding parts line_of

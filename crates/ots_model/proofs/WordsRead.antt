@@ -3,18 +3,13 @@ use Rattle.std.proofs.Common.{◌≡◌, ℕ, Bool, true, false, cond, List, [],
 use Rattle.std.specs.Prelude.{nat_lt}
 use Rattle.std.specs.List.{list_all}
 use Rattle.std.specs.Str.{bytes_eq}
-use Rattle.ots_model.specs.Words.{vote_word, told_word, operation_word, response_word, state_word, decision_word, ground_word, ending_word}
+use Rattle.ots_model.specs.Words.{vote_word, told_word, state_word, decision_word, ground_word, ending_word}
 use Rattle.ots_model.specs.declared.completion.Vote.{Vote}
 use Rattle.ots_model.specs.declared.completion.Vote.TheVariants as votes
 use Rattle.ots_model.specs.declared.completion.Word.{Word}
 use Rattle.ots_model.specs.declared.completion.Word.TheVariants as words
 use Rattle.ots_model.specs.declared.completion.Ground.{Ground}
 use Rattle.ots_model.specs.declared.completion.Ground.TheVariants as grounds
-use Rattle.ots_model.specs.declared.response.Exception.TheVariants as exceptions
-use Rattle.ots_model.specs.declared.response.Response.{Response}
-use Rattle.ots_model.specs.declared.response.Response.TheVariants as responses
-use Rattle.ots_model.specs.declared.line.Operation.{Operation}
-use Rattle.ots_model.specs.declared.line.Operation.TheVariants as operations
 use Rattle.ots_model.specs.declared.line.ResourceState.{ResourceState}
 use Rattle.ots_model.specs.declared.line.ResourceState.TheVariants as states
 use Rattle.ots_model.specs.declared.line.Decision.{Decision}
@@ -50,34 +45,6 @@ told_read _ = refl
 pub told_plain : (v : Word) → is_plain (told_word v) ≡ true
 told_plain words.Prepare = refl
 told_plain _ = refl
-
-abbrev pub operation_of : List ℕ → Operation
-operation_of word = spelled operation_word word (operations.RegisterResource ∷ operations.Commit ∷ []) operations.Rollback
-
-pub operation_read : (v : Operation) → operation_of (operation_word v) ≡ v
-operation_read operations.Commit = refl
-operation_read _ = refl
-
-pub operation_plain : (v : Operation) → is_plain (operation_word v) ≡ true
-operation_plain operations.Commit = refl
-operation_plain _ = refl
-
-abbrev pub response_of : List ℕ → Response
-response_of word = spelled response_word word (responses.Voted votes.VoteCommit ∷ responses.Voted votes.VoteRollback ∷ responses.Voted votes.VoteReadOnly
-    ∷ responses.Raised exceptions.TransactionRolledBack ∷ responses.Raised exceptions.NotPrepared
-    ∷ responses.Raised exceptions.ObjectNotExist ∷ []) responses.Plain
-
-pub response_read : (v : Response) → response_of (response_word v) ≡ v
-response_read responses.Plain = refl
-response_read (responses.Voted votes.VoteCommit) = refl
-response_read (responses.Raised exceptions.NotPrepared) = refl
-response_read _ = refl
-
-pub response_plain : (v : Response) → is_plain (response_word v) ≡ true
-response_plain responses.Plain = refl
-response_plain (responses.Voted votes.VoteCommit) = refl
-response_plain (responses.Raised exceptions.NotPrepared) = refl
-response_plain _ = refl
 
 abbrev pub state_of : List ℕ → ResourceState
 state_of word = spelled state_word word (states.Prepared ∷ states.Applied ∷ states.Undone ∷ []) states.Forgotten

@@ -1,8 +1,6 @@
 pub mod Limits
 pub mod Name
 pub mod NameInside
-pub mod Response
-pub mod Outcome
 pub mod Words
 pub mod Piece
 pub mod PieceInside

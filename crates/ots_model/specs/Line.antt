@@ -3,7 +3,7 @@
 use Rattle.std.specs.Prelude.{ℕ, List, [], ◌∷◌, codes}
 use Rattle.std.specs.List.{flat_map}
 use Rattle.ots_model.specs.Piece.{Part, Fixed, Named, Number, line_of}
-use Rattle.ots_model.specs.Words.{vote_word, told_word, operation_word, response_word, state_word, decision_word, ground_word, ending_word}
+use Rattle.ots_model.specs.Words.{vote_word, told_word, state_word, decision_word, ground_word, ending_word}
 use Rattle.ots_model.specs.declared.completion.Reason.{Reason}
 use Rattle.ots_model.specs.declared.completion.Reason.TheVariants as reasons
 use Rattle.ots_model.specs.declared.completion.Outcome.{Outcome}
@@ -32,10 +32,7 @@ parts (lines.Top transaction node) = Fixed (codes "top") ∷ Named transaction �
 parts (lines.Sub transaction parent) = Fixed (codes "sub") ∷ Named transaction ∷ Named parent ∷ []
 parts (lines.Imp subordinate superior node) = Fixed (codes "imp") ∷ Named subordinate ∷ Named superior ∷ Named node ∷ []
 parts (lines.Reg resource transaction end) = Fixed (codes "reg") ∷ Named resource ∷ Named transaction ∷ Named end ∷ []
-parts (lines.Call message operation transaction) = Fixed (codes "call") ∷ Number message ∷ Fixed (operation_word operation) ∷ Named transaction ∷ []
-parts (lines.Answered message response) = Fixed (codes "ans") ∷ Number message ∷ Fixed (response_word response) ∷ []
 parts (lines.Send message word registration) = Fixed (codes "send") ∷ Number message ∷ Fixed (told_word word) ∷ Named registration ∷ []
-parts (lines.Back message request response) = Fixed (codes "back") ∷ Number message ∷ Number request ∷ Fixed (response_word response) ∷ []
 parts (lines.Recv message) = Fixed (codes "recv") ∷ Number message ∷ []
 parts (lines.Voted registration vote) = Fixed (codes "vote") ∷ Named registration ∷ Fixed (vote_word vote) ∷ []
 parts (lines.Decide transaction outcome) = Fixed (codes "decide") ∷ Named transaction ∷ outcome_parts outcome

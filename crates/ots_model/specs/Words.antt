@@ -1,5 +1,5 @@
--- The fixed words of lines: operations, votes and exceptions by their names in module CosTransactions (Transaction
--- Service) and in CORBA; the others are our profile.
+-- The fixed words of lines: votes and the words to participants by their names in module CosTransactions (Transaction
+-- Service); the others are our profile.
 use Rattle.std.specs.Prelude.{ℕ, Bool, true, false, List, codes}
 use Rattle.ots_model.specs.declared.completion.Vote.{Vote}
 use Rattle.ots_model.specs.declared.completion.Vote.TheVariants.{VoteCommit, VoteRollback, VoteReadOnly}
@@ -7,16 +7,10 @@ use Rattle.ots_model.specs.declared.completion.Word.{Word}
 use Rattle.ots_model.specs.declared.completion.Word.TheVariants as words
 use Rattle.ots_model.specs.declared.completion.Ground.{Ground}
 use Rattle.ots_model.specs.declared.completion.Ground.TheVariants as grounds
-use Rattle.ots_model.specs.declared.line.Operation.{Operation}
-use Rattle.ots_model.specs.declared.line.Operation.TheVariants as operations
 use Rattle.ots_model.specs.declared.line.ResourceState.{ResourceState}
 use Rattle.ots_model.specs.declared.line.ResourceState.TheVariants as states
 use Rattle.ots_model.specs.declared.line.Decision.{Decision}
 use Rattle.ots_model.specs.declared.line.Decision.TheVariants as decisions
-use Rattle.ots_model.specs.declared.response.Exception.{Exception}
-use Rattle.ots_model.specs.declared.response.Exception.TheVariants as exceptions
-use Rattle.ots_model.specs.declared.response.Response.{Response}
-use Rattle.ots_model.specs.declared.response.Response.TheVariants as responses
 
 -- a vote
 abbrev pub vote_word : Vote → List ℕ
@@ -30,24 +24,6 @@ told_word words.Prepare = codes "prepare"
 told_word words.Commit = codes "commit"
 told_word words.CommitOnePhase = codes "commit_one_phase"
 told_word words.Rollback = codes "rollback"
-
--- an operation that a client calls
-abbrev pub operation_word : Operation → List ℕ
-operation_word operations.RegisterResource = codes "register_resource"
-operation_word operations.Commit = codes "commit"
-operation_word operations.Rollback = codes "rollback"
-
--- an exception, by its bare name
-abbrev pub exception_word : Exception → List ℕ
-exception_word exceptions.TransactionRolledBack = codes "TRANSACTION_ROLLEDBACK"
-exception_word exceptions.NotPrepared = codes "NotPrepared"
-exception_word exceptions.ObjectNotExist = codes "OBJECT_NOT_EXIST"
-
--- an answer: ok, the vote, or the exception
-abbrev pub response_word : Response → List ℕ
-response_word responses.Plain = codes "ok"
-response_word (responses.Voted vote) = vote_word vote
-response_word (responses.Raised exception) = exception_word exception
 
 -- the state of a resource
 abbrev pub state_word : ResourceState → List ℕ

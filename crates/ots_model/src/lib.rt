@@ -5,10 +5,9 @@ pub use completion::{
     CallNumber, Disposition, Doubted, Ground, Heard, Outcome, Outward, Reason, Receipt, Stood,
     Vote, Word,
 };
-pub use line::{Decision, Line, Operation, ResourceState, different_lines_differ, text_reads_back};
+pub use line::{Decision, Line, ResourceState, different_lines_differ, text_reads_back};
 pub use name::{NAME_LIMIT, Name};
 pub use octets::{Octets, REFERENCE_LIMIT, RefBytes, RefFault};
-pub use response::{Exception, Response};
 pub use safety::{allowed_lines_are_safe, safety_refuses};
 pub use service::{Endpoint, Join, RetryKey, Status};
 
@@ -17,7 +16,6 @@ mod line;
 mod name;
 mod octets;
 mod piece;
-mod response;
 mod safety;
 mod service;
 pub mod tree;

@@ -6,20 +6,8 @@ use crate::completion::{Outcome, Reason, Vote, Word};
 use crate::name::Name;
 use crate::piece::Piece::{Named, Number, Size, Text};
 use crate::piece::write_joined;
-use crate::response::Response;
 use crate::words::ending_text;
 use std::alloc::AllocError;
-
-/// An operation that a client calls, of the interfaces of module CosTransactions.
-#[derive(Clone, Copy)]
-pub enum Operation {
-    /// `register_resource` of Coordinator.
-    RegisterResource,
-    /// `commit` of Terminator.
-    Commit,
-    /// `rollback` of Terminator.
-    Rollback,
-}
 
 /// What became of a resource.
 #[derive(Clone, Copy)]
@@ -73,28 +61,11 @@ pub enum Line {
         transaction: Name,
         end: Name,
     },
-    /// A client calls a transaction, in message number so.
-    Call {
-        message: u32,
-        operation: Operation,
-        transaction: Name,
-    },
-    /// The client's call is answered.
-    Answered {
-        message: u32,
-        response: Response,
-    },
     /// A request goes out to a registration.
     Send {
         message: u32,
         word: Word,
         registration: Name,
-    },
-    /// A reply to a request goes out.
-    Back {
-        message: u32,
-        request: u32,
-        response: Response,
     },
     /// A message was delivered.
     Recv {
@@ -167,10 +138,7 @@ impl Line {
             Line::Sub { transaction, parent } => [Text(b"sub"), Named(transaction), Named(parent)],
             Line::Imp { subordinate, superior, node } => [Text(b"imp"), Named(subordinate), Named(superior), Named(node)],
             Line::Reg { resource, transaction, end } => [Text(b"reg"), Named(resource), Named(transaction), Named(end)],
-            Line::Call { message, operation, transaction } => [Text(b"call"), Number(message), Text(operation.text()), Named(transaction)],
-            Line::Answered { message, response } => [Text(b"ans"), Number(message), Text(response.text())],
             Line::Send { message, word, registration } => [Text(b"send"), Number(message), Text(word.text()), Named(registration)],
-            Line::Back { message, request, response } => [Text(b"back"), Number(message), Number(request), Text(response.text())],
             Line::Recv { message } => [Text(b"recv"), Number(message)],
             Line::Voted { registration, vote } => [Text(b"vote"), Named(registration), Text(vote.text())],
             Line::SubDone { transaction, committed } => [Text(b"subdone"), Named(transaction), Text(ending_text(committed))],

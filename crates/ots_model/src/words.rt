@@ -4,8 +4,7 @@ ghost use Rattle.std.specs.Prelude.{◌≡◌};
 ghost use Rattle.ots_model.specs.Words as words;
 
 use crate::completion::{Ground, Vote, Word};
-use crate::line::{Decision, Operation, ResourceState};
-use crate::response::{Exception, Response};
+use crate::line::{Decision, ResourceState};
 
 impl Vote {
     /// Its name in module CosTransactions.
@@ -30,45 +29,6 @@ impl Word {
             Word::Commit => b"commit",
             Word::CommitOnePhase => b"commit_one_phase",
             Word::Rollback => b"rollback",
-        }
-    }
-}
-
-impl Operation {
-    /// Its name in module CosTransactions.
-    pub(crate) fn text(self) -> &'static [u8]
-        ensures { result.now ≡ words.operation_word self }
-    {
-        match self {
-            Operation::RegisterResource => b"register_resource",
-            Operation::Commit => b"commit",
-            Operation::Rollback => b"rollback",
-        }
-    }
-}
-
-impl Exception {
-    /// Its bare name.
-    pub(crate) fn text(self) -> &'static [u8]
-        ensures { result.now ≡ words.exception_word self }
-    {
-        match self {
-            Exception::TransactionRolledBack => b"TRANSACTION_ROLLEDBACK",
-            Exception::NotPrepared => b"NotPrepared",
-            Exception::ObjectNotExist => b"OBJECT_NOT_EXIST",
-        }
-    }
-}
-
-impl Response {
-    /// `ok`, the vote, or the exception's bare name.
-    pub(crate) fn text(self) -> &'static [u8]
-        ensures { result.now ≡ words.response_word self }
-    {
-        match self {
-            Response::Plain => b"ok",
-            Response::Voted(vote) => vote.text(),
-            Response::Raised(exception) => exception.text(),
         }
     }
 }
