@@ -11,3 +11,4 @@ pub mod Silence
 pub mod Settling
 pub mod SettledSilent
 pub mod Deciding
+pub mod Consented

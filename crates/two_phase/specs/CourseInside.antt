@@ -1,10 +1,10 @@
-use Rattle.std.specs.Prelude.{◌≡◌, ℕ, ◌+◌, ◌*◌, ◌^◌, ◌<◌, ◌≤◌, List, sum_by, Option, Some, None, vec_len}
-use Rattle.std.specs.List.{slice_get}
+use Rattle.std.specs.Prelude.{◌≡◌, ℕ, suc, ◌+◌, ◌*◌, ◌^◌, ◌<◌, ◌≤◌, List, take, drop, sum_by, true, Option, Some, None, vec_len}
+use Rattle.std.specs.List.{slice_get, list_all}
 use Rattle.ots_model.specs.Limits.{registration_limit}
 use Rattle.ots_model.specs.declared.completion.Heard.{Heard}
 use Rattle.ots_model.specs.declared.tree.Reason.{Reason}
 use Rattle.two_phase.specs.Course.{Course}
-use Rattle.two_phase.specs.Parties.{answers}
+use Rattle.two_phase.specs.Parties.{answers, has_consented, is_unasked}
 use Rattle.two_phase.specs.declared.party.Party.{Party}
 use Rattle.two_phase.specs.declared.party.Stage.{Stage}
 use Rattle.two_phase.specs.declared.party.Stage.TheVariants as stages
@@ -51,9 +51,34 @@ if_overtaken (Some reason) = 1
 abbrev pub done : List Party → Option Reason → ℕ
 done parties overtaken = sum_by answers parties + if_overtaken overtaken
 
--- the numbers don't end, and there is a buffer for each word to come
+-- a word that asks goes to the first behind those that have consented
+abbrev pub ConsentedBefore : Stage → ℕ → List Party → Type 0
+ConsentedBefore stages.Asking place parties = list_all has_consented (take place parties) ≡ true
+ConsentedBefore stages.Telling place parties = Unit {0}
+ConsentedBefore stages.Forgetting place parties = Unit {0}
+
+-- how many in front have consented, once such a word goes out
+abbrev pub passed : Stage → ℕ → ℕ → ℕ
+passed stages.Asking place consented = place
+passed stages.Telling place consented = consented
+passed stages.Forgetting place consented = consented
+
+-- a word that asks is out to the first behind them
+abbrev pub AsksAt : Stage → ℕ → ℕ → Type 0
+AsksAt stages.Asking place consented = place ≡ consented
+AsksAt stages.Telling place consented = Unit {0}
+AsksAt stages.Forgetting place consented = Unit {0}
+
+abbrev pub IsAskedAt : Option Errand → ℕ → Type 0
+IsAskedAt None consented = Unit {0}
+IsAskedAt (Some e) consented = AsksAt e.stage e.place consented
+
+-- the numbers don't end, the first so many have consented, behind the next one nobody was asked, and there is a buffer for each word to come
 pub record IsSound (c : Inside) : Type 0 where
   pub few : vec_len c.parties ≤ registration_limit
   pub serial : c.number.serial ≤ 2 ^ 31 + done c.parties.items c.overtaken
   pub unheard : IsOpen c.parties.items c.out
   pub blanks : 0 < vec_len c.parties → 3 * vec_len c.parties + 1 ≤ vec_len c.blanks + done c.parties.items c.overtaken + if_out c.out
+  pub consented : list_all has_consented (take c.consented c.parties.items) ≡ true
+  pub unasked : list_all is_unasked (drop (suc c.consented) c.parties.items) ≡ true
+  pub asked_at : IsAskedAt c.out c.consented

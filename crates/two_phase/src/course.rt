@@ -1,13 +1,14 @@
 // The completion of a tree of transactions, under way.
-ghost use Rattle.std.specs.Prelude.{◌≡◌, ℕ, ◌+◌, ◌^◌, ◌<◌, ◌≤◌, ◌++◌, length, None, Some, IfSome, IsOk, OnOk, OnErr, vec_len, vec_capacity};
+ghost use Rattle.std.specs.Prelude.{◌≡◌, ℕ, suc, ◌+◌, ◌^◌, ◌<◌, ◌≤◌, ◌++◌, length, take, drop, position, true, None, Some, if◌then◌else◌, IfSome, IsOk, OnOk, OnErr, vec_len, vec_capacity};
 ghost use Rattle.std.specs.Option.{option_copied, option_map, option_to_list};
 ghost use Rattle.std.specs.List.{slice_get, list_all};
 ghost use Rattle.two_phase.specs.Limits.{disposition_limit, registration_limit};
 ghost use Rattle.two_phase.specs.Course as course;
-ghost use Rattle.two_phase.specs.Parties.{has_answered};
+ghost use Rattle.two_phase.specs.Parties.{has_answered, has_consented, has_refused, is_unasked};
 ghost use Rattle.two_phase.specs.Reports as reports;
 ghost use Rattle.two_phase.specs.declared.party.Stage.TheVariants as stages;
-ghost use Rattle.two_phase.specs.CourseInside.{IsOpen};
+ghost use Rattle.two_phase.specs.CourseInside.{IsOpen, ConsentedBefore};
+ghost use Rattle.two_phase.specs.CourseInside as places;
 
 use crate::dispositions::Dispositions;
 use crate::party::{Errand, Party, Stage, by_answer, cause_of, disposition_of_ballot};
@@ -24,6 +25,8 @@ use std::marker::Model;
 #[derive(Drop)]
 pub(crate) struct Course {
     pub parties: Vec<Party>,
+    /// The first so many have consented, and aren't looked at again.
+    pub consented: usize,
     pub asked: bool,
     pub one_phase: bool,
     pub number: CallNumber,
@@ -71,6 +74,7 @@ impl Course {
         enter(walk, &mut blanks, &mut parties);
         Course {
             parties,
+            consented: 0,
             asked,
             one_phase,
             number: first,
@@ -101,6 +105,7 @@ impl Course {
     fn send(&mut self, errand: Errand, word: Word) -> Outward
         requires idle { (self.old).out ≡ None }
         requires unheard { IsOpen (self.old).parties (Some errand) }
+        requires behind { ConsentedBefore errand.stage errand.place (self.old).parties }
         ensures word { Some result
             ≡ option_map (course.outward self.old word) (slice_get (self.old).parties errand.place) }
         ensures after { self.new ≡ record self.old { out = Some errand } }
@@ -116,6 +121,7 @@ impl Course {
             receipt: receipt_of(word, place, party.index),
         };
         self.out = Some(errand);
+        self.consented = passed(errand, self.consented);
         outward
     }
 
@@ -222,7 +228,7 @@ impl Course {
     fn by_votes(&self) -> Option<Outcome>
         ensures { result ≡ course.by_votes self.now }
     {
-        if let Some(party) = first_refuser(&self.parties) {
+        if let Some(party) = first_refuser(self.consented, &self.parties) {
             return by_refusal(party);
         }
         if !self.all_consent() {
@@ -332,7 +338,7 @@ impl Course {
     fn all_consent(&self) -> bool
         ensures { result ≡ course.all_consent self.now }
     {
-        self.parties.iter().all(|p| p.has_consented())
+        all_have_consented(self.consented, &self.parties)
     }
 
     /// Whether one has voted commit.
@@ -359,7 +365,7 @@ impl Course {
     fn asking(&self) -> Option<Errand>
         ensures { result ≡ course.asking self.now }
     {
-        errand_at(Stage::Asking, next_asked(&self.parties))
+        errand_at(Stage::Asking, next_asked(self.consented, &self.parties))
     }
 
     /// The next one that is told this outcome, and then to forget.
@@ -542,18 +548,89 @@ fn all_have_answered(parties: &[Party]) -> bool
     parties.iter().all(|p| p.has_answered())
 }
 
-/// The first participant whose answer is no consent.
-#[tactic(auto, unfolding(crate::specs::Course::first_refuser))]
-fn first_refuser(parties: &[Party]) -> Option<&Party>
-    ensures { option_copied result ≡ course.first_refuser parties.now }
+/// How many in front have consented, once this word goes out.
+fn passed(errand: Errand, consented: usize) -> usize
+    ensures { result ≡ places.passed errand.stage errand.place consented }
 {
-    parties.iter().find(|p| p.has_refused())
+    match errand.stage {
+        Stage::Asking => errand.place,
+        Stage::Telling | Stage::Forgetting => consented,
+    }
 }
 
-/// The place of the next participant that is asked.
-#[tactic(auto, unfolding(crate::specs::Course::next_asked))]
-fn next_asked(parties: &[Party]) -> Option<usize>
+/// Those behind the first so many.
+#[tactic(auto, using(crate::proofs::Consented::drop_none))]
+fn behind(count: usize, parties: &[Party]) -> &[Party]
+    ensures { result.now ≡ drop count parties.now }
+{
+    if count < parties.len() {
+        &parties[count..]
+    } else {
+        &[]
+    }
+}
+
+/// The first participant whose answer is no consent, where the first so many have consented, and behind the next one
+/// nobody was asked.
+fn first_refuser(consented: usize, parties: &[Party]) -> Option<&Party>
+    requires consented { list_all has_consented (take consented parties.now) ≡ true }
+    requires unasked { list_all is_unasked (drop (suc consented) parties.now) ≡ true }
+    ensures { option_copied result ≡ course.first_refuser parties.now }
+{
+    match party_at(consented, parties) {
+        Some(party) => refusing(party),
+        None => None,
+    }
+}
+
+/// The participant at this place.
+fn party_at(place: usize, parties: &[Party]) -> Option<&Party>
+    ensures { option_copied result ≡ slice_get parties.now place }
+{
+    parties.get(place)
+}
+
+/// This participant, where its answer is no consent.
+fn refusing(party: &Party) -> Option<&Party>
+    ensures { option_copied result ≡ (if has_refused party.now then Some party.now else None) }
+{
+    if party.has_refused() {
+        Some(party)
+    } else {
+        None
+    }
+}
+
+/// Whether each participant has consented, where the first so many have.
+fn all_have_consented(consented: usize, parties: &[Party]) -> bool
+    requires consented { list_all has_consented (take consented parties.now) ≡ true }
+    ensures { result ≡ list_all has_consented parties.now }
+{
+    are_consents(behind(consented, parties))
+}
+
+/// Whether each of these has consented.
+fn are_consents(parties: &[Party]) -> bool
+    ensures { result ≡ list_all has_consented parties.now }
+{
+    parties.iter().all(|p| p.has_consented())
+}
+
+/// The place of the next participant that is asked, where the first so many have consented.
+#[tactic(auto, using(crate::proofs::Consented::asked_within))]
+fn next_asked(consented: usize, parties: &[Party]) -> Option<usize>
+    requires consented { list_all has_consented (take consented parties.now) ≡ true }
     ensures { result ≡ course.next_asked parties.now }
+{
+    match unasked_of(behind(consented, parties)) {
+        Some(further) => Some(consented + further),
+        None => None,
+    }
+}
+
+/// The place among these of the first that isn't asked yet.
+fn unasked_of(parties: &[Party]) -> Option<usize>
+    ensures { result ≡ position is_unasked parties.now }
 {
     parties.iter().position(|p| p.is_unasked())
 }

@@ -5,9 +5,10 @@ use Rattle.std.specs.Vec.{with_items}
 use Rattle.std.proofs.lemmas.List.{length-set, with_items_is}
 use Rattle.ots_model.specs.declared.completion.CallNumber.{CallNumber}
 use Rattle.two_phase.specs.Course.{heard_at, heard_by}
-use Rattle.two_phase.specs.CourseInside.{IsOpen, if_out}
+use Rattle.two_phase.specs.CourseInside.{IsOpen, IsAskedAt, if_out}
 use Rattle.two_phase.specs.Parties.{answers}
 use Rattle.two_phase.proofs.Answered.{opened, answered_more, heard_is, serial_fits}
+use Rattle.two_phase.proofs.Consented.{heard_consented, heard_unasked}
 use Rattle.two_phase.proofs.course.Course.answer.Goals as goal
 
 pub following-next-requires : goal.following-next-requires
@@ -39,9 +40,13 @@ invariant_of-self c =
     let out : if_out c.self.inside.out ≡ 1 = ap if_out c.in-Some.is in
     let number : c.following-next.result.serial ≡ c.self.inside.number.serial + 1 = ap (λ (n : CallNumber). n.serial) c.following-next.ensures in
     let old = c.self.invariant in
+    let asked_at : IsAskedAt (Some e) c.self.inside.consented = subst (λ x. IsAskedAt x c.self.inside.consented) c.in-Some.is old.asked_at in
     record {
       few = omega (arith, size, old.few);
       serial = omega (arith, number, total, old.serial);
       unheard = tt;
       blanks = λ some. let bound = old.blanks (omega (arith, some, size)) in omega (arith, bound, total, size, out);
+      consented = rw (kept, after) (heard_consented c.self.inside.consented ps e c.args.heard o.0 o.1 o.2 old.consented);
+      unasked = rw (kept, after) (heard_unasked c.self.inside.consented ps e c.args.heard o.0 o.1 asked_at old.unasked);
+      asked_at = tt;
     }

@@ -25,4 +25,7 @@ invariant_of-self c =
       serial = omega (arith, number, less, before, none, old.serial);
       unheard = tt;
       blanks = λ some. let bound = old.blanks some in omega (arith, bound, none, out);
+      consented = old.consented;
+      unasked = old.unasked;
+      asked_at = tt;
     }

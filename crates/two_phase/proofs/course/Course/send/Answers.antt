@@ -3,8 +3,9 @@ use Rattle.std.specs.List.{slice_get}
 use Rattle.std.specs.Option.{option_to_list}
 use Rattle.std.proofs.lemmas.Option.{slice_get_within, get_or_from_slice_get}
 use Rattle.two_phase.specs.Course.{Course}
-use Rattle.two_phase.specs.CourseInside.{IsOpen, if_out}
+use Rattle.two_phase.specs.CourseInside.{IsOpen, ConsentedBefore, if_out}
 use Rattle.two_phase.proofs.Answered.{answered_less, opened, overtaken_few}
+use Rattle.two_phase.proofs.Consented.{passed_consented, passed_unasked, passed_at}
 use Rattle.two_phase.proofs.course.Course.send.Goals as goal
 
 pub unwrap-blank-requires : goal.unwrap-blank-requires
@@ -42,12 +43,19 @@ invariant_of-self c =
     let same : c.self.inside.parties.items ≡ c.args.self.now.parties = ap (λ (v : Course). v.parties) c.self.view_is in
     let idle : c.self.inside.out ≡ c.args.self.now.out = ap (λ (v : Course). v.out) c.self.view_is in
     let none : if_out c.self.inside.out ≡ 0 = ap if_out (idle ∙ c.requires.idle) in
+    let unheard : IsOpen c.self.inside.parties.items (Some c.args.errand) = subst (λ ps. IsOpen ps (Some c.args.errand)) (sym same) c.requires.unheard in
+    let o = opened c.self.inside.parties.items c.args.errand (slice_get c.self.inside.parties.items c.args.errand.place) refl unheard in
     let taken : vec_len c.self.inside.blanks ≡ suc (vec_len c.pop.new.self) =
     let one : length (option_to_list c.pop.result) ≡ 1 = ap (λ o. length (option_to_list o)) c.unwrap-blank.ensures in
     omega (arith, one, c.pop.ensures) in
     record {
       few = c.self.invariant.few;
       serial = c.self.invariant.serial;
-      unheard = subst (λ ps. IsOpen ps (Some c.args.errand)) (sym same) c.requires.unheard;
+      unheard = unheard;
       blanks = λ some. let bound = c.self.invariant.blanks some in omega (arith, bound, none, taken);
+      consented = rw c.passed-self-inside.ensures (passed_consented c.args.errand.stage c.args.errand.place c.self.inside.consented c.self.inside.parties.items
+          (subst (λ ps. ConsentedBefore c.args.errand.stage c.args.errand.place ps) (sym same) c.requires.behind) c.self.invariant.consented);
+      unasked = rw c.passed-self-inside.ensures (passed_unasked c.args.errand.stage c.args.errand.place c.self.inside.consented c.self.inside.parties.items
+          o.0 o.1 o.2 c.self.invariant.consented c.self.invariant.unasked);
+      asked_at = rw c.passed-self-inside.ensures (passed_at c.args.errand.stage c.args.errand.place c.self.inside.consented);
     }
