@@ -76,6 +76,10 @@ pub unroomed_wants_decision : (s : Standing) → stages.wants_decision (unroomed
 unroomed_wants_decision (Waiting room) = refl
 unroomed_wants_decision (UnderWay c) = refl
 
+pub unroomed_last_asked : (s : Standing) → stages.is_last_asked (unroomed s) ≡ stages.is_last_asked s
+unroomed_last_asked (Waiting room) = refl
+unroomed_last_asked (UnderWay c) = refl
+
 pub unroomed_is_named : (s : Standing) (g : ℕ) → stages.is_named (unroomed s) g ≡ stages.is_named s g
 unroomed_is_named (Waiting room) g = refl
 unroomed_is_named (UnderWay c) g = refl

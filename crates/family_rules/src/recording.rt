@@ -1,5 +1,5 @@
 // The decision record of a family.
-ghost use Rattle.std.specs.Prelude.{◌≡◌, ◌≤◌, ℕ, filter, map, is_none, IfOk};
+ghost use Rattle.std.specs.Prelude.{◌≡◌, ◌≤◌, ℕ, filter, map, IfOk};
 ghost use Rattle.coordinator.specs.Hearing.{commit_key};
 ghost use Rattle.std.specs.List.{AllByRecursion};
 ghost use Rattle.decision_journal.specs.Layout.{Fits, FitsRegistration, FitsRegistrations};
@@ -16,12 +16,12 @@ use resource_votes::{Registration as Registered, Walk};
 use std::alloc::{AllocError, Global};
 
 impl State {
-    /// Whether the outcome of the top-level transaction is not fixed.
-    #[tactic(auto, using(crate::proofs::Unroomed::unroomed_outcome))]
-    pub fn is_undecided(&self) -> bool
-        ensures { result ≡ is_none (stages.outcome (self.now.family).completion) }
+    /// Whether the word that is out is the last that asks: each other participant has answered its own.
+    #[tactic(auto, using(crate::proofs::Unroomed::unroomed_last_asked))]
+    pub fn is_last_asked(&self) -> bool
+        ensures { result ≡ stages.is_last_asked (self.now.family).completion }
     {
-        self.completion.outcome().is_none()
+        self.completion.is_last_asked()
     }
 
     /// A copy of each registration that takes part in the top-level transaction, in the order in which they are asked.

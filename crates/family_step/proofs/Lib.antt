@@ -8,6 +8,7 @@ mod Voters
 mod Parties
 mod Heard
 mod Recorded
+mod LastVotes
 mod Naming
 mod Caused
 mod Indexed

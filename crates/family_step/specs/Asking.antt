@@ -1,5 +1,5 @@
 -- What a step of a family asks the journal, and what that answers (our profile).
-use Rattle.std.specs.Prelude.{◌≡◌, ◌≤◌, ◌⊎◌, ℕ, Bool, true, false, ◌&&◌, List, [], ◌∷◌, ◌++◌, map, filter, Option, Some, None, IfSome, IsTrue, is_none, is_some, if◌then◌else◌}
+use Rattle.std.specs.Prelude.{◌≡◌, ◌≤◌, ◌⊎◌, ℕ, Bool, true, false, ◌&&◌, ◌||◌, List, [], ◌∷◌, ◌++◌, map, filter, Option, Some, None, IfSome, IsTrue, is_some, if◌then◌else◌}
 use Rattle.ots_model.specs.declared.completion.Doubted.{Doubted}
 use Rattle.ots_model.specs.declared.completion.Doubted.TheVariants.{Counted, Damaged, Starved}
 use Rattle.ots_model.specs.declared.completion.Stood.{Stood}
@@ -10,6 +10,7 @@ use Rattle.ots_outside.specs.Source.{HasRisen}
 use Rattle.resource_votes.specs.Ballots.{participants}
 use Rattle.resource_votes.specs.History.{times}
 use Rattle.two_phase.specs.Stages as stages
+use Rattle.two_phase.specs.Stages.{Standing}
 use Rattle.decision_journal.specs.Calls.{HasAppended, IsAfterDone, IsRefusedAppend}
 use Rattle.decision_journal.specs.Layout.{FitsRegistrations}
 use Rattle.decision_journal.specs.State.{JournalState}
@@ -51,9 +52,12 @@ abbrev pub hears_act : Act → ℕ → Family → Moved
 hears_act (acts.Answer n h) b f = hears_call (call_at f b) b n h f
 hears_act _ b f = only f
 
--- a decision may be wanted once it is heard: the outcome is open
+-- a decision may be wanted once an answer is heard: it is the last vote, or a decision is wanted already
+abbrev pub may_want : Standing → Bool
+may_want s = stages.is_last_asked s || stages.wants_decision s
+
 abbrev pub may_decide : Event → Family → Bool
-may_decide e f = is_some (waits_for e.act f) && is_none (stages.outcome f.completion)
+may_decide e f = may_want f.completion && is_some (waits_for e.act f)
 
 -- whom the decision record of its step may name
 abbrev pub may_name : Event → Family → Option (List Registration)

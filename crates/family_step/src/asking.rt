@@ -17,11 +17,11 @@ use crate::ready::Ready;
 use crate::step::{conclude, step};
 use coordinator::{Act, Said, StepAnswer};
 use decision_journal::{Journal, JournalFault, Registration};
-use family_laws::families_append_own;
 use family_rules::{Draft, State};
 use ots_model::{Doubted, Stood};
 use ots_outside::Disk;
 use recovery_coord::Outbox;
+use two_phase::the_last_answer_decides;
 
 /// A step, which asks the journal for what is wanted in it.
 pub(crate) fn step_asking<D: Disk>(
@@ -80,7 +80,7 @@ fn carry_on<D: Disk>(
     ensures later { D.faults journal.old.disk ≤ D.faults journal.new.disk }
     ensures serial { (state.new.family).serial ≤ length (state.new.family).entries }
 {
-    families_append_own();
+    the_last_answer_decides();
     let mut ready = ready;
     let position = state.entry_count();
     let stood = hear_and_go_on(

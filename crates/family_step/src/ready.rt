@@ -1,12 +1,12 @@
 // What is made ready for a step, so that it takes no memory.
-ghost use Rattle.std.specs.Prelude.{◌≡◌, ◌+◌, ◌≤◌, length, IfOk};
+ghost use Rattle.std.specs.Prelude.{◌≡◌, ◌+◌, ◌≤◌, length, is_some, IfOk};
 ghost use Rattle.std.specs.Option.{option_copied, option_map};
 ghost use Rattle.std.specs.Vec.{vec_items};
 ghost use Rattle.coordinator.specs.History as history;
 ghost use Rattle.family_rules.specs.Changes.{nothing_yet};
 ghost use Rattle.family_rules.specs.Going.{CanGo};
 ghost use Rattle.family_step.specs.Acting.{name_in, name_of_said, reference_in};
-ghost use Rattle.family_step.specs.Asking.{AreReady, may_decide, may_name};
+ghost use Rattle.family_step.specs.Asking.{AreReady, may_decide, may_name, may_want, waits_for};
 ghost use Rattle.family_step.specs.Callers.{IsIndex, place_for};
 
 use crate::callers::Callers;
@@ -143,10 +143,24 @@ fn named_by(
 fn may_decide(state: &State, event: &Event) -> bool
     ensures { result ≡ may_decide event.entry.now state.now.family }
 {
-    match &event.act {
-        Act::Answer(number, _) => state.waiting_for(number).is_some() && state.is_undecided(),
+    may_want(state) && is_waited_for(state, &event.act)
+}
+
+/// Whether a call waits for the answer that an act brings.
+fn is_waited_for(state: &State, act: &Act) -> bool
+    ensures { result ≡ is_some (waits_for act.now state.now.family) }
+{
+    match act {
+        Act::Answer(number, _) => state.waiting_for(number).is_some(),
         _ => false,
     }
+}
+
+/// Whether a decision may be wanted once an answer is heard: it is the last vote, or a decision is wanted already.
+fn may_want(state: &State) -> bool
+    ensures { result ≡ may_want (state.now.family).completion }
+{
+    state.is_last_asked() || state.wants_decision()
 }
 
 /// Whether the history has room for an event, or the event is a call that comes again.

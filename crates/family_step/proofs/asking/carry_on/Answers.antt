@@ -24,7 +24,7 @@ hear_and_go_on-stood-requires-clause-named g c = λ wants.
     let e = c.args.ready.event in
     let f = c.args.state.now.family in
     subst (λ (o : _). HasVoters (option_map vec_items o) (hears_act e.act c.args.branch f).family) (sym c.take.ensures.value)
-    (has_voters e f c.args.branch c.requires.hearer c.requires.sound c.families_append_own.ensures _ c.requires.ready.ready.named wants)
+    (has_voters e f c.args.branch c.requires.hearer c.requires.sound c.the_last_answer_decides.ensures _ c.requires.ready.ready.named wants)
 
 pub conclude-requires-clause-position : goal.conclude-requires-clause-position
 conclude-requires-clause-position g c =
