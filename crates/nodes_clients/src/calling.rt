@@ -13,7 +13,7 @@ use coordinator::{Act, Event, Said, copy_event};
 use ior_refs::ObjectKey;
 use nodes_lines::{operation_of, tell_answered, tell_called};
 use nodes_state::State;
-use nodes_world::{Content, Manner};
+use nodes_world::Manner;
 use ots_model::{RefBytes, RetryKey};
 use ots_world::WorldFault;
 use std::alloc::AllocError;
@@ -51,7 +51,7 @@ pub fn send_call(
     let message = state.messages.next_number();
     let act = copy_event(state.alloc, event)?.act;
     tell_call(state, lines, message, to, &act)?;
-    state.messages.send(Content::Call { to: *to, act }, true)?;
+    state.messages.send_call(state.alloc, *to, act)?;
     Ok(())
 }
 

@@ -9,7 +9,7 @@ use ots_model::tree::Word;
 use ots_model::{Line, Name, Word as PhaseWord};
 use std::alloc::{AllocError, Global};
 
-/// Tells a line that is told of flat transactions too.
+/// Tells a line of `ots_model`, one that agreement may speak of.
 #[tactic(auto, unfolding(nodes_world::specs::Told::spelled, nodes_world::specs::Told::words_of, ots_model::specs::Line::spelling))]
 pub fn tell_known(lines: &mut Vec<u8>, line: Line) -> Result<(), AllocError>
     ensures { IsTold result (told.Known line) lines.old.items lines.new.items }

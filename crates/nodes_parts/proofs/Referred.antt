@@ -1,119 +1,161 @@
 -- How a resource is found by its reference.
-use Rattle.std.proofs.Common.{◌≡◌, ℕ, Bool, true, false, cond, List, [], ◌∷◌, map, Option, Some, None, is_some, inl, inr, ◌⊎◌, refl, sym, ap, subst, ◌∙◌}
+use Rattle.std.proofs.Common.{◌≡◌, ℕ, Bool, true, false, cond, List, [], ◌∷◌, ◌++◌, suc, ◌==◌, ◌<◌, drop, get_or, length, map, Option, Some, None, refl, sym, ap, subst, ◌∙◌}
 use Rattle.std.specs.Bool.{if◌then◌else◌}
 use Rattle.std.specs.Global.{Vec}
 use Rattle.std.specs.Map.{lookup}
 use Rattle.std.specs.Option.{option_map, option_or}
 use Rattle.std.specs.Str.{bytes_eq}
+use Rattle.std.proofs.Math.Seq.{drop-cons}
+use Rattle.std.proofs.lemmas.Bool.Decides.{Decides-eqb}
 use Rattle.std.proofs.lemmas.Slice.Eq.{bytes_eq-Decides}
 use Rattle.nodes_world.specs.World.{NamedKey}
-use Rattle.nodes_parts.specs.Referring.{entry_of, named, referred_in}
+use Rattle.nodes_parts.specs.Referring.{FindsFirst, entry_of, digest_of, first_so, named, referred_in}
 use Rattle.nodes_parts.specs.declared.references.NamedKey.{NamedKey as Kept}
-
-picked : (b : Bool) (k : Kept) (o : Option Kept) (p : Option NamedKey) → option_map named o ≡ p
-    → option_map named (cond b (Some k) o) ≡ cond b (Some (named k)) p
-picked true k o p e = refl
-picked false k o p e = e
-
--- as the map finds it
-pub found_in : (entries : List (Vec ℕ × Kept)) (to : List ℕ)
-    → option_map named (lookup (λ (k : Vec ℕ). bytes_eq to k.items) entries) ≡ referred_in (map entry_of entries) to
-found_in [] to = refl
-found_in (entry ∷ entries) to = picked (bytes_eq to entry.0.items) entry.1 (lookup (λ (k : Vec ℕ). bytes_eq to k.items) entries) _ (found_in entries to)
-
-pub none_of : {A : Type 0} (o : Option A) → is_some o ≡ false → o ≡ None
-none_of None e = refl
-none_of (Some x) e = absurd (cc)
-
-or_some : {A : Type 0} (o x : Option A) → is_some o ≡ true → option_or o x ≡ o
-or_some None x e = absurd (cc)
-or_some (Some y) x e = refl
-
--- a reference that led nowhere leads to a resource, and others lead where they did
-led_by : (before after : List (List ℕ × NamedKey)) (reference octets : List ℕ) (to : NamedKey) (b : Bool)
-    → referred_in after octets ≡ cond b (Some to) (referred_in before octets)
-    → referred_in before reference ≡ None → (b ≡ true → reference ≡ octets)
-    → referred_in after octets ≡ (if b then option_or (referred_in before octets) (Some to) else referred_in before octets)
-led_by before after reference octets to true led none same =
-    led ∙ ap (λ o. option_or o (Some to)) (sym (ap (referred_in before) (sym (same refl)) ∙ none))
-led_by before after reference octets to false led none same = led
 
 same_octets : (xs ys : List ℕ) → bytes_eq xs ys ≡ true → xs ≡ ys
 same_octets xs ys e = (bytes_eq-Decides xs ys).0 e
 
-pub led : (before after : List (List ℕ × NamedKey)) (reference octets : List ℕ) (to : NamedKey)
-    → referred_in after octets ≡ cond (bytes_eq reference octets) (Some to) (referred_in before octets)
-    → referred_in before reference ≡ None
-    → referred_in after octets ≡ (if bytes_eq reference octets then option_or (referred_in before octets) (Some to) else referred_in before octets)
-led before after reference octets to e none = led_by before after reference octets to (bytes_eq reference octets) e none (same_octets reference octets)
+-- ---- how a resource is found by the digest of its reference
 
-stays_by : (before : List (List ℕ × NamedKey)) (reference octets : List ℕ) (to : NamedKey) (b : Bool) → is_some (referred_in before reference) ≡ true
-    → (b ≡ true → reference ≡ octets)
-    → referred_in before octets ≡ (if b then option_or (referred_in before octets) (Some to) else referred_in before octets)
-stays_by before reference octets to true some same =
-    sym (or_some (referred_in before octets) (Some to) (ap (λ r. is_some (referred_in before r)) (sym (same refl)) ∙ some))
-stays_by before reference octets to false some same = refl
+same_digest : (to x : List ℕ) → bytes_eq to x ≡ true → (digest_of to == digest_of x) ≡ true
+same_digest to x e = (Decides-eqb (digest_of to) (digest_of x)).1 (ap digest_of (same_octets to x e))
 
-pub stays : (before : List (List ℕ × NamedKey)) (reference octets : List ℕ) (to : NamedKey) → is_some (referred_in before reference) ≡ true
-    → referred_in before octets ≡ (if bytes_eq reference octets then option_or (referred_in before octets) (Some to) else referred_in before octets)
-stays before reference octets to some = stays_by before reference octets to (bytes_eq reference octets) some (same_octets reference octets)
+some_same : {m n : ℕ} → Some m ≡ Some n → m ≡ n
+some_same e = cc
 
--- ---- what a map finds once one was put
+nothing_by : (k : Kept) (b d : Bool) (o : Option ℕ) (r : Option NamedKey) → (d ≡ true → b ≡ true) → (o ≡ None → r ≡ None)
+    → (if b then Some 0 else option_map suc o) ≡ None → cond d (Some (named k)) r ≡ None
+nothing_by k true d o r same rest e = absurd (cc)
+nothing_by k false true o r same rest e = let h = same refl in absurd (cc)
+nothing_by k false false None r same rest e = rest refl
+nothing_by k false false (Some n) r same rest e = absurd (cc)
 
--- what finds octets
-abbrev pub finds : List ℕ → Vec ℕ → Bool
-finds to k = bytes_eq to k.items
+-- where no reference has its digest, a reference leads nowhere
+nothing_there : (to : List ℕ) (entries : List (Vec ℕ × Kept)) → first_so (digest_of to) entries ≡ None → referred_in (map entry_of entries) to ≡ None
+nothing_there to [] e = refl
+nothing_there to (x ∷ xs) e =
+    nothing_by x.1 (digest_of to == digest_of x.0.items) (bytes_eq to x.0.items) (first_so (digest_of to) xs) (referred_in (map entry_of xs) to)
+    (same_digest to x.0.items) (nothing_there to xs) e
 
-pub record HasKey (octets : List ℕ) : Type 0 where
-  pub key : Vec ℕ
-  pub items : key.items ≡ octets
+-- what stands before the first one with its digest leads elsewhere
+abbrev LedFrom : List ℕ → List (Vec ℕ × Kept) → ℕ → Type 0
+LedFrom to entries place = referred_in (map entry_of entries) to ≡ referred_in (map entry_of (drop place entries)) to
 
-has_by : (entries : List (Vec ℕ × Kept)) (octets : List ℕ) (k : Vec ℕ) (v : Kept) (b : Bool) → (b ≡ true → octets ≡ k.items)
-    → (lookup (finds octets) entries ≡ None) ⊎ HasKey octets
-    → (cond b (Some v) (lookup (finds octets) entries) ≡ None) ⊎ HasKey octets
-has_by entries octets k v true same rest = inr (record { key = k; items = sym (same refl) })
-has_by entries octets k v false same rest = rest
+led_behind_by : (to : List ℕ) (x : Vec ℕ × Kept) (xs : List (Vec ℕ × Kept)) (place : ℕ) (b d : Bool) (o : Option ℕ) → bytes_eq to x.0.items ≡ d
+    → (d ≡ true → b ≡ true) → ((n : ℕ) → o ≡ Some n → LedFrom to xs n)
+    → (if b then Some 0 else option_map suc o) ≡ Some place → LedFrom to (x ∷ xs) place
+led_behind_by to x xs place true d o is same rest e =
+    subst (λ p. LedFrom to (x ∷ xs) p) (some_same e) refl
+led_behind_by to x xs place false true o is same rest e = let h = same refl in absurd (cc)
+led_behind_by to x xs place false false None is same rest e = absurd (cc)
+led_behind_by to x xs place false false (Some n) is same rest e =
+    subst (λ p. LedFrom to (x ∷ xs) p) (some_same e)
+    (ap (λ b. cond b (Some (named x.1)) (referred_in (map entry_of xs) to)) is ∙ rest n refl)
 
--- nothing is found, or a key has these octets
-has_key : (entries : List (Vec ℕ × Kept)) (octets : List ℕ) → (lookup (finds octets) entries ≡ None) ⊎ HasKey octets
-has_key [] octets = inl refl
-has_key (entry ∷ entries) octets =
-    has_by entries octets entry.0 entry.1 (bytes_eq octets entry.0.items) (same_octets octets entry.0.items) (has_key entries octets)
+led_behind : (to : List ℕ) (entries : List (Vec ℕ × Kept)) (place : ℕ) → first_so (digest_of to) entries ≡ Some place → LedFrom to entries place
+led_behind to [] place e = absurd (cc)
+led_behind to (x ∷ xs) place e =
+    led_behind_by to x xs place (digest_of to == digest_of x.0.items) (bytes_eq to x.0.items) (first_so (digest_of to) xs) refl
+    (same_digest to x.0.items) (λ n. led_behind to xs n) e
 
--- one was put at this key
-abbrev pub IsPut : List (Vec ℕ × Kept) → List (Vec ℕ × Kept) → Vec ℕ → Kept → Type 0
-IsPut before after reference to = (v : Vec ℕ) → lookup (finds v.items) after ≡ cond (bytes_eq reference.items v.items) (Some to) (lookup (finds v.items) before)
+first_found : (firsts : List (ℕ × ℕ)) (entries : List (Vec ℕ × Kept)) (to : List ℕ) (digest : ℕ) (o : Option ℕ) → FindsFirst firsts entries
+    → digest ≡ digest_of to → lookup (λ k. digest == k) firsts ≡ o → first_so (digest_of to) entries ≡ o
+first_found firsts entries to digest o finds is found =
+    sym (finds (digest_of to)) ∙ ap (λ n. lookup (λ k. n == k) firsts) (sym is) ∙ found
 
-put_at : (before after : List (Vec ℕ × Kept)) (reference : Vec ℕ) (to : Kept) (octets : List ℕ) → IsPut before after reference to → HasKey octets
-    → lookup (finds octets) after ≡ cond (bytes_eq reference.items octets) (Some to) (lookup (finds octets) before)
-put_at before after reference to octets put h =
-    subst (λ xs. lookup (finds xs) after ≡ cond (bytes_eq reference.items xs) (Some to) (lookup (finds xs) before)) h.items (put h.key)
+-- where no place is found for its digest, a reference leads nowhere
+pub leads_nowhere : (firsts : List (ℕ × ℕ)) (entries : List (Vec ℕ × Kept)) (to : List ℕ) (digest : ℕ) → FindsFirst firsts entries
+    → digest ≡ digest_of to → lookup (λ k. digest == k) firsts ≡ None → referred_in (map entry_of entries) to ≡ None
+leads_nowhere firsts entries to digest finds is none = nothing_there to entries (first_found firsts entries to digest None finds is none)
 
-put_by : (before after : List (Vec ℕ × Kept)) (reference : Vec ℕ) (to : Kept) (octets : List ℕ) (b : Bool) → bytes_eq reference.items octets ≡ b → IsPut before after reference to
-    → lookup (finds octets) after ≡ cond b (Some to) (lookup (finds octets) before)
-put_by before after reference to octets true e put =
-    put_at before after reference to octets put (record { key = reference; items = same_octets reference.items octets e })
-    ∙ ap (λ b. cond b (Some to) (lookup (finds octets) before)) e
-put_by before after reference to octets false e put =
-    elim (has_key before octets) [
-      | inr h ↦ put_at before after reference to octets put h ∙ ap (λ b. cond b (Some to) (lookup (finds octets) before)) e
-      | inl none ↦ elim (has_key after octets) [
-        | inr h ↦ put_at before after reference to octets put h ∙ ap (λ b. cond b (Some to) (lookup (finds octets) before)) e
-        | inl gone ↦ gone ∙ sym none
-      ]
-    ]
+-- where a place is found, it leads where it leads from that place on
+pub leads_from : (firsts : List (ℕ × ℕ)) (entries : List (Vec ℕ × Kept)) (to : List ℕ) (digest place : ℕ) → FindsFirst firsts entries
+    → digest ≡ digest_of to → lookup (λ k. digest == k) firsts ≡ Some place
+    → referred_in (map entry_of entries) to ≡ referred_in (map entry_of (drop place entries)) to
+leads_from firsts entries to digest place finds is some =
+    led_behind to entries place (first_found firsts entries to digest (Some place) finds is some)
 
-pick_named : (b : Bool) (to : Kept) (o : Option Kept) → option_map named (cond b (Some to) o) ≡ cond b (Some (named to)) (option_map named o)
-pick_named true to o = refl
-pick_named false to o = refl
+-- the reference at a place, and those behind it
+pub leads_here : (entries : List (Vec ℕ × Kept)) (to : List ℕ) (place : ℕ) (e : Vec ℕ × Kept) (b : Bool) → place < length entries
+    → e ≡ get_or entries place e → bytes_eq to e.0.items ≡ b
+    → referred_in (map entry_of (drop place entries)) to ≡ cond b (Some (named e.1)) (referred_in (map entry_of (drop (suc place) entries)) to)
+leads_here entries to place e b within is test =
+    ap (λ xs. referred_in (map entry_of xs) to) (drop-cons entries place e within ∙ ap (λ x. x ∷ drop (suc place) entries) (sym is))
+    ∙ ap (λ b. cond b (Some (named e.1)) (referred_in (map entry_of (drop (suc place) entries)) to)) test
 
-pub put_found : (before after : List (Vec ℕ × Kept)) (reference : Vec ℕ) (to : Kept) (octets : List ℕ) → IsPut before after reference to
-    → referred_in (map entry_of after) octets ≡ cond (bytes_eq reference.items octets) (Some (named to)) (referred_in (map entry_of before) octets)
-put_found before after reference to octets put =
-    sym (found_in after octets) ∙ ap (option_map named) (put_by before after reference to octets (bytes_eq reference.items octets) refl put)
-    ∙ pick_named (bytes_eq reference.items octets) to (lookup (finds octets) before)
-    ∙ ap (cond (bytes_eq reference.items octets) (Some (named to))) (found_in before octets)
+-- ---- one more reference, behind the others
 
-pub some_mapped : (o : Option Kept) → is_some o ≡ true → is_some (option_map named o) ≡ true
-some_mapped None e = absurd (cc)
-some_mapped (Some k) e = refl
+same_both : (a b : Bool) → (a ≡ true → b ≡ true) → (b ≡ true → a ≡ true) → a ≡ b
+same_both true b f g = sym (f refl)
+same_both false true f g = g refl
+same_both false false f g = refl
+
+same_turned : (m n : ℕ) → (m == n) ≡ (n == m)
+same_turned m n =
+    same_both (m == n) (n == m) (λ e. (Decides-eqb n m).1 (sym ((Decides-eqb m n).0 e))) (λ e. (Decides-eqb m n).1 (sym ((Decides-eqb n m).0 e)))
+
+octets_turned : (xs ys : List ℕ) → bytes_eq xs ys ≡ bytes_eq ys xs
+octets_turned xs ys =
+    same_both (bytes_eq xs ys) (bytes_eq ys xs)
+    (λ e. (bytes_eq-Decides ys xs).1 (sym (same_octets xs ys e))) (λ e. (bytes_eq-Decides xs ys).1 (sym (same_octets ys xs e)))
+
+first_alone : (b : Bool) → (if b then Some 0 else option_map suc None) ≡ (if b then Some 0 else None)
+first_alone true = refl
+first_alone false = refl
+
+first_by : (b c : Bool) (o : Option ℕ) (n : ℕ)
+    → (if b then Some 0 else option_map suc (option_or o (if c then Some n else None)))
+    ≡ option_or (if b then Some 0 else option_map suc o) (if c then Some (suc n) else None)
+first_by true c o n = refl
+first_by false true None n = refl
+first_by false false None n = refl
+first_by false c (Some m) n = refl
+
+first_more : (d : ℕ) (entries : List (Vec ℕ × Kept)) (x : Vec ℕ × Kept)
+    → first_so d (entries ++ x ∷ []) ≡ option_or (first_so d entries) (if d == digest_of x.0.items then Some (length entries) else None)
+first_more d [] x = first_alone (d == digest_of x.0.items)
+first_more d (y ∷ ys) x =
+    ap (λ (o : Option ℕ). if d == digest_of y.0.items then Some 0 else option_map suc o) (first_more d ys x)
+    ∙ first_by (d == digest_of y.0.items) (d == digest_of x.0.items) (first_so d ys) (length ys)
+
+-- its place is found where none before it has its digest
+pub finds_more : (firsts after : List (ℕ × ℕ)) (entries : List (Vec ℕ × Kept)) (x : Vec ℕ × Kept) (digest place : ℕ) → FindsFirst firsts entries
+    → digest ≡ digest_of x.0.items → place ≡ length entries
+    → ((d : ℕ) → lookup (λ k. d == k) after ≡ option_or (lookup (λ k. d == k) firsts) (if digest == d then Some place else None))
+    → FindsFirst after (entries ++ x ∷ [])
+finds_more firsts after entries x digest place finds is at put = λ d.
+    put d
+    ∙ ap (λ o. option_or o (if digest == d then Some place else None)) (finds d)
+    ∙ ap (λ (b : Bool). option_or (first_so d entries) (if b then Some place else None)) (same_turned digest d ∙ ap (λ n. d == n) is)
+    ∙ ap (λ n. option_or (first_so d entries) (if d == digest_of x.0.items then Some n else None)) at
+    ∙ sym (first_more d entries x)
+
+or_picked : (b : Bool) (k : NamedKey) (o p : Option NamedKey) → cond b (Some k) (option_or o p) ≡ option_or (cond b (Some k) o) p
+or_picked true k o p = refl
+or_picked false k o p = refl
+
+or_alone : (b : Bool) (k : NamedKey) → cond b (Some k) None ≡ (if b then Some k else None)
+or_alone true k = refl
+or_alone false k = refl
+
+referred_more : (entries : List (Vec ℕ × Kept)) (x : Vec ℕ × Kept) (octets : List ℕ)
+    → referred_in (map entry_of (entries ++ x ∷ [])) octets
+    ≡ option_or (referred_in (map entry_of entries) octets) (if bytes_eq octets x.0.items then Some (named x.1) else None)
+referred_more [] x octets = or_alone (bytes_eq octets x.0.items) (named x.1)
+referred_more (y ∷ ys) x octets =
+    ap (cond (bytes_eq octets y.0.items) (Some (named y.1))) (referred_more ys x octets)
+    ∙ or_picked (bytes_eq octets y.0.items) (named y.1) (referred_in (map entry_of ys) octets) (if bytes_eq octets x.0.items then Some (named x.1) else None)
+
+or_chosen : (b : Bool) (o : Option NamedKey) (k : NamedKey) → option_or o (if b then Some k else None) ≡ (if b then option_or o (Some k) else o)
+or_chosen true o k = refl
+or_chosen false None k = refl
+or_chosen false (Some x) k = refl
+
+-- it leads to its resource, where it led nowhere, and others lead where they did
+pub leads_too : (entries : List (Vec ℕ × Kept)) (x : Vec ℕ × Kept) (octets : List ℕ)
+    → referred_in (map entry_of (entries ++ x ∷ [])) octets
+    ≡ (if bytes_eq x.0.items octets then option_or (referred_in (map entry_of entries) octets) (Some (named x.1)) else referred_in (map entry_of entries) octets)
+leads_too entries x octets =
+    referred_more entries x octets
+    ∙ ap (λ (b : Bool). option_or (referred_in (map entry_of entries) octets) (if b then Some (named x.1) else None)) (octets_turned octets x.0.items)
+    ∙ or_chosen (bytes_eq x.0.items octets) (referred_in (map entry_of entries) octets) (named x.1)

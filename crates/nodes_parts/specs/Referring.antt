@@ -1,8 +1,9 @@
 -- Resources by their references, as the code finds them (our profile).
-use Rattle.std.specs.Prelude.{◌≡◌, ℕ, List, bytes_eq, Option, Some, if◌then◌else◌}
+use Rattle.std.specs.Prelude.{◌≡◌, ◌==◌, ◌+◌, ◌-◌, ◌*◌, ◌%◌, ◌^◌, ℕ, suc, List, [], ◌∷◌, bytes_eq, drop, length, nat_lt, Option, None, Some, if◌then◌else◌}
 use Rattle.std.specs.Global.{Vec}
 use Rattle.std.specs.Map.{lookup}
-use Rattle.std.specs.Option.{option_or}
+use Rattle.std.specs.Option.{option_map, option_or}
+use Rattle.byteorder.specs.Endian.{big_number}
 use Rattle.nodes_world.specs.World.{NamedKey}
 use Rattle.nodes_parts.specs.declared.references.NamedKey.{NamedKey as Kept}
 
@@ -22,3 +23,18 @@ abbrev pub LeadsTo : List ℕ → NamedKey → List (List ℕ × NamedKey) → L
 LeadsTo reference to before after =
     (octets : List ℕ) → referred_in after octets
     ≡ (if bytes_eq reference octets then option_or (referred_in before octets) (Some to) else referred_in before octets)
+
+-- the digest of a reference: the number of its object, and that of its service above it
+abbrev pub digest_of : List ℕ → ℕ
+digest_of r =
+    if nat_lt (length r) 24 then 0
+    else (big_number 8 (drop (length r - 12) r) + big_number 4 (drop (length r - 24) r) * 2 ^ 32) % 2 ^ 64
+
+-- the place of the first reference that has a digest
+abbrev pub first_so : ℕ → List (Vec ℕ × Kept) → Option ℕ
+first_so digest [] = None
+first_so digest (e ∷ es) = if digest == digest_of e.0.items then Some 0 else option_map suc (first_so digest es)
+
+-- the place of the first reference is found by its digest
+abbrev pub FindsFirst : List (ℕ × ℕ) → List (Vec ℕ × Kept) → Type 0
+FindsFirst firsts entries = (digest : ℕ) → lookup (λ k. digest == k) firsts ≡ first_so digest entries

@@ -2,15 +2,15 @@
 ghost use Rattle.std.specs.Prelude.{◌≡◌, ◌+◌, ◌<◌, ◌≤◌, ◌∷◌, ◌++◌, [], not, ◌||◌, length, position, slice_set, slice_get, nat_lt, true, false, Some, None, if◌then◌else◌, IfOk, IfErr, IfSome, OnOk, OnErr};
 ghost use Rattle.std.specs.Option.{option_copied};
 ghost use Rattle.nodes_world.specs.Limits.{message_limit};
+ghost use Rattle.nodes_world.specs.declared.message.Content.TheVariants as contents;
 ghost use Rattle.nodes_parts.specs.Sending.{CannotSend, CountsPassed, as_sent, called_by, called_in, is_waiting, marked_answered, marked_delivered};
 
 use coordinator::{Act, Event, copy_event};
 use ior_refs::ObjectKey;
-use nodes_world::{Content, Message};
+use nodes_world::{Content, KeptAct, Message};
 use ots_world::{MESSAGE_LIMIT, WorldFault};
 use std::alloc::{AllocError, Global};
 use std::marker::Model;
-use std::mem;
 
 /// The messages that were sent, in order.
 #[derive(Drop)]
@@ -77,6 +77,17 @@ impl Messages {
         Ok(self.items.len() as u32)
     }
 
+    /// A client's call goes out to the object of a key, and is delivered at once. Its number is the answer.
+    pub fn send_call(&mut self, alloc: Global, to: ObjectKey, act: Act) -> Result<u32, WorldFault>
+        ensures number { IfOk result (λ number. number ≡ length self.new) }
+        ensures sent { OnOk result (self.new ≡ self.old ++ as_sent (contents.Call to act) true ∷ []) }
+        ensures refused { IfErr result (λ fault. CannotSend self.old fault) }
+        ensures err { OnErr result (self.new ≡ self.old) }
+    {
+        let act = KeptAct::new(alloc, act)?;
+        self.send(Content::Call { to, act }, true)
+    }
+
     /// The place of the lowest message that was never delivered, and isn't passed over.
     pub fn lowest(&mut self) -> Option<usize>
         ensures lowest { result ≡ position is_waiting self.old }
@@ -141,7 +152,7 @@ fn call_in(alloc: Global, content: &mut Content) -> Result<Option<(ObjectKey, Ac
 }
 
 /// A copy of what a client calls.
-fn copy_act(alloc: Global, act: &mut Act) -> Result<Act, AllocError>
+fn copy_act(alloc: Global, act: &mut KeptAct) -> Result<Act, AllocError>
     ensures copy { IfOk result (λ copy. copy ≡ act.old) }
     ensures same { act.new ≡ act.old }
 {
@@ -149,10 +160,10 @@ fn copy_act(alloc: Global, act: &mut Act) -> Result<Act, AllocError>
         key: None,
         branch: 0,
         now: 0,
-        act: mem::replace(act, Act::Tick),
+        act: act.replace(Act::Tick),
     };
     let copy = copy_event(alloc, &event);
-    *act = event.act;
+    act.replace(event.act);
     Ok(copy?.act)
 }
 

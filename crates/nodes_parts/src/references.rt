@@ -1,12 +1,19 @@
-ghost use Rattle.std.specs.Prelude.{◌≡◌, [], OnOk, OnErr};
-ghost use Rattle.std.specs.Option.{option_map};
-ghost use Rattle.nodes_parts.specs.Referring.{LeadsTo, named, referred_in};
+ghost use Rattle.std.specs.Prelude.{◌≡◌, ◌==◌, ℕ, [], drop, map, Some, None, if◌then◌else◌, OnOk, OnErr};
+ghost use Rattle.std.specs.Map.{lookup};
+ghost use Rattle.std.specs.Option.{option_map, option_or};
+ghost use Rattle.nodes_parts.specs.Referring.{LeadsTo, digest_of, entry_of, named, referred_in};
 
+use byteorder::{BigEndian, ByteOrder};
 use ior_refs::ObjectKey;
 use ots_model::Name;
 use std::alloc::{AllocError, Global};
 use std::collections::HashMap;
 use std::marker::Model;
+
+/// Where the number of an object's service stands in its reference, and its number there, counted from the end.
+const SERVICE_PLACE: usize = 24;
+
+const NUMBER_PLACE: usize = 12;
 
 /// A key, and the name of what has it.
 #[derive(Clone, Copy)]
@@ -15,20 +22,24 @@ pub struct NamedKey {
     pub key: ObjectKey,
 }
 
-/// The resources that have names, by their references. Contracts see the entries.
+/// The resources that have names, by their references: in the order of their making, and for each digest of references
+/// the place of the first one that has it. Contracts see the entries.
 #[derive(Drop)]
 pub struct References {
-    resources: HashMap<Vec<u8>, NamedKey>,
+    entries: Vec<(Vec<u8>, NamedKey)>,
+    firsts: HashMap<u64, usize>,
 }
 
 impl Model for References {
     ghost use Rattle.std.specs.Prelude.{List, ℕ, map};
     ghost use Rattle.nodes_world.specs.World.{NamedKey};
-    ghost use Rattle.nodes_parts.specs.Referring.{entry_of};
+    ghost use Rattle.nodes_parts.specs.Referring.{FindsFirst, entry_of};
 
     ghost Value = { List (List ℕ × NamedKey) };
 
-    ghost view = { λ r. map entry_of r.resources.entries };
+    ghost view = { λ r. map entry_of r.entries.items };
+
+    ghost invariant = { λ r. FindsFirst r.firsts.entries r.entries.items };
 }
 
 impl References {
@@ -37,7 +48,8 @@ impl References {
         ensures none { result ≡ [] }
     {
         References {
-            resources: HashMap::new(alloc),
+            entries: Vec::new(alloc),
+            firsts: HashMap::new(alloc),
         }
     }
 
@@ -45,7 +57,8 @@ impl References {
     pub fn referred(&self, to: &[u8]) -> Option<NamedKey>
         ensures referred { option_map named result ≡ referred_in self.now to.now }
     {
-        self.resources.get(to).copied()
+        let place = *self.firsts.get(&digest_of(to))?;
+        led_from(&self.entries, place, to)
     }
 
     /// A reference that led nowhere leads to this resource from now on.
@@ -53,9 +66,46 @@ impl References {
         ensures ok { OnOk result (LeadsTo reference.items (named to) self.old self.new) }
         ensures err { OnErr result (self.new ≡ self.old) }
     {
-        if self.referred(&reference).is_none() {
-            self.resources.insert(reference, to)?;
-        }
+        self.entries.reserve(1)?;
+        note(&mut self.firsts, digest_of(&reference), self.entries.len())?;
+        self.entries.push_reserved((reference, to));
         Ok(())
     }
+}
+
+/// The digest of a reference, which the references of few objects share.
+fn digest_of(reference: &[u8]) -> u64
+    ensures { result ≡ digest_of reference.now }
+{
+    if reference.len() < SERVICE_PLACE {
+        return 0;
+    }
+    let service = BigEndian::read_u32(&reference[reference.len() - SERVICE_PLACE..]);
+    let number = BigEndian::read_u64(&reference[reference.len() - NUMBER_PLACE..]);
+    number.wrapping_add(u64::from(service) << 32)
+}
+
+/// Of the references from a place on, the resource to which the first one leads that is this one.
+fn led_from(entries: &[(Vec<u8>, NamedKey)], place: usize, to: &[u8]) -> Option<NamedKey>
+    ensures { option_map named result ≡ referred_in (map entry_of (drop place entries.now)) to.now }
+{
+    for at in place..entries.len() {
+        let entry = &entries[at];
+        if to == entry.0.as_slice() {
+            return Some(entry.1);
+        }
+    }
+    None
+}
+
+/// Where no reference has such a digest yet, the first one stands at this place.
+fn note(firsts: &mut HashMap<u64, usize>, digest: u64, place: usize) -> Result<(), AllocError>
+    ensures ok { OnOk result ((d : ℕ) → lookup (λ k. d == k) firsts.new.entries
+        ≡ option_or (lookup (λ k. d == k) firsts.old.entries) (if digest == d then Some place else None)) }
+    ensures err { OnErr result (firsts.new.entries ≡ firsts.old.entries) }
+{
+    if firsts.get(&digest).is_none() {
+        firsts.insert(digest, place)?;
+    }
+    Ok(())
 }

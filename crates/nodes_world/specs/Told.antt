@@ -1,5 +1,4 @@
--- The lines that a world tells (our profile). Those that agreement speaks of, and those that are the same in a world of flat
--- transactions, are the lines of `ots_model`; the others are here.
+-- The lines that a world tells (our profile). Those that agreement may speak of are the lines of `ots_model`; the others are here.
 use Rattle.std.specs.Prelude.{ℕ, Bool, true, false, List, [], ◌∷◌, codes, Option, Some, None}
 use Rattle.std.specs.List.{filter_map, flat_map}
 use Rattle.hex.specs.Hex.{encode_lower}

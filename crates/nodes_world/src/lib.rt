@@ -9,7 +9,7 @@ pub use laws::{
     reached_worlds_are_known, records_are_read, resources_stay_over, steps_stay_known,
     stopped_appends_are_safe, what_is_left_is_an_image, worlds_play,
 };
-pub use message::{Content, Message};
+pub use message::{Content, KeptAct, Message};
 pub use thing::Thing;
 
 mod deed;

@@ -1,22 +1,28 @@
-use Rattle.std.proofs.Common.{◌≡◌, cond, Some, None, is_some, true, false, not, map, sym, ap, ◌∙◌}
-use Rattle.std.specs.Option.{option_map}
-use Rattle.nodes_parts.specs.Referring.{entry_of, named, referred_in}
+use Rattle.std.proofs.Common.{◌≡◌, ◌++◌, ◌∷◌, [], length, map, Some, ap, sym, ◌∙◌, arith}
+use Rattle.std.specs.Bool.{if◌then◌else◌}
+use Rattle.std.specs.Option.{option_or}
 use Rattle.std.specs.Str.{bytes_eq}
-use Rattle.nodes_parts.proofs.Referred.{led, none_of, put_found, some_mapped, stays}
+use Rattle.nodes_parts.specs.Referring.{digest_of, entry_of, first_so, named, referred_in}
+use Rattle.nodes_parts.proofs.Referred.{finds_more, leads_too}
 use Rattle.nodes_parts.proofs.references.References.add.Goals as goal
 
-pub returns-in_ok-insert-clause-ok : goal.returns-in_ok-insert-clause-ok
-returns-in_ok-insert-clause-ok c = λ octets.
-    let unled : is_some c.referred.result ≡ false = c.is_none.ensures ∙ ap not c.if-is_none.true in
-    let none : referred_in c.args.self.now c.args.reference.items ≡ None =
-    sym (c.referred.ensures.referred ∙ ap (referred_in c.args.self.now) c.deref.ensures.value) ∙ ap (option_map named) (none_of c.referred.result unled) in
-    let put = put_found c.self.inside.resources.entries c.insert.new.self.entries c.args.reference c.args.to octets c.in_ok-insert.ensures.updates.0
-    ∙ ap (λ entries. cond (bytes_eq c.args.reference.items octets) (Some (named c.args.to)) (referred_in entries octets)) c.self.view_is in
-    led c.args.self.now (map entry_of c.insert.new.self.entries) c.args.reference.items octets (named c.args.to) put none
+pub invariant_of-self-2 : goal.invariant_of-self-2
+invariant_of-self-2 c =
+    let pushed : c.push_reserved.new.self.items ≡ c.self.inside.entries.items ++ (c.args.reference, c.args.to) ∷ [] =
+    c.push_reserved.ensures.items ∙ ap (λ items. items ++ (c.args.reference, c.args.to) ∷ []) c.reserve.ensures.items in
+    let counted : c.len.result ≡ length c.self.inside.entries.items =
+    omega (arith, c.reserve.new.self.ok.0, c.len.ensures, ap length c.reserve.ensures.items) in
+    λ digest.
+    finds_more c.self.inside.firsts.entries c.note.new.firsts.entries c.self.inside.entries.items (c.args.reference, c.args.to) c.digest_of.result
+    c.len.result c.self.invariant (c.digest_of.ensures ∙ ap digest_of c.deref.ensures.value) counted
+    c.in_ok-note.ensures.ok digest
+    ∙ ap (first_so digest) (sym pushed)
 
-pub returns-else-is_none-clause-ok : goal.returns-else-is_none-clause-ok
-returns-else-is_none-clause-ok c = λ octets.
-    let leads : is_some c.referred.result ≡ true = c.is_none.ensures ∙ ap not c.if-is_none.false in
-    let there = some_mapped c.referred.result leads in
-    stays c.args.self.now c.args.reference.items octets (named c.args.to)
-    (ap is_some (sym (c.referred.ensures.referred ∙ ap (referred_in c.args.self.now) c.deref.ensures.value)) ∙ there)
+pub returns-clause-ok : goal.returns-clause-ok
+returns-clause-ok c = λ octets.
+    let pushed : c.push_reserved.new.self.items ≡ c.self.inside.entries.items ++ (c.args.reference, c.args.to) ∷ [] =
+    c.push_reserved.ensures.items ∙ ap (λ items. items ++ (c.args.reference, c.args.to) ∷ []) c.reserve.ensures.items in
+    ap (λ entries. referred_in (map entry_of entries) octets) pushed
+    ∙ leads_too c.self.inside.entries.items (c.args.reference, c.args.to) octets
+    ∙ ap (λ entries. if bytes_eq c.args.reference.items octets then option_or (referred_in entries octets) (Some (named c.args.to)) else referred_in entries octets)
+    c.self.view_is

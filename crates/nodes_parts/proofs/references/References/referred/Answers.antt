@@ -1,11 +1,27 @@
-use Rattle.std.proofs.Common.{ap, ◌∙◌}
-use Rattle.std.specs.Option.{option_map}
-use Rattle.nodes_parts.specs.Referring.{named, referred_in}
-use Rattle.nodes_parts.proofs.Referred.{found_in}
+use Rattle.std.proofs.Common.{◌≡◌, ◌==◌, None, Some, drop, map, ap, sym, ◌∙◌, rules}
+use Rattle.std.specs.Map.{lookup}
+use Rattle.std.specs.Option.{option_copied, option_map}
+use Rattle.nodes_parts.specs.Referring.{entry_of, named, referred_in}
+use Rattle.nodes_parts.proofs.Referred.{leads_from, leads_nowhere}
 use Rattle.nodes_parts.proofs.references.References.referred.Goals as goal
 
+pub returns-in_err-place : goal.returns-in_err-place
+returns-in_err-place c =
+    let none : lookup (λ k. c.digest_of.result == k) c.self.inside.firsts.entries ≡ None = sym c.get.ensures.value ∙ ap option_copied c.in_err-place.was in
+    let gone : c.from_residual.result ≡ None = search rules in
+    record {
+      referred = ap (option_map named) gone
+          ∙ sym (leads_nowhere c.self.inside.firsts.entries c.self.inside.entries.items c.args.to.now c.digest_of.result c.self.invariant c.digest_of.ensures none)
+          ∙ ap (λ entries. referred_in entries c.args.to.now) c.self.view_is;
+    }
+
 pub returns : goal.returns
-returns c = record {
-  referred = ap (option_map named) (c.copied.ensures ∙ c.get.ensures.value) ∙ found_in c.self.inside.resources.entries c.args.to.now
-      ∙ ap (λ entries. referred_in entries c.args.to.now) c.self.view_is;
-}
+returns c =
+    let place = c.in_ok-place.field-0.now in
+    let some : lookup (λ k. c.digest_of.result == k) c.self.inside.firsts.entries ≡ Some place = sym c.get.ensures.value ∙ ap option_copied c.in_ok-place.was in
+    record {
+      referred = c.led_from.ensures
+          ∙ ap (λ entries. referred_in (map entry_of (drop place entries)) c.args.to.now) c.deref.ensures.value
+          ∙ sym (leads_from c.self.inside.firsts.entries c.self.inside.entries.items c.args.to.now c.digest_of.result place c.self.invariant c.digest_of.ensures some)
+          ∙ ap (λ entries. referred_in entries c.args.to.now) c.self.view_is;
+    }
