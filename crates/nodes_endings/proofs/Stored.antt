@@ -1,9 +1,13 @@
 -- The journal that octets stand for ends at the gate that was found.
-use Rattle.std.proofs.Common.{◌≡◌, ℕ, ◌+◌, ◌<◌, ◌≤◌, List, [], ◌∷◌, ◌++◌, length, take, refl, sym, ap, subst, ◌∙◌, arith, append_assoc, length-append}
+use Rattle.std.proofs.Common.{◌≡◌, ℕ, ◌+◌, ◌<◌, ◌≤◌, List, [], ◌∷◌, ◌++◌, Option, Some, length, take, refl, sym, ap, subst, ◌∙◌, arith, append_assoc, length-append}
 use Rattle.decision_journal.specs.Journal.{StandsFor, first_gate, front, header}
 use Rattle.decision_journal.specs.Limits.{area_limit}
 use Rattle.decision_journal.specs.declared.record.JournalRecord.{JournalRecord}
 use Rattle.decision_journal.proofs.Scans.{length_front}
+use Rattle.nodes_lives.specs.Loads.{StoresJournal}
+use Rattle.nodes_world.specs.Journals.{records_in}
+use Rattle.nodes_world.specs.Laws.{RecordsAreRead}
+use Rattle.nodes_world.specs.Lives.{journal_line}
 use Rattle.nodes_parts.specs.Gated.{HoldsRecords, IsEndGate, octets_of, place_behind}
 
 pub holds_records : (service : ℕ) (octets : List ℕ) (rs : List JournalRecord) → StandsFor service octets rs → HoldsRecords octets rs
@@ -36,3 +40,12 @@ taken service octets rs end s at =
     ap (λ n. take n octets) (end_is service octets rs end s at)
     ∙ ap (λ xs. take (length (front service rs)) xs) s.octets_are
     ∙ take_front (front service rs) (s.gate ∷ s.behind)
+
+-- a line tells it
+pub journal_is_told : RecordsAreRead → (name : List ℕ) (service : ℕ) (octets : List ℕ) → StoresJournal service octets
+    → journal_line name service (records_in service octets) ≡ [] → ⊥
+journal_is_told law name service octets s none =
+    let read = law service octets s.records s.stands in
+    let some : journal_line name service (Some s.records) ≡ [] =
+    ap (λ (o : Option (List JournalRecord)). journal_line name service o) (sym read) ∙ none in
+    absurd (cc (some))

@@ -1,5 +1,5 @@
 // The journals of nodes are told.
-ghost use Rattle.std.specs.Prelude.{◌≡◌, ℕ, List, IfOk};
+ghost use Rattle.std.specs.Prelude.{◌≡◌, ◌≢◌, ℕ, List, [], IfOk, OnErr};
 ghost use Rattle.decision_journal.specs.Journal.{StandsFor};
 ghost use Rattle.decision_journal.specs.declared.record.JournalRecord.{JournalRecord};
 ghost use Rattle.nodes_lives.specs.Loads.{StoresJournal};
@@ -18,10 +18,12 @@ use nodes_world::records_are_read;
 use ots_model::Name;
 use std::alloc::{AllocError, Global};
 
-/// The journal of each node is told, in the order of their making: of one that is down, that which its crash left.
+/// The journal of each node is told, in the order of their making: of one that is down, that which its crash left. Where there
+/// is no node, no memory is wanted.
 pub fn tell_journals(state: &State, lines: &mut Vec<u8>) -> Result<(), AllocError>
     requires whole { IsWhole state.now }
-    ensures { TellsSome (lives.last_lines (shown state.now)) lines.old.items lines.new.items result }
+    ensures told { TellsSome (lives.last_lines (shown state.now)) lines.old.items lines.new.items result }
+    ensures memory { OnErr result (lives.last_lines (shown state.now) ≢ []) }
 {
     for (place, seat) in state.seats.iter().enumerate() {
         tell_seat(state.alloc, lines, seat, place)?;
@@ -37,8 +39,9 @@ fn tell_seat(
     place: usize,
 ) -> Result<(), AllocError>
     requires served { IsServed place (seat.now).server }
-    ensures { TellsOne (lives.journal_lines_of place (seat_of seat.now) (server_of (seat.now).server))
+    ensures told { TellsOne (lives.journal_lines_of place (seat_of seat.now) (server_of (seat.now).server))
         lines.old.items lines.new.items result }
+    ensures memory { OnErr result (lives.journal_lines_of place (seat_of seat.now) (server_of (seat.now).server) ≢ []) }
 {
     match &seat.server {
         Server::Up(node) => {
@@ -58,8 +61,10 @@ fn tell_octets(
     octets: &[u8],
 ) -> Result<(), AllocError>
     requires stored { IsStored octets.now }
-    ensures { (service : ℕ) → StoresJournal service octets.now → TellsOne
+    ensures told { (service : ℕ) → StoresJournal service octets.now → TellsOne
         (lives.journal_line name service (records_in service octets.now)) lines.old.items lines.new.items result }
+    ensures memory { (service : ℕ) → StoresJournal service octets.now
+        → lives.journal_line name service (records_in service octets.now) ≢ [] }
 {
     records_are_read();
     let journal = journal_of(alloc, octets)?;

@@ -1,4 +1,5 @@
 mod Growing
+mod Nothing
 mod Telling
 mod Changing
 mod Crashing

@@ -1,5 +1,6 @@
 // Nodes and ends are made.
-ghost use Rattle.std.specs.Prelude.{◌≡◌, None, OnOk, false};
+ghost use Rattle.std.specs.Prelude.{◌≡◌, Err, None, OnOk, false, true};
+ghost use Rattle.ots_world.specs.declared.fault.WorldFault.TheVariants.{Limit};
 ghost use Rattle.nodes_world.specs.Limits.{seat_limit};
 ghost use Rattle.nodes_world.specs.Lives as lives;
 ghost use Rattle.nodes_world.specs.Step.{is_full, limit_where};
@@ -43,6 +44,7 @@ pub fn make_node(state: &mut State, lines: &mut Vec<u8>, name: &Name) -> Result<
     requires free { world.thing (shown state.old) name.now ≡ None }
     ensures carries { Carries (limit_where (is_full (shown state.old)) seat_limit)
         (lives.makes_node name.now (shown state.old)) (shown state.new) lines.old.items lines.new.items result }
+    ensures full { is_full (shown state.old) ≡ true → result ≡ Err (Limit seat_limit) }
     ensures whole { OnOk result (IsWhole state.new) }
 {
     if has_all_seats(state) {
@@ -74,6 +76,7 @@ pub fn make_end(state: &mut State, lines: &mut Vec<u8>, name: &Name) -> Result<(
     requires free { world.thing (shown state.old) name.now ≡ None }
     ensures carries { Carries (limit_where (is_full (shown state.old)) seat_limit)
         (lives.makes_end name.now (shown state.old)) (shown state.new) lines.old.items lines.new.items result }
+    ensures full { is_full (shown state.old) ≡ true → result ≡ Err (Limit seat_limit) }
     ensures whole { OnOk result (IsWhole state.new) }
 {
     if has_all_seats(state) {

@@ -6,10 +6,11 @@ use Rattle.nodes_state.proofs.Doing.{line_told}
 use Rattle.nodes_world.specs.Journals.{journal_octets}
 use Rattle.nodes_world.specs.Lives.{journal_line}
 use Rattle.nodes_world.specs.Told.{Journal}
+use Rattle.nodes_endings.proofs.Stored.{journal_is_told}
 use Rattle.nodes_endings.proofs.journals.tell_octets.Goals as goal
 
-pub returns : goal.returns
-returns c service s =
+pub returns-clause-told : goal.returns-clause-told
+returns-clause-told c service s =
     let before = c.args.lines.now.items in
     let after = c.tell_journal.new.lines.items in
     subst (λ (o : Option (List JournalRecord)). TellsOne (journal_line c.args.name service o) before after c.tell_journal.result)
@@ -17,3 +18,9 @@ returns c service s =
     (line_told c.tell_journal.result (Journal c.args.name (journal_octets service s.records)) before after
     (subst (λ (xs : List ℕ). IsTold c.tell_journal.result (Journal c.args.name xs) before after)
     (c.as_slice.ensures.value ∙ c.in_ok-journal.ensures service s.records s.stands) c.tell_journal.ensures))
+
+pub returns-in_err-journal-clause-memory : goal.returns-in_err-journal-clause-memory
+returns-in_err-journal-clause-memory c service s = journal_is_told c.records_are_read.ensures c.args.name service c.args.octets.now s
+
+pub returns-clause-memory : goal.returns-clause-memory
+returns-clause-memory c service s = journal_is_told c.records_are_read.ensures c.args.name service c.args.octets.now s
