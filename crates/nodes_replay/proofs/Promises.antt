@@ -22,6 +22,7 @@ use Rattle.nodes_replay.specs.Going.{GoesOn}
 use Rattle.nodes_replay.specs.Standing.{Standing}
 use Rattle.nodes_replay.specs.Stands.{Moved}
 use Rattle.nodes_replay.proofs.Resolved.{moves_deed}
+use Rattle.nodes_replay.proofs.Safely.{own_moved}
 
 -- ---- of a world that is reached
 
@@ -66,7 +67,7 @@ resources_stay law old event new before after (Ok _) m = staying law old event n
 resources_stay law old event new before after (Err fault) m = tt
 
 lasting : ReachedOutcomesLast → (old : Standing) (event : ScriptEvent) (new : Standing) (told : List Told) (before after : List ℕ) → GoesOn old
-    → IsTrue (names_fit event) → HasTold old told → Moved old event new before after → GoesOnLasting old told new before after
+    → IsTrue (names_fit event) → HasTold old told → Moved old event new before after → GoesOnLasting old event told new before after
 lasting law old event new told before after goes fit h m =
     let d = moves_deed event m.world m.to m.moves in record {
       world = m.world;
@@ -74,6 +75,7 @@ lasting law old event new told before after goes fit h m =
       later = m.to.world;
       now = m.now;
       further = m.to.lines;
+      own = own_moved old event new before after m;
       told = m.told;
       last = subst (λ (x : Done). OutcomesLast m.world x.world told (told ++ x.lines)) (sym d.is)
           (law m.world told event d.deed (subst (λ (s : Standing). HasTold s told) m.was h) (subst (λ (s : Standing). GoesOn s) m.was goes) fit
@@ -82,13 +84,13 @@ lasting law old event new told before after goes fit h m =
 
 pub goes_on_lasting : ReachedOutcomesLast → (old : Standing) (event : ScriptEvent) (new : Standing) (told : List Told) (before after : List ℕ)
     (r : Result (Unit {0}) WorldFault) → GoesOn old → IsTrue (names_fit event) → HasTold old told → OnOk r (Moved old event new before after)
-    → OnOk r (GoesOnLasting old told new before after)
+    → OnOk r (GoesOnLasting old event told new before after)
 goes_on_lasting law old event new told before after (Ok _) goes fit h m = lasting law old event new told before after goes fit h m
 goes_on_lasting law old event new told before after (Err fault) goes fit h m = tt
 
 tells_again : RestartsTellAgain → (w : World) (event : ScriptEvent) (new : Standing) (told : List Told) (before after : List ℕ) (place : ℕ)
     (rs : List JournalRecord) → HasTold (Ok w) told → Moved (Ok w) event new before after → resolve event w ≡ Some (Restart place)
-    → records_at w place ≡ Some rs → TellsAgain w place rs before after
+    → records_at w place ≡ Some rs → TellsAgain w event new place rs before after
 tells_again law w event new told before after place rs h m named on_disk =
     let here : m.world ≡ w = cc (m.was) in
     let d = moves_deed event m.world m.to m.moves in
@@ -96,17 +98,18 @@ tells_again law w event new told before after place rs h m named on_disk =
     let is : m.to ≡ carried_out (Restart place) w = d.is ∙ ap (λ x. carried_out x m.world) restart ∙ ap (carried_out (Restart place)) here in
     record {
       further = m.to.lines;
+      own = own_moved (Ok w) event new before after m;
       told = m.told;
       again = subst (λ (x : Done). AreToldDecided w x.lines place (found_in rs).standing) (sym is) (law w told event place rs h named on_disk);
     }
 
 restarted : RestartsTellAgain → (old : Standing) (event : ScriptEvent) (new : Standing) (told : List Told) (before after : List ℕ) → HasTold old told
-    → Moved old event new before after → RestartTellsAgain old event before after
+    → Moved old event new before after → RestartTellsAgain old event new before after
 restarted law (Ok w) event new told before after h m = λ place rs named on_disk. tells_again law w event new told before after place rs h m named on_disk
 restarted law (Err fault) event new told before after h m = tt
 
 pub restart_tells_again : RestartsTellAgain → (old : Standing) (event : ScriptEvent) (new : Standing) (told : List Told) (before after : List ℕ)
     (r : Result (Unit {0}) WorldFault) → HasTold old told → OnOk r (Moved old event new before after)
-    → OnOk r (RestartTellsAgain old event before after)
+    → OnOk r (RestartTellsAgain old event new before after)
 restart_tells_again law old event new told before after (Ok _) h m = restarted law old event new told before after h m
 restart_tells_again law old event new told before after (Err fault) h m = tt

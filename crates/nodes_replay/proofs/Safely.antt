@@ -14,12 +14,13 @@ use Rattle.nodes_world.specs.Happenings.{Done}
 use Rattle.nodes_world.specs.Journals.{records_on}
 use Rattle.nodes_world.specs.Lives.{journal_line, journal_lines_from, journal_lines_of, last_lines}
 use Rattle.nodes_world.specs.Objects.{service_at}
+use Rattle.nodes_world.specs.Step.{Stepped, Moves, Passes, Names, step}
 use Rattle.nodes_world.specs.Told.{Told, known, known_in}
 use Rattle.nodes_world.specs.World.{Seat, Server, OfNode, OfEnd, World}
-use Rattle.nodes_replay.specs.Agreement.{EndsSafely, GoesOnSafely, HasTold}
+use Rattle.nodes_replay.specs.Agreement.{AreOf, AreOfStep, EndsSafely, GoesOnSafely, HasTold}
 use Rattle.nodes_replay.specs.Going.{GoesOn}
 use Rattle.nodes_replay.specs.Standing.{Standing}
-use Rattle.nodes_replay.specs.Stands.{HasFinished, HasStepped, IsRefusal, Moved, Refused, Stopped}
+use Rattle.nodes_replay.specs.Stands.{HasFinished, HasStepped, IsRefusal, MayTell, Moved, Refused, Spent, Stopped}
 use Rattle.nodes_replay.proofs.Resolved.{may_safe, moves_deed}
 
 -- ---- lines
@@ -47,13 +48,44 @@ safe_so_far law (Err fault) told h = h
 none_safe : (told : List Told) → AreSafe (known told) → AreSafe (known (told ++ []))
 none_safe told safe = subst (λ (all : List Told). AreSafe (known all)) (sym (append-nil told)) safe
 
+-- ---- the lines of a line
+
+pub own_moved : (old : Standing) (event : ScriptEvent) (new : Standing) (before after : List ℕ) → (m : Moved old event new before after)
+    → AreOf old event new m.to.lines
+own_moved old event new before after m =
+    subst (λ (x : Standing). AreOf x event new m.to.lines) (sym m.was)
+    (subst (λ (x : Stepped). AreOfStep x new m.to.lines) (sym m.moves)
+    (subst (λ (x : Standing). AreOfStep (Moves m.to) x m.to.lines) (sym m.now) refl))
+
+may_front : (s : Stepped) (fault : WorldFault) (lines : List Told) (k : ℕ) → MayTell s lines → AreOfStep s (Err fault) (take k lines)
+may_front (Moves to) fault lines k may = (k, ap (λ (ls : List Told). take k ls) may)
+may_front (Passes limit some) fault lines k may = (k, ap (λ (ls : List Told). take k ls) may)
+may_front Names fault lines k may = absurd may
+
+own_stopped : (old : Standing) (event : ScriptEvent) (fault : WorldFault) (new : Standing) (before after : List ℕ)
+    → (s : Stopped old event fault new before after) → AreOf old event new (take s.told.0 s.lines)
+own_stopped old event fault new before after s =
+    subst (λ (x : Standing). AreOf x event new (take s.told.0 s.lines)) (sym s.was)
+    (subst (λ (x : Standing). AreOfStep (step event s.world) x (take s.told.0 s.lines)) (sym s.now)
+    (may_front (step event s.world) fault s.lines s.told.0 s.may))
+
+own_refused : (old : Standing) (event : ScriptEvent) (new : Standing) (before after : List ℕ) → Refused old event new before after
+    → AreOf old event new []
+own_refused old event new before after r =
+    subst (λ (x : Standing). AreOf x event new []) (sym r.was) (subst (λ (x : Stepped). AreOfStep x new []) (sym r.refused) refl)
+
+own_spent : (old : Standing) (event : ScriptEvent) (fault : WorldFault) (new : Standing) (before after : List ℕ)
+    → Spent old fault new before after → AreOf old event new []
+own_spent old event fault new before after s = subst (λ (x : Standing). AreOf x event new []) (sym s.was) refl
+
 -- ---- a line of a script
 
 -- nothing more was told
-stays : Agreement → (old new : Standing) (told : List Told) (before after : List ℕ) → HasTold old told → new ≡ old → after ≡ before
-    → GoesOnSafely told new before after
-stays law old new told before after h same text = record {
+stays : Agreement → (old : Standing) (event : ScriptEvent) (new : Standing) (told : List Told) (before after : List ℕ) → HasTold old told
+    → AreOf old event new [] → new ≡ old → after ≡ before → GoesOnSafely old event told new before after
+stays law old event new told before after h own same text = record {
   further = [];
+  own = own;
   told = text ∙ sym (append-nil before);
   has_told = subst (λ (x : List Told). HasTold new x) (sym (append-nil told)) (subst (λ (s : Standing). HasTold s told) (sym same) h);
   safe = none_safe told (safe_so_far law old told h);
@@ -69,10 +101,11 @@ moved_reached old event new told before after goes fit h m =
     d.named d.unlimited)
 
 moves_on : Agreement → (old : Standing) (event : ScriptEvent) (new : Standing) (told : List Told) (before after : List ℕ) → GoesOn old
-    → IsTrue (names_fit event) → HasTold old told → Moved old event new before after → GoesOnSafely told new before after
+    → IsTrue (names_fit event) → HasTold old told → Moved old event new before after → GoesOnSafely old event told new before after
 moves_on law old event new told before after goes fit h m =
     let reached = moved_reached old event new told before after goes fit h m in record {
       further = m.to.lines;
+      own = own_moved old event new before after m;
       told = m.told;
       has_told = subst (λ (s : Standing). HasTold s (told ++ m.to.lines)) (sym m.now) reached;
       safe = law m.to.world (told ++ m.to.lines) reached;
@@ -80,11 +113,12 @@ moves_on law old event new told before after goes fit h m =
 
 -- the world stopped in the midst of the line
 stops_midway : Agreement → (old : Standing) (event : ScriptEvent) (fault : WorldFault) (new : Standing) (told : List Told) (before after : List ℕ)
-    → GoesOn old → IsTrue (names_fit event) → HasTold old told → Stopped old event fault new before after → GoesOnSafely told new before after
+    → GoesOn old → IsTrue (names_fit event) → HasTold old told → Stopped old event fault new before after → GoesOnSafely old event told new before after
 stops_midway law old event fault new told before after goes fit h s =
     let safe = part_safe told s.lines s.told.0
     (may_safe law event s.world told s.lines (subst (λ (x : Standing). HasTold x told) s.was h) (subst (λ (x : Standing). GoesOn x) s.was goes) fit s.may) in record {
       further = take s.told.0 s.lines;
+      own = own_stopped old event fault new before after s;
       told = s.told.1;
       has_told = subst (λ (x : Standing). HasTold x (told ++ take s.told.0 s.lines)) (sym s.now) safe;
       safe = safe;
@@ -94,16 +128,16 @@ stops_midway law old event fault new told before after goes fit h s =
 goes_on_by : Agreement → (old : Standing) (event : ScriptEvent) (new : Standing) (told : List Told) (before after : List ℕ)
     → (r : Result (Unit {0}) WorldFault) → GoesOn old → IsTrue (names_fit event) → HasTold old told → OnOk r (Moved old event new before after)
     → (IsErrOf r faults.Names → Refused old event new before after)
-    → IfErr r (λ fault. IsRefusal old event fault new before after) → GoesOnSafely told new before after
+    → IfErr r (λ fault. IsRefusal old event fault new before after) → GoesOnSafely old event told new before after
 goes_on_by law old event new told before after (Ok _) goes fit h moved names stopped = moves_on law old event new told before after goes fit h moved
 goes_on_by law old event new told before after (Err fault) goes fit h moved names stopped =
-    ⊎_elim (λ is. let r = names (ap Err is) in stays law old new told before after h r.now r.told)
+    ⊎_elim (λ is. let r = names (ap Err is) in stays law old event new told before after h (own_refused old event new before after r) r.now r.told)
     (λ rest. ⊎_elim (λ s. stops_midway law old event fault new told before after goes fit h s)
-    (λ s. stays law old new told before after h s.now s.told) rest) stopped
+    (λ s. stays law old event new told before after h (own_spent old event fault new before after s) s.now s.told) rest) stopped
 
 pub goes_on_safely : Agreement → (old : Standing) (event : ScriptEvent) (new : Standing) (told : List Told) (before after : List ℕ)
     → (r : Result (Unit {0}) WorldFault) → GoesOn old → IsTrue (names_fit event) → HasTold old told → HasStepped old event new before after r
-    → GoesOnSafely told new before after
+    → GoesOnSafely old event told new before after
 goes_on_safely law old event new told before after r goes fit h s =
     goes_on_by law old event new told before after r goes fit h s.moved s.names s.stopped
 
@@ -132,13 +166,14 @@ last_safe w told safe =
     subst (λ (ls : List Line). AreSafe ls) (sym same) safe
 
 pub ends_safely : Agreement → (old : Standing) (told : List Told) (before after : List ℕ) (r : Result (Unit {0}) WorldFault) → HasTold old told
-    → HasFinished old before after r → EndsSafely told before after
+    → HasFinished old before after r → EndsSafely old told before after r
 ends_safely law (Ok w) told before after (Ok _) h f =
-    record { further = last_lines w; told = f; safe = last_safe w told (law w told h) }
+    record { further = last_lines w; own = refl; told = f; safe = last_safe w told (law w told h) }
 ends_safely law (Ok w) told before after (Err fault) h f = record {
   further = take f.1.0 (last_lines w);
+  own = (f.1.0, refl);
   told = f.1.1;
   safe = part_safe told (last_lines w) f.1.0 (last_safe w told (law w told h));
 }
 ends_safely law (Err fault) told before after r h f =
-    record { further = []; told = f.1 ∙ sym (append-nil before); safe = none_safe told h }
+    record { further = []; own = refl; told = f.1 ∙ sym (append-nil before); safe = none_safe told h }

@@ -1,5 +1,5 @@
 -- What a world is before and after a line of a script, by what the line is answered (our profile).
-use Rattle.std.specs.Prelude.{◌≡◌, ℕ, ◌⊎◌, List, Result, Ok, Err, IsErrOf, IfErr, OnOk}
+use Rattle.std.specs.Prelude.{◌≡◌, ◌≢◌, ℕ, ◌⊎◌, List, [], Result, Ok, Err, IsErrOf, IfErr, OnOk}
 use Rattle.ots_world.specs.declared.fault.WorldFault.{WorldFault}
 use Rattle.ots_world.specs.declared.fault.WorldFault.TheVariants as faults
 use Rattle.ots_world.specs.declared.script.ScriptEvent.{ScriptEvent}
@@ -76,8 +76,9 @@ pub record HasStepped (old : Standing) (event : ScriptEvent) (new : Standing) (b
   -- what the world answers for good it answers again
   pub spent : (fault : WorldFault) → old ≡ Err fault → result ≡ Err fault
 
--- The end of a script: the journals are told, or memory ran out; or the refusal that the world answers for good comes again.
+-- The end of a script: the journals are told, or memory ran out where there is one; or the refusal that the world answers for good comes
+-- again.
 abbrev pub HasFinished : Standing → List ℕ → List ℕ → Result (Unit {0}) WorldFault → Type 0
 HasFinished (Ok w) before after (Ok _) = Tells (last_lines w) before after
-HasFinished (Ok w) before after (Err fault) = (fault ≡ faults.Memory) × TellsPart (last_lines w) before after
+HasFinished (Ok w) before after (Err fault) = (fault ≡ faults.Memory) × TellsPart (last_lines w) before after × (last_lines w ≢ [])
 HasFinished (Err fault) before after result = (result ≡ Err fault) × (after ≡ before)

@@ -70,14 +70,14 @@ impl World {
 
         // The lines so far are safe, and stay so, whatever the answer.
         ensures agreement { (told : List Told) → HasTold self.old told
-            → GoesOnSafely told self.new lines.old.items lines.new.items }
+            → GoesOnSafely self.old event.now told self.new lines.old.items lines.new.items }
 
         // No family is both decided and closed, and numbers and keys name one thing.
         ensures known { (told : List Told) → HasTold self.new told → StandsKnown self.new told }
 
         // What is decided or closed before the line is so after it.
         ensures lasts { (told : List Told) → HasTold self.old told
-            → OnOk result (GoesOnLasting self.old told self.new lines.old.items lines.new.items) }
+            → OnOk result (GoesOnLasting self.old event.now told self.new lines.old.items lines.new.items) }
 
         // So it is with updates that a resource has stored or dropped; and it has stored them where it has answered
         // commit.
@@ -87,7 +87,7 @@ impl World {
         // Each decision that stands was told, and a restart tells again each one that stands on the disk.
         ensures recorded { (told : List Told) → HasTold self.new told → DecisionsAreTold self.new told }
         ensures again { (told : List Told) → HasTold self.old told
-            → OnOk result (RestartTellsAgain self.old event.now lines.old.items lines.new.items) }
+            → OnOk result (RestartTellsAgain self.old event.now self.new lines.old.items lines.new.items) }
 
         // A Done names a decision that is over for all whom it names.
         ensures complete { (told : List Told) → HasTold self.new told → StandsComplete self.new }
@@ -122,7 +122,8 @@ impl World {
         ensures finished { HasFinished self lines.old.items lines.new.items result }
 
         // The lines so far are safe, and stay so.
-        ensures agreement { (told : List Told) → HasTold self told → EndsSafely told lines.old.items lines.new.items }
+        ensures agreement { (told : List Told) → HasTold self told
+            → EndsSafely self told lines.old.items lines.new.items result }
     {
         laws_hold();
         self.tell_end(lines)

@@ -10,6 +10,7 @@ pub mod Spoken
 pub mod Lasting
 pub mod Followed
 pub mod Agreed
+pub mod ReadBack
 pub mod Safely
 pub mod Showing
 pub mod MessageLineLemmas

@@ -14,6 +14,7 @@ use Rattle.ots_program.specs.PlayingInside.{left}
 use Rattle.ots_program.specs.Replay.{Replay, replay}
 use Rattle.ots_program.specs.ReplayInside.{Advances, BreaksOff, Halts, PlaysPiece}
 use Rattle.ots_program.proofs.Agreed.{replay-agrees, replay-lasts}
+use Rattle.ots_program.proofs.ReadBack.{IfSome-read}
 use Rattle.ots_program.proofs.Safely.{IfSome-safely}
 use Rattle.ots_program.proofs.Taken.{Advances-none, Advances-trans, Halts-advanced, Halts-read}
 use Rattle.ots_program.proofs.Told.{text-append}
@@ -104,6 +105,7 @@ Replays-halted law status octets script before after e h = record {
   tells = h.tells;
   writes = h.writes;
   safe = IfSome-safely law octets before after (Replays-front status octets before after h);
+  read = IfSome-read law octets before after (Replays-front status octets before after h);
   agreed = replay-agrees law octets;
   lasts = replay-lasts law octets;
 }

@@ -10,6 +10,7 @@ use Rattle.nodes_world.specs.World.{World, node_at}
 use Rattle.ots_outside.specs.Source.{HasRisen}
 use Rattle.ots_program.specs.declared.status.Status.{Status}
 use Rattle.ots_program.specs.declared.status.Status.TheVariants as statuses
+use Rattle.ots_program.specs.ReadBack.{ReadsSafely}
 use Rattle.ots_program.specs.Replay.{Replay, Row, Ending, Completed, Refused, Limited, replay, replay_from, rows, start}
 
 -- the source was read to its end, where it tells its octets
@@ -113,6 +114,8 @@ pub record Replays (status : Status) (left before after : Option (List ℕ)) : T
   pub writes : IfSome before (λ taken. Writes status (replay octets) taken after)
   -- and the whole lines among what it has taken are safe, whatever the status
   pub safe : IfSome before (λ taken. TakesSafely octets taken after)
+  -- so they are as whichever lines they are read: lines whose names are names, and whose numbers are below 2^64
+  pub read : IfSome before (λ taken. ReadsSafely taken after)
   -- the world in which that replay stands in the end agrees with what it has told
   pub agreed : Agrees (replay octets)
   -- and each family that was decided or closed on the way is so there

@@ -2,6 +2,8 @@
 use Rattle.nodes_world.specs.Agreement.{Agreement, ReachedDonesAreComplete, ReachedIsKnown, ReachedOutcomesLast, ReadNamesFit}
 use Rattle.nodes_world.specs.Changes.{DeedsAreChanges}
 use Rattle.nodes_world.specs.StandingDecisions.{StandingIsTold}
+use Rattle.nodes_told.specs.Reached.{ReachedLinesAreTold, ReadNamesAreNames}
+use Rattle.nodes_told.specs.Reading.{ReadLinesAreSafe}
 
 pub record WorldsAgree : Type 0 where
   pub safe : Agreement
@@ -11,3 +13,6 @@ pub record WorldsAgree : Type 0 where
   pub last : ReachedOutcomesLast
   pub changes : DeedsAreChanges
   pub fit : ReadNamesFit
+  pub named : ReadNamesAreNames
+  pub told : ReachedLinesAreTold
+  pub read : ReadLinesAreSafe

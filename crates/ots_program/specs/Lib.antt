@@ -1,6 +1,7 @@
 pub mod Words
 pub mod Limits
 pub mod Replay
+pub mod ReadBack
 pub mod Answers
 pub mod Laws
 pub mod PlayingInside

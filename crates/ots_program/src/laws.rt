@@ -1,6 +1,8 @@
 ghost use Rattle.ots_program.specs.Answers.{ReplaysAreSafe};
 ghost use Rattle.ots_program.specs.Laws.{WorldsAgree};
+ghost use Rattle.ots_program.specs.ReadBack.{ReplaysAreTold, WhatIsReadIsSafe};
 
+use nodes_told::{reached_lines_are_told, told_lines_are_read};
 use nodes_world::{
     decisions_outlive_crashes, deeds_are_changes, dones_are_complete, names_that_are_read_fit,
     outcomes_last, reached_lines_are_safe, reached_worlds_are_known,
@@ -9,6 +11,15 @@ use nodes_world::{
 /// A law: all lines that a replay tells are safe, whatever the script.
 pub fn replays_are_safe()
     ensures { ReplaysAreSafe }
+{
+    worlds_agree();
+}
+
+/// A law: each line that a replay tells can be read, so whichever lines are read in its text, or in a front of that,
+/// are safe.
+pub fn what_is_read_is_safe()
+    ensures told { ReplaysAreTold }
+    ensures safe { WhatIsReadIsSafe }
 {
     worlds_agree();
 }
@@ -24,4 +35,6 @@ pub fn worlds_agree()
     outcomes_last();
     deeds_are_changes();
     names_that_are_read_fit();
+    reached_lines_are_told();
+    told_lines_are_read();
 }

@@ -4,7 +4,7 @@
 pub use command::{run, run_plain};
 pub use devices::{Devices, Word};
 pub use input::{PIECE, Pieces};
-pub use laws::replays_are_safe;
+pub use laws::{replays_are_safe, what_is_read_is_safe};
 pub use replay::replay_script;
 pub use show::show_messages;
 pub use status::Status;

@@ -1,0 +1,14 @@
+use Rattle.nodes_plays.proofs.Played.{commit_plays, crash_plays, nested_plays, rollback_plays}
+use Rattle.nodes_plays.proofs.plays.agreement_is_met.Goals as goal
+
+pub returns-clause-commit : goal.returns-clause-commit
+returns-clause-commit c = commit_plays
+
+pub returns-clause-rollback : goal.returns-clause-rollback
+returns-clause-rollback c = rollback_plays
+
+pub returns-clause-crash : goal.returns-clause-crash
+returns-clause-crash c = crash_plays
+
+pub returns-clause-nested : goal.returns-clause-nested
+returns-clause-nested c = nested_plays

@@ -1,0 +1,4 @@
+pub mod Scripts
+pub mod Lines
+pub mod Told
+pub mod Plays

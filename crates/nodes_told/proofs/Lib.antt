@@ -1,0 +1,12 @@
+pub mod Numbers
+pub mod Plain
+pub mod ToldPlain
+pub mod ToldAlike
+pub mod ToldReads
+pub mod Readable
+pub mod FamilySays
+pub mod NodeSays
+pub mod LinesTold
+pub mod WorldTells
+pub mod Reaching
+pub mod ReadNames
