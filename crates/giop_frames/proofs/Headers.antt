@@ -14,6 +14,7 @@ use Rattle.giop_frames.specs.declared.header.Header.{Header}
 use Rattle.giop_frames.specs.declared.layout.Version.{Version}
 use Rattle.giop_frames.specs.declared.layout.Version.TheVariants.{V1_2}
 use Rattle.giop_frames.specs.Header.{magic, minor_octet, version_at, version_octets, type_octet, kind_at, IsPart, size_at, header_at, header_of, header_told}
+use Rattle.giop_frames.specs.HeaderWalk.{IsFront}
 use Rattle.giop_frames.specs.Limits.{size_limit}
 use Rattle.giop_frames.proofs.Given.{ok_is, guard_ok}
 
@@ -188,6 +189,24 @@ header_small versions octets h e =
 -- it has twelve octets
 pub header_long : (versions : List Version) (octets : List ℕ) (h : Header) → header_at versions octets ≡ Ok h → 12 ≤ length octets
 header_long versions octets h e = (has_read versions octets h e).read.long
+
+-- and its octets are as the front of a header, of its version
+pub header_front : (versions : List Version) (octets : List ℕ) (h : Header) → header_at versions octets ≡ Ok h → IsFront versions octets (Some h.version)
+unfolding header_at
+header_front versions octets h e =
+    let a = guard_ok (not (starts_with nat_eq magic (take 4 octets))) BadMagic _ h e in
+    let b = version_of (version_at versions (take 2 (drop 4 octets))) octets h a.1 in
+    let version : Version = b.0 in
+    let c = guard_ok (ltb 7 (slice_index octets 7)) BadType _ h b.2 in
+    let d = guard_ok (ltb (length octets) 12) Short _ h c.1 in
+    let f = guard_ok (ltb size_limit (size_at octets)) (TooLarge (size_at octets)) (Ok (header_told version octets)) h d.1 in
+    let same : version ≡ h.version = ap (λ (x : Header). x.version) (ok_is (header_told version octets) h f.1) in
+    record {
+      marked = not-false _ a.0;
+      version_is = λ long. b.1 ∙ ap (λ (v : Version). Some v) same;
+      known = λ long none. absurd cc;
+      typed = ltb-false _ _ c.0;
+    }
 
 -- and a header that stands in front is read where its version is admitted, whatever follows its content
 pub header_only : (versions : List Version) (h : Header) (content octets rest : List ℕ) → Contains versions h.version → IsPart h content octets → header_at versions (octets ++ rest) ≡ Ok h

@@ -28,7 +28,7 @@ use Rattle.giop_frames.specs.declared.message.Target.TheVariants.{Reference}
 use Rattle.giop_frames.specs.Fault.{fault_of, too_long}
 use Rattle.giop_frames.specs.Layout.{Fields, blank, kept_tail, layout, message_with, tail_start}
 use Rattle.giop_frames.specs.Content.{as_target, telling_target, key_at, profile_at, indexed_at, target_at, context_at, field_at, fields_at, message_by, message_of, start_by, start_of}
-use Rattle.giop_frames.specs.Walk.{FindsOctets, FindsTagged, GoesOn, IsBehind, IsDone, IsWalked, StandsBefore, StandsIn, context_of, fields_by, followed, left_at, standing, step_at, telling_contexts, told_by, walk_left}
+use Rattle.giop_frames.specs.Walk.{FindsOctets, FindsTagged, GoesOn, IsBehind, IsDone, IsWalked, StandsBefore, StandsIn, context_of, fields_by, followed, left_at, place_behind_id, standing, step_at, telling_contexts, told_by, walk_left}
 use Rattle.giop_frames.specs.Limits.{context_limit, key_limit, profile_limit}
 use Rattle.giop_frames.proofs.Given.{reading_is}
 use Rattle.giop_frames.proofs.Followed.{here, further_on, kept, passed}
@@ -492,3 +492,14 @@ id_first V1_2 kinds.LocateReply xs is some = rw is refl
 id_first V1_2 kinds.CloseConnection xs is some = absurd (omega (arith, ap length is, some))
 id_first V1_2 kinds.MessageError xs is some = absurd (omega (arith, ap length is, some))
 id_first V1_2 kinds.Fragment xs is some = absurd (omega (arith, ap length is, some))
+
+-- and behind none a walk stands at the front
+pub none_behind : (version : Version) (kind : Kind) (xs : List Field) → xs ≡ layout version kind → length xs < 1 → place_behind_id (layout version kind) ≡ 12
+none_behind V1_2 kinds.Request xs is none = absurd (omega (arith, ap length is, none))
+none_behind V1_2 kinds.Reply xs is none = absurd (omega (arith, ap length is, none))
+none_behind V1_2 kinds.CancelRequest xs is none = absurd (omega (arith, ap length is, none))
+none_behind V1_2 kinds.LocateRequest xs is none = absurd (omega (arith, ap length is, none))
+none_behind V1_2 kinds.LocateReply xs is none = absurd (omega (arith, ap length is, none))
+none_behind V1_2 kinds.CloseConnection xs is none = refl
+none_behind V1_2 kinds.MessageError xs is none = refl
+none_behind V1_2 kinds.Fragment xs is none = refl

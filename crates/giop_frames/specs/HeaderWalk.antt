@@ -1,5 +1,4 @@
--- Walking over the octets of a header as they come, each of which is looked at once: what a walk knows of those that it
--- has taken (our profile).
+-- Walking over the octets of a header as they come: what a walk knows of those that it has taken (our profile).
 use Rattle.std.specs.Prelude.{◌≡◌, ◌≢◌, ℕ, ◌<◌, ◌≤◌, nat_eq, true, List, length, take, drop, slice_index, Option, None, IfSome, Result, Ok, Err}
 use Rattle.std.specs.List.{starts_with}
 use Rattle.giop_frames.specs.declared.fault.FrameFault.{FrameFault}

@@ -1,6 +1,6 @@
 -- Walking over the fields of a message whose octets are still coming: what it means that a walk goes on where it stood
 -- (our profile).
-use Rattle.std.specs.Prelude.{◌≡◌, ℕ, ◌+◌, ◌-◌, ◌*◌, ◌^◌, ◌<◌, ◌≤◌, List, [], ◌++◌, length, take, drop, map, Option, Some, None, Result, Ok, Err, IfErr, IfOk}
+use Rattle.std.specs.Prelude.{◌≡◌, ℕ, ◌+◌, ◌-◌, ◌*◌, ◌^◌, ◌<◌, ◌≤◌, List, [], ◌∷◌, ◌++◌, length, take, drop, map, Option, Some, None, Result, Ok, Err, IfErr, IfOk}
 use Rattle.cdr_values.specs.declared.order.Order.{Order}
 use Rattle.cdr_values.specs.declared.fault.CdrFault.{CdrFault}
 use Rattle.cdr_values.specs.declared.fault.CdrFault.TheVariants as cdr
@@ -11,6 +11,7 @@ use Rattle.giop_frames.specs.declared.fault.FrameFault.{FrameFault}
 use Rattle.giop_frames.specs.declared.fault.FrameFault.TheVariants.{Body, Memory}
 use Rattle.giop_frames.specs.declared.header.Header.{Header}
 use Rattle.giop_frames.specs.declared.layout.Field.{Field}
+use Rattle.giop_frames.specs.declared.layout.Field.TheVariants.{Id}
 use Rattle.giop_frames.specs.declared.message.Message.{Message}
 use Rattle.giop_frames.specs.declared.message.Target.{Target}
 use Rattle.giop_frames.specs.declared.message.Target.TheVariants.{Key, Profile, Reference}
@@ -188,6 +189,11 @@ pub record IsWalked (header : Header) (content : List ℕ) (w : Walk) : Type 0 w
       (more : List ℕ)
       → fields_by header (content ++ more)
       ≡ left_at w.step w.fields.now (told_by (content ++ more) w.found) (standing header.order (content ++ more) w.place)
+
+-- the offset behind the request_id with which these fields begin, or at their front, where they begin with none
+abbrev pub place_behind_id : List Field → ℕ
+place_behind_id (Id ∷ others) = 16
+place_behind_id table = 12
 
 -- no field is left
 pub record IsDone (w : Walk) : Type 0 where

@@ -38,7 +38,8 @@ pub enum FrameFault {
         /// The fault of the field.
         cdr: CdrFault,
     },
-    /// The octets end before the message does. Of the calls of this crate `decode` and `decode_as` alone answer it; a stream waits.
+    /// The octets end before the message does, or before its header. Of the calls of this crate `decode`, `decode_as`,
+    /// `read_header` and `HeaderWalk::go_on` answer it; a stream waits.
     Short,
     /// A ProfileAddr or a ReferenceAddr, which `encode` doesn't write.
     NotWritten,

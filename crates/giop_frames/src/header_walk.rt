@@ -4,7 +4,7 @@ ghost use Rattle.giop_frames.specs.Header.{header_at, header_of, version_at};
 ghost use Rattle.giop_frames.specs.HeaderWalk.{IsFront, IsRefusal, IsSound, Judges, taken};
 
 use crate::fault::FrameFault;
-use crate::header::{HEADER_LENGTH, Header, MAGIC, read_behind, version_at};
+use crate::header::{HEADER_LENGTH, Header, MAGIC, front, read_behind, read_header, version_at};
 use crate::layout::Version;
 
 /// The major version of each version of GIOP.
@@ -53,7 +53,8 @@ impl HeaderWalk {
         ensures header { result ≡ header_at versions.now (taken self.old ++ octets.now) }
         ensures taken { taken self.new ≡ take self.new.count (taken self.old ++ octets.now) }
         ensures within { self.new.count ≤ self.old.count + length octets.now }
-        ensures all { IfErr result (λ fault. fault ≡ FrameFault.Short → self.new.count ≡ self.old.count + length octets.now) }
+        ensures all { IfErr result (λ fault. fault ≡ FrameFault.Short
+            → self.new.count ≡ self.old.count + length octets.now) }
         ensures whole { OnOk result (self.new.count ≡ 12) }
         ensures small { IfOk result (λ header. header.size ≤ size_limit) }
         ensures memory { IfErr result (λ fault. fault ≢ FrameFault.Memory) }
@@ -61,12 +62,36 @@ impl HeaderWalk {
         if let Some(header) = self.header {
             return Ok(header);
         }
+        if self.count == 0 && octets.len() >= HEADER_LENGTH {
+            return self.take_whole(versions, octets);
+        }
         for octet in octets {
             if let Some(header) = self.take(versions, *octet)? {
                 return Ok(header);
             }
         }
         Err(FrameFault::Short)
+    }
+
+    /// Takes the header that stands whole in front of the octets, where none was taken: the header, or its first fault.
+    fn take_whole(&mut self, versions: &[Version], octets: &[u8]) -> Result<Header, FrameFault>
+        requires sound { IsSound versions.now self.old }
+        requires nothing { self.old.count ≡ 0 }
+        requires whole { 12 ≤ length octets.now }
+        ensures sound { IsSound versions.now self.new }
+        ensures header { result ≡ header_at versions.now octets.now }
+        ensures taken { taken self.new ≡ take self.new.count octets.now }
+        ensures whole { OnOk result (self.new.count ≡ 12) }
+        ensures none { OnErr result (self.new.count ≡ 0) }
+        ensures small { IfOk result (λ header. header.size ≤ size_limit) }
+        ensures refused { IfErr result IsRefusal }
+    {
+        let header = read_header(versions, octets)?;
+        self.octets.copy_from_slice(front(octets, HEADER_LENGTH));
+        self.count = HEADER_LENGTH;
+        self.version = Some(header.version);
+        self.header = Some(header);
+        Ok(header)
     }
 
     /// Takes one more octet, where it may stand there: the header, where it is whole then.

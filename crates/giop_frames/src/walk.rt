@@ -2,8 +2,8 @@ ghost use Rattle.std.specs.Prelude.{◌≡◌, ◌+◌, ◌<◌, ◌≤◌, ℕ,
 ghost use Rattle.cdr_values.specs.Reading.{octets_at, string_at};
 ghost use Rattle.cdr_values.specs.Value.{number_in};
 ghost use Rattle.giop_frames.specs.Limits.{context_limit, size_limit};
-ghost use Rattle.giop_frames.specs.Layout.{Fields};
-ghost use Rattle.giop_frames.specs.Walk.{HasRoom, IsAsFar, IsDone, IsWalked, MakesStep, ReadsSpan, ReadsTagged, StandsBefore, fields_by};
+ghost use Rattle.giop_frames.specs.Layout.{Fields, layout};
+ghost use Rattle.giop_frames.specs.Walk.{HasRoom, IsAsFar, IsDone, IsWalked, MakesStep, ReadsSpan, ReadsTagged, StandsBefore, fields_by, place_behind_id};
 
 use crate::fault::{CONTEXT_LIMIT, FrameFault, KEY_LIMIT, PROFILE_LIMIT, too_long};
 use crate::found::{Found, FoundContext, FoundTarget, Span};
@@ -63,8 +63,10 @@ impl Walk {
     pub fn behind_id(header: Header, id: u32) -> Walk
         ensures walked { (content : List ℕ) → 4 ≤ length content → id ≡ number_in header.order 4 (take 4 content)
             → IsWalked header content result }
+        ensures place { result.place ≡ place_behind_id (layout header.version header.kind) }
     {
-        let [Field::Id, others @ ..] = layout(header.version, header.kind) else {
+        // The fields of each message that has some begin with it.
+        let [_, others @ ..] = layout(header.version, header.kind) else {
             return Walk::new(header);
         };
         let mut found = Found::nothing();

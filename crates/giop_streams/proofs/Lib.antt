@@ -10,4 +10,5 @@ pub mod Joining
 pub mod Belonging
 pub mod Ending
 pub mod Kept
+pub mod Filled
 pub mod FramedContent

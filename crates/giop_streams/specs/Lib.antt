@@ -1,3 +1,4 @@
+pub mod Buffered
 pub mod Limits
 pub mod Stream
 pub mod SeveralParts

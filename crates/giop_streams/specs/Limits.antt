@@ -12,3 +12,7 @@ memory_limit = 262188
 -- the unfinished messages of a stream
 abbrev pub unfinished_limit : ℕ
 unfinished_limit = 8
+
+-- the octets for which there is memory to join those of an unfinished message: twice as many as it may have
+abbrev pub joined_memory_limit : ℕ
+joined_memory_limit = 131072

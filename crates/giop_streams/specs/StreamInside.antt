@@ -37,11 +37,10 @@ abbrev pub ReadsId : Order → List ℕ → Result ℕ FrameFault → Type 0
 ReadsId order content (Ok id) = (4 ≤ length content) × (id ≡ number_in order 4 (take 4 content))
 ReadsId order content (Err fault) = (fault ≡ without_id) × (length content < 4)
 
--- a message may have the octets with more behind them, for which a vector of this capacity has no room. No octets need
--- none.
+-- a message may have the octets with more behind them, for which so much memory is too little. No octets need none.
 abbrev pub WantsRoom : ℕ → List ℕ → List ℕ → Type 0
-WantsRoom capacity content octets =
-    (length (content ++ octets) ≤ size_limit) × (0 < length octets) × (capacity < length (content ++ octets))
+WantsRoom memory content octets =
+    (length (content ++ octets) ≤ size_limit) × (0 < length octets) × (memory < length (content ++ octets))
 
 -- a field is cut off
 abbrev pub wants_octets : FrameFault → Bool

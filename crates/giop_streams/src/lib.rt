@@ -9,6 +9,7 @@ pub use laws::{
 pub use stream::Stream;
 pub use stream_laws::parts_belong_to_messages;
 
+mod buffer;
 mod framed;
 mod laws;
 mod parts;

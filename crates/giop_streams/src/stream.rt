@@ -6,6 +6,7 @@ ghost use Rattle.giop_streams.specs.Limits.{memory_limit, partial_limit};
 ghost use Rattle.giop_streams.specs.Stream.{part_at};
 ghost use Rattle.giop_streams.specs.HeldInside.{HasSpare, IsMostlyHeld, Takes, remembering};
 
+use crate::buffer::Buffer;
 use crate::framed::Framed;
 use crate::parts::{content_of, judge, whole_part};
 use crate::unfinished::Unfinished;
@@ -25,7 +26,7 @@ pub struct Stream {
     alloc: Global,
     versions: &'static [Version],
     messages: Vec<Unfinished>,
-    buffer: Vec<u8>,
+    buffer: Buffer,
     start: usize,
     /// Memory for what is left once that of a large buffer is given back. It has no octets.
     spare: Vec<u8>,
@@ -47,17 +48,17 @@ impl Model for Stream {
       versions = s.versions.now;
       unfinished = s.messages.items;
       place = s.place;
-      rest = drop s.start s.buffer.items;
+      rest = drop s.start s.buffer.octets;
       looked = s.header.count;
       refused = s.refused;
-      kept = length s.buffer.items;
-      memory = vec_capacity s.buffer;
+      kept = length s.buffer.octets;
+      memory = s.buffer.memory;
       spare = vec_capacity s.spare;
     } };
 
-    ghost invariant = { λ s. IsMostlyHeld s.start s.buffer.items × AreShort s.messages.items
-        × Follows s.versions.now (drop s.start s.buffer.items) s.header × (s.spare.items ≡ [])
-        × HasSpare (vec_capacity s.buffer) (vec_capacity s.spare) };
+    ghost invariant = { λ s. IsMostlyHeld s.start s.buffer.octets × AreShort s.messages.items
+        × Follows s.versions.now (drop s.start s.buffer.octets) s.header × (s.spare.items ≡ [])
+        × HasSpare s.buffer.memory (vec_capacity s.spare) };
 }
 
 /// The octets of a part, its header included, of which one octet is still to come (our profile).
@@ -94,7 +95,7 @@ impl Stream {
             alloc,
             versions,
             messages: Vec::new(alloc),
-            buffer: Vec::new(alloc),
+            buffer: Buffer::new(alloc),
             start: 0,
             spare: Vec::new(alloc),
             header: HeaderWalk::new(),
@@ -135,7 +136,7 @@ impl Stream {
             return Ok(());
         }
         grow(self.alloc, &mut self.buffer, &mut self.spare, piece.len())?;
-        append(&mut self.buffer, piece);
+        self.buffer.append(piece);
         Ok(())
     }
 
@@ -193,11 +194,11 @@ impl Stream {
     pub fn unfinished(&self) -> bool
         ensures { IsTrue result ↔ IsUnfinished self.now }
     {
-        !self.messages.is_empty() || !behind(&self.buffer, self.start).is_empty()
+        !self.messages.is_empty() || !behind(self.buffer.octets(), self.start).is_empty()
     }
 
     /// How many octets its buffer has: those that are held of no whole part, and at most as many of parts that were
-    /// taken. The joined octets of unfinished messages are beside it.
+    /// taken. The joined octets of unfinished messages are beside it, each message's in memory for 131,072 at most.
     pub fn kept(&self) -> usize
         ensures same { result ≡ self.now.kept }
         ensures bounded { IsBounded self.now }
@@ -226,12 +227,11 @@ impl Stream {
         ensures given_back { self.new.memory ≤ memory_limit }
         ensures stays { self.old.memory ≤ memory_limit → self.new.memory ≡ self.old.memory }
     {
-        let mut spare = replace(&mut self.spare, Vec::new(self.alloc));
-        if self.buffer.capacity() <= MEMORY_LIMIT {
+        let spare = replace(&mut self.spare, Vec::new(self.alloc));
+        if self.buffer.memory() <= MEMORY_LIMIT {
             return;
         }
-        append(&mut spare, behind(&self.buffer, self.start));
-        self.buffer = spare;
+        self.buffer = Buffer::within(spare, behind(self.buffer.octets(), self.start));
         self.start = 0;
     }
 
@@ -240,7 +240,7 @@ impl Stream {
         requires { self.old.refused ≡ None }
         ensures { Takes self.old result self.new }
     {
-        let rest = behind(&self.buffer, self.start);
+        let rest = behind(self.buffer.octets(), self.start);
         let Some(header) = whole_part(self.versions, &mut self.header, rest)? else {
             return Ok(Taken::Nothing);
         };
@@ -260,28 +260,28 @@ impl Stream {
 /// Takes memory for so many more octets of a buffer, where there is none yet, and then what is kept beside it.
 fn grow(
     alloc: Global,
-    buffer: &mut Vec<u8>,
+    buffer: &mut Buffer,
     spare: &mut Vec<u8>,
     count: usize,
 ) -> Result<(), AllocError>
-    requires { (spare.old.items ≡ []) × HasSpare (vec_capacity buffer.old) (vec_capacity spare.old) }
-    ensures items { (buffer.new.items ≡ buffer.old.items) × (spare.new.items ≡ []) }
-    ensures beside { HasSpare (vec_capacity buffer.new) (vec_capacity spare.new) }
-    ensures ok { OnOk result (length buffer.old.items + count ≤ vec_capacity buffer.new) }
-    ensures there { OnErr result (vec_capacity buffer.old - length buffer.old.items < count) }
-    ensures err { OnErr result ((vec_capacity buffer.new ≡ vec_capacity buffer.old)
+    requires { (spare.old.items ≡ []) × HasSpare buffer.old.memory (vec_capacity spare.old) }
+    ensures items { (buffer.new.octets ≡ buffer.old.octets) × (spare.new.items ≡ []) }
+    ensures beside { HasSpare buffer.new.memory (vec_capacity spare.new) }
+    ensures ok { OnOk result (length buffer.old.octets + count ≤ buffer.new.memory) }
+    ensures there { OnErr result (buffer.old.memory - length buffer.old.octets < count) }
+    ensures err { OnErr result ((buffer.new.memory ≡ buffer.old.memory)
         × (vec_capacity spare.new ≡ vec_capacity spare.old)) }
-    ensures memory { vec_capacity buffer.old ≤ vec_capacity buffer.new }
-    ensures bounded { vec_capacity buffer.new
-        ≤ max (vec_capacity buffer.old) (length buffer.old.items + max count (length buffer.old.items)) }
+    ensures memory { buffer.old.memory ≤ buffer.new.memory }
+    ensures bounded { buffer.new.memory
+        ≤ max buffer.old.memory (length buffer.old.octets + max count (length buffer.old.octets)) }
 {
     let kept = buffer.len();
-    if count <= buffer.capacity().saturating_sub(kept) {
+    if count <= buffer.memory() - kept {
         return Ok(());
     }
     let more = if count < kept { kept } else { count };
     let beside = spare_beside(alloc, kept.saturating_add(more))?;
-    buffer.reserve_exact(more)?;
+    buffer.reserve(more)?;
     *spare = beside;
     Ok(())
 }
@@ -297,32 +297,18 @@ fn spare_beside(alloc: Global, memory: usize) -> Result<Vec<u8>, AllocError>
     Vec::with_capacity(alloc, PARTIAL_LIMIT)
 }
 
-/// Appends octets to a buffer that has room for them, and takes no memory.
-fn append(buffer: &mut Vec<u8>, octets: &[u8])
-    requires { vec_len buffer.old + length octets.now ≤ vec_capacity buffer.old }
-    ensures items { buffer.new.items ≡ buffer.old.items ++ octets.now }
-    ensures memory { vec_capacity buffer.new ≡ vec_capacity buffer.old }
-{
-    for octet in octets {
-        buffer.push_reserved(*octet);
-    }
-}
-
 /// Gives the front of a buffer back, where it is the larger part. So each octet that is moved stands for one that is
 /// given back. The answer is how many octets of that front are left.
-fn give_back(buffer: &mut Vec<u8>, taken: usize) -> usize
-    requires { taken ≤ length buffer.old.items }
-    ensures held { drop result buffer.new.items ≡ drop taken buffer.old.items }
-    ensures mostly { IsMostlyHeld result buffer.new.items }
-    ensures kept { length buffer.new.items ≤ length buffer.old.items }
-    ensures memory { vec_capacity buffer.new ≡ vec_capacity buffer.old }
+fn give_back(buffer: &mut Buffer, taken: usize) -> usize
+    requires { taken ≤ length buffer.old.octets }
+    ensures held { drop result buffer.new.octets ≡ drop taken buffer.old.octets }
+    ensures mostly { IsMostlyHeld result buffer.new.octets }
+    ensures kept { length buffer.new.octets ≤ length buffer.old.octets }
+    ensures memory { buffer.new.memory ≡ buffer.old.memory }
 {
     if taken <= buffer.len() - taken {
         return taken;
     }
-    let held = buffer.len() - taken;
-    let (front, back) = buffer.split_at_mut(taken);
-    front[..held].copy_from_slice(back);
-    buffer.truncate(held);
+    buffer.drop_front(taken);
     0
 }

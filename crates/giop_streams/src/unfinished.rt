@@ -1,13 +1,15 @@
-ghost use Rattle.std.specs.Prelude.{◌≡◌, ◌≢◌, ◌<◌, ◌≤◌, ◌++◌, true, false, IfErr, IfOk, OnErr, OnOk, Ok, Err, None, Some, length, take, vec_capacity};
+ghost use Rattle.std.specs.Prelude.{◌≡◌, ◌≢◌, ◌+◌, ◌<◌, ◌≤◌, ◌++◌, true, false, IfErr, IfOk, OnErr, OnOk, Ok, Err, None, Some, length, take};
 ghost use Rattle.giop_frames.specs.Limits.{size_limit};
 ghost use Rattle.giop_frames.specs.Fault.{Fails};
 ghost use Rattle.giop_frames.specs.Header.{is_fragment};
 ghost use Rattle.giop_frames.specs.Walk.{IsAsFar, IsWalked};
 ghost use Rattle.giop_streams.specs.Held.{MayEnd, MayJoin};
+ghost use Rattle.giop_streams.specs.Limits.{joined_memory_limit};
 ghost use Rattle.giop_streams.specs.StreamInside.{wants_octets, WantsRoom, limited_so_far, limited_whole};
 ghost use Rattle.giop_frames.specs.Content.{message_by};
 ghost use Rattle.giop_streams.specs.Stream.{begun_as, id_of, joined, part_of, so_far, with_more};
 
+use crate::buffer::Buffer;
 use crate::framed::{Framed, finish_framed};
 use cdr_values::CdrFault;
 use giop_frames::{FrameFault, Header, SIZE_LIMIT, Walk};
@@ -21,25 +23,29 @@ pub struct Unfinished {
     id: u32,
     place: u64,
     header: Header,
-    content: Vec<u8>,
-    /// How far a walk has come over its fields: as far as its octets go.
-    walk: Walk,
+    /// Its octets so far. There is memory for 131,072 at most (our profile).
+    content: Buffer,
+    /// How far a walk has come over its fields: as far as its octets go. It has a block of its own, so that a message is
+    /// moved at little cost.
+    walk: Box<Walk>,
 }
 
 impl Model for Unfinished {
-    ghost use Rattle.std.specs.Prelude.{◌≡◌, false};
+    ghost use Rattle.std.specs.Prelude.{◌≡◌, ◌≤◌, false};
     ghost use Rattle.giop_frames.specs.Header.{is_fragment};
+    ghost use Rattle.giop_streams.specs.Limits.{joined_memory_limit};
     ghost use Rattle.giop_streams.specs.Stream.{Unfinished as Message};
     ghost use Rattle.giop_frames.specs.Walk.{IsAsFar, IsWalked};
 
     ghost Value = { Message };
 
-    ghost view = { λ u. record { id = u.id; place = u.place; header = u.header; content = u.content.items } };
+    ghost view = { λ u. record { id = u.id; place = u.place; header = u.header; content = u.content.octets } };
 
     ghost invariant = { λ u.
         (is_fragment u.header.kind ≡ false)
-        × IsWalked u.header u.content.items u.walk
-        × IsAsFar u.header u.content.items u.walk };
+        × IsWalked u.header u.content.octets u.walk.value
+        × IsAsFar u.header u.content.octets u.walk.value
+        × (u.content.memory ≤ joined_memory_limit) };
 }
 
 impl Unfinished {
@@ -63,13 +69,14 @@ impl Unfinished {
     {
         let mut walk = Walk::behind_id(header, id);
         walk_so_far(&mut walk, header, content)?;
-        let mut octets = Vec::new(alloc);
-        join(&mut octets, content)?;
+        let mut joined = Buffer::new(alloc);
+        join(&mut joined, content)?;
+        let walk = Box::new(alloc, walk)?;
         Ok(Unfinished {
             id,
             place,
             header,
-            content: octets,
+            content: joined,
             walk,
         })
     }
@@ -99,9 +106,9 @@ impl Unfinished {
         ensures memory { IfErr result (λ fault. fault ≡ FrameFault.Memory → MayJoin self.old.content octets.now) }
         ensures err { OnErr result (self.new ≡ self.old) }
     {
-        let mut walk = self.walk;
+        let mut walk = *self.walk;
         go_so_far(&mut walk, self.header, &mut self.content, octets)?;
-        self.walk = walk;
+        *self.walk = walk;
         Ok(())
     }
 
@@ -120,7 +127,7 @@ impl Unfinished {
             alloc,
             self.place,
             self.header,
-            self.walk,
+            *self.walk,
             &mut self.content,
             octets,
         );
@@ -136,23 +143,25 @@ fn finish_joined(
     place: u64,
     header: Header,
     mut walk: Walk,
-    content: &mut Vec<u8>,
+    content: &mut Buffer,
     octets: &[u8],
 ) -> Result<Framed, FrameFault>
-    requires content { length content.old.items ≤ size_limit }
+    requires content { length content.old.octets ≤ size_limit }
     requires octets { length octets.now ≤ size_limit }
     requires first { is_fragment header.kind ≡ false }
-    requires walked { IsWalked header content.old.items walk }
-    requires far { IsAsFar header content.old.items walk }
+    requires walked { IsWalked header content.old.octets walk }
+    requires far { IsAsFar header content.old.octets walk }
+    requires room { content.old.memory ≤ joined_memory_limit }
     ensures says { IfOk result (λ framed.
-        limited_whole place header (content.old.items ++ octets.now) ≡ Ok (Some framed)) }
+        limited_whole place header (content.old.octets ++ octets.now) ≡ Ok (Some framed)) }
     ensures refused { IfErr result (λ fault.
-        Fails fault (limited_whole place header (content.old.items ++ octets.now))) }
-    ensures memory { IfErr result (λ fault. fault ≡ FrameFault.Memory → MayEnd header content.old.items octets.now) }
-    ensures front { take (length content.old.items) content.new.items ≡ content.old.items }
+        Fails fault (limited_whole place header (content.old.octets ++ octets.now))) }
+    ensures memory { IfErr result (λ fault. fault ≡ FrameFault.Memory → MayEnd header content.old.octets octets.now) }
+    ensures front { take (length content.old.octets) content.new.octets ≡ content.old.octets }
+    ensures room { content.new.memory ≤ joined_memory_limit }
 {
     go_so_far(&mut walk, header, content, octets)?;
-    finish_framed(alloc, place, header, content, walk)
+    finish_framed(alloc, place, header, content.octets(), walk)
 }
 
 /// More octets of a message have come behind its content, and a walk that stood where octets were wanting goes on over
@@ -161,46 +170,53 @@ fn finish_joined(
 fn go_so_far(
     walk: &mut Walk,
     header: Header,
-    content: &mut Vec<u8>,
+    content: &mut Buffer,
     octets: &[u8],
 ) -> Result<(), FrameFault>
-    requires content { length content.old.items ≤ size_limit }
+    requires content { length content.old.octets ≤ size_limit }
     requires octets { length octets.now ≤ size_limit }
     requires first { is_fragment header.kind ≡ false }
-    requires walked { IsWalked header content.old.items walk.old }
-    requires far { IsAsFar header content.old.items walk.old }
-    ensures joined { OnOk result (content.new.items ≡ content.old.items ++ octets.now) }
-    ensures short { length content.new.items ≤ size_limit }
-    ensures walked { OnOk result (IsWalked header content.new.items walk.new) }
-    ensures far { OnOk result (IsAsFar header content.new.items walk.new) }
+    requires walked { IsWalked header content.old.octets walk.old }
+    requires far { IsAsFar header content.old.octets walk.old }
+    requires room { content.old.memory ≤ joined_memory_limit }
+    ensures joined { OnOk result (content.new.octets ≡ content.old.octets ++ octets.now) }
+    ensures short { length content.new.octets ≤ size_limit }
+    ensures walked { OnOk result (IsWalked header content.new.octets walk.new) }
+    ensures far { OnOk result (IsAsFar header content.new.octets walk.new) }
     ensures forward { walk.old.place ≤ walk.new.place }
-    ensures says { OnOk result (limited_so_far header (content.old.items ++ octets.now) ≡ Ok None) }
-    ensures refused { IfErr result (λ fault. Fails fault (limited_so_far header (content.old.items ++ octets.now))) }
+    ensures says { OnOk result (limited_so_far header (content.old.octets ++ octets.now) ≡ Ok None) }
+    ensures refused { IfErr result (λ fault. Fails fault (limited_so_far header (content.old.octets ++ octets.now))) }
     ensures memory { IfErr result (λ fault. fault ≡ FrameFault.Memory →
-        WantsRoom (vec_capacity content.old) content.old.items octets.now) }
-    ensures err { OnErr result (content.new.items ≡ content.old.items) }
+        WantsRoom content.old.memory content.old.octets octets.now) }
+    ensures err { OnErr result (content.new.octets ≡ content.old.octets) }
+    ensures room { content.new.memory ≤ joined_memory_limit }
 {
     let before = content.len();
     join(content, octets)?;
-    if let Err(fault) = walk_so_far(walk, header, content) {
+    if let Err(fault) = walk_so_far(walk, header, content.octets()) {
         content.truncate(before);
         return Err(fault);
     }
     Ok(())
 }
 
-/// Appends more octets of a message to its content, which then has at most 65,536 (our profile). It needs no memory
-/// where there are none.
-fn join(content: &mut Vec<u8>, octets: &[u8]) -> Result<(), FrameFault>
-    requires content { length content.old.items ≤ size_limit }
+/// Appends more octets of a message to its content, which then has at most 65,536 (our profile). Where there is no memory
+/// for them, it takes at least twice what the content has, so that octets are seldom moved, and 131,072 at most. It takes
+/// none where there are no octets.
+fn join(content: &mut Buffer, octets: &[u8]) -> Result<(), FrameFault>
+    requires content { length content.old.octets ≤ size_limit }
     requires octets { length octets.now ≤ size_limit }
-    ensures joined { OnOk result (content.new.items ≡ content.old.items ++ octets.now) }
-    ensures short { length content.new.items ≤ size_limit }
+    requires room { content.old.memory ≤ joined_memory_limit }
+    ensures joined { OnOk result (content.new.octets ≡ content.old.octets ++ octets.now) }
+    ensures short { length content.new.octets ≤ size_limit }
     ensures refused { (header : Header) → IfErr result (λ fault.
-        Fails fault (limited_so_far header (content.old.items ++ octets.now))) }
+        Fails fault (limited_so_far header (content.old.octets ++ octets.now))) }
     ensures memory { IfErr result (λ fault. fault ≡ FrameFault.Memory →
-        WantsRoom (vec_capacity content.old) content.old.items octets.now) }
-    ensures err { OnErr result (content.new.items ≡ content.old.items) }
+        WantsRoom content.old.memory content.old.octets octets.now) }
+    ensures err { OnErr result (content.new.octets ≡ content.old.octets) }
+    ensures doubled { content.old.memory < content.new.memory →
+        length content.old.octets + length content.old.octets ≤ content.new.memory }
+    ensures room { content.new.memory ≤ joined_memory_limit }
 {
     if octets.is_empty() {
         return Ok(());
@@ -209,7 +225,10 @@ fn join(content: &mut Vec<u8>, octets: &[u8]) -> Result<(), FrameFault>
     if joined > SIZE_LIMIT {
         return Err(FrameFault::TooLarge(joined as u32));
     }
-    content.extend_from_slice(octets)?;
+    if joined > content.memory() {
+        content.reserve(octets.len().max(content.len()))?;
+    }
+    content.append(octets);
     Ok(())
 }
 

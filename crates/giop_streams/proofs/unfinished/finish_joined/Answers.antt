@@ -10,34 +10,34 @@ use Rattle.giop_streams.proofs.unfinished.finish_joined.Goals as goal
 
 pub returns-clause-says : goal.returns-clause-says
 returns-clause-says c =
-    let octets = c.deref.result.now in
-    let short : length octets ≤ size_limit = rw c.deref.ensures.value c.in_ok-go_so_far.ensures.short in
-    let joined = c.deref.ensures.value ∙ c.in_ok-go_so_far.ensures.joined in
+    let octets = c.octets.result.now in
+    let short : length octets ≤ size_limit = rw c.octets.ensures c.in_ok-go_so_far.ensures.short in
+    let joined = c.octets.ensures ∙ c.in_ok-go_so_far.ensures.joined in
     whole_says c.finish_framed.result _ _ (limited_whole_is c.args.place c.args.header octets _ joined short) c.finish_framed.ensures.whole
 
 pub returns-clause-refused : goal.returns-clause-refused
 returns-clause-refused c =
-    let octets = c.deref.result.now in
-    let short : length octets ≤ size_limit = rw c.deref.ensures.value c.in_ok-go_so_far.ensures.short in
-    let joined = c.deref.ensures.value ∙ c.in_ok-go_so_far.ensures.joined in
+    let octets = c.octets.result.now in
+    let short : length octets ≤ size_limit = rw c.octets.ensures c.in_ok-go_so_far.ensures.short in
+    let joined = c.octets.ensures ∙ c.in_ok-go_so_far.ensures.joined in
     whole_refused c.finish_framed.result _ _ (limited_whole_is c.args.place c.args.header octets _ joined short) c.finish_framed.ensures.whole
 
 pub returns-clause-memory : goal.returns-clause-memory
 returns-clause-memory c =
-    let octets = c.deref.result.now in
-    let short : length octets ≤ size_limit = rw c.deref.ensures.value c.in_ok-go_so_far.ensures.short in
-    let joined = c.deref.ensures.value ∙ c.in_ok-go_so_far.ensures.joined in
-    whole_memory c.finish_framed.result c.args.header c.args.content.now.items c.args.octets.now octets joined short c.finish_framed.ensures.memory
+    let octets = c.octets.result.now in
+    let short : length octets ≤ size_limit = rw c.octets.ensures c.in_ok-go_so_far.ensures.short in
+    let joined = c.octets.ensures ∙ c.in_ok-go_so_far.ensures.joined in
+    whole_memory c.finish_framed.result c.args.header c.args.content.now.octets c.args.octets.now octets joined short c.finish_framed.ensures.memory
 
 pub returns-clause-front : goal.returns-clause-front
 returns-clause-front c =
-    let old = c.args.content.now.items in
+    let old = c.args.content.now.octets in
     ap (take (length old)) c.in_ok-go_so_far.ensures.joined ∙ take_at old c.args.octets.now (length old) refl
 
 pub returns-in_err-go_so_far-clause-refused : goal.returns-in_err-go_so_far-clause-refused
 returns-in_err-go_so_far-clause-refused c =
     let h = c.args.header in
-    let content = c.args.content.now.items in
+    let content = c.args.content.now.octets in
     let octets = c.args.octets.now in
     let p = err_from_is_err_and c.from_residual.result c.from_residual.ensures.1 in
     let fault = c.in_err-go_so_far.field-0.0 in
@@ -50,5 +50,5 @@ returns-in_err-go_so_far-clause-memory c =
 
 pub returns-in_err-go_so_far-clause-front : goal.returns-in_err-go_so_far-clause-front
 returns-in_err-go_so_far-clause-front c =
-    let old = c.args.content.now.items in
+    let old = c.args.content.now.octets in
     ap (take (length old)) c.in_err-go_so_far.ensures.err ∙ take_all (length old) old (omega arith)

@@ -9,30 +9,30 @@ use Rattle.giop_streams.proofs.unfinished.go_so_far.Goals as goal
 
 pub walk_so_far-requires-clause-walked : goal.walk_so_far-requires-clause-walked
 walk_so_far-requires-clause-walked c =
-    let joined = c.deref.ensures.value ∙ c.in_ok-join.ensures.joined in
-    subst (λ (x : List ℕ). IsWalked c.args.header x c.args.walk.now) (sym joined) (walked_on c.args.header c.args.content.now.items c.args.octets.now c.args.walk.now c.requires.walked)
+    let joined = c.octets.ensures ∙ c.in_ok-join.ensures.joined in
+    subst (λ (x : List ℕ). IsWalked c.args.header x c.args.walk.now) (sym joined) (walked_on c.args.header c.args.content.now.octets c.args.octets.now c.args.walk.now c.requires.walked)
 
 pub returns-in-Err-clause-refused : goal.returns-in-Err-clause-refused
 returns-in-Err-clause-refused c =
-    let octets = c.deref.result.now in
-    let short : length octets ≤ size_limit = rw c.deref.ensures.value c.in_ok-join.ensures.short in
-    let joined = c.deref.ensures.value ∙ c.in_ok-join.ensures.joined in
-    fails_from c.in-Err.fault _ (limited_is c.args.header octets (c.args.content.now.items ++ c.args.octets.now) _ joined short c.in-Err.ensures.refused)
+    let octets = c.octets.result.now in
+    let short : length octets ≤ size_limit = rw c.octets.ensures c.in_ok-join.ensures.short in
+    let joined = c.octets.ensures ∙ c.in_ok-join.ensures.joined in
+    fails_from c.in-Err.fault _ (limited_is c.args.header octets (c.args.content.now.octets ++ c.args.octets.now) _ joined short c.in-Err.ensures.refused)
 
 pub returns-in-Err-clause-memory : goal.returns-in-Err-clause-memory
 returns-in-Err-clause-memory c e = absurd (c.in-Err.ensures.memory e)
 
 pub returns-in-Err-clause-err : goal.returns-in-Err-clause-err
 returns-in-Err-clause-err c =
-    let old = c.args.content.now.items in
-    c.truncate.ensures.items ∙ ap (take c.len-before.result) c.in_ok-join.ensures.joined ∙ take_at old c.args.octets.now c.len-before.result (omega arith)
+    let old = c.args.content.now.octets in
+    c.truncate.ensures.octets ∙ ap (take c.len-before.result) c.in_ok-join.ensures.joined ∙ take_at old c.args.octets.now c.len-before.result (omega arith)
 
 pub returns-clause-says : goal.returns-clause-says
 returns-clause-says c =
-    let octets = c.deref.result.now in
-    let short : length octets ≤ size_limit = rw c.deref.ensures.value c.in_ok-join.ensures.short in
-    let joined = c.deref.ensures.value ∙ c.in_ok-join.ensures.joined in
-    limited_is c.args.header octets (c.args.content.now.items ++ c.args.octets.now) _ joined short c.in_default.ensures.says
+    let octets = c.octets.result.now in
+    let short : length octets ≤ size_limit = rw c.octets.ensures c.in_ok-join.ensures.short in
+    let joined = c.octets.ensures ∙ c.in_ok-join.ensures.joined in
+    limited_is c.args.header octets (c.args.content.now.octets ++ c.args.octets.now) _ joined short c.in_default.ensures.says
 
 pub returns-in_err-join-clause-refused : goal.returns-in_err-join-clause-refused
 returns-in_err-join-clause-refused c =

@@ -26,7 +26,7 @@ returns-in_err-join-clause-refused c =
     let content = c.args.content.now in
     let is : limited_so_far h content ≡ so_far (message_by h content) = limited_is h content content _ refl c.requires.content refl in
     let p = err_from_is_err_and c.from_residual-in_err-join.result c.from_residual-in_err-join.ensures.1 in
-    rw (p.1, p.2) (fails_on c.in_err-join.field-0.0 (limited_so_far h content) (so_far (message_by h content)) (λ e. sym is ∙ e) (rw c.new-octets.ensures.items at c.in_err-join.ensures.refused h))
+    rw (p.1, p.2) (fails_on c.in_err-join.field-0.0 (limited_so_far h content) (so_far (message_by h content)) (λ e. sym is ∙ e) (rw c.new-joined.ensures.octets at c.in_err-join.ensures.refused h))
 
 pub returns-in_err-join-clause-memory : goal.returns-in_err-join-clause-memory
 returns-in_err-join-clause-memory c =
@@ -35,7 +35,7 @@ returns-in_err-join-clause-memory c =
 
 pub returns-clause-begun : goal.returns-clause-begun
 returns-clause-begun c =
-    let joined = c.in_ok-join.ensures.joined ∙ ap (λ (x : List ℕ). x ++ c.args.content.now) c.new-octets.ensures.items in
+    let joined = c.in_ok-join.ensures.joined ∙ ap (λ (x : List ℕ). x ++ c.args.content.now) c.new-joined.ensures.octets in
     ap (λ (x : List ℕ). begun_as c.args.id c.args.place (part_of c.args.header x)) joined
 
 pub returns-clause-sound : goal.returns-clause-sound
