@@ -6,7 +6,7 @@
 //! - `bytes`: the octets that the journal gives. `disk`: those that its disk reads. `standing`: what stands.
 
 use crate::records::{number, record_of};
-use decision_journal::{CellsEnd, Journal, JournalRecord, Puts};
+use decision_journal::{CellsEnd, Journal, JournalRecord, Put, Puts};
 use ots_outside::MemDisk;
 use std::alloc::Global;
 use std::io;
@@ -117,12 +117,27 @@ fn tell_record(item: &JournalRecord, told: &mut Vec<u8>) -> io::Result<()> {
     }
 }
 
-/// Tells the cells and their values.
+/// Tells the cells and their values; of more than 16 how many they are, the first and the last.
 fn tell_puts(puts: &Puts, told: &mut Vec<u8>) -> io::Result<()> {
-    for put in puts.items() {
-        write!(told, " {}={}", put.cell, put.value)?;
+    match puts.items() {
+        [first, .., last] if puts.items().len() > 16 => {
+            write!(told, " {} cells:", puts.items().len())?;
+            tell_put(first, told)?;
+            write!(told, " to")?;
+            tell_put(last, told)
+        }
+        puts => {
+            for put in puts {
+                tell_put(put, told)?;
+            }
+            Ok(())
+        }
     }
-    Ok(())
+}
+
+/// Tells a cell and its value.
+fn tell_put(put: &Put, told: &mut Vec<u8>) -> io::Result<()> {
+    write!(told, " {}={}", put.cell, put.value)
 }
 
 /// The word of an outcome.

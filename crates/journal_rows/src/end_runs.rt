@@ -80,7 +80,7 @@ fn tell_last(alloc: Global, case: &Case, lines: &[&str], told: &mut Vec<u8>) -> 
     writeln!(told)
 }
 
-/// Tells the records that a disk holds more than before.
+/// Tells the records that a disk holds more than before, or why its journal is refused.
 fn tell_written(
     alloc: Global,
     case: &Case,

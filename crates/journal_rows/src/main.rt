@@ -16,13 +16,16 @@
 //!   written. Each image has the front of what was written, and behind it what stood there, or octets that are 1. Its
 //!   records are told by how many octets they and the header have, and by the life that the next load begins.
 //! - `end`: a resource end is loaded over the disk, and the calls are those that `ends` says. `crash` loads it again, and
-//!   so does `fail N`, after which the call N of its disk fails. Behind each answer come the records that the call wrote.
+//!   so does `fail N`, after which the call N of its disk fails. Behind each answer come the records that the call wrote, or
+//!   why the journal that its disk then reads is refused.
 //! - `words`: behind the calls the resource 1 of life 1 is told a word, each time another; and behind each word, each word
 //!   again. Of these the answers and the records are told as for `end`. At last it is told what the cell 5 holds.
 //! - `stops`: the calls are made once for each call of the disk, from which on each fails. Below the answers stand those of
 //!   the lines `then CALL`, made on an end that is loaded from an image that a crash in that call of the disk can leave, as
 //!   for `crashes`; in front of them stands how many images come to them. Where it all is the same for several calls of the
 //!   disk, it is told once.
+//!
+//! No more than the first 64 calls of a disk are looked at.
 #![tactic(auto)]
 
 use case::Case;

@@ -2,7 +2,7 @@ ghost use Rattle.std.specs.Prelude.{◌≡◌, false};
 ghost use Rattle.ots_program.specs.Words.{IsShow};
 
 use crate::pieces::Pieces;
-use crate::{input, lines, trees};
+use crate::{input, lines, statuses, trees};
 use ots_outside::{Failure, MemSink, MemSource};
 use ots_program::{Devices, Word, run, run_plain};
 use std::alloc::Global;
@@ -19,6 +19,7 @@ enum Subject {
     Command,
     Lines,
     Tree,
+    Statuses,
 }
 
 impl Subject {
@@ -26,6 +27,7 @@ impl Subject {
         match words.trim() {
             "lines" => Subject::Lines,
             "tree" => Subject::Tree,
+            "statuses" => Subject::Statuses,
             _ => Subject::Command,
         }
     }
@@ -116,6 +118,7 @@ impl Case {
             Subject::Command => return self.run(rt, alloc, input),
             Subject::Lines => lines::tell_lines(alloc, &mut told, input)?,
             Subject::Tree => trees::tell(alloc, &mut told, input)?,
+            Subject::Statuses => statuses::tell(&mut told)?,
         }
         Ok(told)
     }

@@ -4,18 +4,20 @@
 //! - `status B`: its status, its parent's, and that of the top. `relation A B`: whether A is an ancestor of B, related to
 //!   it, and the same. `live B`: the next one to roll back below it.
 //! - `register B`, `double B`, `aware B`, `sync B`: a resource, one that is also told of the subtransaction's end, one that
-//!   is told of that alone, and a synchronization.
+//!   is told of that alone, and a synchronization. Their references have no octets; with `register B N` it has N.
 //! - `participants B`: who takes part. `told B G`: who is told of the end of B next, behind G. `synchronization N`: whether
 //!   there is such a one. `vote G V`: it votes, and what it has voted then.
 //! - `begin asked alone`: the completion of the top begins. Any other word in place of `asked` or `alone` says no.
 //!   `back asked alone REASON`: it begins with a rollback.
-//! - `send`: the next word goes out. `hear ANSWER`: the same, and its answer comes.
+//! - `send`: the next word goes out. `hear ANSWER`: the same, and its answer comes. `send whole`: as `send`, and told with
+//!   the number of the call, how many octets the reference has that it goes to, and the receipt.
 //! - `decided ANSWER`, `reread PLACE`, `overtake REASON`: what else comes.
+//!   Of the reasons `sync_lost` names synchronization 1, and `sync_starved` synchronization 2.
 //! - `named G`: whether the record names it. `state`: the outcome, what is reported, and what is pending.
 ghost use Rattle.std.specs.Prelude.{◌<◌, length, IfOk};
 
 use ots_model::tree::{Heard, Outward, Reason, Word};
-use ots_model::{CallNumber, Disposition, Doubted, RefBytes, Status, Stood, Vote};
+use ots_model::{CallNumber, Disposition, Doubted, REFERENCE_LIMIT, RefBytes, Status, Stood, Vote};
 use resource_votes::{Registration, VoteFault, Votes};
 use std::alloc::Global;
 use std::io;
@@ -61,11 +63,13 @@ impl Trial {
     fn take(&mut self, alloc: Global, told: &mut Vec<u8>, words: &[&str]) -> io::Result<()> {
         match words {
             [] => Ok(()),
-            ["send"] => self.send(told),
+            ["send"] => self.send(told, false),
+            ["send", "whole"] => self.send(told, true),
             ["state"] => self.tell_state(alloc, told),
             ["relation", a, b] => self.tell_relation(told, a, b),
             ["told", branch, after] => self.tell_aware(told, branch, after),
             ["vote", index, vote] => self.vote(told, index, vote),
+            ["register", branch, octets] => self.register_sized(alloc, told, branch, octets),
             ["begin", asked, alone] => self.begin(alloc, *asked == "asked", *alone == "alone"),
             ["back", asked, alone, why] => {
                 self.begin_rollback(alloc, *asked == "asked", *alone == "alone", reason(why)?)
@@ -218,6 +222,19 @@ impl Trial {
         tell_made(told, self.votes.register(&self.tree, branch, to, aware))
     }
 
+    /// Registers a resource whose reference has so many octets.
+    fn register_sized(
+        &mut self,
+        alloc: Global,
+        told: &mut Vec<u8>,
+        branch: &str,
+        octets: &str,
+    ) -> io::Result<()> {
+        let branch = self.branch(branch)?;
+        let to = reference(alloc, octets)?;
+        tell_made(told, self.votes.register(&self.tree, branch, to, false))
+    }
+
     fn register_aware(&mut self, alloc: Global, told: &mut Vec<u8>, word: &str) -> io::Result<()> {
         let branch = self.branch(word)?;
         let to = RefBytes::from_vec(Vec::new(alloc));
@@ -278,18 +295,22 @@ impl Trial {
         Ok(())
     }
 
-    fn send(&mut self, told: &mut Vec<u8>) -> io::Result<()> {
+    fn send(&mut self, told: &mut Vec<u8>, whole: bool) -> io::Result<()> {
         match self.completion.next() {
             Some(outward) => {
                 self.number = outward.number;
-                tell_word(told, &outward)
+                tell_word(told, &outward)?;
+                if whole {
+                    tell_call(told, &outward)?;
+                }
+                writeln!(told)
             }
             None => writeln!(told, "nothing"),
         }
     }
 
     fn hear(&mut self, told: &mut Vec<u8>, word: &str) -> io::Result<()> {
-        self.send(told)?;
+        self.send(told, false)?;
         let number = self.number;
         match word {
             "lost" => self.completion.lost(&number),
@@ -358,7 +379,19 @@ fn tell_word(told: &mut Vec<u8>, outward: &Outward) -> io::Result<()> {
         Word::Forget => "forget",
         _ => "another word",
     };
-    writeln!(told, "{word} {}", outward.registration)
+    write!(told, "{word} {}", outward.registration)
+}
+
+/// Tells the number of a word's call, how many octets the reference has that it goes to, and its receipt.
+fn tell_call(told: &mut Vec<u8>, outward: &Outward) -> io::Result<()> {
+    let number = outward.number;
+    write!(told, " number {} {}", number.life, number.slot)?;
+    write!(told, " {} {}", number.generation, number.serial)?;
+    write!(told, " octets {}", outward.to.bytes().len())?;
+    match outward.receipt {
+        Some(receipt) => write!(told, " receipt {} {}", receipt.place, receipt.registration),
+        None => write!(told, " receipt none"),
+    }
 }
 
 fn letter(disposition: Disposition) -> char {
@@ -372,6 +405,15 @@ fn letter(disposition: Disposition) -> char {
 
 fn number(word: &str) -> io::Result<u32> {
     word.parse().map_err(|_| ErrorKind::InvalidInput.into())
+}
+
+/// A reference of so many octets.
+fn reference(alloc: Global, count: &str) -> io::Result<RefBytes> {
+    let octets = vec![in alloc; 7; number(count)? as usize]?;
+    if octets.len() > REFERENCE_LIMIT {
+        return Err(ErrorKind::InvalidInput.into());
+    }
+    Ok(RefBytes::from_vec(octets))
 }
 
 /// The answer to a word that goes out, by the names of votes and exceptions.
@@ -423,6 +465,9 @@ fn reason(word: &str) -> io::Result<Reason> {
         "marked" => Reason::Marked,
         "timeout" => Reason::Timeout,
         "superior" => Reason::Superior,
+        "sync_lost" => Reason::SyncLost(1),
+        "sync_starved" => Reason::SyncStarved(2),
+        "not_enlisted" => Reason::NotEnlisted,
         "stored" => Reason::NotStored,
         _ => return Err(ErrorKind::InvalidInput.into()),
     })

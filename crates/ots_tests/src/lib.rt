@@ -1,6 +1,6 @@
 //! Tests that cases can't be: of lines, of octets that are kept, of values as octets, of messages and streams as calls
 //! of `giop_frames`, of references that are made, names, hashes and contexts, of sources, sinks and disks, of a journal
-//! in a file, of records that are told again, of completions under failing allocations, and of the text of each status.
+//! in a file, of records that are told again, and of completions under failing allocations.
 //! They stand in a crate of their own, since a crate with tests is proved once more with them.
 #![tactic(auto)]
 
@@ -20,8 +20,6 @@ mod octets;
 mod recovered;
 #[cfg(test)]
 mod references;
-#[cfg(test)]
-mod statuses;
 #[cfg(test)]
 mod streams;
 #[cfg(test)]

@@ -1,9 +1,6 @@
 //! Tests of how lines are spelled.
 
-use ots_model::{
-    Decision, Exception, Ground, Line, Name, Operation, Outcome, Reason, ResourceState, Response,
-    Vote, Word,
-};
+use ots_model::{Decision, Ground, Line, Name, Outcome, Reason, ResourceState, Vote, Word};
 use std::test::Fail;
 
 /// Each line, and how it is spelled.
@@ -31,16 +28,14 @@ fn each_line(rt: HostRuntime) -> Result<(), Fail> {
         Line::Sub { transaction: u, parent: t } => "sub u1 t1",
         Line::Imp { subordinate: u, superior: t, node: n } => "imp u1 t1 n1",
         Line::Reg { resource: g, transaction: t, end: e } => "reg g1 t1 e1",
-        Line::Call { message: 1, operation: Operation::RegisterResource, transaction: t } => "call 1 register_resource t1",
-        Line::Call { message: 2, operation: Operation::Commit, transaction: t } => "call 2 commit t1",
-        Line::Call { message: 3, operation: Operation::Rollback, transaction: t } => "call 3 rollback t1",
         Line::Send { message: 4, word: Word::Prepare, registration: g } => "send 4 prepare g1",
         Line::Send { message: 5, word: Word::Commit, registration: g } => "send 5 commit g1",
         Line::Send { message: 6, word: Word::CommitOnePhase, registration: g } => "send 6 commit_one_phase g1",
         Line::Send { message: 7, word: Word::Rollback, registration: g } => "send 7 rollback g1",
-        Line::Back { message: 10, request: 4, response: Response::Voted(Vote::VoteCommit) } => "back 10 4 VoteCommit",
         Line::Recv { message: 10 } => "recv 10",
         Line::Voted { registration: g, vote: Vote::VoteCommit } => "vote g1 VoteCommit",
+        Line::Voted { registration: g, vote: Vote::VoteRollback } => "vote g1 VoteRollback",
+        Line::Voted { registration: g, vote: Vote::VoteReadOnly } => "vote g1 VoteReadOnly",
         Line::SubDone { transaction: u, committed: true } => "subdone u1 committed",
         Line::SubDone { transaction: u, committed: false } => "subdone u1 rolledback",
         Line::State { resource: g, state: ResourceState::Prepared } => "state g1 prepared",
@@ -55,16 +50,9 @@ fn each_line(rt: HostRuntime) -> Result<(), Fail> {
 }
 
 #[test]
-fn each_answer_and_outcome(rt: HostRuntime) -> Result<(), Fail> {
+fn each_outcome(rt: HostRuntime) -> Result<(), Fail> {
     let (t, g) = (name(b"t1")?, name(b"g1")?);
     assert_spelled! { rt;
-        Line::Answered { message: 1, response: Response::Plain } => "ans 1 ok",
-        Line::Answered { message: 1, response: Response::Voted(Vote::VoteCommit) } => "ans 1 VoteCommit",
-        Line::Answered { message: 1, response: Response::Voted(Vote::VoteRollback) } => "ans 1 VoteRollback",
-        Line::Answered { message: 1, response: Response::Voted(Vote::VoteReadOnly) } => "ans 1 VoteReadOnly",
-        Line::Answered { message: 1, response: Response::Raised(Exception::TransactionRolledBack) } => "ans 1 TRANSACTION_ROLLEDBACK",
-        Line::Answered { message: 1, response: Response::Raised(Exception::NotPrepared) } => "ans 1 NotPrepared",
-        Line::Answered { message: 1, response: Response::Raised(Exception::ObjectNotExist) } => "ans 1 OBJECT_NOT_EXIST",
         Line::Decide { transaction: t, outcome: Outcome::Commit(Ground::Record) } => "decide t1 commit record",
         Line::Decide { transaction: t, outcome: Outcome::Commit(Ground::OnePhase) } => "decide t1 commit phase",
         Line::Decide { transaction: t, outcome: Outcome::Commit(Ground::Nobody) } => "decide t1 commit none",
