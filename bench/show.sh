@@ -3,15 +3,16 @@
 # 64,000 octets, come in Fragments of 8 octets, one after another or eight at once; behind whose type_id and operation, of
 # 2,000 up to 64,000 octets, come Fragments without octets; and of which eight are unfinished, and the oldest is ended by
 # a Fragment without octets. Shows streams of about 1 MB that come one octet at a time, of messages of 24 up to 64,000
-# octets, by a case of crates/ots_rows. Prints octets per second and how the time per octet grows. Run it anywhere; it
-# builds the programs first. Sizes of the first streams in octets may be given as arguments.
+# octets, and of messages of 2,000 up to 64,000 octets in Fragments of 8 octets, by cases of crates/ots_rows. Prints octets
+# per second and how the time per octet grows, from each row to the next one and from the first to the last. Run it
+# anywhere; it builds the programs first. Sizes of the first streams in octets may be given as arguments.
 set -euo pipefail
 . "$(dirname "$0")/timing.sh"
 [ $# -gt 0 ] || set -- 1000000 32000000
 build show
 (cd "$here/crates/ots_rows" && rt run </dev/null >/dev/null 2>&1) || true
 
-# What both kinds of streams are made of.
+# What the streams are made of, and the case of ots_rows in which one comes one octet at a time.
 parts=$(cat <<'PY'
 import struct, sys
 
@@ -48,6 +49,10 @@ def reply_in_parts(order, id, body):
     first = with_contexts(order, struct.pack(order + "II", id, 0), [])
     number = struct.pack(order + "I", id)
     return part(order, True, 1, first) + part(order, True, 7, number + body[:half]) + part(order, False, 7, number + body[half:])
+
+def print_case(stream):
+    print("\n== show | pieces 1 | hex | last 1")
+    print(stream.hex())
 PY
 )
 
@@ -177,23 +182,44 @@ octet_by_octet() {
   python3 -c "$parts"'
 size = int(sys.argv[1])
 message = reply("<", 1, [], bytes(size - 24))
-print("\n== show | pieces 1 | hex | last 1")
-print((message * (1000000 // size)).hex())
+print_case(message * (1000000 // size))
 ' "$1"
 }
 
-# The rows of these cases, with the octets and the messages of each stream.
-octets_alone() {
-  ots=$here/crates/ots_rows/out/ots_rows
-  rows show octet_by_octet "$@" | awk '{ n = int(1000000 / $1); print $1, n * $1, $3, n }'
+# Another one, of replies of about that many octets, each in Fragments of 8 octets.
+fragments_octet_by_octet() {
+  python3 -c "$parts"'
+size = int(sys.argv[1])
+first = part("<", True, 1, struct.pack("<III", 1, 0, 0))
+piece = part("<", True, 7, struct.pack("<I", 1) + bytes(8))
+last = part("<", False, 7, struct.pack("<I", 1) + bytes(8))
+message = first + piece * (size // 8 - 1) + last
+print_case(message * (1000000 // len(message)))
+' "$1"
 }
 
+# octets_alone MAKE SIZE..: the rows of such cases, with the octets of each stream and the messages that were told of it.
+octets_alone() {
+  local make=$1 size took stream
+  shift
+  ots=$here/crates/ots_rows/out/ots_rows
+  rows show "$make" "$@" | while read -r size _ took _; do
+    stream=$(tail -n 1 "$work/$size.input")
+    echo "$size $((${#stream} / 2)) $took $(awk '$1 == ".." { print $5 }' "$work/$size.lines")"
+  done
+}
+
+# Prints rows. Of each but the first the time per octet is compared with that of the row before, and at the end that of the
+# last row with that of the first.
 report() {
   python3 -c '
 import sys
 rows = [tuple(map(int, line.split())) for line in sys.stdin]
+before = None
 for size, octets, took, shown in rows:
-    print(f"{size:>10} {octets:>10} octets, {shown:>7} messages: {took / 1e6:8.1f} ms, {octets / took * 1e9:14,.0f} octets per second")
+    grown = f", {took / octets / before:.2f} times the time per octet of the row before" if before else ""
+    print(f"{size:>10} {octets:>10} octets, {shown:>7} messages: {took / 1e6:8.1f} ms, {octets / took * 1e9:14,.0f} octets per second{grown}")
+    before = took / octets
 (first_size, first, first_took, _), (last_size, last, last_took, _) = rows[0], rows[-1]
 if len(rows) > 1:
     print(f"ratio of the time per octet, {last_size:,} to {first_size:,}: {(last_took / last) / (first_took / first):.2f}")
@@ -211,4 +237,6 @@ rows show standing_still 2000 16000 64000 | report
 echo "Messages in two parts, eight at once, of which the oldest ends by an empty Fragment, by the size of a message:"
 rows show oldest_ends 16 2000 16000 64000 | report
 echo "Messages that come one octet at a time, by the size of a message:"
-octets_alone 24 2000 16000 64000 | report
+octets_alone octet_by_octet 24 2000 16000 64000 | report
+echo "Messages in Fragments of 8 octets that come one octet at a time, by the size of a message:"
+octets_alone fragments_octet_by_octet 2000 16000 64000 | report

@@ -34,6 +34,8 @@ print(f"ratio of the time per {each}, {large:,} to {small:,}: {(last / again) / 
 
 echo "create_sub, by the transactions of a tree:"
 row create 16 128 1024
+echo "create_sub, by the depth of the new transaction:"
+row deep 2 4 16
 echo "live_under, below one that has a single subtransaction, by the live subtransactions of its tree:"
 row few 128 512 1023
 rollbacks() { each=subtransaction times=2 row "$1" 128 512 1022; }
@@ -49,6 +51,10 @@ echo "status, parent_status and top_status, by the transactions of a tree:"
 row status 16 128 1024
 echo "register, by the registrations of a tree:"
 row register 2 16 64
+echo "register_aware, by the registrations of a tree:"
+row aware 2 16 64
+echo "register_sync, by the synchronizations of a tree:"
+row sync 2 16 64
 echo "vote and vote_of, by the registrations of a tree:"
 row vote 2 16 64
 echo "aware, each behind the one before it, by the aware resources of a subtransaction:"

@@ -7,10 +7,12 @@
 //!   stand. `bare_dones`: as `bare`, with the octets of Dones.
 //! - `retells`: the decisions that stand in it are told again, with so many words, each of which is done.
 //! - `ends`: so many resources of the end in the file put a cell, prepare and commit, one after the other.
-//! - `puts`: resources of that end put so many cells each, 65,536 together.
+//! - `puts`: resources of that end put so many cells each, 65,536 together. `puts_beside`: they put 1,024 each, while so many
+//!   others are unfinished.
+//! - `load_end`: the end in the file is loaded.
 //! - `cells`: the records of as many are appended to the journal in the file, with no end.
 //!
-//! But for `load` the time of the load isn't counted.
+//! But for `load` and `load_end` the time of the load isn't counted.
 #![tactic(auto)]
 
 use ots_outside::FileDisk;
@@ -36,7 +38,9 @@ fn main(rt: HostRuntime) -> io::Result<()> {
         "bare_dones" => journals::bare_dones(&rt, disk, count)?,
         "load" => journals::load(&rt, disk)?,
         "ends" => ends::ends(&rt, disk, count)?,
-        "puts" => ends::puts(&rt, disk, count)?,
+        "load_end" => ends::load(&rt, disk)?,
+        "puts" => ends::puts(&rt, disk, count, 0)?,
+        "puts_beside" => ends::puts(&rt, disk, 1024, count)?,
         kind => journals::journal(&rt, disk, kind, count)?,
     };
     writeln!(rt.stdout(), "{took}")
