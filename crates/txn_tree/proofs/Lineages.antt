@@ -5,6 +5,7 @@ use Rattle.std.specs.List.{slice_get, list_any}
 use Rattle.std.specs.Option.{option_map_or, option_and_then}
 use Rattle.txn_tree.specs.Rows.{parent, state, IsParent, IsTree, lineage, ancestors, is_ancestor, are_related, depth, is_committed, is_committed_within, is_committed_up}
 use Rattle.txn_tree.specs.Calls.{created, with_state}
+use Rattle.txn_tree.specs.Laws.{KeepParents}
 use Rattle.txn_tree.specs.declared.row.Row.{Row}
 use Rattle.txn_tree.specs.declared.row.State.{State}
 use Rattle.txn_tree.specs.declared.row.State.TheVariants.{Active}
@@ -155,6 +156,17 @@ tree_grows rows t b h =
       some = omega arith;
       parents = λ q (k : q < length (created rows b)). new_parent rows t b h q (omega arith);
     }
+
+-- the parents after each call
+pub parents_kept : (rows : List Row) (b : ℕ) → KeepParents rows b
+parents_kept rows b = record {
+  with_a_child = record {
+    count = grind (arith, common_steps);
+    parents = parent_before rows (record { parent = Some b; state = Active });
+    new = parent_last rows (record { parent = Some b; state = Active });
+  };
+  with_a_state = λ s. record { count = length_kept rows b s; parents = parent_kept rows b s };
+}
 
 pub depth_grows : (rows : List Row) → IsTree rows → (b : ℕ) (q : ℕ) → q < length rows → depth (created rows b) q ≡ depth rows q
 depth_grows rows t b q h = depth_alike rows (created rows b) t (λ q k. parent_before rows (record { parent = Some b; state = Active }) q k) q h

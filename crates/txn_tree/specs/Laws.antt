@@ -1,9 +1,10 @@
 -- What the definitions of trees say (nested transactions, and interface Coordinator of module CosTransactions).
-use Rattle.std.specs.Prelude.{◌≡◌, ℕ, suc, ◌<◌, ◌≤◌, ◌⊎◌, true, MatchOption, ◌==◌, ◌&&◌, ◌||◌, Bool, false, List, length}
+use Rattle.std.specs.Prelude.{◌≡◌, ℕ, suc, ◌<◌, ◌≤◌, ◌⊎◌, true, MatchOption, ◌==◌, ◌&&◌, ◌||◌, Bool, false, List, length, Some}
 use Rattle.std.specs.Option.{option_map_or}
 use Rattle.txn_tree.specs.Rows.{parent, state, IsTree, is_ancestor, is_committed, is_committed_up, depth, are_related}
-use Rattle.txn_tree.specs.Calls.{created, ended, marked, is_live_below, live_under}
+use Rattle.txn_tree.specs.Calls.{top_alone, with_state, created, ended, marked, is_live_below, live_under}
 use Rattle.txn_tree.specs.declared.row.Row.{Row}
+use Rattle.txn_tree.specs.declared.row.State.{State}
 
 -- a is an ancestor of b exactly where it is b, or an ancestor of b's parent
 abbrev pub AncestryFollowsParents : Type 0
@@ -36,6 +37,37 @@ pub record StayTrees (rows : List Row) (b : ℕ) : Type 0 where
 
 abbrev pub TreesStayTrees : Type 0
 TreesStayTrees = (rows : List Row) → IsTree rows → (b : ℕ) → b < length rows → StayTrees rows b
+
+-- there are as many transactions, and each has the parent that it had
+pub record KeepsParents (rows later : List Row) : Type 0 where
+  pub count : length later ≡ length rows
+  pub parents : (q : ℕ) → parent later q ≡ parent rows q
+
+-- there is one more, last, with this parent; each other one has the parent that it had
+pub record AddsOne (rows later : List Row) (b : ℕ) : Type 0 where
+  pub count : length later ≡ suc (length rows)
+  pub parents : (q : ℕ) → q < length rows → parent later q ≡ parent rows q
+  pub new : parent later (length rows) ≡ Some b
+
+-- a call that creates a subtransaction adds it alone; each other call changes alone how a transaction stands
+pub record KeepParents (rows : List Row) (b : ℕ) : Type 0 where
+  pub with_a_child : AddsOne rows (created rows b) b
+  pub with_a_state : (s : State) → KeepsParents rows (with_state rows b s)
+
+abbrev pub CallsKeepParents : Type 0
+CallsKeepParents = (rows : List Row) (b : ℕ) → KeepParents rows b
+
+-- the rows of a tree begin with the top alone
+abbrev pub TopIsTree : Type 0
+TopIsTree = IsTree top_alone
+
+-- they are those of a tree however a branch stands
+abbrev pub EachStateIsTree : Type 0
+EachStateIsTree = (rows : List Row) → IsTree rows → (b : ℕ) (s : State) → IsTree (with_state rows b s)
+
+-- a parent is made before its child
+abbrev pub ParentsComeFirst : Type 0
+ParentsComeFirst = (rows : List Row) → IsTree rows → (b p : ℕ) → b < length rows → parent rows b ≡ Some p → p < b
 
 -- a branch is rolled back before another one: it lies deeper, or as deep and was made later
 abbrev pub GoesFirst : List Row → ℕ → ℕ → Type 0
