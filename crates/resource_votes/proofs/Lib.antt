@@ -6,3 +6,4 @@ pub mod Tallies
 pub mod Few
 pub mod Members
 pub mod Numbered
+pub mod Once

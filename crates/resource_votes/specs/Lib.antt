@@ -3,5 +3,6 @@ pub mod Lists
 pub mod ChainsInside
 pub mod LinksInside
 pub mod Ballots
-pub mod VotesInside
 pub mod History
+pub mod Numbers
+pub mod VotesInside

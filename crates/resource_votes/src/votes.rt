@@ -2,6 +2,7 @@ ghost use Rattle.std.specs.Prelude.{◌≡◌, ◌≢◌, ℕ, ◌+◌, ◌<◌,
 ghost use Rattle.std.specs.Option.{option_copied};
 ghost use Rattle.resource_votes.specs.Limits.{list_count, registration_limit, synchronization_limit};
 ghost use Rattle.resource_votes.specs.Ballots as ballots;
+ghost use Rattle.resource_votes.specs.Numbers.{AreFew, AreOnce, ArePlaces};
 ghost use Rattle.resource_votes.specs.VotesInside.{AreNumbered};
 
 use crate::links::Links;
@@ -45,6 +46,7 @@ impl Model for Votes {
 
 impl Votes {
     /// Nothing is registered.
+    #[tactic(auto, using(crate::proofs::Once::none_once, crate::proofs::Once::none_few))]
     pub fn new(alloc: Global) -> Result<Votes, AllocError>
         ensures none { IfOk result (λ votes. votes.ballots ≡ ballots.no_ballots) }
     {
@@ -56,10 +58,16 @@ impl Votes {
         })
     }
 
-    /// How many registrations there are, of both kinds together; they have the numbers from 1 up to it.
+    /// How many registrations there are, of both kinds together; they have the numbers from 1 up to it, in the order of their
+    /// calls, and each number stands in one list at most, once. Synchronizations have numbers of their own in the same way.
+    #[tactic(auto, using(crate::proofs::Numbered::placed))]
     pub fn count(&self) -> u32
         ensures count { result ≡ length self.now.ballots.registrations }
         ensures few { result ≤ registration_limit }
+        ensures places { ArePlaces self.now.ballots.registrations }
+        ensures synchronizations { ArePlaces self.now.ballots.synchronizations }
+        ensures once { AreOnce self.now.ballots.lists (length self.now.ballots.registrations) }
+        ensures few_numbers { AreFew self.now.ballots.lists (length self.now.ballots.registrations) }
     {
         self.registrations.len() as u32
     }
@@ -146,6 +154,7 @@ impl Votes {
     }
 
     /// Hands the list of a subtransaction that was committed to its parent, at the end, in one piece. It needs no memory.
+    #[tactic(auto, using(crate::proofs::Once::handed_once, crate::proofs::Once::handed_few))]
     pub fn adopt(&mut self, child: u32, parent: u32)
         requires there { (child < list_count) × (parent < list_count) }
         requires differ { child ≢ parent }
@@ -250,7 +259,7 @@ impl Votes {
     }
 
     /// Adds a resource that takes part. It needs no memory.
-    #[tactic(auto, using(crate::proofs::Numbered::numbered_more))]
+    #[tactic(auto, using(crate::proofs::Numbered::numbered_more, crate::proofs::Once::added_once, crate::proofs::Once::added_few))]
     fn add(&mut self, branch: u32, to: RefBytes, aware: bool) -> u32
         requires room { 0 < self.old.room }
         requires there { branch < list_count }
@@ -271,7 +280,7 @@ impl Votes {
     }
 
     /// Adds a resource that takes no part. It needs no memory.
-    #[tactic(auto, using(crate::proofs::Numbered::numbered_more))]
+    #[tactic(auto, using(crate::proofs::Numbered::numbered_more, crate::proofs::Once::more_once))]
     fn add_aware(&mut self, branch: u32, to: RefBytes) -> u32
         requires room { 0 < self.old.room }
         requires few { length self.old.ballots.registrations < registration_limit }
@@ -291,6 +300,7 @@ impl Votes {
     }
 
     /// Adds a synchronization. It needs no memory.
+    #[tactic(auto, using(crate::proofs::Numbered::numbered_more))]
     fn add_sync(&mut self, branch: u32, to: RefBytes) -> u32
         requires room { 0 < self.old.room }
         requires few { length self.old.ballots.synchronizations < synchronization_limit }
