@@ -16,6 +16,7 @@ use Rattle.resource_votes.specs.History.{times}
 use Rattle.two_phase.specs.Course.{same_number}
 use Rattle.two_phase.specs.Course.{Course, decides_alone, outcome, outcome_word, first_word, errand, next_word, word_of, after_next, answered, heard_at, wants_decision, is_doubtful, is_outside, may_roll_back, after_rollback}
 use Rattle.two_phase.specs.CourseInside.{IsOpen, OpenAt, answer_at}
+use Rattle.two_phase.specs.LawsOfAnswers.{WaitsForAnswer}
 use Rattle.two_phase.specs.LawsOfReached.{TreeBecomes, IsReached, TreeGoesOn, HaveOwnNumbers, numbers}
 use Rattle.two_phase.specs.LawsOfReached.TreeBecomes.{by_word, by_answer, by_record as by_stood, by_reread as by_found, by_rollback}
 use Rattle.two_phase.specs.LawsOfReached.IsReached.{goes_on}
@@ -29,7 +30,7 @@ use Rattle.two_phase.proofs.Opened.{errand_open}
 use Rattle.two_phase.proofs.OneWay.{Sent, sent, same_next}
 use Rattle.two_phase.proofs.Overtaken.{overtaken_ends}
 use Rattle.two_phase.proofs.Rests.{and_right, Says, errand_tells}
-use Rattle.two_phase.proofs.Stays.{Goes, goes, if_case, outcome_stays, undecided, first_true}
+use Rattle.two_phase.proofs.Stays.{goes, if_case, outcome_stays, undecided, first_true}
 
 -- the participant at this place has answered the word of this stage
 record HasHeard (e : Errand) (ps : List Party) : Type 0 where
@@ -70,7 +71,7 @@ answer_of stages.Telling h x = refl
 answer_of stages.Forgetting h x = refl
 
 -- what was answered stays so
-heard_stays : (c : Course) → Goes c → (now : Heard) (e : Errand) → c.out ≡ Some e → (f : Errand) → HasHeard f c.parties → HasHeard f (answered now c e).parties
+heard_stays : (c : Course) → WaitsForAnswer c → (now : Heard) (e : Errand) → c.out ≡ Some e → (f : Errand) → HasHeard f c.parties → HasHeard f (answered now c e).parties
 heard_stays c g now e out f k =
     let o = opened c.parties e (slice_get c.parties e.place) refl (subst (IsOpen c.parties) out g.unheard) in
     let y = heard_at e.stage now o.0 in
@@ -97,7 +98,7 @@ data IsPast (e : Errand) (c : Course) : Type 0 where
 abbrev IsDue : Errand → Course → Type 0
 IsDue e c = (e.stage ≡ stages.Asking) ⊎ ((fixed : Outcome) × (outcome c ≡ Some fixed))
 
-now_heard : (c : Course) → Goes c → (now : Heard) (e : Errand) → c.out ≡ Some e → HasHeard e (answered now c e).parties
+now_heard : (c : Course) → WaitsForAnswer c → (now : Heard) (e : Errand) → c.out ≡ Some e → HasHeard e (answered now c e).parties
 now_heard c g now e out =
     let o = opened c.parties e (slice_get c.parties e.place) refl (subst (IsOpen c.parties) out g.unheard) in
     let y = heard_at e.stage now o.0 in
@@ -116,7 +117,7 @@ fixed_on e c later r step (inr fixed) = inr (fixed.0, outcome_stays c later fixe
 out_word : (e : Errand) (c : Course) → c.out ≡ Some e → IsPast e (after_next c)
 out_word e c is = subst (IsPast e) (sym (same_next c e is)) (is_out is)
 
-out_heard : (e : Errand) (c : Course) → Goes c → c.out ≡ Some e → (n : CallNumber) (now : Heard) (o : Option Errand) → c.out ≡ o
+out_heard : (e : Errand) (c : Course) → WaitsForAnswer c → c.out ≡ Some e → (n : CallNumber) (now : Heard) (o : Option Errand) → c.out ≡ o
     → IsPast e (elim o [ Some f ↦ if same_number n c.number then answered now c f else c | None ↦ c ])
 out_heard e c g is n now None out = is_out is
 out_heard e c g is n now (Some f) out =
@@ -135,19 +136,19 @@ out_back e c reason (inl asks) is =
 out_back e c reason (inr fixed) is =
     if_case (IsPast e) (is_outside reason && may_roll_back c) _ c (λ both. unfixed c reason fixed.0 _ both fixed.1) (is_out is)
 
-out_past : (e : Errand) (c later : Course) → Goes c → TreeBecomes c later → IsDue e c → c.out ≡ Some e → IsPast e later
+out_past : (e : Errand) (c later : Course) → WaitsForAnswer c → TreeBecomes c later → IsDue e c → c.out ≡ Some e → IsPast e later
 out_past e _ _ g (by_word c) due is = out_word e c is
 out_past e _ _ g (by_answer c n now) due is = out_heard e c g is n now c.out refl
 out_past e _ _ g (by_stood c stood) due is = if_case (IsPast e) (wants_decision c) (record c { stood = Some stood }) c (λ _. is_out is) (is_out is)
 out_past e _ _ g (by_found c found) due is = if_case (IsPast e) (is_doubtful c) (record c { reread = Some found }) c (λ _. is_out is) (is_out is)
 out_past e _ _ g (by_rollback c reason) due is = out_back e c reason due is
 
-still_heard : (e : Errand) (c : Course) → Goes c → HasHeard e c.parties → (n : CallNumber) (now : Heard) (o : Option Errand) → c.out ≡ o
+still_heard : (e : Errand) (c : Course) → WaitsForAnswer c → HasHeard e c.parties → (n : CallNumber) (now : Heard) (o : Option Errand) → c.out ≡ o
     → IsPast e (elim o [ Some f ↦ if same_number n c.number then answered now c f else c | None ↦ c ])
 still_heard e c g k n now None out = has_heard k
 still_heard e c g k n now (Some f) out = if_case (IsPast e) (same_number n c.number) (answered now c f) c (λ _. has_heard (heard_stays c g now f out e k)) (has_heard k)
 
-heard_past : (e : Errand) (c later : Course) → Goes c → TreeBecomes c later → HasHeard e c.parties → IsPast e later
+heard_past : (e : Errand) (c later : Course) → WaitsForAnswer c → TreeBecomes c later → HasHeard e c.parties → IsPast e later
 heard_past e _ _ g (by_word c) k = if_case (IsPast e) (is_some c.out) c (record c { out = errand c }) (λ _. has_heard k) (has_heard k)
 heard_past e _ _ g (by_answer c n now) k = still_heard e c g k n now c.out refl
 heard_past e _ _ g (by_stood c stood) k = if_case (IsPast e) (wants_decision c) (record c { stood = Some stood }) c (λ _. has_heard k) (has_heard k)

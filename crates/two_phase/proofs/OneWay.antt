@@ -20,6 +20,7 @@ use Rattle.two_phase.specs.Course.{same_number}
 use Rattle.two_phase.specs.Course.{Course, decides_alone, all_consent, some_commit, outcome_word, by_one, outcome, errand, next_word, word_of, outward_of, outward, after_next, answered, heard_at, heard_by, wants_decision, after_decided, is_doubtful, after_reread, is_outside, may_roll_back, after_rollback}
 use Rattle.two_phase.specs.CourseInside.{IsOpen}
 use Rattle.two_phase.specs.LawsOfCourses.{MayBeTold, MayBeAsked, MayBeRolledBack, IsRollback, RestsOn}
+use Rattle.two_phase.specs.LawsOfAnswers.{WaitsForAnswer}
 use Rattle.two_phase.specs.LawsOfReached.{TreeBecomes, IsReached, TreeGoesOn, IsCommitWord}
 use Rattle.two_phase.specs.LawsOfReached.TreeBecomes.{by_word, by_answer, by_record as by_stood, by_reread as by_found, by_rollback}
 use Rattle.two_phase.specs.LawsOfReached.IsReached.{goes_on}
@@ -32,7 +33,7 @@ use Rattle.two_phase.specs.declared.party.Errand.{Errand}
 use Rattle.two_phase.proofs.Answered.{opened, heard_is}
 use Rattle.two_phase.proofs.Rests.{and_right, Says, errand_tells, words_rest, alone_is, alone_first, one_alone}
 use Rattle.two_phase.proofs.Overtaken.{overtaken_ends}
-use Rattle.two_phase.proofs.Stays.{Goes, goes, if_case, outcome_stays}
+use Rattle.two_phase.proofs.Stays.{goes, if_case, outcome_stays}
 
 -- the word that goes out is that of an errand
 pub record Sent (c : Course) (o : Outward) : Type 0 where
@@ -138,7 +139,7 @@ one_by c k e out x there (has_answered p h at ballot) =
     let same : x ≡ p = same_Some x p (sym (alone_first c e.place x k.alone there) ∙ at) in
     inr (h, ap (λ (y : Party). y.ballot) same ∙ ballot)
 
-answered_keeps : (c : Course) → Goes c → Keeps c → (now : Heard) (e : Errand) → c.out ≡ Some e → Keeps (answered now c e)
+answered_keeps : (c : Course) → WaitsForAnswer c → Keeps c → (now : Heard) (e : Errand) → c.out ≡ Some e → Keeps (answered now c e)
 answered_keeps c g k now e out =
     let o = opened c.parties e (slice_get c.parties e.place) refl (subst (IsOpen c.parties) out g.unheard) in
     let y = heard_at e.stage now o.0 in
@@ -152,7 +153,7 @@ answered_keeps c g k now e out =
       one = has_answered y known.0 first known.1;
     }
 
-heard_keeps : (c : Course) → Goes c → Keeps c → (n : CallNumber) (h : Heard) (o : Option Errand) → c.out ≡ o → Keeps (elim o [ Some e ↦ if same_number n c.number then answered h c e else c | None ↦ c ])
+heard_keeps : (c : Course) → WaitsForAnswer c → Keeps c → (n : CallNumber) (h : Heard) (o : Option Errand) → c.out ≡ o → Keeps (elim o [ Some e ↦ if same_number n c.number then answered h c e else c | None ↦ c ])
 heard_keeps c g k n h None out = k
 heard_keeps c g k n h (Some e) out = if_case Keeps (same_number n c.number) (answered h c e) c (λ _. answered_keeps c g k h e out) k
 
@@ -196,7 +197,7 @@ rollback_keeps : (c : Course) (reason : Reason) → Keeps c → Keeps (after_rol
 rollback_keeps c reason k =
     if_case Keeps (is_outside reason && may_roll_back c) _ c (λ may. absurd (no_rollback c k (and_right (is_outside reason) (may_roll_back c) may) k.one)) k
 
-keeps_by : (c later : Course) → TreeBecomes c later → Goes c → Keeps c → Keeps later
+keeps_by : (c later : Course) → TreeBecomes c later → WaitsForAnswer c → Keeps c → Keeps later
 keeps_by _ _ (by_word c) g k = word_keeps c k k.one
 keeps_by _ _ (by_answer c n h) g k = heard_keeps c g k n h c.out refl
 keeps_by _ _ (by_stood c stood) g k = decided_keeps c stood k

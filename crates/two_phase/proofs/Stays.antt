@@ -16,6 +16,7 @@ use Rattle.two_phase.specs.Course.{same_number}
 use Rattle.two_phase.specs.Parties.{consents}
 use Rattle.two_phase.specs.Course.{Course, decides_alone, all_consent, some_commit, first_refuser, by_refusal, by_record, by_one, outcome, errand, after_next, answered, heard_at, wants_decision, after_decided, is_unsure, is_doubtful, after_reread, is_outside, may_roll_back, after_rollback}
 use Rattle.two_phase.specs.CourseInside.{IsOpen, answer_at}
+use Rattle.two_phase.specs.LawsOfAnswers.{WaitsForAnswer}
 use Rattle.two_phase.specs.LawsOfReached.{TreeBecomes, IsReached}
 use Rattle.two_phase.specs.LawsOfReached.TreeBecomes.{by_word, by_answer, by_record as by_stood, by_reread as by_found, by_rollback}
 use Rattle.two_phase.specs.LawsOfReached.IsReached.{begins, rolls_back, goes_on}
@@ -140,11 +141,6 @@ pub if_case : (P : Course → Type 0) (b : Bool) (x c : Course) → (b ≡ true 
 if_case P true x c f g = f refl
 if_case P false x c f g = g
 
--- a completion that goes on: a word that is out isn't answered, and one that asks is out only while the outcome is open
-pub record Goes (c : Course) : Type 0 where
-  pub unheard : IsOpen c.parties c.out
-  pub asking : (e : Errand) → c.out ≡ Some e → e.stage ≡ stages.Asking → outcome c ≡ None
-
 same_out : (c : Course) (o : Option Errand) → outcome (record c { out = o }) ≡ outcome c
 unfolding outcome all_consent some_commit
 same_out c o = refl
@@ -158,8 +154,8 @@ undecided c e is asks =
     let o = opened c.parties e (slice_get c.parties e.place) refl (errand_open c e is) in
     (subst (λ stage. Says c stage e.place o.0) asks (errand_tells c e is o.0 o.1)).undecided
 
-goes_word : (c : Course) → Goes c → Goes (after_next c)
-goes_word c g = if_case Goes (is_some c.out) c (record c { out = errand c }) (λ _. g) (record {
+goes_word : (c : Course) → WaitsForAnswer c → WaitsForAnswer (after_next c)
+goes_word c g = if_case WaitsForAnswer (is_some c.out) c (record c { out = errand c }) (λ _. g) (record {
   unheard = open_errand c (errand c) refl;
   asking = λ e is asks. same_out c (errand c) ∙ undecided c e is asks;
 })
@@ -174,15 +170,15 @@ one_open (p ∷ ps) (suc i) x at never = rw (one_open ps i x at never) (and_fals
     and_false true = refl
     and_false false = refl
 
-not_all : (c : Course) (e : Errand) → Goes c → c.out ≡ Some e → e.stage ≡ stages.Asking → all_consent c ≡ false
+not_all : (c : Course) (e : Errand) → WaitsForAnswer c → c.out ≡ Some e → e.stage ≡ stages.Asking → all_consent c ≡ false
 unfolding all_consent
 not_all c e g is asks =
     let o = opened c.parties e (slice_get c.parties e.place) refl (subst (IsOpen c.parties) is g.unheard) in
     let silent : o.0.ballot ≡ None = subst (λ stage. answer_at stage o.0 ≡ None) asks o.2 in
     one_open c.parties e.place o.0 o.1 (ap (λ b. option_map_or consents b false) silent)
 
-goes_decided : (c : Course) (stood : Stood) → Goes c → Goes (after_decided stood c)
-goes_decided c stood g = if_case Goes (wants_decision c) (record c { stood = Some stood }) c (λ wants. record {
+goes_decided : (c : Course) (stood : Stood) → WaitsForAnswer c → WaitsForAnswer (after_decided stood c)
+goes_decided c stood g = if_case WaitsForAnswer (wants_decision c) (record c { stood = Some stood }) c (λ wants. record {
   unheard = g.unheard;
   asking = λ e is asks. absurd (true_or_false (all_consent c) (wants_all (not (decides_alone c)) (is_none c.overtaken) (is_none c.stood) (all_consent c) (some_commit c) wants) (not_all c e g is asks));
 }) g
@@ -206,9 +202,9 @@ stood_value : (c : Course) (stood : Stood) → value_of (record c { stood = Some
 unfolding value_of all_consent some_commit
 stood_value c stood = refl
 
-goes_reread : (c : Course) (found : Option ℕ) → Goes c → Goes (after_reread found c)
+goes_reread : (c : Course) (found : Option ℕ) → WaitsForAnswer c → WaitsForAnswer (after_reread found c)
 unfolding value_of
-goes_reread c found g = if_case Goes (is_doubtful c) (record c { reread = Some found }) c (λ doubts. record {
+goes_reread c found g = if_case WaitsForAnswer (is_doubtful c) (record c { reread = Some found }) c (λ doubts. record {
   unheard = g.unheard;
   asking = λ e is asks.
       valued (record c { reread = Some found }) ∙ reread_value c found
@@ -219,32 +215,32 @@ goes_reread c found g = if_case Goes (is_doubtful c) (record c { reread = Some f
 nothing_out : (e : Errand) (A : Type 0) → None ≡ Some e → A
 nothing_out e A h = absurd (cc (h))
 
-goes_rollback : (c : Course) (reason : Reason) → Goes c → Goes (after_rollback reason c)
-goes_rollback c reason g = if_case Goes (is_outside reason && may_roll_back c) _ c (λ may. record {
+goes_rollback : (c : Course) (reason : Reason) → WaitsForAnswer c → WaitsForAnswer (after_rollback reason c)
+goes_rollback c reason g = if_case WaitsForAnswer (is_outside reason && may_roll_back c) _ c (λ may. record {
   unheard = tt;
   asking = λ e is asks. nothing_out e _ is;
 }) g
 
-goes_heard : (c : Course) (n : CallNumber) (h : Heard) → Goes c → (o : Option Errand) → Goes (elim o [ Some e ↦ if same_number n c.number then answered h c e else c | None ↦ c ])
+goes_heard : (c : Course) (n : CallNumber) (h : Heard) → WaitsForAnswer c → (o : Option Errand) → WaitsForAnswer (elim o [ Some e ↦ if same_number n c.number then answered h c e else c | None ↦ c ])
 goes_heard c n h g None = g
-goes_heard c n h g (Some e) = if_case Goes (same_number n c.number) (answered h c e) c (λ _. record {
+goes_heard c n h g (Some e) = if_case WaitsForAnswer (same_number n c.number) (answered h c e) c (λ _. record {
   unheard = tt;
   asking = λ x is asks. nothing_out x _ is;
 }) g
 
-pub goes_becomes : (c later : Course) → TreeBecomes c later → Goes c → Goes later
+pub goes_becomes : (c later : Course) → TreeBecomes c later → WaitsForAnswer c → WaitsForAnswer later
 goes_becomes _ _ (by_word c) g = goes_word c g
 goes_becomes _ _ (by_answer c n h) g = goes_heard c n h g c.out
 goes_becomes _ _ (by_stood c stood) g = goes_decided c stood g
 goes_becomes _ _ (by_found c found) g = goes_reread c found g
 goes_becomes _ _ (by_rollback c reason) g = goes_rollback c reason g
 
-pub goes : (c : Course) → IsReached c → Goes c
+pub goes : (c : Course) → IsReached c → WaitsForAnswer c
 goes _ (begins participants asked first one_phase) = record { unheard = tt; asking = λ e is asks. nothing_out e _ is }
 goes _ (rolls_back participants asked first one_phase reason) = record { unheard = tt; asking = λ e is asks. nothing_out e _ is }
 goes _ (goes_on c later r b) = goes_becomes c later b (goes c r)
 
-stays_heard : (c : Course) (fixed : Outcome) → Goes c → outcome c ≡ Some fixed → (n : CallNumber) (h : Heard) (o : Option Errand) → c.out ≡ o
+stays_heard : (c : Course) (fixed : Outcome) → WaitsForAnswer c → outcome c ≡ Some fixed → (n : CallNumber) (h : Heard) (o : Option Errand) → c.out ≡ o
     → outcome (elim o [ Some e ↦ if same_number n c.number then answered h c e else c | None ↦ c ]) ≡ Some fixed
 stays_heard c fixed g is n h None out = is
 stays_heard c fixed g is n h (Some e) out = if_case (λ x. outcome x ≡ Some fixed) (same_number n c.number) (answered h c e) c (λ _. heard_stays) is
@@ -303,7 +299,7 @@ stays_rollback c fixed reason is = if_case (λ x. outcome x ≡ Some fixed) (is_
 stays_word : (c : Course) (fixed : Outcome) → outcome c ≡ Some fixed → outcome (after_next c) ≡ Some fixed
 stays_word c fixed is = if_case (λ x. outcome x ≡ Some fixed) (is_some c.out) c (record c { out = errand c }) (λ _. is) (same_out c (errand c) ∙ is)
 
-stays_by : (c later : Course) (fixed : Outcome) → TreeBecomes c later → Goes c → outcome c ≡ Some fixed → outcome later ≡ Some fixed
+stays_by : (c later : Course) (fixed : Outcome) → TreeBecomes c later → WaitsForAnswer c → outcome c ≡ Some fixed → outcome later ≡ Some fixed
 stays_by _ _ fixed (by_word c) g is = stays_word c fixed is
 stays_by _ _ fixed (by_answer c n h) g is = stays_heard c fixed g is n h c.out refl
 stays_by _ _ fixed (by_stood c stood) g is = stays_decided c fixed stood is

@@ -8,6 +8,7 @@ pub mod Stages
 pub mod StandingInside
 pub mod LawsOfCourses
 pub mod LawsOfReached
+pub mod LawsOfAnswers
 pub mod LawsOfParticipants
 pub mod LawsOfSilence
 pub mod LawsOfOutcomes

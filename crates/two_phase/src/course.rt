@@ -1,22 +1,25 @@
 // The completion of a tree of transactions, under way.
-ghost use Rattle.std.specs.Prelude.{◌≡◌, ℕ, suc, ◌+◌, ◌^◌, ◌<◌, ◌≤◌, ◌++◌, length, take, drop, position, true, None, Some, if◌then◌else◌, IfSome, IsOk, OnOk, OnErr, vec_len, vec_capacity};
-ghost use Rattle.std.specs.Option.{option_copied, option_map, option_to_list};
-ghost use Rattle.std.specs.List.{slice_get, list_all};
-ghost use Rattle.two_phase.specs.Limits.{disposition_limit, registration_limit};
+ghost use Rattle.std.specs.Prelude.{◌≡◌, ◌+◌, ◌^◌, ◌<◌, ◌≤◌, ◌++◌, length, None, Some, IsOk, OnOk, OnErr, vec_len, vec_capacity};
+ghost use Rattle.std.specs.Option.{option_map};
+ghost use Rattle.std.specs.List.{slice_get};
+ghost use Rattle.two_phase.specs.Limits.{registration_limit};
 ghost use Rattle.two_phase.specs.Course as course;
-ghost use Rattle.two_phase.specs.Parties.{has_answered, has_consented, has_refused, is_unasked};
 ghost use Rattle.two_phase.specs.Reports as reports;
 ghost use Rattle.two_phase.specs.declared.party.Stage.TheVariants as stages;
 ghost use Rattle.two_phase.specs.CourseInside.{IsOpen, ConsentedBefore};
 ghost use Rattle.two_phase.specs.CourseInside as places;
 
 use crate::dispositions::Dispositions;
-use crate::party::{Errand, Party, Stage, by_answer, cause_of, disposition_of_ballot};
+use crate::parties::{
+    add_owed_numbers, all_have_consented, all_through, by_one, first_refuser, gathered, hear,
+    make_room, next_asked, next_forgetting, next_told, others_have_answered, some_owed,
+};
+use crate::party::{Errand, Party, Stage, cause_of};
 use crate::room::Blank;
 use crate::stock::{Stock, enter};
 use heuristic_join::{join_root, join_sub};
 use ots_model::tree::{Outcome, Outward, Reason, Word};
-use ots_model::{CallNumber, Decision, Disposition, Ground, Heard, Join, Receipt, Stood};
+use ots_model::{CallNumber, Decision, Ground, Heard, Join, Receipt, Stood};
 use resource_votes::Walk;
 use std::alloc::AllocError;
 use std::marker::Model;
@@ -507,14 +510,6 @@ impl Course {
     }
 }
 
-/// What a participant answers to a word.
-fn hear(parties: &mut [Party], errand: Errand, heard: Heard)
-    requires there { errand.place < length parties.old }
-    ensures { parties.new ≡ course.heard_by parties.old errand heard }
-{
-    parties[errand.place].hear(errand.stage, heard);
-}
-
 /// A word of this stage to the participant at this place.
 fn errand_to(stage: Stage, place: usize) -> Errand
     ensures { result ≡ record { stage = stage; place = place } }
@@ -532,22 +527,6 @@ fn errand_at(stage: Stage, place: Option<usize>) -> Option<Errand>
     }
 }
 
-/// Whether each participant but the one at this place has answered its first word.
-#[tactic(auto, unfolding(crate::specs::Course::others_have_answered))]
-fn others_have_answered(place: usize, parties: &[Party]) -> bool
-    requires there { place < length parties.now }
-    ensures { result ≡ course.others_have_answered place parties.now }
-{
-    all_have_answered(&parties[..place]) && all_have_answered(&parties[place + 1..])
-}
-
-/// Whether each of these has answered its first word.
-fn all_have_answered(parties: &[Party]) -> bool
-    ensures { result ≡ list_all has_answered parties.now }
-{
-    parties.iter().all(|p| p.has_answered())
-}
-
 /// How many in front have consented, once this word goes out.
 fn passed(errand: Errand, consented: usize) -> usize
     ensures { result ≡ places.passed errand.stage errand.place consented }
@@ -556,99 +535,6 @@ fn passed(errand: Errand, consented: usize) -> usize
         Stage::Asking => errand.place,
         Stage::Telling | Stage::Forgetting => consented,
     }
-}
-
-/// Those behind the first so many.
-#[tactic(auto, using(crate::proofs::Consented::drop_none))]
-fn behind(count: usize, parties: &[Party]) -> &[Party]
-    ensures { result.now ≡ drop count parties.now }
-{
-    if count < parties.len() {
-        &parties[count..]
-    } else {
-        &[]
-    }
-}
-
-/// The first participant whose answer is no consent, where the first so many have consented, and behind the next one
-/// nobody was asked.
-fn first_refuser(consented: usize, parties: &[Party]) -> Option<&Party>
-    requires consented { list_all has_consented (take consented parties.now) ≡ true }
-    requires unasked { list_all is_unasked (drop (suc consented) parties.now) ≡ true }
-    ensures { option_copied result ≡ course.first_refuser parties.now }
-{
-    match party_at(consented, parties) {
-        Some(party) => refusing(party),
-        None => None,
-    }
-}
-
-/// The participant at this place.
-fn party_at(place: usize, parties: &[Party]) -> Option<&Party>
-    ensures { option_copied result ≡ slice_get parties.now place }
-{
-    parties.get(place)
-}
-
-/// This participant, where its answer is no consent.
-fn refusing(party: &Party) -> Option<&Party>
-    ensures { option_copied result ≡ (if has_refused party.now then Some party.now else None) }
-{
-    if party.has_refused() {
-        Some(party)
-    } else {
-        None
-    }
-}
-
-/// Whether each participant has consented, where the first so many have.
-fn all_have_consented(consented: usize, parties: &[Party]) -> bool
-    requires consented { list_all has_consented (take consented parties.now) ≡ true }
-    ensures { result ≡ list_all has_consented parties.now }
-{
-    are_consents(behind(consented, parties))
-}
-
-/// Whether each of these has consented.
-fn are_consents(parties: &[Party]) -> bool
-    ensures { result ≡ list_all has_consented parties.now }
-{
-    parties.iter().all(|p| p.has_consented())
-}
-
-/// The place of the next participant that is asked, where the first so many have consented.
-#[tactic(auto, using(crate::proofs::Consented::asked_within))]
-fn next_asked(consented: usize, parties: &[Party]) -> Option<usize>
-    requires consented { list_all has_consented (take consented parties.now) ≡ true }
-    ensures { result ≡ course.next_asked parties.now }
-{
-    match unasked_of(behind(consented, parties)) {
-        Some(further) => Some(consented + further),
-        None => None,
-    }
-}
-
-/// The place among these of the first that isn't asked yet.
-fn unasked_of(parties: &[Party]) -> Option<usize>
-    ensures { result ≡ position is_unasked parties.now }
-{
-    parties.iter().position(|p| p.is_unasked())
-}
-
-/// The place of the next participant that is told this outcome.
-#[tactic(auto, unfolding(crate::specs::Course::next_told))]
-fn next_told(alone: bool, fixed: Outcome, parties: &[Party]) -> Option<usize>
-    ensures { result ≡ course.next_told alone fixed parties.now }
-{
-    parties.iter().position(|p| p.is_untold(alone, fixed))
-}
-
-/// The place of the next participant that is told to forget.
-#[tactic(auto, unfolding(crate::specs::Course::next_forgetting))]
-fn next_forgetting(parties: &[Party]) -> Option<usize>
-    ensures { result ≡ course.next_forgetting parties.now }
-{
-    parties.iter().position(|p| p.is_unforgotten())
 }
 
 /// Whether a reason comes from outside.
@@ -682,83 +568,6 @@ fn is_commit(outcome: Option<Outcome>) -> bool
     ensures { result ≡ reports.is_commit outcome }
 {
     matches!(outcome, Some(Outcome::Commit(_)))
-}
-
-/// What was heard of the updates of these participants, where this is decided.
-#[tactic(auto, unfolding(crate::specs::Reports::gathered))]
-fn gathered(told: Decision, parties: &[Party]) -> Dispositions
-    requires few { length parties.now ≤ registration_limit }
-    ensures { result ≡ reports.gathered told parties.now }
-{
-    let mut list = Dispositions::new();
-    for party in parties {
-        add(disposition_of_ballot(party.ballot), &mut list);
-        add(party.disposition(told), &mut list);
-    }
-    list
-}
-
-/// Adds a disposition, where there is one.
-fn add(disposition: Option<Disposition>, list: &mut Dispositions)
-    requires { length list.old < disposition_limit }
-    ensures { list.new ≡ list.old ++ option_to_list disposition }
-{
-    if let Some(disposition) = disposition {
-        list.push(disposition);
-    }
-}
-
-/// Whether each participant that was to be told this outcome has completed.
-#[tactic(auto, unfolding(crate::specs::Reports::all_through))]
-fn all_through(alone: bool, fixed: Outcome, parties: &[Party]) -> bool
-    ensures { result ≡ reports.all_through alone fixed parties.now }
-{
-    parties.iter().all(|p| p.is_through(alone, fixed))
-}
-
-/// Whether some participant is owed a word of this stage.
-#[tactic(auto, unfolding(crate::specs::Reports::some_owed))]
-fn some_owed(stage: Stage, parties: &[Party]) -> bool
-    ensures { result ≡ reports.some_owed stage parties.now }
-{
-    parties.iter().any(|p| p.is_owed(stage))
-}
-
-/// Takes memory for so many more numbers, where there is none yet.
-fn make_room(count: usize, into: &mut Vec<u32>) -> Result<(), AllocError>
-    ensures ok { OnOk result (vec_len into.new + count ≤ vec_capacity into.new) }
-    ensures same { into.new.items ≡ into.old.items }
-    ensures reserved { vec_len into.old + count ≤ vec_capacity into.old → IsOk result }
-    ensures capacity { vec_capacity into.old ≤ vec_capacity into.new }
-{
-    if into.capacity() - into.len() < count {
-        into.reserve(count)
-    } else {
-        Ok(())
-    }
-}
-
-/// Appends the numbers of those that are owed a word of this stage. It needs no memory.
-#[tactic(auto, unfolding(crate::specs::Reports::owed_numbers))]
-fn add_owed_numbers(stage: Stage, parties: &[Party], into: &mut Vec<u32>)
-    requires room { vec_len into.old + length parties.now ≤ vec_capacity into.old }
-    ensures numbers { into.new.items ≡ into.old.items ++ reports.owed_numbers stage parties.now }
-    ensures capacity { vec_capacity into.new ≡ vec_capacity into.old }
-{
-    for party in parties {
-        if party.is_owed(stage) {
-            into.push_reserved(party.index);
-        }
-    }
-}
-
-/// The outcome where one was asked to decide alone.
-fn by_one(parties: &[Party]) -> Option<Outcome>
-    ensures { result ≡ course.by_one (slice_get parties.now 0) }
-{
-    let party = parties.first()?;
-    let heard = party.ballot?;
-    Some(by_answer(party.index, heard))
 }
 
 /// The outcome by an answer that is no consent.

@@ -1,5 +1,6 @@
 // Laws of the definitions: these functions do nothing, and their contracts are the laws. A body calls the laws of registrations
 // that its own law follows from.
+ghost use Rattle.two_phase.specs.LawsOfAnswers.{AnswersChangeOne, NextIsOpen, VotesDecide, WordsWaitForAnswers};
 ghost use Rattle.two_phase.specs.LawsOfCourses.{TreeWordsGoRightly};
 ghost use Rattle.two_phase.specs.LawsOfDeciding.{LastAnswerDecides};
 ghost use Rattle.two_phase.specs.LawsOfOutcomes.{OutcomesHaveCauses};
@@ -30,6 +31,24 @@ pub fn a_settled_one_is_through()
     ensures through { SettledIsThrough }
     ensures pending { SettledIsNothingPending }
     ensures silent { SettledIsSilent }
+{}
+
+/// The next word of a completion of a tree goes to a participant that hasn't answered it. The word that is out goes to one that
+/// hasn't answered it, and one that asks is out only while the outcome is open.
+pub fn a_tree_word_waits_for_its_answer()
+    ensures next { NextIsOpen }
+    ensures out { WordsWaitForAnswers }
+{}
+
+/// In a completion of a tree an answer changes the participant whose it is, and no other one.
+pub fn an_answer_changes_one()
+    ensures { AnswersChangeOne }
+{}
+
+/// Where nothing came from outside, and no participant decides alone, the outcome of a completion of a tree is that of the votes
+/// and the record.
+pub fn votes_decide()
+    ensures { VotesDecide }
 {}
 
 /// A decision begins to be wanted in a completion of a tree only while the word that is out is the last that asks.

@@ -4,7 +4,7 @@ use Rattle.std.specs.Option.{option_copied}
 use Rattle.two_phase.specs.Course.{first_refuser}
 use Rattle.two_phase.specs.declared.party.Party.{Party}
 use Rattle.two_phase.proofs.Consented.{refuser_at, no_refuser_at}
-use Rattle.two_phase.proofs.course.first_refuser.Goals as goal
+use Rattle.two_phase.proofs.parties.first_refuser.Goals as goal
 
 pub returns-in-Some : goal.returns-in-Some
 unfolding first_refuser

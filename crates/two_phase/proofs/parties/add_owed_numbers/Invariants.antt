@@ -2,7 +2,7 @@ use Rattle.std.proofs.Common.{◌≡◌, ◌+◌, ◌++◌, ◌≤◌, length, t
 use Rattle.std.specs.List.{filter}
 use Rattle.two_phase.specs.Parties.{is_owed}
 use Rattle.two_phase.specs.declared.party.Party.{Party}
-use Rattle.two_phase.proofs.course.add_owed_numbers.Given as goal
+use Rattle.two_phase.proofs.parties.add_owed_numbers.Given as goal
 
 abbrev pub invariant-loop-party : goal.invariant-loop-party
 invariant-loop-party l = record {

@@ -1,7 +1,7 @@
 use Rattle.std.proofs.Common.{◌≡◌, ◌*◌, ◌≤◌, length, take}
 use Rattle.std.specs.List.{flat_map}
 use Rattle.two_phase.specs.Parties.{dispositions_of}
-use Rattle.two_phase.proofs.course.gathered.Given as goal
+use Rattle.two_phase.proofs.parties.gathered.Given as goal
 
 abbrev pub invariant-loop-party : goal.invariant-loop-party
 invariant-loop-party l = record {

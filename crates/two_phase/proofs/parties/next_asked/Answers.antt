@@ -3,7 +3,7 @@ use Rattle.std.specs.Option.{option_map}
 use Rattle.two_phase.specs.Course.{next_asked}
 use Rattle.two_phase.specs.Parties.{is_unasked}
 use Rattle.two_phase.proofs.Consented.{asked_behind}
-use Rattle.two_phase.proofs.course.next_asked.Goals as goal
+use Rattle.two_phase.proofs.parties.next_asked.Goals as goal
 
 pub returns-in-Some : goal.returns-in-Some
 unfolding next_asked
