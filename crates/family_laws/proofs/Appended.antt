@@ -4,7 +4,6 @@ use Rattle.ior_refs.specs.declared.key.ObjectKey.{ObjectKey}
 use Rattle.ots_model.specs.declared.completion.Stood.{Stood}
 use Rattle.decision_journal.specs.declared.journal.Standing.{Standing}
 use Rattle.decision_journal.specs.declared.record.JournalRecord.{JournalRecord}
-use Rattle.two_phase.specs.LawsOfCourses.{TreeWordsGoRightly}
 use Rattle.two_phase.specs.LawsOfReached.{TreeOutcomeStays}
 use Rattle.two_phase.specs.Stages as stages
 use Rattle.coordinator.specs.declared.event.Event.{Event}
@@ -14,6 +13,7 @@ use Rattle.coordinator.specs.Step.{family_step, wanted, hears}
 use Rattle.family_laws.specs.LawsOfJournal.{AppendsOwn}
 use Rattle.family_laws.specs.Sound.{IsSoundFamily}
 use Rattle.family_laws.specs.SoundNode.{IsDecisionOf}
+use Rattle.family_laws.specs.LawsBelow.{Laws}
 use Rattle.family_laws.proofs.Journal.{families_append_own}
 use Rattle.family_laws.proofs.Standing.{IsNew}
 use Rattle.family_laws.proofs.StepsTell.{families_number_words}
@@ -24,10 +24,10 @@ record_own : (f g : Family) → f.key ≡ g.key → IsDecisionOf f (decision_rec
 unfolding decision_record
 record_own f g e = (ap (λ (k : ObjectKey). k.life) e, ap (λ (k : ObjectKey). k.slot) e, ap (λ (k : ObjectKey). k.generation) e)
 
-pub appended_own : TreeWordsGoRightly → TreeOutcomeStays → (f : Family) (e : Event) (stood : Option Stood) (s : Standing) → IsSoundFamily f → IsNew (wanted f e) stood s
+pub appended_own : Laws → TreeOutcomeStays → (f : Family) (e : Event) (stood : Option Stood) (s : Standing) → IsSoundFamily f → IsNew (wanted f e) stood s
     → IsDecisionOf (family_step f e stood).family s.item × (stages.record_place (family_step f e stood).family.completion ≡ Some s.place)
 appended_own law stays f e stood s sound x =
-    let a : AppendsOwn f e x.item = families_append_own stays f e x.item sound x.wanted in
+    let a : AppendsOwn f e x.item = families_append_own law stays f e x.item sound x.wanted in
     let g : Family = (hears a.number a.heard f).family in
     let later : Family = (family_step f e stood).family in
     let key : later.key ≡ g.key = families_number_words.key f e stood ∙ sym (hears_is a.number a.heard f).told.key_stays in

@@ -6,7 +6,6 @@ use Rattle.txn_tree.specs.Calls.{created, ended, with_state}
 use Rattle.txn_tree.specs.declared.row.Row.{Row}
 use Rattle.txn_tree.specs.declared.row.State.{State}
 use Rattle.txn_tree.specs.declared.row.State.TheVariants.{Committed, Active}
-use Rattle.txn_tree.proofs.Lineages.{tree_kept, tree_grows}
 use Rattle.resource_votes.specs.Ballots.{Ballots, participants, adopted, registered, registered_aware}
 use Rattle.resource_votes.specs.declared.registration.Registration.{Registration}
 use Rattle.two_phase.specs.Parties.{party_of}
@@ -17,6 +16,7 @@ use Rattle.coordinator.specs.Phases.{is_before}
 use Rattle.family_laws.specs.Trees.{IsUpTo}
 use Rattle.family_laws.specs.Trees.IsUpTo.{same}
 use Rattle.family_laws.specs.Sound.{NoneLive, IsSoundLists, IsSoundCompletion}
+use Rattle.family_laws.specs.LawsBelow.{Laws}
 use Rattle.family_laws.proofs.Trees.{up_joined, up_open, back_up, back_down, split, up_here, live_open, grown_up, grown_down, grown_live}
 use Rattle.family_laws.proofs.Lists.{all_joined, all_map, adopted_cases, registered_cases, aware_same, numbers_adopted, numbers_registered, numbers_aware, new_one}
 use Rattle.std.proofs.lemmas.Grind.{common_steps}
@@ -41,61 +41,61 @@ row_more : (rs : List Row) (r : Row) → length (rs ++ r ∷ []) ≡ length rs +
 row_more rs r = grind (arith, common_steps)
 
 -- a live branch is marked or rolled back
-pub lists_with : (rs : List Row) (some : Ballots) (d : ℕ) (s : State) → is_live_branch rs d ≡ true → s ≢ Committed → is_live_branch (with_state rs d s) 0 ≡ true
+pub lists_with : Laws → (rs : List Row) (some : Ballots) (d : ℕ) (s : State) → is_live_branch rs d ≡ true → s ≢ Committed → is_live_branch (with_state rs d s) 0 ≡ true
     → IsSoundLists rs some → IsSoundLists (with_state rs d s) some
-lists_with rs some d s live n top h = record {
-  tree = tree_kept rs h.tree d s;
+lists_with law rs some d s live n top h = record {
+  tree = law.stands rs h.tree d s;
   top = top;
-  listed = λ b. all_map (Listed rs b) (Listed (with_state rs d s) b) (λ r u. back_up rs d s live b r.branch u) (participants b some) (h.listed b);
+  listed = λ b. all_map (Listed rs b) (Listed (with_state rs d s) b) (λ r u. back_up law rs d s live b r.branch u) (participants b some) (h.listed b);
   highest = λ b. all_map (Highest rs b) (Highest (with_state rs d s) b)
-      (λ r high c u. back_up rs d s live b c (high c (back_down rs d s live n c r.branch u))) (participants b some) (h.highest b);
+      (λ r high c u. back_up law rs d s live b c (high c (back_down law rs d s live n c r.branch u))) (participants b some) (h.highest b);
   numbers = h.numbers;
   room = h.room;
   few = let many = row_kept rs d (record { parent = parent rs d; state = s }) in let few = h.few in omega (arith, many, few);
 }
 
 -- a live branch is committed into its parent, above which nothing is committed
-still_highest : (rs : List Row) (b p c : ℕ) → is_live_branch rs b ≡ true → parent rs b ≡ Some p → c ≢ b → (r : Registration) → Highest rs c r → Highest (ended rs b true) c r
-still_highest rs b p c live is other r high x u = go (split rs b p is x r.branch u)
+still_highest : Laws → (rs : List Row) (b p c : ℕ) → is_live_branch rs b ≡ true → parent rs b ≡ Some p → c ≢ b → (r : Registration) → Highest rs c r → Highest (ended rs b true) c r
+still_highest law rs b p c live is other r high x u = go (split law rs b p is x r.branch u)
   where
     go : IsUpTo rs x r.branch ⊎ (IsUpTo rs b r.branch × IsUpTo (ended rs b true) x p) → IsUpTo (ended rs b true) c x
-    go (inl v) = back_up rs b Committed live c x (high x v)
+    go (inl v) = back_up law rs b Committed live c x (high x v)
     go (inr v) = absurd (other (sym (up_open rs c b (live_open rs b live) (high b v.0))))
 
-handed_highest : (rs : List Row) (b p : ℕ) → is_live_branch rs b ≡ true → parent rs b ≡ Some p → ((x : ℕ) → IsUpTo (ended rs b true) x p → p ≡ x)
+handed_highest : Laws → (rs : List Row) (b p : ℕ) → is_live_branch rs b ≡ true → parent rs b ≡ Some p → ((x : ℕ) → IsUpTo (ended rs b true) x p → p ≡ x)
     → (r : Registration) → Highest rs b r → Highest (ended rs b true) p r
-handed_highest rs b p live is none r high x u = go (split rs b p is x r.branch u)
+handed_highest law rs b p live is none r high x u = go (split law rs b p is x r.branch u)
   where
     go : IsUpTo rs x r.branch ⊎ (IsUpTo rs b r.branch × IsUpTo (ended rs b true) x p) → IsUpTo (ended rs b true) p x
-    go (inl v) = up_joined (ended rs b true) p b x (up_here rs b p live is) (back_up rs b Committed live b x (high x v))
+    go (inl v) = up_joined (ended rs b true) p b x (up_here law rs b p live is) (back_up law rs b Committed live b x (high x v))
     go (inr v) = subst (λ (y : ℕ). IsUpTo (ended rs b true) p y) (none x v.1) same
 
-pub lists_committed : (rs : List Row) (some : Ballots) (b p : ℕ) → is_live_branch rs b ≡ true → parent rs b ≡ Some p → p ≢ b
+pub lists_committed : Laws → (rs : List Row) (some : Ballots) (b p : ℕ) → is_live_branch rs b ≡ true → parent rs b ≡ Some p → p ≢ b
     → ((x : ℕ) → IsUpTo (ended rs b true) x p → p ≡ x) → is_live_branch (ended rs b true) 0 ≡ true
     → IsSoundLists rs some → IsSoundLists (ended rs b true) (adopted b p some)
-lists_committed rs some b p live is other none top h =
+lists_committed law rs some b p live is other none top h =
     let more : List Row = ended rs b true in
     record {
-      tree = tree_kept rs h.tree b Committed;
+      tree = law.stands rs h.tree b Committed;
       top = top;
       listed = λ c. adopted_cases (AllByRecursion (Listed more c)) some b p c
           (λ e. rw e (all_joined (Listed more p) (participants p some) (participants b some)
-          (all_map (Listed rs p) (Listed more p) (λ r u. back_up rs b Committed live p r.branch u) (participants p some) (h.listed p))
-          (all_map (Listed rs b) (Listed more p) (λ r u. up_joined more p b r.branch (up_here rs b p live is) (back_up rs b Committed live b r.branch u)) (participants b some) (h.listed b))))
-          (λ o n. all_map (Listed rs c) (Listed more c) (λ r u. back_up rs b Committed live c r.branch u) (participants c some) (h.listed c)) tt;
+          (all_map (Listed rs p) (Listed more p) (λ r u. back_up law rs b Committed live p r.branch u) (participants p some) (h.listed p))
+          (all_map (Listed rs b) (Listed more p) (λ r u. up_joined more p b r.branch (up_here law rs b p live is) (back_up law rs b Committed live b r.branch u)) (participants b some) (h.listed b))))
+          (λ o n. all_map (Listed rs c) (Listed more c) (λ r u. back_up law rs b Committed live c r.branch u) (participants c some) (h.listed c)) tt;
       highest = λ c. adopted_cases (AllByRecursion (Highest more c)) some b p c
           (λ e. rw e (all_joined (Highest more p) (participants p some) (participants b some)
-          (all_map (Highest rs p) (Highest more p) (still_highest rs b p p live is other) (participants p some) (h.highest p))
-          (all_map (Highest rs b) (Highest more p) (handed_highest rs b p live is none) (participants b some) (h.highest b))))
-          (λ o n. all_map (Highest rs c) (Highest more c) (still_highest rs b p c live is n) (participants c some) (h.highest c)) tt;
+          (all_map (Highest rs p) (Highest more p) (still_highest law rs b p p live is other) (participants p some) (h.highest p))
+          (all_map (Highest rs b) (Highest more p) (handed_highest law rs b p live is none) (participants b some) (h.highest b))))
+          (λ o n. all_map (Highest rs c) (Highest more c) (still_highest law rs b p c live is n) (participants c some) (h.highest c)) tt;
       numbers = numbers_adopted some b p h.numbers;
       room = lists_kept (slice_set some.lists b []) p (list_at some.lists p ++ list_at some.lists b) ∙ lists_kept some.lists b [] ∙ h.room;
       few = let many = row_kept rs b (record { parent = parent rs b; state = Committed }) in let few = h.few in omega (arith, many, few);
     }
 
-pub lists_created : (rs : List Row) (some : Ballots) (b : ℕ) → b < length rs → length rs < list_count → IsSoundLists rs some → IsSoundLists (created rs b) some
-lists_created rs some b within small h = record {
-  tree = tree_grows rs h.tree b within;
+pub lists_created : Laws → (rs : List Row) (some : Ballots) (b : ℕ) → b < length rs → length rs < list_count → IsSoundLists rs some → IsSoundLists (created rs b) some
+lists_created law rs some b within small h = record {
+  tree = (law.grow rs h.tree b within).with_a_child;
   top = grown_live rs b 0 h.top;
   listed = λ c. all_map (Listed rs c) (Listed (created rs b) c) (λ r u. grown_up rs b c r.branch u) (participants c some) (h.listed c);
   highest = λ c. all_map (Highest rs c) (Highest (created rs b) c)

@@ -14,7 +14,6 @@ use Rattle.ots_model.specs.declared.tree.Heard.{Heard}
 use Rattle.ots_model.specs.declared.tree.Outcome.{Outcome}
 use Rattle.ots_model.specs.declared.tree.Outcome.TheVariants as outcomes
 use Rattle.ots_model.specs.declared.tree.Reason.{Reason}
-use Rattle.two_phase.proofs.Rests.{votes_is}
 use Rattle.two_phase.specs.Course as course
 use Rattle.two_phase.specs.Course.{Course}
 use Rattle.two_phase.specs.LawsOfReached.{IsReached, TreeBecomes}
@@ -43,6 +42,7 @@ use Rattle.coordinator.specs.Laws.{IsThere}
 use Rattle.coordinator.specs.Step.{Appends, WritesDone, wanted_by, wanted_act, wanted, hears, answered, goes_on_at, acts_on, acted, is_silent, is_silent_act, Stepped, quiet, entered, step_by, family_step}
 use Rattle.family_laws.specs.LawsOfJournal.{HasForgotten, HasCompleted, CompletesAll, FamiliesCloseLast}
 use Rattle.family_laws.specs.Sound.{IsSoundFamily}
+use Rattle.family_laws.specs.LawsBelow.{Laws}
 use Rattle.family_laws.proofs.Telling.{either_course, IsOther, IsKept}
 use Rattle.family_laws.proofs.Votes.{answered_alone, IsNoDone, other_no_done}
 use Rattle.family_laws.proofs.Hearing.{hears_calm}
@@ -124,11 +124,11 @@ overtaken_is : (c : Course) (reason : Reason) → c.overtaken ≡ Some reason �
 unfolding course.outcome
 overtaken_is c reason e = rw e refl
 
-known : (c : Course) → course.decides_alone c ≡ false → course.outcome c ≡ Some outcomes.Unknown → ⊥
-known c a h = go c.overtaken refl
+known : Laws → (c : Course) → course.decides_alone c ≡ false → course.outcome c ≡ Some outcomes.Unknown → ⊥
+known law c a h = go c.overtaken refl
   where
     go : (o : Option Reason) → c.overtaken ≡ o → ⊥
-    go None e = known_by_votes c (sym (votes_is c e a) ∙ h)
+    go None e = known_by_votes c (sym (law.votes c e a) ∙ h)
     go (Some reason) e = absurd (cc (sym (overtaken_is c reason e) ∙ h))
 
 -- ---- all have completed
@@ -201,9 +201,9 @@ not_true : (b : Bool) → not b ≡ true → b ≡ false
 not_true true h = absurd (cc h)
 not_true false h = refl
 
-settled_all : (c : Course) → course.decides_alone c ≡ false → reports.is_settled c ≡ true → CompletesAll (UnderWay c)
+settled_all : Laws → (c : Course) → course.decides_alone c ≡ false → reports.is_settled c ≡ true → CompletesAll (UnderWay c)
 unfolding reports.all_through reports.some_owed
-settled_all c a h = go (course.outcome c) refl (both_left (reports.all_completed c) (not (reports.some_owed asks.Forgetting c.parties)) h)
+settled_all law c a h = go (course.outcome c) refl (both_left (reports.all_completed c) (not (reports.some_owed asks.Forgetting c.parties)) h)
   where
     owed : AllByRecursion (λ (p : Party). is_owed asks.Forgetting p ≡ false) c.parties
     owed = all_false (is_owed asks.Forgetting) c.parties (not_true (list_any (is_owed asks.Forgetting) c.parties) (both_right (reports.all_completed c) (not (reports.some_owed asks.Forgetting c.parties)) h))
@@ -212,7 +212,7 @@ settled_all c a h = go (course.outcome c) refl (both_left (reports.all_completed
     go None e x = absurd (cc x)
     go (Some fixed) e x =
         all_both (λ (p : Party). is_through (course.decides_alone c) fixed p ≡ true) (λ (p : Party). is_owed asks.Forgetting p ≡ false) (λ (p : Party). p.ballot ≡ Some (participants.Voted VoteCommit) → HasCompleted p)
-        (λ p t w. has_completed_all (course.decides_alone c) fixed p a (λ u. known c a (rw u at e)) t w) c.parties (all_true (is_through (course.decides_alone c) fixed) c.parties x) owed
+        (λ p t w. has_completed_all (course.decides_alone c) fixed p a (λ u. known law c a (rw u at e)) t w) c.parties (all_true (is_through (course.decides_alone c) fixed) c.parties x) owed
 
 -- ---- the Done is wanted
 
@@ -252,17 +252,17 @@ no_record : (stood : Option Stood) (reread : Option (Option ℕ)) (place : ℕ) 
 no_record None reread place e h = absurd (cc h)
 no_record (Some x) reread place e h = absurd (cc e)
 
-completes_all : (s : Standing) (place : ℕ) → IsThere s → stages.record_place s ≡ Some place → stages.is_settled s ≡ true → CompletesAll s
-completes_all (Waiting room) place there at h = absurd (cc h)
-completes_all (UnderWay c) place there at h = go (together c there)
+completes_all : Laws → (s : Standing) (place : ℕ) → IsThere s → stages.record_place s ≡ Some place → stages.is_settled s ≡ true → CompletesAll s
+completes_all law (Waiting room) place there at h = absurd (cc h)
+completes_all law (UnderWay c) place there at h = go (together c there)
   where
     go : Together c → CompletesAll (UnderWay c)
     go (inl n) = absurd (no_record c.stood c.reread place n at)
-    go (inr a) = settled_all c a h
+    go (inr a) = settled_all law c a h
 
-done_completed : (f : Family) (e : Event) (place : ℕ) (number : CallNumber) (heard : Heard) → IsSoundFamily f → wanted f e ≡ Some (WritesDone place) → e.act ≡ acts.Answer number heard
+done_completed : Laws → (f : Family) (e : Event) (place : ℕ) (number : CallNumber) (heard : Heard) → IsSoundFamily f → wanted f e ≡ Some (WritesDone place) → e.act ≡ acts.Answer number heard
     → CompletesAll (hears number heard f).family.completion × (stages.record_place (hears number heard f).family.completion ≡ Some place)
-done_completed f e place number heard sound w is =
+done_completed law f e place number heard sound w is =
     let x : IsWantedBy f e (WritesDone place) = wanted_is f e (WritesDone place) tt w in
     let n : x.number ≡ number = cc (x.answer, is) in
     let h : x.heard ≡ heard = cc (x.answer, is) in
@@ -270,7 +270,7 @@ done_completed f e place number heard sound w is =
     subst (λ (k : CallNumber). wanted_by (hears k heard f).family ≡ Some (WritesDone place)) n
     (subst (λ (k : Heard). wanted_by (hears x.number k f).family ≡ Some (WritesDone place)) h x.by) in
     let d = done_by (hears number heard f).family place by in
-    (completes_all (hears number heard f).family.completion place (hears_calm number heard f sound).sound.completion.there d.at (done_settled (hears number heard f).family d.wanted_now), d.at)
+    (completes_all law (hears number heard f).family.completion place (hears_calm law number heard f sound).sound.completion.there d.at (done_settled (hears number heard f).family d.wanted_now), d.at)
 
 -- ---- and told
 
@@ -351,9 +351,9 @@ done_tells f e place at w =
     (sym (ap (λ (s : Stepped). s.effects) (wanted_step f e (Some (answers.Stands at)) (WritesDone place) x) ∙ entered_effects f e (Some (answers.Stands at)) x.number x.heard))
     (answer_tells x.number x.heard f at place (done_by (hears x.number x.heard f).family place x.by))
 
-pub families_close_last : FamiliesCloseLast
-families_close_last = record {
-  completed = done_completed;
+pub families_close_last : Laws → FamiliesCloseLast
+families_close_last law = record {
+  completed = done_completed law;
   told = λ f e stood c. done_told f e stood (family_step f e stood) (step_is f e stood) (loud f e stood effects.Done c) c;
   tells = done_tells;
 }

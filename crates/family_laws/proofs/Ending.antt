@@ -19,7 +19,7 @@ use Rattle.resource_votes.specs.declared.registration.Registration.{Registration
 use Rattle.two_phase.specs.Course as course
 use Rattle.two_phase.specs.Course.{Course}
 use Rattle.two_phase.specs.Parties.{hears_rollback}
-use Rattle.two_phase.specs.LawsOfCourses.{TreeWordsGoRightly, GoesRightly, RestsOn, IsRollback}
+use Rattle.two_phase.specs.LawsOfCourses.{GoesRightly, RestsOn, IsRollback}
 use Rattle.two_phase.specs.LawsOfReached.IsReached.{begins as reached, rolls_back as reached_by_rollback, goes_on as reached_on}
 use Rattle.two_phase.specs.LawsOfReached.TreeBecomes.{by_word}
 use Rattle.two_phase.specs.Stages as stages
@@ -37,6 +37,7 @@ use Rattle.family_laws.specs.LawsOfSteps.{GoesBack, GoesToParticipant, Rests, Is
 use Rattle.family_laws.specs.Trees.{IsCutOff}
 use Rattle.family_laws.specs.LawsOfTelling.{HasVote}
 use Rattle.family_laws.specs.Sound.{NoneLive, HasParties, IsAsking, IsWaiting, IsSoundCompletion, IsInStage, IsDue, IsSoundCall}
+use Rattle.family_laws.specs.LawsBelow.{Laws}
 use Rattle.family_laws.proofs.Changes.{completion_staged, has_begun}
 use Rattle.family_laws.proofs.Lists.{has_at, any_there, all_there}
 use Rattle.family_laws.proofs.Seats.{IsBut, But, call_staged}
@@ -222,10 +223,10 @@ goes_to c some o h k p is number reference =
     record { r = one.r; there = one.there; number = one.number ∙ sym number; reference = one.reference ∙ sym reference }
 
 -- before it goes out
-rests_before : TreeWordsGoRightly → (c : Course) (some : Ballots) (rs : List Row) (w o : Outward) → HasParties (UnderWay c) (ballots.participants 0 some) → course.next_word c ≡ Some w
+rests_before : Laws → (c : Course) (some : Ballots) (rs : List Row) (w o : Outward) → HasParties (UnderWay c) (ballots.participants 0 some) → course.next_word c ≡ Some w
     → o.word ≡ w.word → o.registration ≡ w.registration → o.to ≡ w.to → Rests (UnderWay c) some rs o
 rests_before law c some rs w o h next word number reference =
-    let g : GoesRightly w c = law c w next in
+    let g : GoesRightly w c = law.words c w next in
     let n : o.registration ≡ g.party.index = number ∙ g.registration in
     let t : o.to ≡ g.party.to = reference ∙ g.reference in
     let on : (x : Word) → o.word ≡ x → RestsOn x g.place g.party c = λ x e. subst (λ (y : Word). RestsOn y g.place g.party c) (sym word ∙ e) g.rests in
@@ -267,7 +268,7 @@ rests_alike c d some rs o parties same alone over h = record {
     back : GoesBack (UnderWay c) some rs o → GoesBack (UnderWay d) some rs o
     back g = record { r = g.r; there = g.there; listed = g.listed; number = g.number; reference = g.reference; over = over_either g.r g.over }
 
-rests_after : TreeWordsGoRightly → (c : Course) (some : Ballots) (rs : List Row) (w o : Outward) → HasParties (UnderWay c) (ballots.participants 0 some) → course.next_word c ≡ Some w
+rests_after : Laws → (c : Course) (some : Ballots) (rs : List Row) (w o : Outward) → HasParties (UnderWay c) (ballots.participants 0 some) → course.next_word c ≡ Some w
     → o.word ≡ w.word → o.registration ≡ w.registration → o.to ≡ w.to → Rests (UnderWay (course.after_next c)) some rs o
 rests_after law c some rs w o h next word number reference =
     rests_alike c (course.after_next c) some rs o (next_either (λ (d : Course). d.parties ≡ c.parties) c refl refl) (same_outcome c)
@@ -284,7 +285,7 @@ rests_fine c (Some fixed) f e l a = afterwards_fine (is_before f.stage) f.rows 0
 rests_fine c None f e l a =
     waits_fine 0 c f a.but (top_call f.stage f.rows f.ballots c.aim c.leg c.left (rw l e) a.none a.dues)
 
-sent_fine : TreeWordsGoRightly → (k : Course) (o : Option Outward) → course.next_word k ≡ o → (c : Call) (f : Family) → f.stage ≡ Completing → c.leg ≡ Deciding → IsAlone (record f { completion = UnderWay k }) c
+sent_fine : Laws → (k : Course) (o : Option Outward) → course.next_word k ≡ o → (c : Call) (f : Family) → f.stage ≡ Completing → c.leg ≡ Deciding → IsAlone (record f { completion = UnderWay k }) c
     → Fine f (decides_by o c (record f { completion = UnderWay k }))
 sent_fine law k (Some w) next c f e l a =
     let g : Family = record f { completion = UnderWay (course.after_next k) } in
@@ -294,14 +295,14 @@ sent_fine law k (Some w) next c f e l a =
     (rests_after law k f.ballots f.rows w _ a.but.completion.parties next refl refl refl)
 sent_fine law k None next c f e l a = rests_fine c (course.outcome k) (record f { completion = UnderWay k }) e l a
 
-decides_from : TreeWordsGoRightly → (s : Standing) (c : Call) (f : Family) → f.stage ≡ Completing → IsAlone (record f { completion = s }) c → Fine f (decides c (record f { completion = s }))
+decides_from : Laws → (s : Standing) (c : Call) (f : Family) → f.stage ≡ Completing → IsAlone (record f { completion = s }) c → Fine f (decides c (record f { completion = s }))
 unfolding decides
 decides_from law (Waiting room) c f e a =
     rests_fine (record c { leg = Deciding }) None (record f { completion = Waiting room }) e refl (record { but = a.but; none = a.none; dues = a.dues })
 decides_from law (UnderWay k) c f e a =
     sent_fine law k (course.next_word k) refl (record c { leg = Deciding }) f e refl (record { but = a.but; none = a.none; dues = a.dues })
 
-pub decides_fine : TreeWordsGoRightly → (c : Call) (f : Family) → f.stage ≡ Completing → IsAlone f c → Fine f (decides c f)
+pub decides_fine : Laws → (c : Call) (f : Family) → f.stage ≡ Completing → IsAlone f c → Fine f (decides c f)
 decides_fine law c f e a = decides_from law f.completion c f e a
 
 -- ---- its completion begins
@@ -359,7 +360,7 @@ early stage e = rw e refl
 
 -- ---- its commit goes on
 
-calls_next_fine : TreeWordsGoRightly → (o : Option Registration) (called : ℕ) (c : Call) (f : Family) → f.stage ≡ Finishing → (asked : Bool) → c.aim ≡ Commits asked → IsAlone f c → Fine f (calls_next o called c f)
+calls_next_fine : Laws → (o : Option Registration) (called : ℕ) (c : Call) (f : Family) → f.stage ≡ Finishing → (asked : Bool) → c.aim ≡ Commits asked → IsAlone f c → Fine f (calls_next o called c f)
 calls_next_fine law (Some r) called c f e asked aim a =
     sends_fine (is_before f.stage) f.rows 0 (record c { leg = Before (called + 1) }) _ None f a.but
     (top_call f.stage f.rows f.ballots c.aim (Before (called + 1)) c.left (rw aim e) a.none a.dues)
@@ -369,7 +370,7 @@ calls_next_fine law None called c f e asked aim a =
     chained (is_before f.stage) f.rows (begins first f) (decides c) (begins_quiet first f)
     (decides_fine law c (begins first f).family (begins_stage first f) (begins_alone first f c (early f.stage e) (asking_sound (asked_of c.aim) f a.none) a))
 
-pub before_fine : TreeWordsGoRightly → (called : ℕ) (c : Call) (f : Family) → f.stage ≡ Finishing → (asked : Bool) → c.aim ≡ Commits asked → IsAlone f c → Fine f (before called c f)
+pub before_fine : Laws → (called : ℕ) (c : Call) (f : Family) → f.stage ≡ Finishing → (asked : Bool) → c.aim ≡ Commits asked → IsAlone f c → Fine f (before called c f)
 unfolding before
 before_fine law called c f e asked aim a =
     let first : Standing = rolling_back (asked_of c.aim) reasons.Marked f in

@@ -20,13 +20,11 @@ use Rattle.txn_tree.specs.declared.row.Row.{Row}
 use Rattle.txn_tree.specs.declared.row.State.{State}
 use Rattle.txn_tree.specs.declared.row.State.TheVariants.{Active, Marked, Committed, RolledBack}
 use Rattle.txn_tree.specs.Rows as rows
-use Rattle.txn_tree.proofs.Lineages.{length_kept}
 use Rattle.resource_votes.specs.Ballots.{Ballots}
 use Rattle.resource_votes.specs.Ballots as ballots
 use Rattle.resource_votes.specs.declared.registration.Registration.{Registration}
 use Rattle.two_phase.specs.Course as course
 use Rattle.two_phase.specs.Course.{Course}
-use Rattle.two_phase.specs.LawsOfCourses.{TreeWordsGoRightly}
 use Rattle.two_phase.specs.LawsOfReached.IsReached.{goes_on as reached_on}
 use Rattle.two_phase.specs.LawsOfReached.TreeBecomes.{by_answer, by_record, by_reread}
 use Rattle.two_phase.specs.Course.{same_number}
@@ -53,6 +51,7 @@ use Rattle.coordinator.specs.Step.{hears_call, hears_for, hears, goes_on_at, ans
 use Rattle.family_laws.specs.LawsOfSteps.{EndInTurn}
 use Rattle.family_laws.specs.LawsOfTelling.{rows_told}
 use Rattle.family_laws.specs.Sound.{NoneLive, HasParties, IsAsking, IsInStage, IsSoundCompletion, IsSoundFamily}
+use Rattle.family_laws.specs.LawsBelow.{Laws}
 use Rattle.family_laws.proofs.Changes.{lists_with, completion_rows}
 use Rattle.family_laws.proofs.Ending.{IsAlone, top_call, but_staged, begins_quiet, rolling_sound, begun_first, early}
 use Rattle.family_laws.proofs.Seats.{But, Takes, taken_up, put_back, call_kept, none_live_kept}
@@ -130,37 +129,37 @@ unmarked f b h =
       | inr n ↦ is_unmarked_in (is_ending f b) (rows.state f.rows b) (rw (zero_not b n) at h)
     ]
 
-marked_sound : (f : Family) (b : ℕ) → is_live_branch f.rows b ≡ true → IsSoundFamily f → IsSoundFamily (record f { rows = marked f.rows b })
-marked_sound f b live h =
+marked_sound : Laws → (f : Family) (b : ℕ) → is_live_branch f.rows b ≡ true → IsSoundFamily f → IsSoundFamily (record f { rows = marked f.rows b })
+marked_sound law f b live h =
     let more : List Row = marked f.rows b in
     let fewer : NoneLive f.rows → NoneLive more = none_live_kept f.rows more (live_before f.rows b Marked live) in
     record {
-      lists = lists_with f.rows f.ballots b Marked live (λ e. absurd (cc e)) (live_marked f.rows b live 0 h.lists.top) h.lists;
+      lists = lists_with law f.rows f.ballots b Marked live (λ e. absurd (cc e)) (live_marked f.rows b live 0 h.lists.top) h.lists;
       completion = completion_rows f.stage f.rows more f.ballots f.completion fewer h.completion;
-      as_many = h.as_many ∙ sym (length_kept f.rows b Marked);
+      as_many = h.as_many ∙ sym (((law.keep f.rows b).with_a_state Marked).count);
       under_way = λ d c e. call_kept f.stage f.rows more f.ballots f.ballots d c.aim c.leg c.left
-          (live_marked f.rows b live d) (cut_stays f.rows b Marked live) fewer (λ r k. k) (h.under_way d c e);
+          (live_marked f.rows b live d) (cut_stays law f.rows b Marked live) fewer (λ r k. k) (h.under_way d c e);
       finishing = h.finishing;
     }
 
-pub marks_calm : (b : ℕ) (f : Family) → IsSoundFamily f → Calm f (marks b f)
+pub marks_calm : Laws → (b : ℕ) (f : Family) → IsSoundFamily f → Calm f (marks b f)
 unfolding marks
-marks_calm b f h = either_calm (is_before f.stage) f.rows (is_markable f b) _ _
+marks_calm law b f h = either_calm (is_before f.stage) f.rows (is_markable f b) _ _
     (λ e. record {
-      sound = marked_sound f b (live_markable f b h.lists.top e) h;
+      sound = marked_sound law f b (live_markable f b h.lists.top e) h;
       quiet = record { stage = λ x. x; rows = refl; turn = ((live_markable f b h.lists.top e, unmarked f b e), tt); silent = refl };
     })
     (λ e. only_calm f h)
 
-marks_parent_calm : (o : Option ℕ) (f : Family) → IsSoundFamily f → Calm f (marks_parent o f)
-marks_parent_calm (Some above) f h = marks_calm above f h
-marks_parent_calm None f h = only_calm f h
+marks_parent_calm : Laws → (o : Option ℕ) (f : Family) → IsSoundFamily f → Calm f (marks_parent o f)
+marks_parent_calm law (Some above) f h = marks_calm law above f h
+marks_parent_calm law None f h = only_calm f h
 
-told_end_calm : (aim : Aim) (b : ℕ) (heard : Heard) (f : Family) → IsSoundFamily f → Calm f (told_end aim b heard f)
+told_end_calm : Laws → (aim : Aim) (b : ℕ) (heard : Heard) (f : Family) → IsSoundFamily f → Calm f (told_end aim b heard f)
 unfolding told_commit
-told_end_calm (Commits asked) b heard f h =
-    either_calm (is_before f.stage) f.rows (is_plain heard || has_parent_ended f b) _ _ (λ e. only_calm f h) (λ e. marks_parent_calm (parent f.rows b) f h)
-told_end_calm (RollsBack says) b heard f h = only_calm f h
+told_end_calm law (Commits asked) b heard f h =
+    either_calm (is_before f.stage) f.rows (is_plain heard || has_parent_ended f b) _ _ (λ e. only_calm f h) (λ e. marks_parent_calm law (parent f.rows b) f h)
+told_end_calm law (RollsBack says) b heard f h = only_calm f h
 
 -- ---- a commit is given up
 
@@ -320,36 +319,36 @@ in_before : (stage : Stage) (aim : Aim) (called : ℕ) → IsInStage stage aim (
 in_before stage (Commits asked) called h = h
 in_before stage (RollsBack says) called h = absurd h
 
-told_calm : (leg : Leg) (n : CallNumber) (b : ℕ) (c : Call) (heard : Heard) (f : Family) → c.leg ≡ leg → But b f → Takes b c f → IsSoundFamily f → Calm f (told leg n b c heard f)
-told_calm Below n b c heard f l k t h = only_calm f h
-told_calm Own n b c heard f l k t h = told_end_calm c.aim b heard f h
-told_calm (Before called) n b c heard f l k t h =
+told_calm : Laws → (leg : Leg) (n : CallNumber) (b : ℕ) (c : Call) (heard : Heard) (f : Family) → c.leg ≡ leg → But b f → Takes b c f → IsSoundFamily f → Calm f (told leg n b c heard f)
+told_calm law Below n b c heard f l k t h = only_calm f h
+told_calm law Own n b c heard f l k t h = told_end_calm law c.aim b heard f h
+told_calm law (Before called) n b c heard f l k t h =
     let z : b ≡ 0 = is_top b c f (Before called) l tt t in
     let stage : f.stage ≡ Finishing = in_before f.stage c.aim called (subst (λ (x : Leg). IsInStage f.stage c.aim x) l (t.top z).in_stage) in
     told_before_calm b called c heard f z stage (top_alone b c f (Before called) l tt k t z) h
-told_calm Deciding n b c heard f l k t h = told_participant_calm n heard f h
-told_calm (After called) n b c heard f l k t h = only_calm f h
+told_calm law Deciding n b c heard f l k t h = told_participant_calm n heard f h
+told_calm law (After called) n b c heard f l k t h = only_calm f h
 
-hears_at_calm : (n : CallNumber) (b : ℕ) (c : Call) (heard : Heard) (f : Family) → call_at f b ≡ Some c → IsSoundFamily f → Calm f (hears_at n b c heard f)
+hears_at_calm : Laws → (n : CallNumber) (b : ℕ) (c : Call) (heard : Heard) (f : Family) → call_at f b ≡ Some c → IsSoundFamily f → Calm f (hears_at n b c heard f)
 unfolding hears_at
-hears_at_calm n b c heard f e h =
+hears_at_calm law n b c heard f e h =
     let quiet : Call = record c { out = None } in
     let g : Family = with_call b quiet f in
     let t : Takes b quiet g = h.under_way b c e in
     let sound : IsSoundFamily g = put_back b quiet f (taken_up b f h) t in
-    told_calm c.leg n b quiet heard g refl (taken_up b g sound) t sound
+    told_calm law c.leg n b quiet heard g refl (taken_up b g sound) t sound
 
-hears_call_calm : (o : Option Call) (b : ℕ) (n : CallNumber) (heard : Heard) (f : Family) → call_at f b ≡ o → IsSoundFamily f → Calm f (hears_call o b n heard f)
-hears_call_calm (Some c) b n heard f e h = hears_at_calm n b c heard f e h
-hears_call_calm None b n heard f e h = only_calm f h
+hears_call_calm : Laws → (o : Option Call) (b : ℕ) (n : CallNumber) (heard : Heard) (f : Family) → call_at f b ≡ o → IsSoundFamily f → Calm f (hears_call o b n heard f)
+hears_call_calm law (Some c) b n heard f e h = hears_at_calm law n b c heard f e h
+hears_call_calm law None b n heard f e h = only_calm f h
 
-hears_for_calm : (o : Option ℕ) (n : CallNumber) (heard : Heard) (f : Family) → IsSoundFamily f → Calm f (hears_for o n heard f)
-hears_for_calm (Some b) n heard f h = hears_call_calm (call_at f b) b n heard f refl h
-hears_for_calm None n heard f h = only_calm f h
+hears_for_calm : Laws → (o : Option ℕ) (n : CallNumber) (heard : Heard) (f : Family) → IsSoundFamily f → Calm f (hears_for o n heard f)
+hears_for_calm law (Some b) n heard f h = hears_call_calm law (call_at f b) b n heard f refl h
+hears_for_calm law None n heard f h = only_calm f h
 
-pub hears_calm : (n : CallNumber) (heard : Heard) (f : Family) → IsSoundFamily f → Calm f (hears n heard f)
+pub hears_calm : Laws → (n : CallNumber) (heard : Heard) (f : Family) → IsSoundFamily f → Calm f (hears n heard f)
 unfolding hears
-hears_calm n heard f h = hears_for_calm (waiting_for f n) n heard f h
+hears_calm law n heard f h = hears_for_calm law (waiting_for f n) n heard f h
 
 -- ---- the journal
 
@@ -402,21 +401,21 @@ settles_calm (Some stood) f h = either_calm (is_before f.stage) f.rows (stages.w
 
 -- ---- and then its call goes on
 
-goes_on_at_fine : TreeWordsGoRightly → (o : Option ℕ) (f : Family) → IsSoundFamily f → Fine f (goes_on_at o f)
+goes_on_at_fine : Laws → (o : Option ℕ) (f : Family) → IsSoundFamily f → Fine f (goes_on_at o f)
 goes_on_at_fine law (Some b) f h = goes_on_fine law b f h
 goes_on_at_fine law None f h = only_fine f h
 
-pub answered_fine : TreeWordsGoRightly → (n : CallNumber) (heard : Heard) (stood : Option Stood) (f : Family) → IsSoundFamily f → Fine f (answered n heard stood f)
+pub answered_fine : Laws → (n : CallNumber) (heard : Heard) (stood : Option Stood) (f : Family) → IsSoundFamily f → Fine f (answered n heard stood f)
 unfolding answered
 answered_fine law n heard stood f h =
     let first : Moved = hears n heard f in
-    let k : IsCalm (is_before f.stage) f.rows first = hears_calm n heard f h in
+    let k : IsCalm (is_before f.stage) f.rows first = hears_calm law n heard f h in
     let settled : IsCalm (is_before f.stage) f.rows (first ▹ settles stood) =
     calmly (is_before f.stage) f.rows first (settles stood) k.quiet (settles_calm stood first.family k.sound) in
     chained (is_before f.stage) f.rows (first ▹ settles stood) (goes_on_at (waiting_for f n)) settled.quiet
     (goes_on_at_fine law (waiting_for f n) (first ▹ settles stood).family settled.sound)
 
-pub rereads_fine : TreeWordsGoRightly → (stood : Option Stood) (f : Family) → IsSoundFamily f → Fine f (rereads stood f)
+pub rereads_fine : Laws → (stood : Option Stood) (f : Family) → IsSoundFamily f → Fine f (rereads stood f)
 unfolding rereads
 rereads_fine law stood f h =
     let later : Standing = stages.after_reread (found_at stood) f.completion in

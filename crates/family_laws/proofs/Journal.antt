@@ -15,7 +15,6 @@ use Rattle.two_phase.specs.Course.{Course}
 use Rattle.two_phase.specs.Parties.{has_consented, has_refused}
 use Rattle.two_phase.specs.LawsOfReached.{TreeOutcomeStays}
 use Rattle.two_phase.specs.Stages as stages
-use Rattle.two_phase.proofs.Rests.{votes_is}
 use Rattle.two_phase.specs.Stages.{Standing, Waiting, Going as UnderWay}
 use Rattle.two_phase.specs.declared.party.Party.{Party}
 use Rattle.decision_journal.specs.declared.record.JournalRecord.{JournalRecord}
@@ -31,6 +30,7 @@ use Rattle.coordinator.specs.History.{kept_for}
 use Rattle.coordinator.specs.Laws.{IsThere, IsAgreed}
 use Rattle.coordinator.specs.Step.{Wanted, Appends, WritesDone, Rereads, wanted_by, wanted_act, wanted, hears, answered, goes_on_at, acts_on, acted, is_silent_act, Stepped, quiet, entered, step_by, family_step}
 use Rattle.family_laws.specs.LawsOfJournal.{FamiliesAppendOwn}
+use Rattle.family_laws.specs.LawsBelow.{Laws}
 use Rattle.family_laws.proofs.Telling.{Stays, Plain}
 use Rattle.family_laws.proofs.Votes.{hears_is}
 use Rattle.family_laws.proofs.StepsTell.{settles_is, goes_on_at_plain}
@@ -117,8 +117,8 @@ unfolding course.first_refuser
 first_none ps h = no_refuser ps h
 
 -- its outcome is what the record says
-agreed_outcome : (c : Course) → c.overtaken ≡ None → course.decides_alone c ≡ false → course.all_consent c ≡ true → course.some_commit c ≡ true → course.outcome c ≡ course.by_record c.stood c.reread
-agreed_outcome c over together consent several = votes_is c over together ∙ by_votes
+agreed_outcome : Laws → (c : Course) → c.overtaken ≡ None → course.decides_alone c ≡ false → course.all_consent c ≡ true → course.some_commit c ≡ true → course.outcome c ≡ course.by_record c.stood c.reread
+agreed_outcome below c over together consent several = below.votes c over together ∙ by_votes
   where
     refuser : course.first_refuser c.parties ≡ None
     refuser = first_none c.parties (consented c consent)
@@ -133,15 +133,15 @@ agreed_outcome c over together consent several = votes_is c over together ∙ by
     ]) refuser ∙ by_consent (course.all_consent c) (course.some_commit c) consent several
 
 -- none before the journal has answered
-open_before : (c : Course) → course.wants_decision c ≡ true → course.outcome c ≡ None
-open_before c h = let a = agrees c h in agreed_outcome c a.overtaken a.together a.consent a.several ∙ rw a.stood refl
+open_before : Laws → (c : Course) → course.wants_decision c ≡ true → course.outcome c ≡ None
+open_before below c h = let a = agrees c h in agreed_outcome below c a.overtaken a.together a.consent a.several ∙ rw a.stood refl
 
 -- and then commit by the record
-decided_outcome : (c : Course) (place : ℕ) → course.wants_decision c ≡ true → course.outcome (record c { stood = Some (answers.Stands place) }) ≡ Some (outcomes.Commit Record)
-decided_outcome c place h =
+decided_outcome : Laws → (c : Course) (place : ℕ) → course.wants_decision c ≡ true → course.outcome (record c { stood = Some (answers.Stands place) }) ≡ Some (outcomes.Commit Record)
+decided_outcome below c place h =
     let a = agrees c h in
     let d : Course = record c { stood = Some (answers.Stands place) } in
-    agreed_outcome d a.overtaken a.together (same_consent c place ∙ a.consent) (same_several c place ∙ a.several)
+    agreed_outcome below d a.overtaken a.together (same_consent c place ∙ a.consent) (same_several c place ∙ a.several)
 
 -- ---- what is wanted
 
@@ -237,18 +237,18 @@ agreed_by : (s : Standing) → stages.wants_decision s ≡ true → IsAgreed s
 agreed_by (Waiting room) h = absurd (cc h)
 agreed_by (UnderWay c) h = let a = agrees c h in (a.consent, a.several)
 
-open_by : (s : Standing) → stages.wants_decision s ≡ true → stages.outcome s ≡ None
-open_by (Waiting room) h = absurd (cc h)
-open_by (UnderWay c) h = open_before c h
+open_by : Laws → (s : Standing) → stages.wants_decision s ≡ true → stages.outcome s ≡ None
+open_by below (Waiting room) h = absurd (cc h)
+open_by below (UnderWay c) h = open_before below c h
 
 decided_place : (s : Standing) (place : ℕ) → stages.wants_decision s ≡ true → stages.record_place (stages.after_decided (answers.Stands place) s) ≡ Some place
 decided_place (Waiting room) place h = absurd (cc h)
 decided_place (UnderWay c) place h = ap (λ (t : Bool). stages.record_place (UnderWay (if t then record c { stood = Some (answers.Stands place) } else c))) h
 
-decided_commit : (s : Standing) (place : ℕ) → stages.wants_decision s ≡ true → stages.outcome (stages.after_decided (answers.Stands place) s) ≡ Some (outcomes.Commit Record)
-decided_commit (Waiting room) place h = absurd (cc h)
-decided_commit (UnderWay c) place h =
-    ap (λ (t : Bool). stages.outcome (UnderWay (if t then record c { stood = Some (answers.Stands place) } else c))) h ∙ decided_outcome c place h
+decided_commit : Laws → (s : Standing) (place : ℕ) → stages.wants_decision s ≡ true → stages.outcome (stages.after_decided (answers.Stands place) s) ≡ Some (outcomes.Commit Record)
+decided_commit below (Waiting room) place h = absurd (cc h)
+decided_commit below (UnderWay c) place h =
+    ap (λ (t : Bool). stages.outcome (UnderWay (if t then record c { stood = Some (answers.Stands place) } else c))) h ∙ decided_outcome below c place h
 
 settled_completion : (f : Family) (place : ℕ) → stages.wants_decision f.completion ≡ true
     → (settles (Some (answers.Stands place)) f).family.completion ≡ stages.after_decided (answers.Stands place) f.completion
@@ -270,10 +270,10 @@ record IsDecidedAt (s : Standing) (place : ℕ) : Type 0 where
   at : stages.record_place s ≡ Some place
   commit : stages.outcome s ≡ Some (outcomes.Commit Record)
 
-answered_decided : TreeOutcomeStays → (n : CallNumber) (h : Heard) (f : Family) (place : ℕ) → IsThere f.completion → stages.wants_decision (hears n h f).family.completion ≡ true
+answered_decided : Laws → TreeOutcomeStays → (n : CallNumber) (h : Heard) (f : Family) (place : ℕ) → IsThere f.completion → stages.wants_decision (hears n h f).family.completion ≡ true
     → IsDecidedAt (answered n h (Some (answers.Stands place)) f).family.completion place
 unfolding answered
-answered_decided law n h f place there wants =
+answered_decided below law n h f place there wants =
     let g : Family = (hears n h f).family in
     let k : Family = (settles (Some (answers.Stands place)) g).family in
     let first = ((hears_is n h f).told.outcomes law there).0 in
@@ -282,14 +282,14 @@ answered_decided law n h f place there wants =
     let is : k.completion ≡ stages.after_decided (answers.Stands place) g.completion = settled_completion g place wants in
     record {
       at = last.kept.place place (ap (λ (s : Standing). stages.record_place s) is ∙ decided_place g.completion place wants);
-      commit = (last.told.outcomes law second.there).0.same (outcomes.Commit Record) (ap (λ (s : Standing). stages.outcome s) is ∙ decided_commit g.completion place wants);
+      commit = (last.told.outcomes law second.there).0.same (outcomes.Commit Record) (ap (λ (s : Standing). stages.outcome s) is ∙ decided_commit below g.completion place wants);
     }
 
 step_completion : (f : Family) (e : Event) (stood : Option Stood) (w : Wanted) (x : IsWantedBy f e w) → (family_step f e stood).family.completion ≡ (answered x.number x.heard stood f).family.completion
 step_completion f e stood w x = ap (λ (s : Stepped). s.family.completion) (wanted_step f e stood w x) ∙ entered_completion f e stood x.number x.heard
 
-pub families_append_own : TreeOutcomeStays → FamiliesAppendOwn
-families_append_own law f e item sound w =
+pub families_append_own : Laws → TreeOutcomeStays → FamiliesAppendOwn
+families_append_own below law f e item sound w =
     let x : IsWantedBy f e (Appends item) = wanted_is f e (Appends item) tt w in
     let g : Family = (hears x.number x.heard f).family in
     let by = appends_by g item x.by in
@@ -300,9 +300,9 @@ families_append_own law f e item sound w =
       answer = x.answer;
       is_record = by.1;
       agreed = agreed_by g.completion by.0;
-      undecided = still_open f.completion g.completion stays (open_by g.completion by.0) (stages.outcome f.completion) refl;
+      undecided = still_open f.completion g.completion stays (open_by below g.completion by.0) (stages.outcome f.completion) refl;
       stands = λ place. ap (λ (s : Standing). stages.record_place s) (step_completion f e (Some (answers.Stands place)) (Appends item) x)
-          ∙ (answered_decided law x.number x.heard f place sound.completion.there by.0).at;
+          ∙ (answered_decided below law x.number x.heard f place sound.completion.there by.0).at;
       decides = λ place. ap (λ (s : Standing). stages.outcome s) (step_completion f e (Some (answers.Stands place)) (Appends item) x)
-          ∙ (answered_decided law x.number x.heard f place sound.completion.there by.0).commit;
+          ∙ (answered_decided below law x.number x.heard f place sound.completion.there by.0).commit;
     }

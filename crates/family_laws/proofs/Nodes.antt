@@ -18,7 +18,6 @@ use Rattle.decision_journal.specs.declared.record.JournalRecord.{JournalRecord}
 use Rattle.recovery_coord.specs.Held.{is_held, taken}
 use Rattle.recovery_coord.specs.Hearing.{records_after, completed}
 use Rattle.recovery_coord.specs.declared.held.Held.{Held}
-use Rattle.two_phase.specs.LawsOfCourses.{TreeWordsGoRightly}
 use Rattle.two_phase.specs.LawsOfReached.{TreeOutcomeStays}
 use Rattle.two_phase.specs.Stages as stages
 use Rattle.coordinator.specs.declared.event.Event.{Event}
@@ -39,6 +38,7 @@ use Rattle.coordinator.specs.NodeTick.{tick_at, tick_of, ticked, takes_all_over,
 use Rattle.coordinator.specs.Step.{quiet, family_step, Appends, WritesDone, wanted, is_finished}
 use Rattle.family_laws.specs.Sound.{IsSoundFamily}
 use Rattle.family_laws.specs.SoundNode.{IsDecisionOf, is_family_decision, HasFamilyOf, IsSoundNode, IsBehind, NodesStaySound}
+use Rattle.family_laws.specs.LawsBelow.{Laws}
 use Rattle.family_laws.proofs.Appended.{appended_own}
 use Rattle.family_laws.proofs.Slots.{family_other, family_same, family_put, family_within, set_length, in_slot_kept, own_kept, family_ticked, map_length}
 use Rattle.family_laws.proofs.Standing.{found_order, journaled_order, IsNew, journaled_new, done_gone, held_taken, held_without, held_retold, held_heard, held_decision, held_loaded, found_at, decision_passes}
@@ -189,16 +189,16 @@ new_sound_node make made slot n free few h = record {
     decide s c d (inl k) = inl (held_over n.found (family_in n.families slot) s.place n.recovered k)
     decide s c d (inr x) = by_family_there s c d x (same_or_not x.slot slot)
 
-made_sound : (now seconds : ℕ) (n : Node) → IsSoundNode n → IsSoundNode (creates now seconds n).node
+made_sound : Laws → (now seconds : ℕ) (n : Node) → IsSoundNode n → IsSoundNode (creates now seconds n).node
 unfolding creates makes
-made_sound now seconds n h = by_slot (free_slot n) refl
+made_sound law now seconds n h = by_slot (free_slot n) refl
   where
     make : ObjectKey → Family
     make key = new_family key (deadline_after now seconds)
 
     by_number : (slot : ℕ) → IsFreeSlot n.families slot → (t : Bool) → nat_lt n.generation generation_limit ≡ t
         → IsSoundNode (if t then record { node = with_new make slot n; answer = Ok (next_key n slot) } else makes_no_family n).node
-    by_number slot free true e = new_sound_node make (λ key. (refl, new_sound key (deadline_after now seconds))) slot n free (grind (arith, nat_tests, e)) h
+    by_number slot free true e = new_sound_node make (λ key. (refl, new_sound law key (deadline_after now seconds))) slot n free (grind (arith, nat_tests, e)) h
     by_number slot free false e = h
 
     by_slot : (o : Option ℕ) → free_slot n ≡ o → IsSoundNode (makes_in o make n).node
@@ -213,14 +213,14 @@ record IsLater (f g : Family) : Type 0 where
   sound : IsSoundFamily f → IsSoundFamily g
   place : (p : ℕ) → stages.record_place f.completion ≡ Some p → stages.record_place g.completion ≡ Some p
 
-step_later : TreeWordsGoRightly → (f : Family) (e : Event) (stood : Option Stood) → IsLater f (family_step f e stood).family
+step_later : Laws → (f : Family) (e : Event) (stood : Option Stood) → IsLater f (family_step f e stood).family
 step_later law f e stood = record {
   key = families_number_words.key f e stood;
   sound = λ h. (families_stay_sound law).steps f e stood h;
   place = step_place f e stood;
 }
 
-tick_later : TreeWordsGoRightly → (now : ℕ) (f : Family) → IsLater f (tick_of now f).family
+tick_later : Laws → (now : ℕ) (f : Family) → IsLater f (tick_of now f).family
 tick_later law now f = go (has_room f.entries (tick_at now))
   where
     go : (t : Bool) → IsLater f (if t then family_step f (tick_at now) None else quiet said.Plain f).family
@@ -231,7 +231,7 @@ all_over : (found : Found) (fs : List (Option Family)) (place : ℕ) (xs : List 
 all_over found [] place xs h = h
 all_over found (o ∷ fs) place xs h = all_over found fs place (takes_over found o xs) (held_over found o place xs h)
 
-ticked_sound : TreeWordsGoRightly → (now : ℕ) (n : Node) → IsSoundNode n → IsSoundNode (ticks now n).node
+ticked_sound : Laws → (now : ℕ) (n : Node) → IsSoundNode n → IsSoundNode (ticks now n).node
 unfolding ticks
 ticked_sound law now n h = record {
   slots = map_length now n.families ∙ h.slots;
@@ -284,7 +284,7 @@ called_family k e n f h = go (is_some (retold_answer e.act)) h
     go false x = of_key k (family_in n.families k.slot) f x
 
 -- where a family is called, the node's life stays
-stepped_sound : TreeWordsGoRightly → TreeOutcomeStays → (f : Family) (e : Event) (stood : Option Stood) (n : Node) (slot : ℕ) → family_in n.families slot ≡ Some f → IsBehind (wanted f e) stood n
+stepped_sound : Laws → TreeOutcomeStays → (f : Family) (e : Event) (stood : Option Stood) (n : Node) (slot : ℕ) → family_in n.families slot ≡ Some f → IsBehind (wanted f e) stood n
     → (journaled (wanted f e) stood n.found).life ≡ life n → IsSoundNode n → IsSoundNode (steps_to n f e stood (family_step f e stood)).node
 stepped_sound law stays f e stood n slot there behind lives h = record {
   slots = set_length n.families g.key.slot (Some g) ∙ h.slots;
@@ -411,7 +411,7 @@ by_records_sound (Some a) k e stood n lives h = go (is_held a.number.generation 
 by_records_sound None k e stood n lives h =
     subst (λ (x : Node). IsSoundNode x) (sym (replies_node (option_and_then (record_says k e.key e.act) (record_of k n)) n)) h
 
-by_family_sound : TreeWordsGoRightly → TreeOutcomeStays → (f : Family) (e : Event) (stood : Option Stood) (n : Node) (slot : ℕ) → family_in n.families slot ≡ Some f → IsBehind (family_wants f e) stood n
+by_family_sound : Laws → TreeOutcomeStays → (f : Family) (e : Event) (stood : Option Stood) (n : Node) (slot : ℕ) → family_in n.families slot ≡ Some f → IsBehind (family_wants f e) stood n
     → life (by_family f e stood n).node ≡ life n → IsSoundNode n → IsSoundNode (by_family f e stood n).node
 by_family_sound law stays f e stood n slot there behind lives h = go (has_room f.entries e) lives behind
   where
@@ -420,7 +420,7 @@ by_family_sound law stays f e stood n slot there behind lives h = go (has_room f
     go true l b = stepped_sound law stays f e stood n slot there b l h
     go false l b = h
 
-applied_sound : TreeWordsGoRightly → TreeOutcomeStays → (o : Option Family) (k : ObjectKey) (e : Event) (stood : Option Stood) (n : Node) → family_for k e n ≡ o → IsBehind (wanted_by o e n) stood n
+applied_sound : Laws → TreeOutcomeStays → (o : Option Family) (k : ObjectKey) (e : Event) (stood : Option Stood) (n : Node) → family_for k e n ≡ o → IsBehind (wanted_by o e n) stood n
     → life (applied_by o k e stood n).node ≡ life n → IsSoundNode n → IsSoundNode (applied_by o k e stood n).node
 unfolding answers_recovered
 applied_sound law stays (Some f) k e stood n is behind lives h = by_family_sound law stays f e stood n k.slot (called_family k e n f is) behind lives h
@@ -429,15 +429,15 @@ applied_sound law stays None k e stood n is behind lives h = by_records_sound (r
 called_life : NodesKeepNumbers → (k : ObjectKey) (e : Event) (stood : Option Stood) (n : Node) → life (applies k e stood n).node ≡ life n
 called_life keep k e stood n = (keep n (applies k e stood n).node (further n (applies k e stood n).node still (by_call k e stood n))).same_life
 
-called_sound : TreeWordsGoRightly → TreeOutcomeStays → (k : ObjectKey) (e : Event) (stood : Option Stood) (n : Node) → life (applies k e stood n).node ≡ life n → IsBehind (call_wants k e n) stood n → IsSoundNode n
+called_sound : Laws → TreeOutcomeStays → (k : ObjectKey) (e : Event) (stood : Option Stood) (n : Node) → life (applies k e stood n).node ≡ life n → IsBehind (call_wants k e n) stood n → IsSoundNode n
     → IsSoundNode (applies k e stood n).node
 unfolding applies call_wants
 called_sound law stays k e stood n lives behind h = applied_sound law stays (family_for k e n) k e stood n refl behind lives h
 
-pub nodes_stay_sound : TreeWordsGoRightly → TreeOutcomeStays → NodesKeepNumbers → NodesStaySound
+pub nodes_stay_sound : Laws → TreeOutcomeStays → NodesKeepNumbers → NodesStaySound
 nodes_stay_sound law stays keep = record {
   loaded = load_sound;
-  made = made_sound;
+  made = made_sound law;
   called = λ k e stood n behind h. called_sound law stays k e stood n (called_life keep k e stood n) behind h;
   ticked = ticked_sound law;
 }

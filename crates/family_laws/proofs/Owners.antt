@@ -19,7 +19,6 @@ use Rattle.recovery_coord.specs.Held.{is_complete, is_held, without}
 use Rattle.recovery_coord.specs.Hearing.{records_after, completes, completed, is_retold}
 use Rattle.recovery_coord.specs.Telling.{recalled, retold}
 use Rattle.recovery_coord.specs.declared.held.Held.{Held}
-use Rattle.two_phase.specs.LawsOfCourses.{TreeWordsGoRightly}
 use Rattle.two_phase.specs.LawsOfReached.{TreeOutcomeStays}
 use Rattle.two_phase.specs.Stages as stages
 use Rattle.coordinator.specs.declared.event.Event.{Event}
@@ -41,6 +40,7 @@ use Rattle.family_laws.specs.LawsOfJournal.{AppendsOwn}
 use Rattle.family_laws.specs.Sound.{IsSoundFamily}
 use Rattle.family_laws.specs.OwnDecisions.{AppendsBetween, FindsOwn, HasDecision, IsUnclosed, KeepsDecisions, NodesKeepDecisions, StandsAt}
 use Rattle.family_laws.specs.SoundNode.{AreBefore, AreInOrder, IsDecisionOf, NodesStaySound}
+use Rattle.family_laws.specs.LawsBelow.{Laws}
 use Rattle.family_laws.proofs.Appended.{appended_own}
 use Rattle.family_laws.proofs.Answered.{Answers, step_answers, Comes}
 use Rattle.family_laws.proofs.Answered.Comes.{before as stood_before, appended, again}
@@ -140,7 +140,7 @@ record HasOwners (edge : ℕ) (n : Node) : Type 0 where
   held : (h : Held) → Contains n.recovered h → StandsAt n.found.standing h.place
   unclosed : (slot place : ℕ) (f : Family) → family_in n.families slot ≡ Some f → IsUnclosed f place → HasDecision n f place
 
-module _ (law : TreeWordsGoRightly) (stays : TreeOutcomeStays) (f : Family) (e : Event) (stood : Option Stood) (n : Node) (slot : ℕ) (there : family_in n.families slot ≡ Some f)
+module _ (law : Laws) (stays : TreeOutcomeStays) (f : Family) (e : Event) (stood : Option Stood) (n : Node) (slot : ℕ) (there : family_in n.families slot ≡ Some f)
     (edge more : ℕ) (grows : edge ≤ more) (appends : AppendsBetween edge more (wanted f e) stood)
     (finds : (place : ℕ) → wanted f e ≡ Some Rereads → stood ≡ Some (answers.Stands place) → HasDecision n f place) (h : KeepsDecisions edge n) where
   abbrev g : Family
@@ -165,7 +165,7 @@ module _ (law : TreeWordsGoRightly) (stays : TreeOutcomeStays) (f : Family) (e :
   so = step_answers stays f e stood sound.completion.there
 
   appends_own : (item : JournalRecord) → w ≡ Some (Appends item) → (x : Family) × (item ≡ decision_record x)
-  appends_own item i = let a : AppendsOwn f e item = families_append_own stays f e item sound i in ((hears a.number a.heard f).family, a.is_record)
+  appends_own item i = let a : AppendsOwn f e item = families_append_own law stays f e item sound i in ((hears a.number a.heard f).family, a.is_record)
 
   behind : (item : JournalRecord) (place : ℕ) → w ≡ Some (Appends item) → stood ≡ Some (answers.Stands place) → AreBefore place n.found.standing
   behind item place i j = before_more edge place (appends item place i j).0 n.found.standing h.before
@@ -690,7 +690,7 @@ module _ (edge more : ℕ) (grows : edge ≤ more) (n : Node) (h : KeepsDecision
       go (Some answer) = same
       go None = same
 
-  module _ (law : TreeWordsGoRightly) (stays : TreeOutcomeStays) (k : ObjectKey) (e : Event) (stood : Option Stood) where
+  module _ (law : Laws) (stays : TreeOutcomeStays) (k : ObjectKey) (e : Event) (stood : Option Stood) where
     applied_owners : (o : Option Family) → family_for k e n ≡ o → AppendsBetween edge more (wanted_by o e n) stood → FindsOwn o (wanted_by o e n) stood n
         → HasOwners more (applied_by o k e stood n).node
     unfolding answers_recovered
@@ -720,7 +720,7 @@ module _ (edge more : ℕ) (grows : edge ≤ more) (n : Node) (h : KeepsDecision
           unclosed = x.unclosed;
         }
 
-pub nodes_keep_decisions : TreeWordsGoRightly → TreeOutcomeStays → NodesStaySound → NodesKeepDecisions
+pub nodes_keep_decisions : Laws → TreeOutcomeStays → NodesStaySound → NodesKeepDecisions
 nodes_keep_decisions law stays nodes = record {
   loaded = loaded_keeps nodes;
   made = made_keeps nodes;

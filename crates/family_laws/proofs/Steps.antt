@@ -16,8 +16,6 @@ use Rattle.txn_tree.specs.declared.row.Row.{Row}
 use Rattle.txn_tree.specs.declared.row.State.{State}
 use Rattle.txn_tree.specs.declared.row.State.TheVariants.{Active, Marked, Committed, RolledBack}
 use Rattle.txn_tree.specs.declared.row.TreeFault.{TreeFault}
-use Rattle.txn_tree.proofs.Lineages.{length_kept}
-use Rattle.txn_tree.proofs.Sound.{depths_begin}
 use Rattle.resource_votes.specs.Ballots.{Ballots, participants, no_ballots, numbered, registering, by_status, registered, registered_aware, registered_sync}
 use Rattle.resource_votes.specs.Limits.{list_count}
 use Rattle.resource_votes.specs.Lists.{list_at, AreNumbers}
@@ -25,7 +23,6 @@ use Rattle.resource_votes.specs.declared.registration.Registration.{Registration
 use Rattle.resource_votes.specs.declared.registration.VoteFault.{VoteFault}
 use Rattle.resource_votes.specs.declared.registration.VoteFault.TheVariants as vote_faults
 use Rattle.two_phase.specs.Course.{is_outside}
-use Rattle.two_phase.specs.LawsOfCourses.{TreeWordsGoRightly}
 use Rattle.two_phase.specs.Stages as stages
 use Rattle.two_phase.specs.Stages.{Standing}
 use Rattle.coordinator.specs.declared.call.Leg.{Leg}
@@ -53,6 +50,7 @@ use Rattle.coordinator.specs.Step.{has_timed_out, times_out, ticks, acts_on, act
 use Rattle.family_laws.specs.LawsOfSteps.{EndInTurn, WordsRest, FamiliesStaySound, FamiliesEndInTurn, FamiliesWordsRest}
 use Rattle.family_laws.specs.Sound.{NoneLive, IsAsking, IsInStage, IsSoundCall, IsListed, IsSoundFamily, called}
 use Rattle.family_laws.specs.Trees.{IsUpTo}
+use Rattle.family_laws.specs.LawsBelow.{Laws}
 use Rattle.family_laws.proofs.Changes.{lists_with, lists_created, lists_registered, lists_aware, completion_rows, completion_parties, completion_waiting}
 use Rattle.family_laws.proofs.Ending.{but_staged, begins_quiet, begins_but, rolling_sound}
 use Rattle.family_laws.proofs.Hearing.{marks_calm, answered_fine, rereads_fine}
@@ -122,27 +120,27 @@ early_going stage e = rw e refl
 -- ---- a transaction is rolled back
 
 -- a subtransaction ends, whose call is in hand
-ended_but : (f : Family) (b : ℕ) → b ≢ 0 → is_live_branch f.rows b ≡ true → IsSoundFamily f → IsBut b f.stage (ended f.rows b false) f.ballots f.completion f.calls
-ended_but f b n live h =
+ended_but : Laws → (f : Family) (b : ℕ) → b ≢ 0 → is_live_branch f.rows b ≡ true → IsSoundFamily f → IsBut b f.stage (ended f.rows b false) f.ballots f.completion f.calls
+ended_but law f b n live h =
     let more : List Row = ended f.rows b false in
     let fewer : NoneLive f.rows → NoneLive more = none_live_kept f.rows more (live_before f.rows b RolledBack live) in
     record {
-      lists = lists_with f.rows f.ballots b RolledBack live (λ e. absurd (cc e)) (live_other f.rows b RolledBack 0 (λ e. n (sym e)) ∙ h.lists.top) h.lists;
+      lists = lists_with law f.rows f.ballots b RolledBack live (λ e. absurd (cc e)) (live_other f.rows b RolledBack 0 (λ e. n (sym e)) ∙ h.lists.top) h.lists;
       completion = completion_rows f.stage f.rows more f.ballots f.completion fewer h.completion;
-      as_many = h.as_many ∙ sym (length_kept f.rows b RolledBack);
+      as_many = h.as_many ∙ sym (((law.keep f.rows b).with_a_state RolledBack).count);
       others = λ d c o e. call_kept f.stage f.rows more f.ballots f.ballots d c.aim c.leg c.left
-          (λ l. live_other f.rows b RolledBack d o ∙ l) (cut_stays f.rows b RolledBack live) fewer (λ r k. k) (h.under_way d c e);
+          (λ l. live_other f.rows b RolledBack d o ∙ l) (cut_stays law f.rows b RolledBack live) fewer (λ r k. k) (h.under_way d c e);
       finishing = λ o. h.finishing;
     }
 
-rolls_back_sub_fine : TreeWordsGoRightly → (b : ℕ) (caller : Option ℕ) (answer : Said) (f : Family) → b ≢ 0 → is_live_branch f.rows b ≡ true → IsSoundFamily f → Fine f (rolls_back_sub b caller answer f)
+rolls_back_sub_fine : Laws → (b : ℕ) (caller : Option ℕ) (answer : Said) (f : Family) → b ≢ 0 → is_live_branch f.rows b ≡ true → IsSoundFamily f → Fine f (rolls_back_sub b caller answer f)
 unfolding rolls_back_sub
 rolls_back_sub_fine law b caller answer f n live h =
     let c : Call = new_call caller (RollsBack answer) in
     let g : Family = record f { rows = ended f.rows b false } in
     chained (is_before f.stage) f.rows (shows (effects.SubtransactionEnded b false ∷ []) g) (runs b c)
     (record { stage = λ e. e; rows = refl; turn = (live, tt); silent = refl })
-    (runs_fine law b c g (ended_but f b n live h) (record {
+    (runs_fine law b c g (ended_but law f b n live h) (record {
       top = λ z. absurd (n z);
       sub = λ p. record { of_sub = tt; commits = λ asked e. absurd (cc e); undoes = λ says e. cut_here f.rows b live };
       dues = tt;
@@ -159,7 +157,7 @@ begun_call first caller answer f = record {
   dues = tt;
 }
 
-rolls_back_top_fine : TreeWordsGoRightly → (reason : Reason) (caller : Option ℕ) (answer : Said) (f : Family) → is_outside reason ≡ true → f.stage ≡ Going → IsSoundFamily f
+rolls_back_top_fine : Laws → (reason : Reason) (caller : Option ℕ) (answer : Said) (f : Family) → is_outside reason ≡ true → f.stage ≡ Going → IsSoundFamily f
     → Fine f (rolls_back_top reason caller answer f)
 unfolding rolls_back_top
 rolls_back_top_fine law reason caller answer f out e h =
@@ -170,7 +168,7 @@ rolls_back_top_fine law reason caller answer f out e h =
     (begins_but first f (early_going f.stage e) (rolling_sound false reason f (λ a. absurd (outside reason false f out a))) (taken_up 0 f h))
     (begun_call first caller answer f))
 
-rolls_back_fine : TreeWordsGoRightly → (b : ℕ) (reason : Reason) (caller : Option ℕ) (answer : Said) (f : Family) → is_outside reason ≡ true → IsUp (column f b) → IsSoundFamily f
+rolls_back_fine : Laws → (b : ℕ) (reason : Reason) (caller : Option ℕ) (answer : Said) (f : Family) → is_outside reason ≡ true → IsUp (column f b) → IsSoundFamily f
     → Fine f (rolls_back b reason caller answer f)
 rolls_back_fine law b reason caller answer f out up h =
     either (is_before f.stage) f.rows (b == 0) _ _
@@ -187,7 +185,7 @@ begun_but f e h =
 from_start : (early later : Bool) (rs : List Row) (m : Moved) → later ≡ early → IsFine later rs m → IsFine early rs m
 from_start early later rs m e h = subst (λ (x : Bool). IsFine x rs m) e h
 
-begins_commit_fine : TreeWordsGoRightly → (b position : ℕ) (asked : Bool) (f : Family) → IsUp (column f b) → IsSoundFamily f → Fine f (begins_commit b position asked f)
+begins_commit_fine : Laws → (b position : ℕ) (asked : Bool) (f : Family) → IsUp (column f b) → IsSoundFamily f → Fine f (begins_commit b position asked f)
 unfolding begins_commit
 begins_commit_fine law b position asked f up h = go (b == 0) refl
   where
@@ -226,7 +224,7 @@ says_fine answer f h = only_fine f h
 unless_orphan_fine : (b : ℕ) (f : Family) (m : Moved) → IsSoundFamily f → Fine f m → Does f (unless_orphan b f m)
 unless_orphan_fine b f m h r = either_acted f (has_parent_ended f b) _ _ (λ e. says_fine said.TransactionRolledBack f h) (λ e. r)
 
-commits_in_fine : TreeWordsGoRightly → (place : Column) (b position : ℕ) (asked : Bool) (f : Family) → column f b ≡ place → IsSoundFamily f → Does f (commits_in place b position asked f)
+commits_in_fine : Laws → (place : Column) (b position : ℕ) (asked : Bool) (f : Family) → column f b ≡ place → IsSoundFamily f → Does f (commits_in place b position asked f)
 commits_in_fine law columns.Active b position asked f e h = unless_orphan_fine b f _ h (begins_commit_fine law b position asked f (subst IsUp (sym e) tt) h)
 commits_in_fine law columns.Marked b position asked f e h =
     unless_orphan_fine b f _ h (rolls_back_fine law b reasons.Marked (Some position) said.TransactionRolledBack f refl (subst IsUp (sym e) tt) h)
@@ -234,7 +232,7 @@ commits_in_fine law columns.Finishing b position asked f e h = says_fine said.In
 commits_in_fine law columns.RolledBack b position asked f e h = says_fine said.TransactionRolledBack f h
 commits_in_fine law columns.Past b position asked f e h = says_fine said.InvalidTransaction f h
 
-rolls_back_in_fine : TreeWordsGoRightly → (place : Column) (b position : ℕ) (f : Family) → column f b ≡ place → IsSoundFamily f → Does f (rolls_back_in place b position f)
+rolls_back_in_fine : Laws → (place : Column) (b position : ℕ) (f : Family) → column f b ≡ place → IsSoundFamily f → Does f (rolls_back_in place b position f)
 rolls_back_in_fine law columns.Active b position f e h = rolls_back_fine law b reasons.Asked (Some position) said.Plain f refl (subst IsUp (sym e) tt) h
 rolls_back_in_fine law columns.Marked b position f e h = rolls_back_fine law b reasons.Asked (Some position) said.Plain f refl (subst IsUp (sym e) tt) h
 rolls_back_in_fine law columns.Finishing b position f e h = says_fine said.InvalidTransaction f h
@@ -369,9 +367,9 @@ created_call f b live going d c h = record {
   dues = due_kept f.rows (created f.rows b) f.ballots f.ballots (grown_cut f.rows b) (λ r k. k) c.left h.dues;
 }
 
-created_sound : (f : Family) (b : ℕ) → is_live_branch f.rows b ≡ true → length f.rows < list_count → (b ≡ 0 → f.stage ≡ Going) → IsSoundFamily f → IsSoundFamily (with_sub b f)
-created_sound f b live small going h = record {
-  lists = lists_created f.rows f.ballots b (live_within f.rows b live) small h.lists;
+created_sound : Laws → (f : Family) (b : ℕ) → is_live_branch f.rows b ≡ true → length f.rows < list_count → (b ≡ 0 → f.stage ≡ Going) → IsSoundFamily f → IsSoundFamily (with_sub b f)
+created_sound law f b live small going h = record {
+  lists = lists_created law f.rows f.ballots b (live_within f.rows b live) small h.lists;
   completion = elim (same_or_not b 0) [
     | inl z ↦ completion_waiting f.stage f.stage f.rows (created f.rows b) f.ballots f.ballots f.completion (early_going f.stage (going z)) (early_going f.stage (going z)) h.completion
     | inr n ↦ completion_rows f.stage f.rows (created f.rows b) f.ballots f.completion (none_grows f b live n) h.completion
@@ -400,9 +398,9 @@ under_limit false n is = not_over n is
 has_few : (f : Family) (b : ℕ) → creating f.rows b ≡ None → length f.rows < list_count
 has_few f b is = under_limit (nat_le depth_limit (depth f.rows b)) (length f.rows) (not_full (is_full f.rows b) (rows.state f.rows b) is)
 
-creates_by_fine : (fault : Option TreeFault) (b : ℕ) (f : Family) → creating f.rows b ≡ fault → is_live_branch f.rows b ≡ true → (b ≡ 0 → f.stage ≡ Going) → IsSoundFamily f → Does f (creates_by fault b f)
-creates_by_fine None b f is live going h = record { sound = created_sound f b live (has_few f b is) going h; turn = tt; rests = tt }
-creates_by_fine (Some fault) b f is live going h = only_fine f h
+creates_by_fine : Laws → (fault : Option TreeFault) (b : ℕ) (f : Family) → creating f.rows b ≡ fault → is_live_branch f.rows b ≡ true → (b ≡ 0 → f.stage ≡ Going) → IsSoundFamily f → Does f (creates_by fault b f)
+creates_by_fine law None b f is live going h = record { sound = created_sound law f b live (has_few f b is) going h; turn = tt; rests = tt }
+creates_by_fine law (Some fault) b f is live going h = only_fine f h
 
 up_branch : (f : Family) (b : ℕ) → IsUp (column f b) → IsSoundFamily f → is_live_branch f.rows b ≡ true
 up_branch f b up h =
@@ -411,28 +409,28 @@ up_branch f b up h =
       | inr n ↦ sub_live f b n up
     ]
 
-creates_in_fine : (place : Column) (b : ℕ) (f : Family) → column f b ≡ place → IsSoundFamily f → Does f (creates_in place b f)
-creates_in_fine columns.Active b f e h =
+creates_in_fine : Laws → (place : Column) (b : ℕ) (f : Family) → column f b ≡ place → IsSoundFamily f → Does f (creates_in place b f)
+creates_in_fine law columns.Active b f e h =
     let up : IsUp (column f b) = subst IsUp (sym e) tt in
-    creates_by_fine (creating f.rows b) b f refl (up_branch f b up h) (λ z. top_going f (rw z at up)) h
-creates_in_fine columns.Marked b f e h = only_fine f h
-creates_in_fine columns.Finishing b f e h = only_fine f h
-creates_in_fine columns.RolledBack b f e h = only_fine f h
-creates_in_fine columns.Past b f e h = only_fine f h
+    creates_by_fine law (creating f.rows b) b f refl (up_branch f b up h) (λ z. top_going f (rw z at up)) h
+creates_in_fine law columns.Marked b f e h = only_fine f h
+creates_in_fine law columns.Finishing b f e h = only_fine f h
+creates_in_fine law columns.RolledBack b f e h = only_fine f h
+creates_in_fine law columns.Past b f e h = only_fine f h
 
 -- ---- each act
 
-marks_only_fine : (b : ℕ) (f : Family) → IsSoundFamily f → Does f (marks_only b f)
+marks_only_fine : Laws → (b : ℕ) (f : Family) → IsSoundFamily f → Does f (marks_only b f)
 unfolding marks_only
-marks_only_fine b f h = either_acted f (is_open (column f b)) _ _ (λ e. fine_of (is_before f.stage) f.rows (marks b f) (marks_calm b f h)) (λ e. only_fine f h)
+marks_only_fine law b f h = either_acted f (is_open (column f b)) _ _ (λ e. fine_of (is_before f.stage) f.rows (marks b f) (marks_calm law b f h)) (λ e. only_fine f h)
 
-times_out_fine : TreeWordsGoRightly → (stage : Stage) (f : Family) → f.stage ≡ stage → IsSoundFamily f → Fine f (times_out stage f)
+times_out_fine : Laws → (stage : Stage) (f : Family) → f.stage ≡ stage → IsSoundFamily f → Fine f (times_out stage f)
 times_out_fine law Going f e h = rolls_back_top_fine law reasons.Timeout None said.Plain f refl e h
-times_out_fine law Finishing f e h = fine_of (is_before f.stage) f.rows (marks 0 f) (marks_calm 0 f h)
-times_out_fine law Completing f e h = fine_of (is_before f.stage) f.rows (marks 0 f) (marks_calm 0 f h)
-times_out_fine law Over f e h = fine_of (is_before f.stage) f.rows (marks 0 f) (marks_calm 0 f h)
+times_out_fine law Finishing f e h = fine_of (is_before f.stage) f.rows (marks 0 f) (marks_calm law 0 f h)
+times_out_fine law Completing f e h = fine_of (is_before f.stage) f.rows (marks 0 f) (marks_calm law 0 f h)
+times_out_fine law Over f e h = fine_of (is_before f.stage) f.rows (marks 0 f) (marks_calm law 0 f h)
 
-ticks_fine : TreeWordsGoRightly → (now : ℕ) (f : Family) → IsSoundFamily f → Fine f (ticks now f)
+ticks_fine : Laws → (now : ℕ) (f : Family) → IsSoundFamily f → Fine f (ticks now f)
 unfolding ticks
 ticks_fine law now f h = either (is_before f.stage) f.rows (has_timed_out f now) _ _ (λ e. times_out_fine law f.stage f refl h) (λ e. only_fine f h)
 
@@ -442,7 +440,7 @@ on_branch_fine b f a h r = either_acted f (has_branch f b) a _ (λ e. r) (λ e. 
 on_terminator_fine : (b : ℕ) (f : Family) (a : Acted) → IsSoundFamily f → Does f a → Does f (on_terminator b f a)
 on_terminator_fine b f a h r = either_acted f (has_terminator f b) a _ (λ e. r) (λ e. only_fine f h)
 
-by_act : TreeWordsGoRightly → (act : Act) (b now : ℕ) (stood : Option Stood) (f : Family) → IsSoundFamily f → Does f (acts_on act b now stood f)
+by_act : Laws → (act : Act) (b now : ℕ) (stood : Option Stood) (f : Family) → IsSoundFamily f → Does f (acts_on act b now stood f)
 unfolding gets_terminator commits rolls_back_asked registers_synchronization registers_aware creates_subtransaction replays
 by_act law acts.GetTerminator b now stood f h = on_branch_fine b f _ h (only_fine f h)
 by_act law acts.GetCoordinator b now stood f h = on_branch_fine b f _ h (only_fine f h)
@@ -461,9 +459,9 @@ by_act law acts.HashTopLevelTran b now stood f h = on_branch_fine b f _ h (only_
 by_act law (acts.RegisterResource to aware) b now stood f h = on_branch_fine b f _ h (registers_resource_fine b to aware f h)
 by_act law (acts.RegisterSynchronization to) b now stood f h = on_branch_fine b f _ h (registers_fine (sync_refusal f b) _ (registered_sync b to f.ballots) f h (λ e. sync_sound f b to h))
 by_act law (acts.RegisterSubtranAware to) b now stood f h = on_branch_fine b f _ h (registers_fine (aware_refusal f b) _ (registered_aware b to f.ballots) f h (λ e. aware_sound f b to h))
-by_act law acts.RollbackOnly b now stood f h = on_branch_fine b f _ h (marks_only_fine b f h)
+by_act law acts.RollbackOnly b now stood f h = on_branch_fine b f _ h (marks_only_fine law b f h)
 by_act law acts.GetTransactionName b now stood f h = on_branch_fine b f _ h (only_fine f h)
-by_act law acts.CreateSubtransaction b now stood f h = on_branch_fine b f _ h (creates_in_fine (column f b) b f refl h)
+by_act law acts.CreateSubtransaction b now stood f h = on_branch_fine b f _ h (creates_in_fine law (column f b) b f refl h)
 by_act law acts.GetTxcontext b now stood f h = on_branch_fine b f _ h (only_fine f h)
 by_act law (acts.Replay g resource) b now stood f h = only_fine f h
 by_act law (acts.Superior word) b now stood f h = only_fine f h
@@ -490,13 +488,13 @@ entered_step : (e : Event) (stood : Option Stood) (f : Family) (a : Acted) → D
 unfolding entered
 entered_step e stood f a h = record { sound = h.sound; turn = h.turn; rests = h.rests }
 
-step_by_fine : TreeWordsGoRightly → (o : Option Said) (f : Family) (e : Event) (stood : Option Stood) → IsSoundFamily f → IsFineStep f (step_by o f e stood)
+step_by_fine : Laws → (o : Option Said) (f : Family) (e : Event) (stood : Option Stood) → IsSoundFamily f → IsFineStep f (step_by o f e stood)
 unfolding acted
 step_by_fine law (Some answer) f e stood h = quiet_step (repeated answer) f h
 step_by_fine law None f e stood h = either_step f (is_silent e f) _ _ (quiet_step said.Plain f h)
     (entered_step e stood f (acted e stood f) (by_act law e.act e.branch e.now stood f h))
 
-pub steps_fine : TreeWordsGoRightly → (f : Family) (e : Event) (stood : Option Stood) → IsSoundFamily f → IsFineStep f (family_step f e stood)
+pub steps_fine : Laws → (f : Family) (e : Event) (stood : Option Stood) → IsSoundFamily f → IsFineStep f (family_step f e stood)
 unfolding family_step
 steps_fine law f e stood h = step_by_fine law (kept_for f.entries e.key) f e stood h
 
@@ -518,10 +516,10 @@ none_called : (b : ℕ) (c : Call) → called (None ∷ []) b ≡ Some c → ⊥
 none_called zero c e = absurd (cc e)
 none_called (suc b) c e = absurd (cc e)
 
-pub new_sound : (key : ObjectKey) (deadline : Option ℕ) → IsSoundFamily (new_family key deadline)
-new_sound key deadline = record {
+pub new_sound : Laws → (key : ObjectKey) (deadline : Option ℕ) → IsSoundFamily (new_family key deadline)
+new_sound law key deadline = record {
   lists = record {
-    tree = depths_begin.tree;
+    tree = law.top;
     top = refl;
     listed = λ b. none_listed (λ r. IsUpTo top_alone b r.branch) b;
     highest = λ b. none_listed (λ r. (c : ℕ) → IsUpTo top_alone c r.branch → IsUpTo top_alone b c) b;
@@ -535,11 +533,11 @@ new_sound key deadline = record {
   finishing = λ e. absurd (cc e);
 }
 
-pub families_stay_sound : TreeWordsGoRightly → FamiliesStaySound
-families_stay_sound law = record { new = new_sound; steps = λ f e stood h. (steps_fine law f e stood h).sound }
+pub families_stay_sound : Laws → FamiliesStaySound
+families_stay_sound law = record { new = new_sound law; steps = λ f e stood h. (steps_fine law f e stood h).sound }
 
-pub families_end_in_turn : TreeWordsGoRightly → FamiliesEndInTurn
+pub families_end_in_turn : Laws → FamiliesEndInTurn
 families_end_in_turn law f e stood h = (steps_fine law f e stood h).turn
 
-pub families_words_rest : TreeWordsGoRightly → FamiliesWordsRest
+pub families_words_rest : Laws → FamiliesWordsRest
 families_words_rest law f e stood h = (steps_fine law f e stood h).rests

@@ -9,11 +9,9 @@ use Rattle.txn_tree.specs.Rows.{IsTree, IsParent, parent, is_live_branch}
 use Rattle.txn_tree.specs.Calls.{ended, live_under}
 use Rattle.txn_tree.specs.declared.row.Row.{Row}
 use Rattle.txn_tree.specs.declared.row.State.TheVariants.{Committed, RolledBack}
-use Rattle.txn_tree.proofs.Lineages.{parent_kept, parent_below, length_kept}
 use Rattle.resource_votes.specs.Ballots.{Ballots, participants, adopted, numbered}
 use Rattle.resource_votes.specs.Lists.{list_at}
 use Rattle.resource_votes.specs.declared.registration.Registration.{Registration}
-use Rattle.two_phase.specs.LawsOfCourses.{TreeWordsGoRightly}
 use Rattle.two_phase.specs.Stages as stages
 use Rattle.coordinator.specs.declared.call.Ending.{Ending}
 use Rattle.coordinator.specs.declared.call.Ending.TheVariants.{TellsRollback, TellsCommit, RollsBackUpdates}
@@ -32,6 +30,7 @@ use Rattle.coordinator.specs.Running.{aware_of, duty_to, undo_duties, commit_dut
 use Rattle.family_laws.specs.LawsOfSteps.{MayEnd, Rests}
 use Rattle.family_laws.specs.Sound.{NoneLive, IsSoundLists, IsSoundCompletion, IsInStage, IsPastBelow, IsOfSub, IsListed, IsDue, IsSoundCall, IsSoundFamily, called}
 use Rattle.family_laws.specs.Trees.{IsUpTo, IsCutOff}
+use Rattle.family_laws.specs.LawsBelow.{Laws}
 use Rattle.family_laws.proofs.Changes.{Listed, lists_with, lists_committed, completion_rows, completion_parties, completion_waiting}
 use Rattle.family_laws.proofs.Ending.{IsAlone, all_at, top_call, afterwards_fine, decides_fine, before_fine}
 use Rattle.family_laws.proofs.Listed.{all_listed, adopted_listed}
@@ -110,10 +109,10 @@ joined : ℕ → ℕ → Family → Family
 joined b p f = record f { rows = ended f.rows b true; ballots = adopted b p f.ballots }
 
 -- nothing is committed above such a parent
-nothing_above : (f : Family) (b p : ℕ) → IsTree f.rows → p ≢ b → ((p ≡ 0) × (is_before f.stage ≡ true)) ⊎ ((p ≢ 0) × (is_live_branch f.rows p ≡ true))
+nothing_above : Laws → (f : Family) (b p : ℕ) → IsTree f.rows → p ≢ b → ((p ≡ 0) × (is_before f.stage ≡ true)) ⊎ ((p ≢ 0) × (is_live_branch f.rows p ≡ true))
     → (x : ℕ) → IsUpTo (ended f.rows b true) x p → p ≡ x
-nothing_above f b p t n (inl z) x u = up_top (ended f.rows b true) x p (rw z.0 (parent_kept f.rows b Committed 0 ∙ top_parent f.rows t)) u
-nothing_above f b p t n (inr l) x u = up_open (ended f.rows b true) x p (λ e. live_open f.rows p l.1 (sym (state_other f.rows b Committed p n) ∙ e)) u
+nothing_above law f b p t n (inl z) x u = up_top (ended f.rows b true) x p (rw z.0 (((law.keep f.rows b).with_a_state Committed).parents 0 ∙ top_parent f.rows t)) u
+nothing_above law f b p t n (inr l) x u = up_open (ended f.rows b true) x p (λ e. live_open f.rows p l.1 (sym (state_other f.rows b Committed p n) ∙ e)) u
 
 joined_completion : (f : Family) (b p : ℕ) → is_live_branch f.rows b ≡ true → b ≢ 0 → ((p ≡ 0) × (is_before f.stage ≡ true)) ⊎ ((p ≢ 0) × (is_live_branch f.rows p ≡ true))
     → IsSoundCompletion f.stage f.rows f.ballots f.completion → IsSoundCompletion f.stage (ended f.rows b true) (adopted b p f.ballots) f.completion
@@ -127,19 +126,19 @@ joined_completion f b p live n (inr l) h =
         (get_or-set_other (slice_set f.ballots.lists b []) p 0 (list_at f.ballots.lists p ++ list_at f.ballots.lists b) [] o
         ∙ get_or-set_other f.ballots.lists b 0 [] [] (λ e. n (sym e)))
 
-joined_but : (f : Family) (b p : ℕ) → is_live_branch f.rows b ≡ true → b ≢ 0 → parent f.rows b ≡ Some p → has_ended f p ≡ false → But b f → But b (joined b p f)
+joined_but : Laws → (f : Family) (b p : ℕ) → is_live_branch f.rows b ≡ true → b ≢ 0 → parent f.rows b ≡ Some p → has_ended f p ≡ false → But b f → But b (joined b p f)
 unfolding joined
-joined_but f b p live n is unended h =
-    let under : p < b = parent_below f.rows h.lists.tree b p (live_within f.rows b live) is in
+joined_but law f b p live n is unended h =
+    let under : p < b = law.earlier f.rows h.lists.tree b p (live_within f.rows b live) is in
     let other : p ≢ b = λ e. absurd (omega (arith, under, e)) in
     let how = open_parent f p unended in
     record {
-      lists = lists_committed f.rows f.ballots b p live is other (nothing_above f b p h.lists.tree other how)
+      lists = lists_committed law f.rows f.ballots b p live is other (nothing_above law f b p h.lists.tree other how)
           (live_other f.rows b Committed 0 (λ e. n (sym e)) ∙ h.lists.top) h.lists;
       completion = joined_completion f b p live n how h.completion;
-      as_many = h.as_many ∙ sym (length_kept f.rows b Committed);
+      as_many = h.as_many ∙ sym (((law.keep f.rows b).with_a_state Committed).count);
       others = λ d c o e. call_kept f.stage f.rows (ended f.rows b true) f.ballots (adopted b p f.ballots) d c.aim c.leg c.left
-          (λ l. live_other f.rows b Committed d o ∙ l) (cut_stays f.rows b Committed live)
+          (λ l. live_other f.rows b Committed d o ∙ l) (cut_stays law f.rows b Committed live)
           (none_live_kept f.rows (ended f.rows b true) (live_before f.rows b Committed live)) (adopted_listed f.ballots b p under) (h.others d c o e);
       finishing = h.finishing;
     }
@@ -150,14 +149,14 @@ parent_ended f b p is h = sym (ap (λ (o : Option ℕ). option_map_or (has_ended
 may_commit : (f : Family) (b p : ℕ) → parent f.rows b ≡ Some p → is_live_branch f.rows b ≡ true → has_ended f p ≡ false → MayEnd (is_before f.stage) f.rows b true
 may_commit f b p is live unended = (live, rw is (either_open (p == 0) (is_before f.stage) (is_live_branch f.rows p) unended))
 
-commits_up_fine : (b : ℕ) (o : Option ℕ) → (c : Call) (f : Family) → parent f.rows b ≡ o → b ≢ 0 → is_live_branch f.rows b ≡ true → has_parent_ended f b ≡ false → But b f → Takes b c f → Fine f (commits_up b o c f)
+commits_up_fine : Laws → (b : ℕ) (o : Option ℕ) → (c : Call) (f : Family) → parent f.rows b ≡ o → b ≢ 0 → is_live_branch f.rows b ≡ true → has_parent_ended f b ≡ false → But b f → Takes b c f → Fine f (commits_up b o c f)
 unfolding commits_up joined
-commits_up_fine b None c f is n live unended h t = waits_fine b c f h t
-commits_up_fine b (Some p) c f is n live unended h t =
+commits_up_fine law b None c f is n live unended h t = waits_fine b c f h t
+commits_up_fine law b (Some p) c f is n live unended h t =
     let opened : has_ended f p ≡ false = parent_ended f b p is unended in
     chained (is_before f.stage) f.rows (shows (effects.SubtransactionEnded b true ∷ []) (joined b p f)) (ends_call b c said.Plain)
     (record { stage = λ e. e; rows = refl; turn = (may_commit f b p is live opened, tt); silent = refl })
-    (ends_fine (is_before f.stage) (ended f.rows b true) b c said.Plain (joined b p f) (joined_but f b p live n is opened h) (λ z. absurd (n z)))
+    (ends_fine (is_before f.stage) (ended f.rows b true) b c said.Plain (joined b p f) (joined_but law f b p live n is opened h) (λ z. absurd (n z)))
 
 -- ---- the end of a subtransaction's own call
 
@@ -168,10 +167,10 @@ MayGo f b aim = (asked : Bool) → aim ≡ Commits asked → b ≢ 0 → has_par
 pub positive : (b : ℕ) → b ≢ 0 → 0 < b
 positive b n = grind arith
 
-own_ends_fine : (aim : Aim) (b : ℕ) (c : Call) (f : Family) → c.aim ≡ aim → b ≢ 0 → MayGo f b aim → But b f → Takes b c f → Fine f (own_ends aim b c f)
-own_ends_fine (Commits asked) b c f e n go h t =
-    commits_up_fine b (parent f.rows b) c f refl n ((t.sub (positive b n)).commits asked e) (go asked refl n) h t
-own_ends_fine (RollsBack says) b c f e n go h t = ends_fine (is_before f.stage) f.rows b c says f h (λ z. absurd (n z))
+own_ends_fine : Laws → (aim : Aim) (b : ℕ) (c : Call) (f : Family) → c.aim ≡ aim → b ≢ 0 → MayGo f b aim → But b f → Takes b c f → Fine f (own_ends aim b c f)
+own_ends_fine law (Commits asked) b c f e n go h t =
+    commits_up_fine law b (parent f.rows b) c f refl n ((t.sub (positive b n)).commits asked e) (go asked refl n) h t
+own_ends_fine law (RollsBack says) b c f e n go h t = ends_fine (is_before f.stage) f.rows b c says f h (λ z. absurd (n z))
 
 own_dues : (aim : Aim) (b : ℕ) (f : Family) → IsSoundLists f.rows f.ballots → ((says : Said) → aim ≡ RollsBack says → IsCutOff f.rows b) → AllByRecursion (IsDue f.rows f.ballots) (own_duties aim b f)
 unfolding commit_duties
@@ -182,19 +181,19 @@ own_dues (Commits asked) b f h cut = commits (parent f.rows b)
     commits (Some above) = told_dues f.rows f.ballots (TellsCommit above) (λ e. absurd (cc e)) (aware_of f.ballots b)
     commits None = tt
 
-tells_own_fine : (b : ℕ) (c : Call) (f : Family) → b ≢ 0 → MayGo f b c.aim → But b f → Takes b c f → Fine f (tells_own b c f)
+tells_own_fine : Laws → (b : ℕ) (c : Call) (f : Family) → b ≢ 0 → MayGo f b c.aim → But b f → Takes b c f → Fine f (tells_own b c f)
 unfolding tells_own
-tells_own_fine b c f n go h t =
+tells_own_fine law b c f n go h t =
     let own : Call = record c { leg = Own } in
     let sub = t.sub (positive b n) in
     let ready : (left : List Duty) → AllByRecursion (IsDue f.rows f.ballots) left → IsSoundCall f.stage f.rows f.ballots b c.aim Own left =
     λ left dues. record { top = λ z. absurd (n z); sub = λ p. record { of_sub = tt; commits = sub.commits; undoes = sub.undoes }; dues = dues } in
     tells_first_fine (own_duties c.aim b f) b own (own_ends c.aim b own) f h (ready (own_duties c.aim b f) (own_dues c.aim b f h.lists sub.undoes))
-    (λ e. own_ends_fine c.aim b own f refl n go h (ready c.left t.dues))
+    (λ e. own_ends_fine law c.aim b own f refl n go h (ready c.left t.dues))
 
 -- ---- nothing is live below
 
-passes_top_fine : TreeWordsGoRightly → (stage : Stage) (aim : Aim) (c : Call) (f : Family) → f.stage ≡ stage → c.aim ≡ aim → IsInStage stage aim Below → IsAlone f c → Fine f (passes_top stage c f)
+passes_top_fine : Laws → (stage : Stage) (aim : Aim) (c : Call) (f : Family) → f.stage ≡ stage → c.aim ≡ aim → IsInStage stage aim Below → IsAlone f c → Fine f (passes_top stage c f)
 passes_top_fine law Finishing (Commits asked) c f e i k a = before_fine law 0 c f e asked i a
 passes_top_fine law Finishing (RollsBack says) c f e i k a = absurd (cc k)
 passes_top_fine law Completing aim c f e i k a = decides_fine law c f e a
@@ -209,14 +208,14 @@ zero_is b e = grind arith
 zero_not : (b : ℕ) → (b == 0) ≡ false → b ≢ 0
 zero_not b e = grind arith
 
-passes_fine : TreeWordsGoRightly → (b : ℕ) (c : Call) (f : Family) → c.leg ≡ Below → MayGo f b c.aim → (b ≡ 0 → NoneLive f.rows) → But b f → Takes b c f → Fine f (passes b c f)
+passes_fine : Laws → (b : ℕ) (c : Call) (f : Family) → c.leg ≡ Below → MayGo f b c.aim → (b ≡ 0 → NoneLive f.rows) → But b f → Takes b c f → Fine f (passes b c f)
 unfolding passes
 passes_fine law b c f l go none h t =
     either (is_before f.stage) f.rows (b == 0) _ _
     (λ e. let z : b ≡ 0 = zero_is b e in
     passes_top_fine law f.stage c.aim c f refl refl (subst (λ (x : Leg). IsInStage f.stage c.aim x) l (t.top z).in_stage)
     (record { but = rw z at h; none = none z; dues = t.dues }))
-    (λ e. tells_own_fine b c f (zero_not b e) go h t)
+    (λ e. tells_own_fine law b c f (zero_not b e) go h t)
 
 -- ---- one is rolled back below
 
@@ -240,27 +239,27 @@ record IsEnded (b d : ℕ) (f : Family) : Type 0 where
   ballots : (ends_below d f).family.ballots ≡ f.ballots
   stage : (ends_below d f).family.stage ≡ f.stage
 
-ends_below_is : (b d : ℕ) (f : Family) → IsLaterLive f.rows b d → But b f → IsEnded b d f
+ends_below_is : Laws → (b d : ℕ) (f : Family) → IsLaterLive f.rows b d → But b f → IsEnded b d f
 unfolding ends_below
-ends_below_is b d f k h =
+ends_below_is law b d f k h =
     let more : List Row = ended f.rows d false in
     let apart : d ≢ b = λ e. let l = k.later in absurd (omega (arith, l, e)) in
     let above : d ≢ 0 = λ e. let l = k.later in absurd (omega (arith, l, e)) in
     let top : is_live_branch more 0 ≡ true = live_other f.rows d RolledBack 0 (λ e. above (sym e)) ∙ h.lists.top in
-    let lists : IsSoundLists more f.ballots = lists_with f.rows f.ballots d RolledBack k.live (λ e. absurd (cc e)) top h.lists in
+    let lists : IsSoundLists more f.ballots = lists_with law f.rows f.ballots d RolledBack k.live (λ e. absurd (cc e)) top h.lists in
     let fewer : NoneLive f.rows → NoneLive more = none_live_kept f.rows more (live_before f.rows d RolledBack k.live) in
     record {
       but = record {
         lists = lists;
         completion = completion_rows f.stage f.rows more f.ballots f.completion fewer h.completion;
-        as_many = set_length f.calls d None ∙ h.as_many ∙ sym (length_kept f.rows d RolledBack);
+        as_many = set_length f.calls d None ∙ h.as_many ∙ sym (((law.keep f.rows d).with_a_state RolledBack).count);
         others = λ x c o e. still x c o e (same_or_not x d);
         finishing = λ n fin. ap (λ (x : Option Call). is_some x) (called_other f.calls d 0 None (λ e. above (sym e))) ∙ h.finishing n fin;
       };
       quiet = record { stage = λ e. e; rows = refl; turn = (k.live, tt); silent = refl };
       dues = all_joined (IsDue more f.ballots) (left_by (call_at f d)) (undo_duties f.ballots d)
           (left_dues more f.ballots (call_at f d) (λ c e. due_kept f.rows more f.ballots f.ballots
-          (cut_stays f.rows d RolledBack k.live) (λ r x. x) c.left (h.others d c apart e).dues))
+          (cut_stays law f.rows d RolledBack k.live) (λ r x. x) c.left (h.others d c apart e).dues))
           (undo_dues more f.ballots d (cut_here f.rows d k.live) lists);
       rows = refl;
       ballots = refl;
@@ -269,7 +268,7 @@ ends_below_is b d f k h =
   where
     kept : (x : ℕ) (c : Call) → x ≢ b → x ≢ d → called f.calls x ≡ Some c → IsSoundCall f.stage (ended f.rows d false) f.ballots x c.aim c.leg c.left
     kept x c o n e = call_kept f.stage f.rows (ended f.rows d false) f.ballots f.ballots x c.aim c.leg c.left
-        (λ l. live_other f.rows d RolledBack x n ∙ l) (cut_stays f.rows d RolledBack k.live)
+        (λ l. live_other f.rows d RolledBack x n ∙ l) (cut_stays law f.rows d RolledBack k.live)
         (none_live_kept f.rows (ended f.rows d false) (live_before f.rows d RolledBack k.live)) (λ r y. y) (h.others x c o e)
 
     still : (x : ℕ) (c : Call) → x ≢ b → called (slice_set f.calls d None) x ≡ Some c → (x ≡ d) ⊎ (x ≢ d)
@@ -278,9 +277,9 @@ ends_below_is b d f k h =
     still x c o e (inr n) = kept x c o n (sym (called_other f.calls d x None n) ∙ e)
 
 -- the parent is as it was
-parent_still : (f : Family) (b d : ℕ) → IsTree f.rows → IsLaterLive f.rows b d → b < length f.rows → has_parent_ended (ends_below d f).family b ≡ has_parent_ended f b
+parent_still : Laws → (f : Family) (b d : ℕ) → IsTree f.rows → IsLaterLive f.rows b d → b < length f.rows → has_parent_ended (ends_below d f).family b ≡ has_parent_ended f b
 unfolding ends_below
-parent_still f b d t k within = ap (λ (o : Option ℕ). option_map_or (has_ended g) o false) (parent_kept f.rows d RolledBack b) ∙ go (parent f.rows b) refl
+parent_still law f b d t k within = ap (λ (o : Option ℕ). option_map_or (has_ended g) o false) (((law.keep f.rows d).with_a_state RolledBack).parents b) ∙ go (parent f.rows b) refl
   where
     g : Family
     g = (ends_below d f).family
@@ -291,18 +290,18 @@ parent_still f b d t k within = ap (λ (o : Option ℕ). option_map_or (has_ende
 
     go : (o : Option ℕ) → parent f.rows b ≡ o → option_map_or (has_ended g) o false ≡ option_map_or (has_ended f) o false
     go None e = refl
-    go (Some p) e = same (p == 0) p (λ i. let under = parent_below f.rows t b p within e in let l = k.later in absurd (omega (arith, under, l, i)))
+    go (Some p) e = same (p == 0) p (λ i. let under = law.earlier f.rows t b p within e in let l = k.later in absurd (omega (arith, under, l, i)))
 
-still_may_go : (f : Family) (b d : ℕ) (c : Call) → IsLaterLive f.rows b d → But b f → Takes b c f → MayGo f b c.aim → MayGo (ends_below d f).family b c.aim
-still_may_go f b d c k h t go asked e n =
-    parent_still f b d h.lists.tree k (live_within f.rows b ((t.sub (positive b n)).commits asked e)) ∙ go asked e n
+still_may_go : Laws → (f : Family) (b d : ℕ) (c : Call) → IsLaterLive f.rows b d → But b f → Takes b c f → MayGo f b c.aim → MayGo (ends_below d f).family b c.aim
+still_may_go law f b d c k h t go asked e n =
+    parent_still law f b d h.lists.tree k (live_within f.rows b ((t.sub (positive b n)).commits asked e)) ∙ go asked e n
 
-still_takes : (f : Family) (b d : ℕ) (c : Call) → IsLaterLive f.rows b d → Takes b c f → Takes b c (ends_below d f).family
+still_takes : Laws → (f : Family) (b d : ℕ) (c : Call) → IsLaterLive f.rows b d → Takes b c f → Takes b c (ends_below d f).family
 unfolding ends_below
-still_takes f b d c k t =
+still_takes law f b d c k t =
     let apart : b ≢ d = λ e. let l = k.later in absurd (omega (arith, l, e)) in
     call_kept f.stage f.rows (ended f.rows d false) f.ballots f.ballots b c.aim c.leg c.left
-    (λ l. live_other f.rows d RolledBack b apart ∙ l) (cut_stays f.rows d RolledBack k.live)
+    (λ l. live_other f.rows d RolledBack b apart ∙ l) (cut_stays law f.rows d RolledBack k.live)
     (none_live_kept f.rows (ended f.rows d false) (live_before f.rows d RolledBack k.live)) (λ r y. y) t
 
 -- ---- subtransactions are rolled back one after another
@@ -310,21 +309,21 @@ still_takes f b d c k t =
 abbrev Sweeps : ℕ → ℕ → Call → Type 0
 Sweeps n b c = (f : Family) → MayGo f b c.aim → count_live f.rows ≤ n → But b f → Takes b c f → Fine f (sweeps n b c f)
 
-sweeps_next_fine : TreeWordsGoRightly → (n b : ℕ) (c : Call) → c.leg ≡ Below → Sweeps n b c → (f : Family) (o : Option ℕ) → live_under f.rows b ≡ o → MayGo f b c.aim → count_live f.rows ≤ suc n → But b f → Takes b c f
+sweeps_next_fine : Laws → (n b : ℕ) (c : Call) → c.leg ≡ Below → Sweeps n b c → (f : Family) (o : Option ℕ) → live_under f.rows b ≡ o → MayGo f b c.aim → count_live f.rows ≤ suc n → But b f → Takes b c f
     → Fine f (sweeps_next o b c (sweeps n b c) f)
 sweeps_next_fine law n b c l on f (Some d) e go few h t =
-    let k : IsLaterLive f.rows b d = next_live f.rows h.lists.tree b d e in
-    let i : IsEnded b d f = ends_below_is b d f k h in
+    let k : IsLaterLive f.rows b d = next_live law f.rows h.lists.tree b d e in
+    let i : IsEnded b d f = ends_below_is law b d f k h in
     let g : Family = (ends_below d f).family in
-    let kept : Takes b c g = still_takes f b d c k t in
+    let kept : Takes b c g = still_takes law f b d c k t in
     let count : count_live g.rows ≤ n = rw i.rows (let one = one_less f.rows d k.live in omega (arith, one, few)) in
     chained (is_before f.stage) f.rows (ends_below d f) (tells_first (duties_below d f) b c (sweeps n b c)) i.quiet
     (tells_first_fine (duties_below d f) b c (sweeps n b c) g i.but (record { top = kept.top; sub = kept.sub; dues = i.dues })
-    (λ none. on g (still_may_go f b d c k h t go) count i.but kept))
+    (λ none. on g (still_may_go law f b d c k h t go) count i.but kept))
 sweeps_next_fine law n b c l on f None e go few h t =
-    passes_fine law b c f l go (λ z. none_live f.rows h.lists.tree (rw z at e)) h t
+    passes_fine law b c f l go (λ z. none_live law f.rows h.lists.tree (rw z at e)) h t
 
-sweeps_fine : TreeWordsGoRightly → (n b : ℕ) (c : Call) → c.leg ≡ Below → Sweeps n b c
+sweeps_fine : Laws → (n b : ℕ) (c : Call) → c.leg ≡ Below → Sweeps n b c
 unfolding sweeps
 sweeps_fine law zero b c l f go few h t =
     passes_fine law b c f l go (λ z q p live. no_live f.rows (omega (arith, few)) q live) h t
@@ -357,7 +356,7 @@ is_top b c f leg e past t =
 sub_own : (b : ℕ) (c : Call) (f : Family) → c.leg ≡ Own → Takes b c f → b ≢ 0
 sub_own b c f e t z = subst (λ (x : Leg). IsInStage f.stage c.aim x) e (t.top z).in_stage
 
-before_by_aim : TreeWordsGoRightly → (called : ℕ) (c : Call) (f : Family) (aim : Aim) → c.aim ≡ aim → IsInStage f.stage aim (Before called) → IsAlone f c → Fine f (before called c f)
+before_by_aim : Laws → (called : ℕ) (c : Call) (f : Family) (aim : Aim) → c.aim ≡ aim → IsInStage f.stage aim (Before called) → IsAlone f c → Fine f (before called c f)
 before_by_aim law called c f (Commits asked) e i a = before_fine law called c f i asked e a
 before_by_aim law called c f (RollsBack says) e i a = absurd i
 
@@ -365,9 +364,9 @@ tells_after_fine : (o : Option Outcome) (called : ℕ) (c : Call) (f : Family) �
 tells_after_fine (Some fixed) called c f l e a = afterwards_fine (is_before f.stage) f.rows called c fixed f e a
 tells_after_fine None called c f l e a = waits_fine 0 c f a.but (top_call f.stage f.rows f.ballots c.aim c.leg c.left (rw l e) a.none a.dues)
 
-by_leg_fine : TreeWordsGoRightly → (leg : Leg) (b : ℕ) (c : Call) (f : Family) → c.leg ≡ leg → MayGo f b c.aim → But b f → Takes b c f → Fine f (by_leg leg b c f)
+by_leg_fine : Laws → (leg : Leg) (b : ℕ) (c : Call) (f : Family) → c.leg ≡ leg → MayGo f b c.aim → But b f → Takes b c f → Fine f (by_leg leg b c f)
 by_leg_fine law Below b c f l go h t = sweeps_fine law (length f.rows) b c l f go (few_live f.rows) h t
-by_leg_fine law Own b c f l go h t = own_ends_fine c.aim b c f refl (sub_own b c f l t) go h t
+by_leg_fine law Own b c f l go h t = own_ends_fine law c.aim b c f refl (sub_own b c f l t) go h t
 by_leg_fine law (Before called) b c f l go h t =
     let z : b ≡ 0 = is_top b c f (Before called) l tt t in
     before_by_aim law called c f c.aim refl (subst (λ (x : Leg). IsInStage f.stage c.aim x) l (t.top z).in_stage) (top_alone b c f (Before called) l tt h t z)
@@ -391,16 +390,16 @@ not_held b c f held none asked e n =
     parts true true false s x y z = absurd (cc z)
     parts false p l s x y z = absurd (cc x)
 
-pub runs_fine : TreeWordsGoRightly → (b : ℕ) (c : Call) (f : Family) → But b f → Takes b c f → Fine f (runs b c f)
+pub runs_fine : Laws → (b : ℕ) (c : Call) (f : Family) → But b f → Takes b c f → Fine f (runs b c f)
 unfolding runs
 runs_fine law b c f h t =
     either (is_before f.stage) f.rows (is_held b c f) _ _ (λ held. waits_fine b c f h t)
     (λ held. tells_first_fine c.left b c (by_leg c.leg b c) f h t (λ none. by_leg_fine law c.leg b c f refl (not_held b c f held none) h t))
 
-runs_call_fine : TreeWordsGoRightly → (o : Option Call) (b : ℕ) (f : Family) → call_at f b ≡ o → IsSoundFamily f → Fine f (runs_call o b f)
+runs_call_fine : Laws → (o : Option Call) (b : ℕ) (f : Family) → call_at f b ≡ o → IsSoundFamily f → Fine f (runs_call o b f)
 runs_call_fine law (Some c) b f e h = runs_fine law b c f (taken_up b f h) (h.under_way b c e)
 runs_call_fine law None b f e h = only_fine f h
 
-pub goes_on_fine : TreeWordsGoRightly → (b : ℕ) (f : Family) → IsSoundFamily f → Fine f (goes_on b f)
+pub goes_on_fine : Laws → (b : ℕ) (f : Family) → IsSoundFamily f → Fine f (goes_on b f)
 unfolding goes_on
 goes_on_fine law b f h = runs_call_fine law (call_at f b) b f refl h

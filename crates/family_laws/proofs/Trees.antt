@@ -9,11 +9,10 @@ use Rattle.txn_tree.specs.declared.row.Row.{Row}
 use Rattle.txn_tree.specs.declared.row.State.{State}
 use Rattle.txn_tree.specs.declared.row.State.TheVariants.{Active, Marked, Committed, RolledBack}
 use Rattle.txn_tree.specs.Laws.{IsNext}
-use Rattle.txn_tree.proofs.Lineages.{parent_kept, top_ancestor}
-use Rattle.txn_tree.proofs.Next.{next_is_first}
 use Rattle.family_laws.specs.Trees.{IsUpTo, IsCutOff}
 use Rattle.family_laws.specs.Trees.IsUpTo.{same, further}
 use Rattle.family_laws.specs.Trees.IsCutOff.{itself, above}
+use Rattle.family_laws.specs.LawsBelow.{Laws}
 
 pub same_or_not : (a b : ℕ) → (a ≡ b) ⊎ (a ≢ b)
 same_or_not a b = grind arith
@@ -96,20 +95,20 @@ up_top rs a b n u = go b u n
 
 -- ---- a live branch is marked or rolled back: chains stay, and what is cut off
 
-pub back_up : (rs : List Row) (d : ℕ) (s : State) → is_live_branch rs d ≡ true → (b c : ℕ) → IsUpTo rs b c → IsUpTo (with_state rs d s) b c
-back_up rs d s live = up_map rs (with_state rs d s)
-    (λ c p t e. (state_other rs d s c (λ same. live_open rs d live (rw same at t)) ∙ t, parent_kept rs d s c ∙ e))
+pub back_up : Laws → (rs : List Row) (d : ℕ) (s : State) → is_live_branch rs d ≡ true → (b c : ℕ) → IsUpTo rs b c → IsUpTo (with_state rs d s) b c
+back_up law rs d s live = up_map rs (with_state rs d s)
+    (λ c p t e. (state_other rs d s c (λ same. live_open rs d live (rw same at t)) ∙ t, ((law.keep rs d).with_a_state s).parents c ∙ e))
 
-pub back_down : (rs : List Row) (d : ℕ) (s : State) → is_live_branch rs d ≡ true → s ≢ Committed → (b c : ℕ) → IsUpTo (with_state rs d s) b c → IsUpTo rs b c
-back_down rs d s live apart = up_map (with_state rs d s) rs
+pub back_down : Laws → (rs : List Row) (d : ℕ) (s : State) → is_live_branch rs d ≡ true → s ≢ Committed → (b c : ℕ) → IsUpTo (with_state rs d s) b c → IsUpTo rs b c
+back_down law rs d s live apart = up_map (with_state rs d s) rs
     (λ c p t e.
     let o : c ≢ d = λ same. absurd (apart (cc (sym (state_here rs d s (live_within rs d live)) ∙ rw same at t))) in
-    (sym (state_other rs d s c o) ∙ t, sym (parent_kept rs d s c) ∙ e))
+    (sym (state_other rs d s c o) ∙ t, sym (((law.keep rs d).with_a_state s).parents c) ∙ e))
 
-pub cut_stays : (rs : List Row) (d : ℕ) (s : State) → is_live_branch rs d ≡ true → (b : ℕ) → IsCutOff rs b → IsCutOff (with_state rs d s) b
-cut_stays rs d s live = cut_map rs (with_state rs d s)
+pub cut_stays : Laws → (rs : List Row) (d : ℕ) (s : State) → is_live_branch rs d ≡ true → (b : ℕ) → IsCutOff rs b → IsCutOff (with_state rs d s) b
+cut_stays law rs d s live = cut_map rs (with_state rs d s)
     (λ c t. state_other rs d s c (λ same. live_kept rs d live (rw same at t)) ∙ t)
-    (λ c p e. parent_kept rs d s c ∙ e)
+    (λ c p e. ((law.keep rs d).with_a_state s).parents c ∙ e)
 
 pub cut_here : (rs : List Row) (d : ℕ) → is_live_branch rs d ≡ true → IsCutOff (ended rs d false) d
 cut_here rs d live = itself d (state_here rs d RolledBack (live_within rs d live))
@@ -142,10 +141,10 @@ ended_not_live rs d committed live h = go committed (sym (ap (λ (t : Option Sta
 
 -- ---- a live branch is committed into its parent
 
-pub split : (rs : List Row) (b p : ℕ) → parent rs b ≡ Some p → (x y : ℕ) → IsUpTo (ended rs b true) x y
+pub split : Laws → (rs : List Row) (b p : ℕ) → parent rs b ≡ Some p → (x y : ℕ) → IsUpTo (ended rs b true) x y
     → IsUpTo rs x y ⊎ (IsUpTo rs b y × IsUpTo (ended rs b true) x p)
-split rs b p is x _ same = inl same
-split rs b p is x _ (further c q s e v) = step c q s e v (split rs b p is x q v)
+split law rs b p is x _ same = inl same
+split law rs b p is x _ (further c q s e v) = step c q s e v (split law rs b p is x q v)
   where
     onward : (c q : ℕ) → state rs c ≡ Some Committed → parent rs c ≡ Some q
         → IsUpTo rs x q ⊎ (IsUpTo rs b q × IsUpTo (ended rs b true) x p)
@@ -164,14 +163,14 @@ split rs b p is x _ (further c q s e v) = step c q s e v (split rs b p is x q v)
         → IsUpTo rs x c ⊎ (IsUpTo rs b c × IsUpTo (ended rs b true) x p)
     step c q s e v r =
         elim (same_or_not c b) [
-          | inl i ↦ here c q i (sym (parent_kept rs b Committed c) ∙ e) v
-          | inr o ↦ onward c q (sym (state_other rs b Committed c o) ∙ s) (sym (parent_kept rs b Committed c) ∙ e) r
+          | inl i ↦ here c q i (sym (((law.keep rs b).with_a_state Committed).parents c) ∙ e) v
+          | inr o ↦ onward c q (sym (state_other rs b Committed c o) ∙ s) (sym (((law.keep rs b).with_a_state Committed).parents c) ∙ e) r
         ]
 
 -- it is committed up to its parent then
-pub up_here : (rs : List Row) (b p : ℕ) → is_live_branch rs b ≡ true → parent rs b ≡ Some p → IsUpTo (ended rs b true) p b
-up_here rs b p live is =
-    further b p (state_here rs b Committed (live_within rs b live)) (parent_kept rs b Committed b ∙ is) same
+pub up_here : Laws → (rs : List Row) (b p : ℕ) → is_live_branch rs b ≡ true → parent rs b ≡ Some p → IsUpTo (ended rs b true) p b
+up_here law rs b p live is =
+    further b p (state_here rs b Committed (live_within rs b live)) (((law.keep rs b).with_a_state Committed).parents b ∙ is) same
 
 -- ---- a new subtransaction
 
@@ -292,8 +291,8 @@ later_live rs t b d h =
         place b d n k (inr (inl l)) = absurd (k l)
         place b d n k (inr (inr e)) = absurd (n e)
 
-pub next_live : (rs : List Row) → IsTree rs → (b d : ℕ) → live_under rs b ≡ Some d → IsLaterLive rs b d
-next_live rs t b d is = later_live rs t b d (found (live_under rs b) is (next_is_first rs b)).live
+pub next_live : Laws → (rs : List Row) → IsTree rs → (b d : ℕ) → live_under rs b ≡ Some d → IsLaterLive rs b d
+next_live law rs t b d is = later_live rs t b d (found (live_under rs b) is (law.next rs b)).live
   where
     found : (o : Option ℕ) → o ≡ Some d → MatchOption o ((q : ℕ) → q < length rs → is_live_below rs b q ≡ false) (IsNext rs b) → IsNext rs b d
     found None e h = absurd (cc e)
@@ -303,8 +302,8 @@ next_live rs t b d is = later_live rs t b d (found (live_under rs b) is (next_is
 abbrev pub NoneLive : List Row → Type 0
 NoneLive rs = (q : ℕ) → 0 < q → is_live_branch rs q ≡ true → ⊥
 
-pub none_live : (rs : List Row) → IsTree rs → live_under rs 0 ≡ None → NoneLive rs
-none_live rs t is q p live = absurd (cc (sym (below live (top_ancestor rs t q within) (other q p)) ∙ found (live_under rs 0) is (next_is_first rs 0) q within))
+pub none_live : Laws → (rs : List Row) → IsTree rs → live_under rs 0 ≡ None → NoneLive rs
+none_live law rs t is q p live = absurd (cc (sym (below live ((law.related rs t q q within within).0) (other q p)) ∙ found (live_under rs 0) is (law.next rs 0) q within))
   where
     within : q < length rs
     within = live_within rs q live

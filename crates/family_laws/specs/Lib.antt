@@ -7,3 +7,4 @@ pub mod SoundNode
 pub mod HeldDues
 pub mod HeldRecords
 pub mod OwnDecisions
+pub mod LawsBelow

@@ -1,6 +1,7 @@
 // Laws of the definitions: these functions do nothing, and their contracts are the laws.
 ghost use Rattle.family_laws.specs.HeldDues.{HeldDuesEndByAnswers, HeldDuesEndWithFamilies};
 ghost use Rattle.family_laws.specs.HeldRecords.{HeldRecordsStood};
+ghost use Rattle.family_laws.specs.LawsBelow.{Laws};
 ghost use Rattle.family_laws.specs.LawsOfJournal.{FamiliesAppendOwn, FamiliesCloseLast};
 ghost use Rattle.family_laws.specs.LawsOfSteps.{FamiliesEndInTurn, FamiliesStaySound, FamiliesWordsRest};
 ghost use Rattle.family_laws.specs.LawsOfTelling.{FamiliesHearOutcomesAnswered, FamiliesNumberWords, FamiliesTellEnds, FamiliesTellOutcomes, FamiliesTellVotes};
@@ -8,14 +9,30 @@ ghost use Rattle.family_laws.specs.OwnDecisions.{NodesKeepDecisions};
 ghost use Rattle.family_laws.specs.SoundNode.{NodesStaySound};
 
 use coordinator::nodes_keep_numbers;
-use two_phase::{a_tree_outcome_stays, tree_words_go_rightly};
+use two_phase::{a_tree_outcome_stays, tree_words_go_rightly, votes_decide};
+use txn_tree::{
+    all_are_related, calls_keep_parents, next_is_first, parents_come_first, trees_stay_trees,
+};
+
+/// The laws of trees and of their completions that the laws here follow from.
+fn laws_below()
+    ensures { Laws }
+{
+    parents_come_first();
+    calls_keep_parents();
+    trees_stay_trees();
+    all_are_related();
+    next_is_first();
+    tree_words_go_rightly();
+    votes_decide();
+}
 
 /// A new family is sound, and so is each one that a step leaves of a sound one: its lists have what was committed up to their
 /// branches, its completion goes by the list of the top, and its calls under way are as far as its stage.
 pub fn families_stay_sound()
     ensures { FamiliesStaySound }
 {
-    tree_words_go_rightly();
+    laws_below();
 }
 
 /// Each subtransaction that ends in a step of a sound family was live, and where it is committed its parent has not ended. Each
@@ -23,7 +40,7 @@ pub fn families_stay_sound()
 pub fn families_end_in_turn()
     ensures { FamiliesEndInTurn }
 {
-    tree_words_go_rightly();
+    laws_below();
 }
 
 /// In each step of a sound family prepare and commit_one_phase go to participants while the outcome is open, commit to
@@ -32,7 +49,7 @@ pub fn families_end_in_turn()
 pub fn families_words_rest()
     ensures { FamiliesWordsRest }
 {
-    tree_words_go_rightly();
+    laws_below();
 }
 
 /// The rows that a step leaves follow from the ends and marks that it tells; or it tells nothing, and a subtransaction was made.
@@ -69,6 +86,7 @@ pub fn families_hear_outcomes_answered()
 pub fn families_append_own()
     ensures { FamiliesAppendOwn }
 {
+    laws_below();
     a_tree_outcome_stays();
 }
 
@@ -76,14 +94,16 @@ pub fn families_append_own()
 /// is told exactly where it was wanted and stands.
 pub fn families_close_last()
     ensures { FamiliesCloseLast }
-{}
+{
+    laws_below();
+}
 
 /// A node that was loaded is sound, and so is each one in which a family is made, a call comes, or time passes: its families are
 /// sound and in their slots, and each decision that stands is told again or has its family.
 pub fn nodes_stay_sound()
     ensures { NodesStaySound }
 {
-    tree_words_go_rightly();
+    laws_below();
     a_tree_outcome_stays();
     nodes_keep_numbers();
 }
@@ -95,7 +115,7 @@ pub fn nodes_stay_sound()
 pub fn nodes_keep_decisions()
     ensures { NodesKeepDecisions }
 {
-    tree_words_go_rightly();
+    laws_below();
     a_tree_outcome_stays();
     nodes_stay_sound();
 }

@@ -15,6 +15,7 @@ use coordinator::{Leg, Stage};
 use ots_model::tree::{Outcome, Reason, Word};
 use ots_model::{Join, Status};
 use resource_votes::Registration;
+use two_phase::a_tree_word_waits_for_its_answer;
 
 impl State {
     /// A mark counts wherever the commit goes on. Else the next synchronization is called; then the completion begins.
@@ -106,6 +107,7 @@ impl State {
             leg: Leg::Deciding,
             ..call
         };
+        a_tree_word_waits_for_its_answer();
         match self.completion.next() {
             Some(word) => self.send(call, word, out),
             None => self.rest(call, out),

@@ -19,7 +19,6 @@ use Rattle.two_phase.specs.declared.party.Errand.{Errand}
 use Rattle.two_phase.specs.declared.party.Party.{Party}
 use Rattle.two_phase.specs.declared.party.Stage.{Stage as Round}
 use Rattle.two_phase.specs.declared.party.Stage.TheVariants as rounds
-use Rattle.two_phase.proofs.Stays.{goes}
 use Rattle.coordinator.specs.declared.call.Leg.{Leg}
 use Rattle.coordinator.specs.declared.call.Leg.TheVariants.{Below, Own, Before, Deciding, After}
 use Rattle.coordinator.specs.declared.call.Stage.{Stage}
@@ -34,6 +33,7 @@ use Rattle.coordinator.specs.Laws.{IsThere}
 use Rattle.coordinator.specs.Moves.{Moved, only, ◌▹◌}
 use Rattle.coordinator.specs.Step.{Stepped, acted, answered, entered, family_step, goes_on_at, hears, hears_call, hears_for, Appends, WritesDone, wanted_by}
 use Rattle.family_laws.specs.Sound.{IsInStage, IsOfSub, IsSoundFamily}
+use Rattle.nodes_world.specs.CompletionLaws.{CompletionLaws}
 use Rattle.nodes_world.specs.AgreementInside.{IsNotBefore, is_asking, is_asking_errand, is_asking_round}
 use Rattle.nodes_world.specs.Deliveries.{answer_event, heard_in}
 use Rattle.nodes_world.proofs.AnswersKeep.{HearsNoVote, NoVoteAt}
@@ -56,8 +56,8 @@ round_asks rounds.Asking asks = refl
 round_asks rounds.Telling asks = absurd cc
 round_asks rounds.Forgetting asks = absurd cc
 
-pub asked_of : (c : Course) → IsReached c → is_asking (UnderWay c) ≡ true → IsAskedOf c
-asked_of c reached asks = by_out c.out refl
+pub asked_of : CompletionLaws → (c : Course) → IsReached c → is_asking (UnderWay c) ≡ true → IsAskedOf c
+asked_of completions c reached asks = by_out c.out refl
   where
     by_party : (e : Errand) → c.out ≡ Some e → e.stage ≡ rounds.Asking → (o : Option Party) → slice_get c.parties e.place ≡ o → OpenAt rounds.Asking o → IsAskedOf c
     by_party e out round None there unheard = absurd unheard
@@ -68,7 +68,7 @@ asked_of c reached asks = by_out c.out refl
       round = round;
       there = there;
       unheard = unheard;
-      undecided = (goes c reached).asking e out round;
+      undecided = (completions.waits c reached).asking e out round;
     }
 
     by_out : (o : Option Errand) → c.out ≡ o → IsAskedOf c
@@ -79,11 +79,11 @@ asked_of c reached asks = by_out c.out refl
     by_out (Some e) out =
         let round = round_asks e.stage (sym (ap is_asking_errand out) ∙ asks) in
         by_party e out round (slice_get c.parties e.place) refl
-        (subst (λ (r : Round). OpenAt r (slice_get c.parties e.place)) round (subst (IsOpen c.parties) out (goes c reached).unheard))
+        (subst (λ (r : Round). OpenAt r (slice_get c.parties e.place)) round (subst (IsOpen c.parties) out (completions.waits c reached).unheard))
 
-pub nothing_fixed : (s : Standing) → IsThere s → is_asking s ≡ true → stages.outcome s ≡ None
-nothing_fixed (Waiting room) there asks = refl
-nothing_fixed (UnderWay c) there asks = (asked_of c there asks).undecided
+pub nothing_fixed : CompletionLaws → (s : Standing) → IsThere s → is_asking s ≡ true → stages.outcome s ≡ None
+nothing_fixed completions (Waiting room) there asks = refl
+nothing_fixed completions (UnderWay c) there asks = (asked_of completions c there asks).undecided
 
 -- ---- then no Done is wanted
 

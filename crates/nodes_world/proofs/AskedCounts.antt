@@ -16,7 +16,6 @@ use Rattle.resource_votes.specs.declared.registration.Registration.{Registration
 use Rattle.txn_tree.specs.declared.row.Row.{Row}
 use Rattle.two_phase.specs.Course as course
 use Rattle.two_phase.specs.Course.{Course}
-use Rattle.two_phase.specs.LawsOfOutcomes.{OutcomesHaveCauses}
 use Rattle.two_phase.specs.LawsOfReached.IsReached.{goes_on}
 use Rattle.two_phase.specs.LawsOfReached.TreeBecomes.{by_answer}
 use Rattle.two_phase.specs.Stages as stages
@@ -36,6 +35,7 @@ use Rattle.coordinator.specs.Laws.{IsThere}
 use Rattle.coordinator.specs.Moves.{◌▹◌, completes_as, fixed_now}
 use Rattle.coordinator.specs.Step.{Stepped, acted, answered, entered, family_step, goes_on_at, hears, hears_call, hears_for}
 use Rattle.family_laws.specs.LawsOfTelling.{HasVote, IsVoted, rows_told}
+use Rattle.nodes_world.specs.CompletionLaws.{CompletionLaws}
 use Rattle.nodes_world.specs.Deliveries.{answer_event, heard_in}
 use Rattle.nodes_world.specs.AgreementInside.{is_asking}
 use Rattle.nodes_world.proofs.AnswersKeep.{goes_on_keeps}
@@ -72,7 +72,7 @@ any_set_cases P ps i q any = go ps i any.0 any.1 any.2 any.3 any.4
 abbrev CountsBy : Course → (p : Party) → ParticipantHeard → ℕ → Vote → Type 0
 CountsBy k p h number vote = IsVoted (UnderWay k) number vote ⊎ ((p.index ≡ number) × (h ≡ participants.Voted vote))
 
-module _ (k : Course) (asked : IsAskedOf k) (n : CallNumber) (h : ParticipantHeard) (number : ℕ) (vote : Vote) where
+module _ (completions : CompletionLaws) (k : Course) (asked : IsAskedOf k) (n : CallNumber) (h : ParticipantHeard) (number : ℕ) (vote : Vote) where
   own_vote : HasVote number vote (answered_party k asked n h) → (asked.party.index ≡ number) × (h ≡ participants.Voted vote)
   own_vote had = (
     sym (ap (λ (r : Round). (course.heard_at r h asked.party).index) asked.round) ∙ had.0,
@@ -84,7 +84,7 @@ module _ (k : Course) (asked : IsAskedOf k) (n : CallNumber) (h : ParticipantHea
 
   counts_then : IsVoted (UnderWay (keep.heard k asked n h)) number vote → CountsBy k asked.party h number vote
   counts_then voted = elim (any_set_cases (HasVote number vote) k.parties asked.errand.place (answered_party k asked n h)
-      (subst (Any (HasVote number vote)) (parties_then k asked n h) voted)) [
+      (subst (Any (HasVote number vote)) (parties_then k asked n h completions) voted)) [
         | inl before ↦ inl before
         | inr own ↦ inr (own_vote own)
       ]
@@ -148,7 +148,7 @@ votes_rows (participants.Voted vote) (Some number) rs = refl
 votes_rows (participants.Voted vote) None rs = refl
 votes_rows _ o rs = refl
 
-module _ (causes : OutcomesHaveCauses) (f : Family) (o : Outward) (answer : Said) (now : ℕ) (c : Call) (waits : waiting_for f o.number ≡ Some 0) (at : call_at f 0 ≡ Some c)
+module _ (completions : CompletionLaws) (f : Family) (o : Outward) (answer : Said) (now : ℕ) (c : Call) (waits : waiting_for f o.number ≡ Some 0) (at : call_at f 0 ≡ Some c)
     (decides : c.leg ≡ Deciding) (there : IsThere f.completion) (asks : is_asking f.completion ≡ true) (vote : Vote)
     (votes : of_participant (heard_in answer) ≡ participants.Voted vote) (stood : Option Stood)
     (settled : Rule (hears o.number (heard_in answer) f).family (settles stood (hears o.number (heard_in answer) f).family)) where
@@ -159,17 +159,17 @@ module _ (causes : OutcomesHaveCauses) (f : Family) (o : Outward) (answer : Said
   h = heard_in answer
 
   abbrev waiting : Family
-  waiting = keep.waiting causes f n h c waits at decides there asks
+  waiting = keep.waiting completions f n h c waits at decides there asks
 
   abbrev pub later : Standing
-  later = keep.later causes f n h c waits at decides there asks
+  later = keep.later completions f n h c waits at decides there asks
 
   -- the family as its completion is then
   abbrev pub counted : Family
   counted = record f { completion = later }
 
   parties_later : (rs : List Registration) → ArePartiesOf rs f.completion → ArePartiesOf rs later
-  parties_later rs = answer_registered f.completion there asks (inner_number waiting f.completion n) (of_participant h) rs
+  parties_later rs = answer_registered completions f.completion there asks (inner_number waiting f.completion n) (of_participant h) rs
 
   participant_counts : IsTidy waiting → AreKept f.rows f.ballots later (told_participant n h waiting)
   unfolding told_participant completes_as
@@ -296,17 +296,17 @@ module _ (causes : OutcomesHaveCauses) (f : Family) (o : Outward) (answer : Said
       by (Waiting room) going there asks = absurd cc
       by (UnderWay k) going there asks =
           let next = (step_counts tidy).kept in
-          let asked = asked_of k there asks in
+          let asked = asked_of completions k there asks in
           let m : CallNumber = inner_number waiting f.completion n in
           let heard : ParticipantHeard = of_participant h in
           let then_is : later ≡ UnderWay (course.after_answer m heard k) = ap (stages.after_answer m heard) going in
-          let none_stood : (course.after_answer m heard k).stood ≡ None = after_is k asked m heard (λ (x : Course). x.stood ≡ None) (not_stood k there asked) (not_stood k there asked) in
+          let none_stood : (course.after_answer m heard k).stood ≡ None = after_is k asked m heard (λ (x : Course). x.stood ≡ None) (not_stood completions k there asked) (not_stood completions k there asked) in
           let overtaken : (course.after_answer m heard k).overtaken ≡ None =
           after_is k asked m heard (λ (x : Course). x.overtaken ≡ None) (not_overtaken k asked.undecided) (not_overtaken k asked.undecided) in
           record {
-            voted = λ number x voted. next.voted number x (votes_stay f.completion (subst IsThere (sym going) there) (ap is_asking going ∙ asks) m heard number x voted);
+            voted = λ number x voted. next.voted number x (votes_stay completions f.completion (subst IsThere (sym going) there) (ap is_asking going ∙ asks) m heard number x voted);
             votes = λ number x voted.
-                elim (counts_by k asked m heard number x (subst (λ (s : Standing). IsVoted s number x) then_is (next.votes number x voted))) [
+                elim (counts_by completions k asked m heard number x (subst (λ (s : Standing). IsVoted s number x) then_is (next.votes number x voted))) [
                   | inl before ↦ inl (subst (λ (s : Standing). IsVoted s number x) (sym going) before)
                   | inr (own, same) ↦ inr (subst (λ (y : Vote). Contains step.effects (effects.Voted number y)) (same_vote (sym votes ∙ same))
                       (step_tells number (ap stages.voter going ∙ voter_asked k asked (sym (ap stages.decides_alone going) ∙ alone) ∙ ap (λ (y : ℕ). Some y) own)))
@@ -314,7 +314,7 @@ module _ (causes : OutcomesHaveCauses) (f : Family) (o : Outward) (answer : Said
             commits = λ is. absurd (no_record (course.after_answer m heard k) none_stood (sym (ap stages.outcome then_is) ∙ next.commits is));
             reasons = λ why is. inr (elim (next.reasons why is) [
               | inl was ↦ plain_cause why (course.after_answer m heard k) overtaken
-                  (causes (course.after_answer m heard k) (outcomes.Rollback why) (goes_on k (course.after_answer m heard k) there (by_answer k m heard)) (sym (ap stages.outcome then_is) ∙ was))
+                  (completions.causes (course.after_answer m heard k) (outcomes.Rollback why) (goes_on k (course.after_answer m heard k) there (by_answer k m heard)) (sym (ap stages.outcome then_is) ∙ was))
               | inr plain ↦ plain
             ]);
             wants = λ is. undecided;

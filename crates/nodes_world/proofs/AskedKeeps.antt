@@ -15,7 +15,7 @@ use Rattle.ots_model.specs.declared.tree.Reason.TheVariants as reasons
 use Rattle.resource_votes.specs.declared.registration.Registration.{Registration}
 use Rattle.two_phase.specs.Course as course
 use Rattle.two_phase.specs.Course.{Course}
-use Rattle.two_phase.specs.LawsOfOutcomes.{HasCause, OutcomesHaveCauses}
+use Rattle.two_phase.specs.LawsOfOutcomes.{HasCause}
 use Rattle.two_phase.specs.LawsOfReached.IsReached.{goes_on}
 use Rattle.two_phase.specs.LawsOfReached.TreeBecomes.{by_answer}
 use Rattle.two_phase.specs.Parties.{has_consented, has_voted_commit}
@@ -25,7 +25,6 @@ use Rattle.two_phase.specs.declared.party.Errand.{Errand}
 use Rattle.two_phase.specs.declared.party.Party.{Party}
 use Rattle.two_phase.specs.declared.party.Stage.{Stage as Round}
 use Rattle.two_phase.specs.declared.party.Stage.TheVariants as rounds
-use Rattle.two_phase.proofs.Answered.{heard_is}
 use Rattle.coordinator.specs.declared.call.Leg.{Leg}
 use Rattle.coordinator.specs.declared.call.Leg.TheVariants.{Deciding}
 use Rattle.coordinator.specs.declared.effect.Effect.{Effect}
@@ -36,6 +35,7 @@ use Rattle.coordinator.specs.Hearing.{hears_at, inner_number, record_place, told
 use Rattle.coordinator.specs.Laws.{IsThere}
 use Rattle.coordinator.specs.Moves.{shows, completes_as}
 use Rattle.coordinator.specs.Step.{hears, hears_call, hears_for}
+use Rattle.nodes_world.specs.CompletionLaws.{CompletionLaws}
 use Rattle.nodes_world.specs.Deliveries.{heard_in}
 use Rattle.nodes_world.specs.AgreementInside.{is_asking}
 use Rattle.nodes_world.proofs.AnswersKeep.{all_set}
@@ -100,28 +100,28 @@ module _ (k : Course) (asked : IsAskedOf k) (n : CallNumber) (h : ParticipantHea
   abbrev pub answered_party : Party
   answered_party = course.heard_at asked.errand.stage h asked.party
 
-  pub parties_then : heard.parties ≡ slice_set k.parties asked.errand.place answered_party
-  parties_then = heard_is k.parties asked.errand h asked.party asked.there
+  pub parties_then : CompletionLaws → heard.parties ≡ slice_set k.parties asked.errand.place answered_party
+  parties_then completions = completions.changes k.parties asked.errand h asked.party asked.there
 
   pub same_to : (round : Round) → (course.heard_at round h asked.party).to ≡ asked.party.to
   same_to rounds.Asking = refl
   same_to rounds.Telling = refl
   same_to rounds.Forgetting = refl
 
-  pub alone_then : course.decides_alone heard ≡ course.decides_alone k
-  alone_then = ap (λ (x : ℕ). k.one_phase && x == 1) (ap length parties_then ∙ as_long k.parties asked.errand.place answered_party)
+  pub alone_then : CompletionLaws → course.decides_alone heard ≡ course.decides_alone k
+  alone_then completions = ap (λ (x : ℕ). k.one_phase && x == 1) (ap length (parties_then completions) ∙ as_long k.parties asked.errand.place answered_party)
 
-  registered_then : (rs : List Registration) → ArePartiesOf rs (UnderWay k) → ArePartiesOf rs (UnderWay heard)
-  registered_then rs all =
-      subst (λ (ps : List Party). ArePartiesOf rs (UnderWay (record k { parties = ps }))) (sym parties_then)
+  registered_then : CompletionLaws → (rs : List Registration) → ArePartiesOf rs (UnderWay k) → ArePartiesOf rs (UnderWay heard)
+  registered_then completions rs all =
+      subst (λ (ps : List Party). ArePartiesOf rs (UnderWay (record k { parties = ps }))) (sym (parties_then completions))
       (all_set (λ (x : Party). IsRegisteredTo rs x.to) k.parties asked.errand.place asked.party answered_party asked.there
       (λ one. record { r = one.r; there = one.there; leads = one.leads ∙ sym (same_to asked.errand.stage) }) all)
 
-  wants_then : IsNoVote h → course.wants_decision heard ≡ false
+  wants_then : CompletionLaws → IsNoVote h → course.wants_decision heard ≡ false
   unfolding course.all_consent course.some_commit
-  wants_then none =
+  wants_then completions none =
       ap (λ (t : Bool). not (course.decides_alone heard) && is_none k.overtaken && is_none k.stood && t && list_any has_voted_commit heard.parties)
-      (ap (list_all has_consented) parties_then
+      (ap (list_all has_consented) (parties_then completions)
       ∙ set_not k.parties asked.errand.place asked.party answered_party asked.there
       (ap (λ (r : Round). has_consented (course.heard_at r h asked.party)) asked.round ∙ not_consents h asked.party none))
       ∙ not_all (not (course.decides_alone heard)) (is_none k.overtaken) (is_none k.stood) (list_any has_voted_commit heard.parties)
@@ -152,42 +152,42 @@ no_place None reread none = refl
 no_place (Some x) reread none = absurd cc
 
 -- no record stands while one is asked
-pub asked_late : (s : Standing) → IsThere s → is_asking s ≡ true → stages.record_place s ≡ None
-asked_late (Waiting room) there asks = refl
-asked_late (UnderWay k) there asks = no_place k.stood k.reread (not_stood k there (asked_of k there asks))
+pub asked_late : CompletionLaws → (s : Standing) → IsThere s → is_asking s ≡ true → stages.record_place s ≡ None
+asked_late completions (Waiting room) there asks = refl
+asked_late completions (UnderWay k) there asks = no_place k.stood k.reread (not_stood completions k there (asked_of completions k there asks))
 
 -- nor once it has answered
-pub answer_late : (s : Standing) → IsThere s → is_asking s ≡ true → (n : CallNumber) (h : ParticipantHeard) → stages.record_place (stages.after_answer n h s) ≡ None
-answer_late (Waiting room) there asks n h = refl
-answer_late (UnderWay k) there asks n h =
-    let asked = asked_of k there asks in
-    let none = not_stood k there asked in
+pub answer_late : CompletionLaws → (s : Standing) → IsThere s → is_asking s ≡ true → (n : CallNumber) (h : ParticipantHeard) → stages.record_place (stages.after_answer n h s) ≡ None
+answer_late completions (Waiting room) there asks n h = refl
+answer_late completions (UnderWay k) there asks n h =
+    let asked = asked_of completions k there asks in
+    let none = not_stood completions k there asked in
     no_place (course.after_answer n h k).stood (course.after_answer n h k).reread (after_is k asked n h (λ (x : Course). x.stood ≡ None) none none)
 
-pub answer_registered : (s : Standing) → IsThere s → is_asking s ≡ true → (n : CallNumber) (h : ParticipantHeard) (rs : List Registration) → ArePartiesOf rs s
+pub answer_registered : CompletionLaws → (s : Standing) → IsThere s → is_asking s ≡ true → (n : CallNumber) (h : ParticipantHeard) (rs : List Registration) → ArePartiesOf rs s
     → ArePartiesOf rs (stages.after_answer n h s)
-answer_registered (Waiting room) there asks n h rs all = tt
-answer_registered (UnderWay k) there asks n h rs all =
-    let asked = asked_of k there asks in
-    after_is k asked n h (λ (x : Course). ArePartiesOf rs (UnderWay x)) all (registered_then k asked n h rs all)
+answer_registered completions (Waiting room) there asks n h rs all = tt
+answer_registered completions (UnderWay k) there asks n h rs all =
+    let asked = asked_of completions k there asks in
+    after_is k asked n h (λ (x : Course). ArePartiesOf rs (UnderWay x)) all (registered_then k asked n h completions rs all)
 
-pub answer_kept : OutcomesHaveCauses → (s : Standing) → IsThere s → is_asking s ≡ true → (n : CallNumber) (h : ParticipantHeard) → IsNoVote h
+pub answer_kept : CompletionLaws → (s : Standing) → IsThere s → is_asking s ≡ true → (n : CallNumber) (h : ParticipantHeard) → IsNoVote h
     → IsKept s (stages.after_answer n h s)
-answer_kept causes (Waiting room) there asks n h none = absurd cc
-answer_kept causes (UnderWay k) there asks n h none =
-    let asked = asked_of k there asks in
+answer_kept completions (Waiting room) there asks n h none = absurd cc
+answer_kept completions (UnderWay k) there asks n h none =
+    let asked = asked_of completions k there asks in
     let later : Course = course.after_answer n h k in
-    let stood = not_stood k there asked in
+    let stood = not_stood completions k there asked in
     let overtaken : later.overtaken ≡ None = after_is k asked n h (λ (x : Course). x.overtaken ≡ None) (not_overtaken k asked.undecided) (not_overtaken k asked.undecided) in
     record {
-      voted = λ g vote voted. votes_stay (UnderWay k) there asks n h g vote voted;
-      votes = λ g vote voted. no_vote_comes (UnderWay k) there asks n h g vote (none vote) voted;
+      voted = λ g vote voted. votes_stay completions (UnderWay k) there asks n h g vote voted;
+      votes = λ g vote voted. no_vote_comes completions (UnderWay k) there asks n h g vote (none vote) voted;
       commits = λ is. absurd (no_record later (after_is k asked n h (λ (x : Course). x.stood ≡ None) stood stood) is);
-      reasons = λ why is. inr (plain_cause why later overtaken (causes later (outcomes.Rollback why) (goes_on k later there (by_answer k n h)) is));
-      wants = λ is. after_is k asked n h (λ (x : Course). course.wants_decision x ≡ false) is (wants_then k asked n h none);
+      reasons = λ why is. inr (plain_cause why later overtaken (completions.causes later (outcomes.Rollback why) (goes_on k later there (by_answer k n h)) is));
+      wants = λ is. after_is k asked n h (λ (x : Course). course.wants_decision x ≡ false) is (wants_then k asked n h completions none);
       decides = λ asking alone. (
         overtaken,
-        after_is k asked n h (λ (x : Course). course.decides_alone x ≡ true) alone (alone_then k asked n h ∙ alone),
+        after_is k asked n h (λ (x : Course). course.decides_alone x ≡ true) alone (alone_then k asked n h completions ∙ alone),
       );
     }
 
@@ -196,7 +196,7 @@ answer_kept causes (UnderWay k) there asks n h none =
 abbrev pub without_out : Call → Call
 without_out c = record c { out = None }
 
-module _ (causes : OutcomesHaveCauses) (f : Family) (n : CallNumber) (h : Heard) (c : Call) (waits : waiting_for f n ≡ Some 0) (at : call_at f 0 ≡ Some c)
+module _ (completions : CompletionLaws) (f : Family) (n : CallNumber) (h : Heard) (c : Call) (waits : waiting_for f n ≡ Some 0) (at : call_at f 0 ≡ Some c)
     (decides : c.leg ≡ Deciding) (there : IsThere f.completion) (asks : is_asking f.completion ≡ true) where
   abbrev pub waiting : Family
   waiting = with_call 0 (without_out c) f
@@ -221,8 +221,8 @@ module _ (causes : OutcomesHaveCauses) (f : Family) (n : CallNumber) (h : Heard)
   participant_keeps none =
       then_keeps waiting (shows (vote_effects (of_participant h) (stages.voter f.completion)) waiting) (λ g. completes_as later g)
       (subst (λ (some : List Effect). Rule waiting (shows some waiting)) (sym (tells_nothing (of_participant h) (stages.voter f.completion) none)) (only_keeps waiting))
-      (completes_keep later waiting (answer_kept causes f.completion there asks (inner_number waiting f.completion n) (of_participant h) none)
-      (answer_registered f.completion there asks (inner_number waiting f.completion n) (of_participant h) f.ballots.registrations))
+      (completes_keep later waiting (answer_kept completions f.completion there asks (inner_number waiting f.completion n) (of_participant h) none)
+      (answer_registered completions f.completion there asks (inner_number waiting f.completion n) (of_participant h) f.ballots.registrations))
 
   at_call_keeps : IsNoVote (of_participant h) → Rule f (hears_at n 0 c h f)
   unfolding hears_at
@@ -248,7 +248,7 @@ module _ (causes : OutcomesHaveCauses) (f : Family) (n : CallNumber) (h : Heard)
   asked_no_done =
       ap (λ (t : Bool). is_none g.closed && t && is_none (stages.next_word g.completion) && stages.is_settled g.completion)
       (ap (λ (s : Standing). is_some (record_place s)) completion_then
-      ∙ ap is_some (answer_late f.completion there asks (inner_number waiting f.completion n) (of_participant h)))
+      ∙ ap is_some (answer_late completions f.completion there asks (inner_number waiting f.completion n) (of_participant h)))
       ∙ never (is_none g.closed) (is_none (stages.next_word g.completion)) (stages.is_settled g.completion)
     where
       g : Family

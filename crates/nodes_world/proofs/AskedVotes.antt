@@ -10,14 +10,14 @@ use Rattle.two_phase.specs.Stages as stages
 use Rattle.two_phase.specs.Stages.{Standing, Waiting, Going as UnderWay}
 use Rattle.two_phase.specs.declared.party.Errand.{Errand}
 use Rattle.two_phase.specs.declared.party.Stage.{Stage as Round}
-use Rattle.two_phase.proofs.Answered.{heard_is}
 use Rattle.coordinator.specs.Laws.{IsThere}
 use Rattle.family_laws.specs.LawsOfTelling.{HasVote, IsVoted}
+use Rattle.nodes_world.specs.CompletionLaws.{CompletionLaws}
 use Rattle.nodes_world.specs.AgreementInside.{is_asking}
 use Rattle.nodes_world.proofs.AnswersKeep.{any_back, any_set}
 use Rattle.nodes_world.proofs.AskedCalls.{IsAskedOf, asked_of}
 
-module _ (c : Course) (asked : IsAskedOf c) (n : CallNumber) (h : ParticipantHeard) (g : ℕ) (vote : Vote) where
+module _ (completions : CompletionLaws) (c : Course) (asked : IsAskedOf c) (n : CallNumber) (h : ParticipantHeard) (g : ℕ) (vote : Vote) where
   -- the one that is asked hasn't voted
   not_voted : HasVote g vote asked.party → HasVote g vote (course.heard_at asked.errand.stage h asked.party)
   not_voted had = absurd (no (sym asked.unheard ∙ had.1))
@@ -27,7 +27,7 @@ module _ (c : Course) (asked : IsAskedOf c) (n : CallNumber) (h : ParticipantHea
 
   kept_by : IsVoted (UnderWay c) g vote → (t : Bool) → IsVoted (UnderWay (if t then course.answered h c asked.errand else c)) g vote
   kept_by voted true =
-      subst (Any (HasVote g vote)) (sym (heard_is c.parties asked.errand h asked.party asked.there))
+      subst (Any (HasVote g vote)) (sym (completions.changes c.parties asked.errand h asked.party asked.there))
       (any_set (HasVote g vote) c.parties asked.errand.place asked.party (course.heard_at asked.errand.stage h asked.party) asked.there not_voted voted)
   kept_by voted false = voted
 
@@ -51,7 +51,7 @@ module _ (c : Course) (asked : IsAskedOf c) (n : CallNumber) (h : ParticipantHea
     back_by : (t : Bool) → IsVoted (UnderWay (if t then course.answered h c asked.errand else c)) g vote → IsVoted (UnderWay c) g vote
     back_by true voted =
         any_back (HasVote g vote) c.parties asked.errand.place asked.party (course.heard_at asked.errand.stage h asked.party) asked.there gives_none
-        (subst (Any (HasVote g vote)) (heard_is c.parties asked.errand h asked.party asked.there) voted)
+        (subst (Any (HasVote g vote)) (completions.changes c.parties asked.errand h asked.party asked.there) voted)
     back_by false voted = voted
 
     back_by_errand : (t : Bool) (o : Option Errand) → o ≡ Some asked.errand → AfterIs t o → IsVoted (UnderWay c) g vote
@@ -61,12 +61,12 @@ module _ (c : Course) (asked : IsAskedOf c) (n : CallNumber) (h : ParticipantHea
     no_other_vote voted = back_by_errand _ c.out asked.out voted
 
 -- the same of any completion
-pub votes_stay : (s : Standing) → IsThere s → is_asking s ≡ true → (n : CallNumber) (h : ParticipantHeard) (g : ℕ) (vote : Vote) → IsVoted s g vote
+pub votes_stay : CompletionLaws → (s : Standing) → IsThere s → is_asking s ≡ true → (n : CallNumber) (h : ParticipantHeard) (g : ℕ) (vote : Vote) → IsVoted s g vote
     → IsVoted (stages.after_answer n h s) g vote
-votes_stay (Waiting room) there asks n h g vote voted = voted
-votes_stay (UnderWay c) there asks n h g vote voted = votes_last c (asked_of c there asks) n h g vote voted
+votes_stay completions (Waiting room) there asks n h g vote voted = voted
+votes_stay completions (UnderWay c) there asks n h g vote voted = votes_last completions c (asked_of completions c there asks) n h g vote voted
 
-pub no_vote_comes : (s : Standing) → IsThere s → is_asking s ≡ true → (n : CallNumber) (h : ParticipantHeard) (g : ℕ) (vote : Vote)
+pub no_vote_comes : CompletionLaws → (s : Standing) → IsThere s → is_asking s ≡ true → (n : CallNumber) (h : ParticipantHeard) (g : ℕ) (vote : Vote)
     → (h ≡ participants.Voted vote → ⊥) → IsVoted (stages.after_answer n h s) g vote → IsVoted s g vote
-no_vote_comes (Waiting room) there asks n h g vote none voted = voted
-no_vote_comes (UnderWay c) there asks n h g vote none voted = no_other_vote c (asked_of c there asks) n h g vote none voted
+no_vote_comes completions (Waiting room) there asks n h g vote none voted = voted
+no_vote_comes completions (UnderWay c) there asks n h g vote none voted = no_other_vote completions c (asked_of completions c there asks) n h g vote none voted

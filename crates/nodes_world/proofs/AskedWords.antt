@@ -19,6 +19,7 @@ use Rattle.coordinator.specs.declared.call.Leg.TheVariants.{Deciding}
 use Rattle.coordinator.specs.Closing.{notice_of}
 use Rattle.coordinator.specs.Family.{Family, Call, call_at, has_out, is_own_number, waiting_for}
 use Rattle.coordinator.specs.Moves.{Notice}
+use Rattle.nodes_world.specs.CompletionLaws.{CompletionLaws}
 use Rattle.nodes_world.specs.AgreementInside.{AsksOne, IsNumberedBy, decides_out, notice_at, notice_out, out_at, is_asking}
 use Rattle.coordinator.specs.Laws.{IsThere}
 use Rattle.nodes_world.proofs.AskedCalls.{IsAskedOf, asked_of}
@@ -88,10 +89,10 @@ not_alone f o c numbered waits at decides k going asked prepare = by (course.dec
         no e = cc
     by false alone = refl
 
-pub vote_not_alone : (f : Family) (o : Outward) (c : Call) → IsNumberedBy f o → waiting_for f o.number ≡ Some 0 → call_at f 0 ≡ Some c → c.leg ≡ Deciding
+pub vote_not_alone : CompletionLaws → (f : Family) (o : Outward) (c : Call) → IsNumberedBy f o → waiting_for f o.number ≡ Some 0 → call_at f 0 ≡ Some c → c.leg ≡ Deciding
     → IsThere f.completion → is_asking f.completion ≡ true → o.word ≡ words.Prepare → stages.decides_alone f.completion ≡ false
-vote_not_alone f o c numbered waits at decides there asks prepare = by f.completion refl there asks
+vote_not_alone completions f o c numbered waits at decides there asks prepare = by f.completion refl there asks
   where
     by : (s : Standing) → f.completion ≡ s → IsThere s → is_asking s ≡ true → stages.decides_alone s ≡ false
     by (Waiting room) going there asks = refl
-    by (UnderWay k) going there asks = not_alone f o c numbered waits at decides k going (asked_of k there asks) prepare
+    by (UnderWay k) going there asks = not_alone f o c numbered waits at decides k going (asked_of completions k there asks) prepare

@@ -133,7 +133,7 @@ module _ (laws : FamilyLaws) (journals : JournalLaws) (nodes : NodesKeepDecision
     on = λ r listed. listed;
     back = λ r listed. listed;
     kept = kept_step f.completion f.completion [] (kept_itself f.completion);
-    speaks = speaks_of laws.causes f known_f.sound;
+    speaks = speaks_of laws.completions f known_f.sound;
     heard = λ number vote among. let l = among.1 in absurd (omega (arith, l));
     outcomes = nothing_new (stages.outcome f.completion);
     stays = λ fixed is. is;

@@ -25,7 +25,6 @@ use Rattle.resource_votes.specs.Ballots.{participants}
 use Rattle.resource_votes.specs.declared.registration.Registration.{Registration}
 use Rattle.two_phase.specs.Course as course
 use Rattle.two_phase.specs.Course.{Course}
-use Rattle.two_phase.specs.LawsOfOutcomes.{OutcomesHaveCauses}
 use Rattle.two_phase.specs.LawsOfReached.TreeBecomes.{by_answer}
 use Rattle.two_phase.specs.Stages as stages
 use Rattle.two_phase.specs.Stages.{Standing, Waiting, Going as UnderWay}
@@ -53,6 +52,7 @@ use Rattle.txn_tree.specs.Rows.{parent}
 use Rattle.family_laws.specs.LawsOfJournal.{CompletesAll, FamiliesCloseLast, HasCompleted}
 use Rattle.family_laws.specs.LawsOfTelling.{FamiliesHearOutcomesAnswered, FamiliesNumberWords, IsVoted}
 use Rattle.family_laws.specs.Sound.{HasParties, IsOfSub}
+use Rattle.nodes_world.specs.CompletionLaws.{CompletionLaws}
 use Rattle.nodes_world.specs.declared.message.Content.TheVariants as contents
 use Rattle.nodes_world.specs.Agreement.{IsTransaction, IsWord, has_record, is_decision_of, is_registration_of, names_object, recorded_key, records_at}
 use Rattle.nodes_world.specs.AgreementInside.{FamilyIsKnown, IsBack, IsNotBefore, Known, phase_of, is_asking}
@@ -234,7 +234,7 @@ done_wanted false false x r done is = absurd cc
 
 -- ---- the family's own Done
 
-module _ (causes : OutcomesHaveCauses) (close : FamiliesCloseLast) (rightly : FamiliesStepRightly) (answered : FamiliesHearOutcomesAnswered) (numbers : FamiliesNumberWords)
+module _ (completions : CompletionLaws) (close : FamiliesCloseLast) (rightly : FamiliesStepRightly) (answered : FamiliesHearOutcomesAnswered) (numbers : FamiliesNumberWords)
     (w : World) (told_so : List Told) (k : Known w told_so) (replied : ToldReplied w)
     (place : ℕ) (n : Node) (up : node_at w place ≡ Some n) (nth reply now : ℕ) (o : Outward) (answer : Said) (word : IsWord w nth place o)
     (back : HasContent w reply (contents.Reply (nth + 1) answer)) (slot : ℕ) (f : Family) (there : family_in n.families slot ≡ Some f)
@@ -271,9 +271,9 @@ module _ (causes : OutcomesHaveCauses) (close : FamiliesCloseLast) (rightly : Fa
       by true asking zero equal =
           let first : waiting_for f o.number ≡ Some 0 = waits ∙ ap (λ (i : ℕ). Some i) equal in
           elim (call_cases f known_f.sound (known_f.legs 0)) [
-            | inl deaf ↦ absurd (none (sym (deaf_wants f o answer now first deaf known_f.settled (nothing_fixed f.completion known_f.sound.completion.there asking)) ∙ sym wanted_is ∙ wants))
+            | inl deaf ↦ absurd (none (sym (deaf_wants f o answer now first deaf known_f.settled (nothing_fixed completions f.completion known_f.sound.completion.there asking)) ∙ sym wanted_is ∙ wants))
             | inr at ↦ absurd (never (sym (done_wanted (stages.wants_decision h.completion) (wants_done h) (record_place h.completion) (decision_record h) done (sym wanted_is ∙ wants))
-                ∙ asked_no_done causes f o.number (heard_in answer) at.0 first at.1 at.2 known_f.sound.completion.there asking))
+                ∙ asked_no_done completions f o.number (heard_in answer) at.0 first at.1 at.2 known_f.sound.completion.there asking))
           ]
 
   complete : CompletesAll h.completion
@@ -432,7 +432,7 @@ module _ (causes : OutcomesHaveCauses) (close : FamiliesCloseLast) (rightly : Fa
 
 -- ---- in each world that is reached
 
-module _ (causes : OutcomesHaveCauses) (close : FamiliesCloseLast) (rightly : FamiliesStepRightly) (answered : FamiliesHearOutcomesAnswered) (numbers : FamiliesNumberWords)
+module _ (completions : CompletionLaws) (close : FamiliesCloseLast) (rightly : FamiliesStepRightly) (answered : FamiliesHearOutcomesAnswered) (numbers : FamiliesNumberWords)
     (keeps : StepsStayKnown) where
   pub closed_are_stored : ClosedFamiliesAreStored
   unfolding wanted
@@ -448,7 +448,7 @@ module _ (causes : OutcomesHaveCauses) (close : FamiliesCloseLast) (rightly : Fa
       by (Some b) waits =
           stored_at w told_so k to r
           (answered_stored w told_so (stored_reached keeps w told_so reached) to
-          (closes_answered causes close rightly answered numbers w told_so k (replied_reached rightly answered numbers keeps w told_so reached)
+          (closes_answered completions close rightly answered numbers w told_so k (replied_reached rightly answered numbers keeps w told_so reached)
           place n up nth reply now o answer word (m, at, says) slot f there b done waits wants rs held to named)) refers
       by None waits =
           absurd (none (sym (ap (λ (x : Option ℕ). if is_some x then wanted_by (hears o.number (heard_in answer) f).family else None) waits) ∙ wants))

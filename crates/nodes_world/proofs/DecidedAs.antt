@@ -22,6 +22,7 @@ use Rattle.coordinator.specs.Hearing.{named, recorded}
 use Rattle.coordinator.specs.Laws.{IsThere}
 use Rattle.family_laws.specs.LawsOfTelling.{IsVoted}
 use Rattle.family_laws.specs.Sound.{HasParties, IsWaiting}
+use Rattle.nodes_world.specs.CompletionLaws.{CompletionLaws}
 use Rattle.nodes_world.specs.AgreementInside.{notice_out, is_asking}
 use Rattle.nodes_world.proofs.AskedCalls.{IsAskedOf, asked_of}
 use Rattle.nodes_world.proofs.AskedKeeps.{after_is}
@@ -121,13 +122,13 @@ out_of (Waiting room) = None
 out_of (UnderWay c) = c.out
 
 -- it has heard the one that was asked
-pub heard_out : (n : CallNumber) (h : ParticipantHeard) (s : Completion) → IsThere s → is_asking s ≡ true → stages.wants_decision (stages.after_answer n h s) ≡ true
+pub heard_out : CompletionLaws → (n : CallNumber) (h : ParticipantHeard) (s : Completion) → IsThere s → is_asking s ≡ true → stages.wants_decision (stages.after_answer n h s) ≡ true
     → out_of (stages.after_answer n h s) ≡ None
-heard_out n h (Waiting room) there asks wants = absurd cc
-heard_out n h (UnderWay k) there asks wants = after_is k asked n h (λ (x : Course). course.wants_decision x ≡ true → x.out ≡ None) (λ w. absurd (not_yet_wanted w)) (λ w. refl) wants
+heard_out completions n h (Waiting room) there asks wants = absurd cc
+heard_out completions n h (UnderWay k) there asks wants = after_is k asked n h (λ (x : Course). course.wants_decision x ≡ true → x.out ≡ None) (λ w. absurd (not_yet_wanted w)) (λ w. refl) wants
   where
     asked : IsAskedOf k
-    asked = asked_of k there asks
+    asked = asked_of completions k there asks
 
     not_yet_wanted : course.wants_decision k ≡ true → ⊥
     not_yet_wanted w =

@@ -138,7 +138,7 @@ module _ (laws : FamilyLaws) (journals : JournalLaws) (nodes : NodesKeepDecision
   keeps_1 = as_far_keeps n f f1 comes.slotted (edge_at w place) comes.sound (record {
     key = refl;
     sound = opens.sound;
-    places = no_record ∙ sym (asked_late f.completion known_f.sound.completion.there asking);
+    places = no_record ∙ sym (asked_late laws.completions f.completion known_f.sound.completion.there asking);
     unclosed = λ record_at u. absurd (none_not (sym no_record ∙ u.decided));
   })
     where

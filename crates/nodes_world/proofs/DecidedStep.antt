@@ -12,7 +12,6 @@ use Rattle.ots_model.specs.declared.tree.Heard.{Heard}
 use Rattle.ots_model.specs.declared.tree.Outcome.{Outcome}
 use Rattle.ots_model.specs.declared.tree.Outcome.TheVariants as outcomes
 use Rattle.ots_model.specs.declared.tree.Outward.{Outward}
-use Rattle.two_phase.specs.LawsOfOutcomes.{OutcomesHaveCauses}
 use Rattle.two_phase.specs.Stages as stages
 use Rattle.two_phase.specs.Stages.{Standing as Completion}
 use Rattle.coordinator.specs.declared.call.Leg.{Leg}
@@ -27,6 +26,7 @@ use Rattle.coordinator.specs.Hearing.{closes, decided, doubts_by, hears_at, inne
 use Rattle.coordinator.specs.Laws.{IsThere}
 use Rattle.coordinator.specs.Moves.{Moved, only, ◌▹◌, completes_as, fixed_now}
 use Rattle.coordinator.specs.Step.{Stepped, acted, answered, entered, family_step, goes_on_at, hears, hears_call, hears_for}
+use Rattle.nodes_world.specs.CompletionLaws.{CompletionLaws}
 use Rattle.nodes_world.specs.Deliveries.{answer_event, heard_in}
 use Rattle.nodes_world.specs.AgreementInside.{is_asking}
 use Rattle.nodes_world.proofs.AnswersKeep.{NoVoteAt, HearsNoVote, no_voter}
@@ -71,12 +71,12 @@ heard_as f n h c waits at decides P is =
 abbrev pub happened : Family → List Effect → Moved
 happened f some = record { family = f; words = []; finished = []; effects = some }
 
-module _ (causes : OutcomesHaveCauses) (f : Family) (n : CallNumber) (h : Heard) (c : Call) (waits : waiting_for f n ≡ Some 0) (at : call_at f 0 ≡ Some c)
+module _ (completions : CompletionLaws) (f : Family) (n : CallNumber) (h : Heard) (c : Call) (waits : waiting_for f n ≡ Some 0) (at : call_at f 0 ≡ Some c)
     (decides : c.leg ≡ Deciding) (there : IsThere f.completion) (asks : is_asking f.completion ≡ true)
-    (wants : stages.wants_decision (keep.later causes f n h c waits at decides there asks) ≡ true) (number : ℕ) (voter : stages.voter f.completion ≡ Some number) (vote : Vote)
-    (votes : of_participant h ≡ participants.Voted vote) (later_there : IsThere (keep.later causes f n h c waits at decides there asks)) where
+    (wants : stages.wants_decision (keep.later completions f n h c waits at decides there asks) ≡ true) (number : ℕ) (voter : stages.voter f.completion ≡ Some number) (vote : Vote)
+    (votes : of_participant h ≡ participants.Voted vote) (later_there : IsThere (keep.later completions f n h c waits at decides there asks)) where
   abbrev later : Completion
-  later = keep.later causes f n h c waits at decides there asks
+  later = keep.later completions f n h c waits at decides there asks
 
   abbrev told_one : Effect
   told_one = effects.Voted number vote
@@ -85,7 +85,7 @@ module _ (causes : OutcomesHaveCauses) (f : Family) (n : CallNumber) (h : Heard)
   later_open = still_open later later_there wants
 
   nothing_fixed_now : fixed_now (stages.outcome f.completion) (stages.outcome later) ≡ []
-  nothing_fixed_now = ap (λ (x : Option Outcome). fixed_now x (stages.outcome later)) (nothing_fixed f.completion there asks) ∙ ap (λ (x : Option Outcome). fixed_now None x) later_open
+  nothing_fixed_now = ap (λ (x : Option Outcome). fixed_now x (stages.outcome later)) (nothing_fixed completions f.completion there asks) ∙ ap (λ (x : Option Outcome). fixed_now None x) later_open
 
   -- the vote is told, and nothing else happens
   pub heard_moved : hears n h f ≡ happened (record (heard_by f c) { completion = later }) (told_one ∷ [])
@@ -129,7 +129,7 @@ module _ (causes : OutcomesHaveCauses) (f : Family) (n : CallNumber) (h : Heard)
 
     -- the family as it is with its record hears nothing by the same answer
     pub out : out_of stands ≡ None
-    out = then_out (answers.Stands place) later later_there wants (heard_out (inner_number (heard_by f c) f.completion n) (of_participant h) f.completion there asks wants)
+    out = then_out (answers.Stands place) later later_there wants (heard_out completions (inner_number (heard_by f c) f.completion n) (of_participant h) f.completion there asks wants)
 
     pub still_waits : waiting_for g n ≡ Some 0
     unfolding waiting_for

@@ -13,7 +13,6 @@ use Rattle.resource_votes.specs.declared.registration.Registration.{Registration
 use Rattle.two_phase.specs.Course as course
 use Rattle.two_phase.specs.Course.{Course}
 use Rattle.two_phase.specs.Parties.{has_voted_commit}
-use Rattle.two_phase.specs.LawsOfOutcomes.{OutcomesHaveCauses}
 use Rattle.two_phase.specs.Stages as stages
 use Rattle.two_phase.specs.Stages.{Standing, Waiting, Going as UnderWay}
 use Rattle.two_phase.specs.declared.party.Party.{Party}
@@ -33,6 +32,7 @@ use Rattle.coordinator.specs.Node.{Node, family_in}
 use Rattle.coordinator.specs.NodeParts.{IsInSlot, IsWhole}
 use Rattle.coordinator.specs.Step.{Appends, hears}
 use Rattle.family_laws.specs.Sound.{HasParties, called}
+use Rattle.nodes_world.specs.CompletionLaws.{CompletionLaws}
 use Rattle.nodes_world.specs.AgreementInside.{Known, FamilyIsKnown, is_asking}
 use Rattle.nodes_world.specs.Laws.{CanAsk}
 use Rattle.nodes_world.specs.Told.{Told}
@@ -215,20 +215,20 @@ map_set g (x ∷ ps) zero p q there same = ap (λ u. u ∷ map g ps) (same ∙ s
     inner e = cc
 map_set g (x ∷ ps) (suc i) p q there same = ap (λ us. g x ∷ us) (map_set g ps i p q there same)
 
-pub heard_parties : (some : List Registration) (s : Standing) → IsThere s → is_asking s ≡ true → (n : CallNumber) (h : ParticipantHeard) → HasParties s some
+pub heard_parties : CompletionLaws → (some : List Registration) (s : Standing) → IsThere s → is_asking s ≡ true → (n : CallNumber) (h : ParticipantHeard) → HasParties s some
     → HasParties (stages.after_answer n h s) some
-heard_parties some (Waiting room) there asks n h parties = tt
-heard_parties some (UnderWay k) there asks n h parties =
-    let asked = asked_of k there asks in
+heard_parties completions some (Waiting room) there asks n h parties = tt
+heard_parties completions some (UnderWay k) there asks n h parties =
+    let asked = asked_of completions k there asks in
     let q = answered_party k asked n h in
     after_is k asked n h (λ (x : Course). HasParties (UnderWay x) some) parties (
-      ap (map (λ (p : Party). p.index)) (parties_then k asked n h)
+      ap (map (λ (p : Party). p.index)) (parties_then k asked n h completions)
           ∙ map_set (λ (p : Party). p.index) k.parties asked.errand.place asked.party q asked.there (same_index asked.errand.stage h asked.party) ∙ parties.0,
-      ap (map (λ (p : Party). p.to)) (parties_then k asked n h)
+      ap (map (λ (p : Party). p.to)) (parties_then k asked n h completions)
           ∙ map_set (λ (p : Party). p.to) k.parties asked.errand.place asked.party q asked.there (same_to k asked n h asked.errand.stage) ∙ parties.1,
     )
 
-module _ (causes : OutcomesHaveCauses) (f : Family) (n : CallNumber) (h : Heard) (c : Call) (waits : waiting_for f n ≡ Some 0) (at : call_at f 0 ≡ Some c)
+module _ (completions : CompletionLaws) (f : Family) (n : CallNumber) (h : Heard) (c : Call) (waits : waiting_for f n ≡ Some 0) (at : call_at f 0 ≡ Some c)
     (decides : c.leg ≡ Deciding) (there : IsThere f.completion) (asks : is_asking f.completion ≡ true) where
   same_caller : (calls : List (Option Call)) → called calls 0 ≡ Some c
       → option_and_then (λ (x : Call). x.caller) (called (slice_set calls 0 (Some (without_out c))) 0) ≡ option_and_then (λ (x : Call). x.caller) (called calls 0)
@@ -237,12 +237,12 @@ module _ (causes : OutcomesHaveCauses) (f : Family) (n : CallNumber) (h : Heard)
 
   pub heard_key : (hears n h f).family.key ≡ f.key
   unfolding told_participant completes_as
-  heard_key = heard_by causes f n h c waits at decides there asks (λ (g : Family). g.key ≡ f.key) refl
+  heard_key = heard_by completions f n h c waits at decides there asks (λ (g : Family). g.key ≡ f.key) refl
 
   heard_commit : commit_key (hears n h f).family ≡ commit_key f
   unfolding told_participant completes_as
   heard_commit =
-      heard_by causes f n h c waits at decides there asks (λ (g : Family). commit_key g ≡ commit_key f)
+      heard_by completions f n h c waits at decides there asks (λ (g : Family). commit_key g ≡ commit_key f)
       (ap (λ (o : Option ℕ). option_and_then (λ (e : Entry). e.event.key) (option_and_then (slice_get f.entries) o)) (same_caller f.calls at))
 
   -- it fits
@@ -251,5 +251,5 @@ module _ (causes : OutcomesHaveCauses) (f : Family) (n : CallNumber) (h : Heard)
       → CanAsk (Some (Appends (decision_record (hears n h f).family))) m.found
   heard_fits w told k key found parties place s m seated up slotted =
       decision_fits w told k key f found place s m seated up slotted (hears n h f).family heard_key heard_commit
-      (subst (λ (x : Standing). HasParties x (participants 0 f.ballots)) (sym (completion_then causes f n h c waits at decides there asks))
-      (heard_parties (participants 0 f.ballots) f.completion there asks _ (of_participant h) parties))
+      (subst (λ (x : Standing). HasParties x (participants 0 f.ballots)) (sym (completion_then completions f n h c waits at decides there asks))
+      (heard_parties completions (participants 0 f.ballots) f.completion there asks _ (of_participant h) parties))

@@ -13,7 +13,6 @@ use Rattle.ots_model.specs.declared.line.Line.TheVariants as lines
 use Rattle.ots_model.specs.declared.service.RetryKey.{RetryKey}
 use Rattle.ots_model.specs.declared.tree.Heard.{Heard}
 use Rattle.ots_model.specs.declared.tree.Outward.{Outward}
-use Rattle.two_phase.specs.LawsOfOutcomes.{OutcomesHaveCauses}
 use Rattle.two_phase.specs.Stages as stages
 use Rattle.decision_journal.specs.Growing.{JournalsGrow}
 use Rattle.decision_journal.specs.Journal.{Found, first_gate, found_in, front, is_decision_at, taken_away, with_record}
@@ -39,6 +38,7 @@ use Rattle.family_laws.specs.LawsOfJournal.{FamiliesCloseLast}
 use Rattle.family_laws.specs.LawsOfTelling.{FamiliesHearOutcomesAnswered, FamiliesNumberWords}
 use Rattle.family_laws.specs.OwnDecisions.{HasDecision, NodesKeepDecisions}
 use Rattle.family_laws.specs.SoundNode.{IsDecisionOf}
+use Rattle.nodes_world.specs.CompletionLaws.{CompletionLaws}
 use Rattle.nodes_world.specs.declared.message.Content.{Content}
 use Rattle.nodes_world.specs.declared.message.Content.TheVariants as contents
 use Rattle.nodes_world.specs.Agreement.{IsWord, RestsOnVotes, is_decision_of, is_done_in, is_registration_of, names_object, recorded_key, records_at}
@@ -262,7 +262,7 @@ all_done (x ∷ ps) p all (suc i, less, is) = all_done ps p (both (is_nothing x.
 
 -- ---- a Done is written
 
-module _ (grow : JournalsGrow) (complete : CompletesOnce) (keep : NodesKeepDecisions) (causes : OutcomesHaveCauses) (close : FamiliesCloseLast) (rightly : FamiliesStepRightly)
+module _ (grow : JournalsGrow) (complete : CompletesOnce) (keep : NodesKeepDecisions) (completions : CompletionLaws) (close : FamiliesCloseLast) (rightly : FamiliesStepRightly)
     (answered : FamiliesHearOutcomesAnswered) (numbers : FamiliesNumberWords) (w : World) (told : List Told) (k : Known w told) (replied : ToldReplied w)
     (named : RecordsNameParties w) (held : HeldAnswered w) (retold : RetoldAnswered w) (place : ℕ) (n : Node) (up : node_at w place ≡ Some n)
     (was : List JournalRecord) (held_was : records_at w place ≡ Some was) (nth reply now : ℕ) (o : Outward) (answer : Said) (word : IsWord w nth place o)
@@ -275,7 +275,7 @@ module _ (grow : JournalsGrow) (complete : CompletesOnce) (keep : NodesKeepDecis
   by_family : (f : Family) (b : ℕ) → family_of (family_key place o.number) n ≡ Some f → waiting_for f o.number ≡ Some b
       → wanted f (answer_event o answer now) ≡ Some (WritesDone done) → HasAnsweredCommit w to
   by_family f b of waits wants =
-      closes_answered causes close rightly answered numbers w told k replied place n up nth reply now o answer word content o.number.slot f there b done waits wants
+      closes_answered completions close rightly answered numbers w told k replied place n up nth reply now o answer word content o.number.slot f there b done waits wants
       was held_was to of_own
     where
       there : family_in n.families o.number.slot ≡ Some f
@@ -381,7 +381,7 @@ module _ (grow : JournalsGrow) (complete : CompletesOnce) (keep : NodesKeepDecis
 
 -- ---- a step
 
-module _ (grow : JournalsGrow) (complete : CompletesOnce) (keep : NodesKeepDecisions) (causes : OutcomesHaveCauses) (close : FamiliesCloseLast) (rightly : FamiliesStepRightly)
+module _ (grow : JournalsGrow) (complete : CompletesOnce) (keep : NodesKeepDecisions) (completions : CompletionLaws) (close : FamiliesCloseLast) (rightly : FamiliesStepRightly)
     (answered : FamiliesHearOutcomesAnswered) (numbers : FamiliesNumberWords) (w : World) (told : List Told) (k : Known w told) (replied : ToldReplied w)
     (named : RecordsNameParties w) (held : HeldAnswered w) (retold : RetoldAnswered w) (dones : DonesAnswered w) where
   -- behind a record that was asked for
@@ -418,7 +418,7 @@ module _ (grow : JournalsGrow) (complete : CompletesOnce) (keep : NodesKeepDecis
     by_wanted f b of waits (WritesDone done) wants item is =
         subst Answered (sym is)
         (closed done (λ before closes.
-        by_family grow complete keep causes close rightly answered numbers w told k replied named held retold place n up was held_was nth reply now o answer word content key to before done
+        by_family grow complete keep completions close rightly answered numbers w told k replied named held retold place n up was held_was nth reply now o answer word content key to before done
         closes f b of waits wants))
     by_wanted f b of waits Rereads wants item is = absurd is
 
@@ -428,7 +428,7 @@ module _ (grow : JournalsGrow) (complete : CompletesOnce) (keep : NodesKeepDecis
     by_asked _ (of_record done again completes) item is =
         subst Answered (sym is)
         (closed done (λ before closes.
-        by_record grow complete keep causes close rightly answered numbers w told k replied named held retold place n up was held_was nth reply now o answer word content key to before done
+        by_record grow complete keep completions close rightly answered numbers w told k replied named held retold place n up was held_was nth reply now o answer word content key to before done
         closes again completes))
 
     by_more : (behind : List JournalRecord) → AreWanted (call_wants (family_key place o.number) (answer_event o answer now) n) behind

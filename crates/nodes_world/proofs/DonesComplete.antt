@@ -2,7 +2,6 @@
 use Rattle.std.proofs.Common.{◌≡◌, ℕ, ◌+◌, List, ◌++◌, Some, None, sym, ap, subst, ◌∙◌, append_assoc, append-nil}
 use Rattle.resource_end.specs.declared.state.State.{State}
 use Rattle.resource_end.specs.declared.state.State.TheVariants as states
-use Rattle.two_phase.specs.LawsOfOutcomes.{OutcomesHaveCauses}
 use Rattle.decision_journal.specs.Growing.{JournalsGrow}
 use Rattle.decision_journal.specs.Loading.{LoadsAreSafe}
 use Rattle.recovery_coord.specs.Laws.{CompletesOnce}
@@ -10,6 +9,7 @@ use Rattle.coordinator.specs.Laws.{FamiliesStepRightly}
 use Rattle.family_laws.specs.LawsOfJournal.{FamiliesCloseLast}
 use Rattle.family_laws.specs.LawsOfTelling.{FamiliesHearOutcomesAnswered, FamiliesNumberWords}
 use Rattle.family_laws.specs.OwnDecisions.{NodesKeepDecisions}
+use Rattle.nodes_world.specs.CompletionLaws.{CompletionLaws}
 use Rattle.nodes_world.specs.declared.message.Content.{Content}
 use Rattle.nodes_world.specs.Agreement.{IsOver, ReachedDonesAreComplete, Reaches, further, nothing}
 use Rattle.nodes_world.specs.AgreementInside.{Known}
@@ -50,7 +50,7 @@ pub record DoneLaws : Type 0 where
   pub answered : FamiliesHearOutcomesAnswered
   pub numbers : FamiliesNumberWords
   pub close : FamiliesCloseLast
-  pub causes : OutcomesHaveCauses
+  pub completions : CompletionLaws
   pub may : KnownMayAsk
   pub known : StepsStayKnown
 
@@ -91,7 +91,7 @@ module _ (laws : DoneLaws) where
     named = named_then;
     held = held_then;
     retold = retold_step laws.numbers w told k is.retold d.world (words_come w d goes) on held_then;
-    dones = dones_step laws.grow laws.complete laws.nodes laws.causes laws.close laws.rightly laws.answered laws.numbers w told k is.replied is.named is.held is.retold is.dones
+    dones = dones_step laws.grow laws.complete laws.nodes laws.completions laws.close laws.rightly laws.answered laws.numbers w told k is.replied is.named is.held is.retold is.dones
         d.world records on;
   }
     where

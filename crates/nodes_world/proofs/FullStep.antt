@@ -12,7 +12,6 @@ use Rattle.ots_model.specs.declared.tree.Outward.{Outward}
 use Rattle.resource_votes.specs.declared.registration.Registration.{Registration}
 use Rattle.two_phase.specs.Course as course
 use Rattle.two_phase.specs.Course.{Course}
-use Rattle.two_phase.specs.LawsOfOutcomes.{OutcomesHaveCauses}
 use Rattle.two_phase.specs.LawsOfReached.{IsReached}
 use Rattle.two_phase.specs.LawsOfReached.IsReached.{goes_on}
 use Rattle.two_phase.specs.LawsOfReached.TreeBecomes.{by_answer, by_record}
@@ -25,6 +24,7 @@ use Rattle.coordinator.specs.Hearing.{closes, decided, doubts_by, settles, wants
 use Rattle.coordinator.specs.Laws.{IsThere}
 use Rattle.coordinator.specs.Moves.{Moved, only, ◌▹◌, completes_as}
 use Rattle.coordinator.specs.Step.{family_step, hears}
+use Rattle.nodes_world.specs.CompletionLaws.{CompletionLaws}
 use Rattle.nodes_world.specs.Deliveries.{answer_event, heard_in}
 use Rattle.nodes_world.specs.AgreementInside.{is_asking}
 use Rattle.nodes_world.proofs.AskedCounts.{settles_counts, step_from}
@@ -47,14 +47,14 @@ never true true e f = refl
 never true false e f = refl
 never false b e f = refl
 
-module _ (causes : OutcomesHaveCauses) (used need : ℕ) where
+module _ (completions : CompletionLaws) (used need : ℕ) where
   abbrev full : Stood
   full = answers.Full used need
 
   -- where no record comes to stand
   not_recorded : (k : Course) → IsReached k → k.stood ≡ Some full → course.outcome k ≡ Some (outcomes.Commit Record) → ⊥
   not_recorded k reached stood is =
-      let recorded = causes k (outcomes.Commit Record) reached is in
+      let recorded = completions.causes k (outcomes.Commit Record) reached is in
       no (sym (ap (λ (x : Option Stood). course.record_place x k.reread) stood) ∙ recorded.stands)
     where
       no : {x : ℕ} → None ≡ Some x → ⊥
@@ -70,7 +70,7 @@ module _ (causes : OutcomesHaveCauses) (used need : ℕ) where
         voted = λ g vote is. is;
         votes = λ g vote is. is;
         commits = λ is. absurd (not_recorded later there refl is);
-        reasons = λ why is. inr (plain_cause why later overtaken (causes later (outcomes.Rollback why) there is));
+        reasons = λ why is. inr (plain_cause why later overtaken (completions.causes later (outcomes.Rollback why) there is));
         wants = λ is. never (not (course.decides_alone k)) (is_none k.overtaken) (course.all_consent k) (course.some_commit k);
         decides = λ asks is. (asks, is);
       }
@@ -117,7 +117,7 @@ module _ (causes : OutcomesHaveCauses) (used need : ℕ) where
   unfolding completes_as
   settles_as g wants = settled_by (λ (m : Moved). m.family.completion ≡ stages.after_decided full g.completion) g wants refl
 
-module _ (causes : OutcomesHaveCauses) (f : Family) (o : Outward) (answer : Said) (now : ℕ) (c : Call) (waits : waiting_for f o.number ≡ Some 0) (at : call_at f 0 ≡ Some c)
+module _ (completions : CompletionLaws) (f : Family) (o : Outward) (answer : Said) (now : ℕ) (c : Call) (waits : waiting_for f o.number ≡ Some 0) (at : call_at f 0 ≡ Some c)
     (decides : c.leg ≡ Deciding) (there : IsThere f.completion) (asks : is_asking f.completion ≡ true) (vote : Vote)
     (votes : of_participant (heard_in answer) ≡ participants_heard.Voted vote) (used need : ℕ)
     (wants : stages.wants_decision (hears o.number (heard_in answer) f).family.completion ≡ true) where
@@ -126,20 +126,20 @@ module _ (causes : OutcomesHaveCauses) (f : Family) (o : Outward) (answer : Said
 
   there_still : IsThere g.completion
   there_still =
-      subst IsThere (sym (completion_then causes f o.number (heard_in answer) c waits at decides there asks)) (by _ f.completion there)
+      subst IsThere (sym (completion_then completions f o.number (heard_in answer) c waits at decides there asks)) (by _ f.completion there)
     where
       by : (m : CallNumber) (s : Standing) → IsThere s → IsThere (stages.after_answer m (of_participant (heard_in answer)) s)
       by m (Waiting room) there = tt
       by m (UnderWay k) there = goes_on k _ there (by_answer k m (of_participant (heard_in answer)))
 
   pub settled_full : Rule g (settles (Some (answers.Full used need)) g)
-  settled_full = settles_full causes used need g there_still wants
+  settled_full = settles_full completions used need g there_still wants
 
   -- no decision is wanted then
   pub full_decides : IsTidy f → stages.wants_decision (family_step f (answer_event o answer now) (Some (answers.Full used need))).family.completion ≡ false
   full_decides tidy =
-      let x = settles_counts causes f o answer now c waits at decides there asks vote votes (Some (answers.Full used need)) settled_full tidy in
+      let x = settles_counts completions f o answer now c waits at decides there asks vote votes (Some (answers.Full used need)) settled_full tidy in
       let m : Moved = hears o.number (heard_in answer) f ▹ settles (Some (answers.Full used need)) in
-      (step_from causes f o answer now c waits at decides there asks vote votes (Some (answers.Full used need)) settled_full m.family.completion
+      (step_from completions f o answer now c waits at decides there asks vote votes (Some (answers.Full used need)) settled_full m.family.completion
       (record { tidy = x.tidy; rows = x.rows; registrations = x.registrations; on = x.on; back = x.back; words = x.words; kept = kept_itself m.family.completion })).kept.wants
-      (ap stages.wants_decision (settles_as causes used need g wants) ∙ decided_wants causes used need g.completion wants)
+      (ap stages.wants_decision (settles_as completions used need g wants) ∙ decided_wants completions used need g.completion wants)

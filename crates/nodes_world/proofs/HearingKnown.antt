@@ -248,11 +248,11 @@ module _ (laws : FamilyLaws) (journals : JournalLaws) (nodes : NodesKeepDecision
           → IsNoVote (of_participant (heard_in answer)) → StaysKnown w (steps_node (Some n) s place key e w).done
       asked_by_none first asking c at decides no_vote told k =
           let known : FamilyIsKnown w (lines_of told) f = k.families key f found_here in
-          let rule = asked_keeps laws.causes f o.number (heard_in answer) c first at decides known.sound.completion.there asking no_vote in
+          let rule = asked_keeps laws.completions f o.number (heard_in answer) c first at decides known.sound.completion.there asking no_vote in
           hears_by
           (wanted_is ∙ neither (stages.wants_decision heard_family.completion) (wants_done heard_family)
           ((rule (tidy_of w told k key f found_here)).kept.wants known.settled)
-          (asked_no_done laws.causes f o.number (heard_in answer) c first at decides known.sound.completion.there asking))
+          (asked_no_done laws.completions f o.number (heard_in answer) c first at decides known.sound.completion.there asking))
           (λ whole number vote among. no_vote vote (heard_so number vote (laws.votes.told f e None number vote whole among)))
           (λ tidy others_told others_known. answer_by f o answer now 0 first rule tidy) told k
         where
@@ -324,8 +324,8 @@ module _ (laws : FamilyLaws) (journals : JournalLaws) (nodes : NodesKeepDecision
           (sym wanted_is ∙ wants) in
           full_known laws nodes w place now o answer s n f item used need there up family is room wants told k full
           (voted_then first asking c at decides vote votes told k (Some (answers.Full used need))
-          (settled_full laws.causes f o answer now c first at decides known.sound.completion.there asking vote (vote_heard answer vote votes) used need decides_now)
-          (full_decides laws.causes f o answer now c first at decides known.sound.completion.there asking vote (vote_heard answer vote votes) used need decides_now
+          (settled_full laws.completions f o answer now c first at decides known.sound.completion.there asking vote (vote_heard answer vote votes) used need decides_now)
+          (full_decides laws.completions f o answer now c first at decides known.sound.completion.there asking vote (vote_heard answer vote votes) used need decides_now
           (tidy_of w told k key f found_here)))
 
       -- what is asked of the journal is the decision, where it isn't the Done
@@ -338,7 +338,7 @@ module _ (laws : FamilyLaws) (journals : JournalLaws) (nodes : NodesKeepDecision
       -- a participant is asked: the call is at the decision, or hears nothing of the answer
       while_asked : waiting_for f o.number ≡ Some 0 → is_asking f.completion ≡ true → StaysKnown w (steps_node (Some n) s place key e w).done
       while_asked first asking told k = elim (call_cases f known.sound (λ c at. known.legs 0 c at)) [
-        | inl deaf ↦ hears_by (wanted_is ∙ deaf_wants f o answer now first deaf known.settled (nothing_fixed f.completion known.sound.completion.there asking))
+        | inl deaf ↦ hears_by (wanted_is ∙ deaf_wants f o answer now first deaf known.settled (nothing_fixed laws.completions f.completion known.sound.completion.there asking))
             (deaf_tells_no_vote f o answer now first deaf laws)
             (λ tidy others_told others_known. answer_keeps f o answer now 0 first (deaf_no_vote f (call_at f 0) deaf) tidy) told k
         | inr at ↦ elim (vote_or_not answer) [
@@ -356,11 +356,11 @@ module _ (laws : FamilyLaws) (journals : JournalLaws) (nodes : NodesKeepDecision
           by_decision vote votes c at decides None none = asked_by_vote first asking c at decides vote votes none told k
           by_decision vote votes c at decides (Some item) asks_for =
               let item_is = a_decision item (stages.wants_decision heard_family.completion) (wants_done heard_family) (record_place heard_family.completion) (decision_record heard_family)
-              (asked_no_done laws.causes f o.number (heard_in answer) c first at decides known.sound.completion.there asking) (sym wanted_is ∙ asks_for) in
+              (asked_no_done laws.completions f o.number (heard_in answer) c first at decides known.sound.completion.there asking) (sym wanted_is ∙ asks_for) in
               let wants = asks_for ∙ ap (λ (x : Wanted). Some x) item_is in
               let slot = call.key_slot key n f is in
               let parts = same_parts key.service key.life key.slot key.generation f.key.service f.key.life f.key.slot f.key.generation slot.1 in
-              let can = heard_fits laws.causes f o.number (heard_in answer) c first at decides known.sound.completion.there asking w told k key found_here known.sound.completion.parties
+              let can = heard_fits laws.completions f o.number (heard_in answer) c first at decides known.sound.completion.there asking w told k key found_here known.sound.completion.parties
               place s n there up (subst (λ (x : ℕ). family_in n.families x ≡ Some f) parts.2 slot.0) in
               let follows = k.disks.follows place s n there up in
               elim (asked_cases (decision_record heard_family) n.service follows.records n.found s.disk s.stop (ap (λ (x : ℕ). records_on x s.disk) follows.service ∙ follows.held)) [

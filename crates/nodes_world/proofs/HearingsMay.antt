@@ -8,7 +8,6 @@ use Rattle.decision_journal.specs.Journal.{Found}
 use Rattle.decision_journal.specs.declared.record.JournalRecord.{JournalRecord}
 use Rattle.recovery_coord.specs.Hearing.{completed}
 use Rattle.recovery_coord.specs.Limits.{retold_slot}
-use Rattle.two_phase.specs.LawsOfOutcomes.{OutcomesHaveCauses}
 use Rattle.two_phase.specs.Stages as stages
 use Rattle.coordinator.specs.Family.{Family, Call, call_at, waiting_for}
 use Rattle.coordinator.specs.Hearing.{decision_record, record_place, wants_done}
@@ -22,6 +21,7 @@ use Rattle.coordinator.specs.declared.event.Event.{Event}
 use Rattle.coordinator.specs.declared.said.Said.{Said}
 use Rattle.family_laws.specs.HeldRecords.{HeldRecordsStood}
 use Rattle.family_laws.specs.OwnDecisions.{HasDecision, NodesKeepDecisions}
+use Rattle.nodes_world.specs.CompletionLaws.{CompletionLaws}
 use Rattle.nodes_world.specs.declared.message.Content.TheVariants as contents
 use Rattle.nodes_world.specs.declared.message.Message.{Message}
 use Rattle.nodes_world.specs.Agreement.{FollowsDisk, records_at}
@@ -84,7 +84,7 @@ of_own_life now g is = is
 
 -- ---- an answer that comes to a node
 
-module _ (causes : OutcomesHaveCauses) (journals : JournalLaws) (nodes : NodesKeepDecisions) (stood : HeldRecordsStood) (w : World) (place now : ℕ) (o : Outward) (answer : Said)
+module _ (completions : CompletionLaws) (journals : JournalLaws) (nodes : NodesKeepDecisions) (stood : HeldRecordsStood) (w : World) (place now : ℕ) (o : Outward) (answer : Said)
     (s : Seat) (n : Node) (there : slice_get w.seats place ≡ Some s) (up : s.server ≡ OfNode (Some n)) (told : List Told) (k : Known w told) where
   abbrev key : ObjectKey
   key = family_key place o.number
@@ -169,7 +169,7 @@ module _ (causes : OutcomesHaveCauses) (journals : JournalLaws) (nodes : NodesKe
         decides : (c : Call) → call_at f 0 ≡ Some c → c.leg ≡ Deciding → b ≡ 0 → is_asking f.completion ≡ true → MayAsk (Some (Appends item)) n
         decides c at leg first asking = record {
           can = subst (λ (x : JournalRecord). CanAsk (Some (Appends x)) n.found) (sym is_decision.1)
-              (heard_fits causes f o.number (heard_in answer) c waits_first at leg known.sound.completion.there asking w told k key found_here known.sound.completion.parties
+              (heard_fits completions f o.number (heard_in answer) c waits_first at leg known.sound.completion.there asking w told k key found_here known.sound.completion.parties
               place s n there up slotted);
           own = λ x same. subst (IsOfLife (life n)) (sym is_decision.1 ∙ inner same) (of_own_life (life n) g (ap (λ (x : ObjectKey). x.life) same_key ∙ in_slot.of_life));
           once = λ same. absurd cc;
@@ -179,7 +179,7 @@ module _ (causes : OutcomesHaveCauses) (journals : JournalLaws) (nodes : NodesKe
             waits_first = waits ∙ ap (λ (i : ℕ). Some i) first
 
             same_key : g.key ≡ f.key
-            same_key = heard_key causes f o.number (heard_in answer) c waits_first at leg known.sound.completion.there asking
+            same_key = heard_key completions f o.number (heard_in answer) c waits_first at leg known.sound.completion.there asking
 
             in_slot : IsInSlot n f.key.slot f
             in_slot = (k.disks.whole place s n there up).families f.key.slot f slotted
@@ -195,7 +195,7 @@ module _ (causes : OutcomesHaveCauses) (journals : JournalLaws) (nodes : NodesKe
             by true asking (suc i) equal = absurd (no_voter (inr (omega (arith, equal))))
             by true asking zero equal = elim (call_cases f known.sound (known.legs 0)) [
               | inl deaf ↦ absurd (no (sym (deaf_wants f o answer now (waits ∙ ap (λ (i : ℕ). Some i) equal) deaf known.settled
-                  (nothing_fixed f.completion known.sound.completion.there asking)) ∙ sym wanted_is ∙ wants))
+                  (nothing_fixed completions f.completion known.sound.completion.there asking)) ∙ sym wanted_is ∙ wants))
               | inr at ↦ decides at.0 at.1 at.2 equal asking
             ]
               where
@@ -244,11 +244,11 @@ module _ (causes : OutcomesHaveCauses) (journals : JournalLaws) (nodes : NodesKe
       by false family = to_family family (family_of key n) refl
 
 -- so it is where what is known of a world holds
-pub known_may_ask : OutcomesHaveCauses → JournalLaws → NodesKeepDecisions → HeldRecordsStood → KnownMayAsk
-known_may_ask causes journals nodes stood w told request from reply o m back answer s n k there is replied says seated up waits =
-    may_ask causes journals nodes stood w from s.clock o answer s n seated up told k
+pub known_may_ask : CompletionLaws → JournalLaws → NodesKeepDecisions → HeldRecordsStood → KnownMayAsk
+known_may_ask completions journals nodes stood w told request from reply o m back answer s n k there is replied says seated up waits =
+    may_ask completions journals nodes stood w from s.clock o answer s n seated up told k
 
 -- and in each world that a script reaches
-pub hearings_may_ask : OutcomesHaveCauses → JournalLaws → NodesKeepDecisions → HeldRecordsStood → StepsStayKnown → HearingsMayAsk
-hearings_may_ask causes journals nodes stood keeps w told request from reply o m back answer s n reached =
-    known_may_ask causes journals nodes stood w told request from reply o m back answer s n (known_reached keeps w told reached)
+pub hearings_may_ask : CompletionLaws → JournalLaws → NodesKeepDecisions → HeldRecordsStood → StepsStayKnown → HearingsMayAsk
+hearings_may_ask completions journals nodes stood keeps w told request from reply o m back answer s n reached =
+    known_may_ask completions journals nodes stood w told request from reply o m back answer s n (known_reached keeps w told reached)

@@ -36,6 +36,7 @@ use Rattle.coordinator.specs.Moves.{Moved, fixed_now}
 use Rattle.coordinator.specs.Step.{Stepped, family_step, hears}
 use Rattle.family_laws.specs.LawsOfTelling.{IsVoted, decided_in}
 use Rattle.family_laws.specs.Sound.{IsAsking, IsSoundFamily, IsWaiting}
+use Rattle.nodes_world.specs.CompletionLaws.{CompletionLaws}
 use Rattle.nodes_world.specs.declared.message.Content.TheVariants as contents
 use Rattle.nodes_world.specs.declared.message.Message.{Message}
 use Rattle.nodes_world.specs.Agreement.{IsWord}
@@ -74,21 +75,21 @@ not_waiting : (s : Completion) → is_asking s ≡ true → IsWaiting s → ⊥
 not_waiting (Waiting room) asks waits = absurd cc
 not_waiting (UnderWay k) asks waits = waits
 
-still_asks : (s : Completion) → IsThere s → is_asking s ≡ true → IsAsking s
-still_asks (Waiting room) there asks = absurd cc
-still_asks (UnderWay k) there asks = not_overtaken k (asked_of k there asks).undecided
+still_asks : CompletionLaws → (s : Completion) → IsThere s → is_asking s ≡ true → IsAsking s
+still_asks completions (Waiting room) there asks = absurd cc
+still_asks completions (UnderWay k) there asks = not_overtaken k (asked_of completions k there asks).undecided
 
 there_then : (m : CallNumber) (x : ParticipantHeard) (s : Completion) → IsThere s → IsThere (stages.after_answer m x s)
 there_then m x (Waiting room) there = tt
 there_then m x (UnderWay k) there = goes_on k _ there (by_answer k m x)
 
 -- a vote that counts then counted before, or is that of the one that is asked
-votes_by : (m : CallNumber) (x : ParticipantHeard) (s : Completion) → IsThere s → is_asking s ≡ true → stages.decides_alone s ≡ false → (number : ℕ) (vote : Vote)
+votes_by : CompletionLaws → (m : CallNumber) (x : ParticipantHeard) (s : Completion) → IsThere s → is_asking s ≡ true → stages.decides_alone s ≡ false → (number : ℕ) (vote : Vote)
     → IsVoted (stages.after_answer m x s) number vote → IsVoted s number vote ⊎ ((stages.voter s ≡ Some number) × (x ≡ participants_heard.Voted vote))
-votes_by m x (Waiting room) there asks alone number vote voted = inl voted
-votes_by m x (UnderWay k) there asks alone number vote voted = elim (counts_by k (asked_of k there asks) m x number vote voted) [
+votes_by completions m x (Waiting room) there asks alone number vote voted = inl voted
+votes_by completions m x (UnderWay k) there asks alone number vote voted = elim (counts_by completions k (asked_of completions k there asks) m x number vote voted) [
   | inl before ↦ inl before
-  | inr (own, same) ↦ inr (voter_asked k (asked_of k there asks) alone ∙ ap (λ (y : ℕ). Some y) own, same)
+  | inr (own, same) ↦ inr (voter_asked k (asked_of completions k there asks) alone ∙ ap (λ (y : ℕ). Some y) own, same)
 ]
 
 only_one : (x y : Effect) → Contains (x ∷ []) y → x ≡ y
@@ -113,25 +114,25 @@ module _ (laws : FamilyLaws) (w : World) (nth place reply now : ℕ) (o : Outwar
   there = sound.completion.there
 
   abbrev m : CallNumber
-  m = inner_number (keep.waiting laws.causes f n h c waits at decides there asks) f.completion n
+  m = inner_number (keep.waiting laws.completions f n h c waits at decides there asks) f.completion n
 
   abbrev pub later : Completion
-  later = keep.later laws.causes f n h c waits at decides there asks
+  later = keep.later laws.completions f n h c waits at decides there asks
 
   pub later_there : IsThere later
   later_there = there_then m (of_participant h) f.completion there
 
   pub later_wants : stages.wants_decision later ≡ true
-  later_wants = sym (ap stages.wants_decision (completion_then laws.causes f n h c waits at decides there asks)) ∙ wants
+  later_wants = sym (ap stages.wants_decision (completion_then laws.completions f n h c waits at decides there asks)) ∙ wants
 
   abbrev pub opened : Family
   opened = record f { completion = stages.after_decided unsure later }
 
   alone : stages.decides_alone f.completion ≡ false
-  alone = vote_not_alone f o c numbered waits at decides there asks prepare
+  alone = vote_not_alone laws.completions f o c numbered waits at decides there asks prepare
 
   pub asked : IsAskedAs f o
-  asked = asked_as f o c numbered waits at decides alone f.completion refl there asks sound.completion.parties
+  asked = asked_as laws.completions f o c numbered waits at decides alone f.completion refl there asks sound.completion.parties
 
   pub heard_so : of_participant h ≡ participants_heard.Voted vote
   heard_so = vote_heard answer vote votes
@@ -144,8 +145,8 @@ module _ (laws : FamilyLaws) (w : World) (nth place reply now : ℕ) (o : Outwar
       begun = (λ early. absurd (not_waiting f.completion asks (sound.completion.begun.0 early)), λ idle. absurd (then_going stood later later_there later_wants idle));
       there = then_there stood later later_there later_wants;
       parties = then_parties stood later later_there later_wants (participants 0 f.ballots)
-          (heard_parties (participants 0 f.ballots) f.completion there asks m (of_participant h) sound.completion.parties);
-      asking = λ asking. sound.completion.asking (still_asks f.completion there asks);
+          (heard_parties laws.completions (participants 0 f.ballots) f.completion there asks m (of_participant h) sound.completion.parties);
+      asking = λ asking. sound.completion.asking (still_asks laws.completions f.completion there asks);
     };
     as_many = sound.as_many;
     under_way = sound.under_way;
@@ -157,7 +158,7 @@ module _ (laws : FamilyLaws) (w : World) (nth place reply now : ℕ) (o : Outwar
     below = tidy.below;
     dues = tidy.dues;
     parties = then_registered stood later later_there later_wants f.ballots.registrations
-        (answer_registered f.completion there asks m (of_participant h) f.ballots.registrations tidy.parties);
+        (answer_registered laws.completions f.completion there asks m (of_participant h) f.ballots.registrations tidy.parties);
     alone = tidy.alone;
     few = tidy.few;
   }
@@ -170,21 +171,21 @@ module _ (laws : FamilyLaws) (w : World) (nth place reply now : ℕ) (o : Outwar
 
   counted : IsVoted opened.completion asked.r.index vote
   counted =
-      let kept = (step_counts laws.causes f o answer now c waits at decides there asks vote heard_so None (settles_nothing (hears n h f).family) tidy).kept in
+      let kept = (step_counts laws.completions f o answer now c waits at decides there asks vote heard_so None (settles_nothing (hears n h f).family) tidy).kept in
       let told = laws.votes.told f (answer_event o answer now) None asked.r.index vote sound
-      (step_tells laws.causes f o answer now c waits at decides there asks vote heard_so None (settles_nothing (hears n h f).family) asked.r.index asked.voter) in
+      (step_tells laws.completions f o answer now c waits at decides there asks vote heard_so None (settles_nothing (hears n h f).family) asked.r.index asked.voter) in
       then_votes unsure later later_there later_wants asked.r.index vote (kept.votes asked.r.index vote told.counted)
 
   fixed_none : stages.outcome f.completion ≡ None
-  fixed_none = nothing_fixed f.completion there asks
+  fixed_none = nothing_fixed laws.completions f.completion there asks
 
   open_still : stages.outcome opened.completion ≡ None
   open_still = unsure_open later later_there later_wants
 
   kept_open : IsStepKept f.completion opened.completion (told_one ∷ [])
   kept_open = record {
-    voted = λ number x voted. then_votes unsure later later_there later_wants number x (votes_stay f.completion there asks m (of_participant h) number x voted);
-    votes = λ number x voted. elim (votes_by m (of_participant h) f.completion there asks alone number x (then_voted unsure later later_there later_wants number x voted)) [
+    voted = λ number x voted. then_votes unsure later later_there later_wants number x (votes_stay laws.completions f.completion there asks m (of_participant h) number x voted);
+    votes = λ number x voted. elim (votes_by laws.completions m (of_participant h) f.completion there asks alone number x (then_voted unsure later later_there later_wants number x voted)) [
       | inl before ↦ inl before
       | inr (voter, same) ↦ inr (0, omega arith, ap (λ (y : ℕ). effects.Voted y vote) (inner (sym asked.voter ∙ voter)) ∙ ap (effects.Voted number) (same_vote (sym heard_so ∙ same)))
     ];
@@ -237,7 +238,7 @@ module _ (laws : FamilyLaws) (w : World) (nth place reply now : ℕ) (o : Outwar
     on = λ r is. is;
     back = λ r is. is;
     kept = kept_open;
-    speaks = speaks_of laws.causes opened sound_open;
+    speaks = speaks_of laws.completions opened sound_open;
     heard = λ number x among. by number x (only_one told_one (effects.Voted number x) among);
     outcomes = sym (ap (λ (x : Option Outcome). filter_map decided_in (fixed_now x (stages.outcome opened.completion))) fixed_none
         ∙ ap (λ (x : Option Outcome). filter_map decided_in (fixed_now None x)) open_still);
@@ -248,7 +249,7 @@ module _ (laws : FamilyLaws) (w : World) (nth place reply now : ℕ) (o : Outwar
     leads = tt;
     ready = ready;
     asks = λ number notice idle asking. absurd (none_some (sym (then_notice unsure later later_there later_wants
-        (heard_quiet (of_participant h) (keep.waiting laws.causes f n h c waits at decides there asks) n f.completion)) ∙ asking));
+        (heard_quiet (of_participant h) (keep.waiting laws.completions f n h c waits at decides there asks) n f.completion)) ∙ asking));
   }
     where
       number_of : {a b : ℕ} {x y : Vote} → effects.Voted a x ≡ effects.Voted b y → a ≡ b
@@ -275,7 +276,7 @@ module _ (laws : FamilyLaws) (w : World) (nth place reply now : ℕ) (o : Outwar
   open_agreed = then_agreed unsure later later_there later_wants
 
   quiet : notice_out later ≡ None
-  quiet = heard_quiet (of_participant h) (keep.waiting laws.causes f n h c waits at decides there asks) n f.completion
+  quiet = heard_quiet (of_participant h) (keep.waiting laws.completions f n h c waits at decides there asks) n f.completion
 
   -- ---- the record stands
 
@@ -296,7 +297,7 @@ module _ (laws : FamilyLaws) (w : World) (nth place reply now : ℕ) (o : Outwar
   stands_at at_record = stands_place later later_there later_wants at_record
 
   pub heard_tells : (hears n h f).effects ≡ told_one ∷ []
-  heard_tells = ap (λ (x : Moved). x.effects) (heard_moved laws.causes f n h c waits at decides there asks later_wants asked.r.index asked.voter vote heard_so later_there)
+  heard_tells = ap (λ (x : Moved). x.effects) (heard_moved laws.completions f n h c waits at decides there asks later_wants asked.r.index asked.voter vote heard_so later_there)
 
   -- its record
   pub record_is : (item : JournalRecord) → decision_record (hears n h f).family ≡ item
@@ -306,10 +307,10 @@ module _ (laws : FamilyLaws) (w : World) (nth place reply now : ℕ) (o : Outwar
       sym is
       ∙ ap (λ (x : ObjectKey). Decision x.life x.slot x.generation (commit_key (hears n h f).family) (stages.asked (hears n h f).family.completion) (named (hears n h f).family.completion)) same_key
       ∙ ap (λ (x : Completion). Decision f.key.life f.key.slot f.key.generation (commit_key (hears n h f).family) (stages.asked (hears n h f).family.completion) (named x))
-      (completion_then laws.causes f n h c waits at decides there asks)
+      (completion_then laws.completions f n h c waits at decides there asks)
     where
       same_key : (hears n h f).family.key ≡ f.key
-      same_key = ap (λ (x : Moved). x.family.key) (heard_moved laws.causes f n h c waits at decides there asks later_wants asked.r.index asked.voter vote heard_so later_there)
+      same_key = ap (λ (x : Moved). x.family.key) (heard_moved laws.completions f n h c waits at decides there asks later_wants asked.r.index asked.voter vote heard_so later_there)
 
   -- ---- it goes on with its record
 
@@ -327,20 +328,20 @@ module _ (laws : FamilyLaws) (w : World) (nth place reply now : ℕ) (o : Outwar
     later_step = family_step decided_family e None
 
     pub same_words : step.words ≡ later_step.words
-    same_words = decided.same_words laws.causes f n h c waits at decides there asks later_wants asked.r.index asked.voter vote heard_so later_there at_record o answer now refl refl
+    same_words = decided.same_words laws.completions f n h c waits at decides there asks later_wants asked.r.index asked.voter vote heard_so later_there at_record o answer now refl refl
 
     pub more_effects : step.effects ≡ told_one ∷ effects.Decided (outcomes.Commit Record) ∷ later_step.effects
-    more_effects = decided.more_effects laws.causes f n h c waits at decides there asks later_wants asked.r.index asked.voter vote heard_so later_there at_record o answer now refl refl
+    more_effects = decided.more_effects laws.completions f n h c waits at decides there asks later_wants asked.r.index asked.voter vote heard_so later_there at_record o answer now refl refl
 
     pub same_family : step.family ≡ record later_step.family { entries = step.family.entries }
-    same_family = decided.same_family laws.causes f n h c waits at decides there asks later_wants asked.r.index asked.voter vote heard_so later_there at_record o answer now refl refl
+    same_family = decided.same_family laws.completions f n h c waits at decides there asks later_wants asked.r.index asked.voter vote heard_so later_there at_record o answer now refl refl
 
     still_waits : waiting_for decided_family o.number ≡ Some 0
-    still_waits = decided.still_waits laws.causes f n h c waits at decides there asks later_wants asked.r.index asked.voter vote heard_so later_there at_record
+    still_waits = decided.still_waits laws.completions f n h c waits at decides there asks later_wants asked.r.index asked.voter vote heard_so later_there at_record
 
     no_word : stages.voter (stands at_record) ≡ None
     no_word = no_voter (stands at_record) (not_asking (stands at_record)
-        (decided.out laws.causes f n h c waits at decides there asks later_wants asked.r.index asked.voter vote heard_so later_there at_record))
+        (decided.out laws.completions f n h c waits at decides there asks later_wants asked.r.index asked.voter vote heard_so later_there at_record))
 
     legs : (d : Call) → call_at decided_family 0 ≡ Some d → IsNotBefore d.leg
     legs d is = subst (λ (x : Call). IsNotBefore x.leg) (one (sym at ∙ is)) (subst IsNotBefore (sym decides) tt)
@@ -355,6 +356,6 @@ module _ (laws : FamilyLaws) (w : World) (nth place reply now : ℕ) (o : Outwar
         (λ number other among. absurd (none_some (sym no_word ∙ (laws.votes.told decided_family e None number other (sound_by (answers.Stands at_record)) among).asked)))
         (sound_by (answers.Stands at_record))
         (closing_keeps decided_family o answer now None 0 still_waits
-        (decided.votes_not laws.causes f n h c waits at decides there asks later_wants asked.r.index asked.voter vote heard_so later_there at_record)
+        (decided.votes_not laws.completions f n h c waits at decides there asks later_wants asked.r.index asked.voter vote heard_so later_there at_record)
         (then_wants (answers.Stands at_record) later later_there later_wants) (tidy_by (answers.Stands at_record)))
         (answer_asks decided_family o answer now 0 None still_waits legs ready)

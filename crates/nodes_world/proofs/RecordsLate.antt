@@ -13,7 +13,7 @@ use Rattle.two_phase.specs.declared.party.Errand.{Errand}
 use Rattle.two_phase.specs.declared.party.Party.{Party}
 use Rattle.two_phase.specs.declared.party.Stage.{Stage as Round}
 use Rattle.two_phase.specs.declared.party.Stage.TheVariants as rounds
-use Rattle.two_phase.proofs.Stays.{goes}
+use Rattle.nodes_world.specs.CompletionLaws.{CompletionLaws}
 use Rattle.nodes_world.specs.AgreementInside.{is_asking_round}
 use Rattle.nodes_world.proofs.AnswersKeep.{other_answer, same_gathered}
 use Rattle.nodes_world.proofs.AskedCalls.{IsAskedOf}
@@ -86,23 +86,23 @@ all_wanted true true false e f is = absurd cc
 all_wanted true false d e f is = absurd cc
 all_wanted false b d e f is = absurd cc
 
-late_becomes : (c later : Course) → TreeBecomes c later → IsReached c → IsLate c → IsLate later
+late_becomes : CompletionLaws → (c later : Course) → TreeBecomes c later → IsReached c → IsLate c → IsLate later
 unfolding course.all_consent course.some_commit
-late_becomes _ _ (by_word c) reached late = either_late (is_some c.out) c (record c { out = course.errand c }) (λ _. late) late
-late_becomes _ _ (by_answer c n h) reached late = late_heard c h _ c.out (goes c reached).unheard late
-late_becomes _ _ (by_record c stood) reached late =
+late_becomes completions _ _ (by_word c) reached late = either_late (is_some c.out) c (record c { out = course.errand c }) (λ _. late) late
+late_becomes completions _ _ (by_answer c n h) reached late = late_heard c h _ c.out (completions.waits c reached).unheard late
+late_becomes completions _ _ (by_record c stood) reached late =
     either_late (course.wants_decision c) (record c { stood = Some stood }) c (λ wants. inr (all_wanted (not (course.decides_alone c)) (is_none c.overtaken) (is_none c.stood) (course.all_consent c) (course.some_commit c) wants)) late
-late_becomes _ _ (by_reread c found) reached late = either_late (course.is_doubtful c) (record c { reread = Some found }) c (λ _. late) late
-late_becomes _ _ (by_rollback c reason) reached late = either_late (course.is_outside reason && course.may_roll_back c) _ c (λ _. late) late
+late_becomes completions _ _ (by_reread c found) reached late = either_late (course.is_doubtful c) (record c { reread = Some found }) c (λ _. late) late
+late_becomes completions _ _ (by_rollback c reason) reached late = either_late (course.is_outside reason && course.may_roll_back c) _ c (λ _. late) late
 
-reached_late : (c : Course) → IsReached c → IsLate c
-reached_late _ (begins participants asked first one_phase) = inl refl
-reached_late _ (rolls_back participants asked first one_phase reason) = inl refl
-reached_late _ (goes_on c later reached becomes) = late_becomes c later becomes reached (reached_late c reached)
+reached_late : CompletionLaws → (c : Course) → IsReached c → IsLate c
+reached_late completions _ (begins participants asked first one_phase) = inl refl
+reached_late completions _ (rolls_back participants asked first one_phase reason) = inl refl
+reached_late completions _ (goes_on c later reached becomes) = late_becomes completions c later becomes reached (reached_late completions c reached)
 
 -- the journal has answered nothing while a participant is asked
-pub not_stood : (c : Course) → IsReached c → IsAskedOf c → c.stood ≡ None
-not_stood c reached asked = by (reached_late c reached)
+pub not_stood : CompletionLaws → (c : Course) → IsReached c → IsAskedOf c → c.stood ≡ None
+not_stood completions c reached asked = by (reached_late completions c reached)
   where
     by : IsLate c → c.stood ≡ None
     by (inl none) = none

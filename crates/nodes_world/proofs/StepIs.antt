@@ -14,7 +14,7 @@ use Rattle.ots_model.specs.declared.tree.Reason.{Reason}
 use Rattle.ots_model.specs.declared.tree.Reason.TheVariants as reasons
 use Rattle.resource_votes.specs.Ballots.{participants}
 use Rattle.resource_votes.specs.declared.registration.Registration.{Registration}
-use Rattle.two_phase.specs.LawsOfOutcomes.{HasAnswered, HasCause, OutcomesHaveCauses}
+use Rattle.two_phase.specs.LawsOfOutcomes.{HasAnswered, HasCause}
 use Rattle.two_phase.specs.Stages as stages
 use Rattle.two_phase.specs.Stages.{Standing, Waiting, Going as UnderWay}
 use Rattle.two_phase.specs.declared.party.Party.{Party}
@@ -33,6 +33,7 @@ use Rattle.coordinator.specs.Step.{Wanted, family_step, wanted, wanted_act}
 use Rattle.family_laws.specs.LawsOfSteps.{EndInTurn, FamiliesEndInTurn, FamiliesStaySound, FamiliesWordsRest, WordsRest}
 use Rattle.family_laws.specs.LawsOfTelling.{AreNumberedFrom, FamiliesNumberWords, FamiliesTellOutcomes, FamiliesTellVotes, decided_in, rows_told, IsVoted}
 use Rattle.family_laws.specs.Sound.{HasParties, IsListed, IsSoundFamily, IsAsking}
+use Rattle.nodes_world.specs.CompletionLaws.{CompletionLaws}
 use Rattle.nodes_world.specs.Happenings.{Cast}
 use Rattle.nodes_world.proofs.RowsEnd.{first_or_later}
 use Rattle.nodes_world.proofs.RulesKeep.{IsKept, IsRegisteredTo, IsTidy, registered_of, IsPlainReason}
@@ -54,7 +55,7 @@ pub record FamilyLaws : Type 0 where
   pub votes : FamiliesTellVotes
   pub stay : FamilyOutcomesStay
   pub grow : HistoriesGrowByEntries
-  pub causes : OutcomesHaveCauses
+  pub completions : CompletionLaws
 
 -- a registration with a number is there
 abbrev pub HasNumber : List Registration → ℕ → Type 0
@@ -147,13 +148,13 @@ registered_as all (x ∷ ps) (r ∷ rs) (suc i) p same (one, there) at = registe
     tail_of e = cc
 
 -- so are those of whom the reason of a rollback speaks
-pub speaks_of : OutcomesHaveCauses → (g : Family) → IsSoundFamily g → (why : Reason) → stages.outcome g.completion ≡ Some (outcomes.Rollback why)
+pub speaks_of : CompletionLaws → (g : Family) → IsSoundFamily g → (why : Reason) → stages.outcome g.completion ≡ Some (outcomes.Rollback why)
     → SpeaksOf g.ballots.registrations why
-speaks_of causes g sound why is = by g.completion sound.completion.there sound.completion.parties is
+speaks_of completions g sound why is = by g.completion sound.completion.there sound.completion.parties is
   where
     by : (s : Standing) → IsThere s → HasParties s (participants 0 g.ballots) → stages.outcome s ≡ Some (outcomes.Rollback why) → SpeaksOf g.ballots.registrations why
     by (Waiting room) there parties is = absurd cc
-    by (UnderWay c) there parties is = by_reason why (causes c (outcomes.Rollback why) there is)
+    by (UnderWay c) there parties is = by_reason why (completions.causes c (outcomes.Rollback why) there is)
       where
         number_of : (number : ℕ) (h : ParticipantHeard) → HasAnswered number h c → HasNumber g.ballots.registrations number
         number_of number h answered =
@@ -191,7 +192,7 @@ keeps_is laws f e stood no_votes sound x asks =
       on = x.on;
       back = x.back;
       kept = kept_step f.completion (family_step f e stood).family.completion (family_step f e stood).effects x.kept;
-      speaks = speaks_of laws.causes (family_step f e stood).family (laws.sound.steps f e stood sound);
+      speaks = speaks_of laws.completions (family_step f e stood).family (laws.sound.steps f e stood sound);
       heard = λ number vote among. absurd (no_votes number vote among);
       outcomes = laws.outcomes f e stood sound.completion.there;
       stays = λ fixed is. laws.stay f e stood fixed sound.completion.there is;

@@ -26,6 +26,7 @@ use Rattle.coordinator.specs.Moves.{Notice}
 use Rattle.coordinator.specs.Step.{Stepped, Appends, WritesDone, family_step, hears, wanted_by}
 use Rattle.family_laws.specs.LawsOfTelling.{IsHeardVote}
 use Rattle.family_laws.specs.Sound.{HasParties, IsSoundFamily}
+use Rattle.nodes_world.specs.CompletionLaws.{CompletionLaws}
 use Rattle.nodes_world.specs.declared.message.Content.TheVariants as contents
 use Rattle.nodes_world.specs.declared.message.Message.{Message}
 use Rattle.nodes_world.specs.Agreement.{IsWord}
@@ -56,11 +57,11 @@ pub record IsAskedAs (f : Family) (o : Outward) : Type 0 where
   pub voter : stages.voter f.completion ≡ Some r.index
   pub reference : r.to ≡ o.to
 
-pub asked_as : (f : Family) (o : Outward) (c : Call) → IsNumberedBy f o → waiting_for f o.number ≡ Some 0 → call_at f 0 ≡ Some c → c.leg ≡ Deciding
+pub asked_as : CompletionLaws → (f : Family) (o : Outward) (c : Call) → IsNumberedBy f o → waiting_for f o.number ≡ Some 0 → call_at f 0 ≡ Some c → c.leg ≡ Deciding
     → stages.decides_alone f.completion ≡ false → (s : Standing) → f.completion ≡ s → IsThere s → is_asking s ≡ true → HasParties s (participants 0 f.ballots) → IsAskedAs f o
-asked_as f o c numbered waits at decides alone (Waiting room) going there asks parties = absurd cc
-asked_as f o c numbered waits at decides alone (UnderWay k) going there asks parties =
-    let asked = asked_of k there asks in
+asked_as completions f o c numbered waits at decides alone (Waiting room) going there asks parties = absurd cc
+asked_as completions f o c numbered waits at decides alone (UnderWay k) going there asks parties =
+    let asked = asked_of completions k there asks in
     let as_one = party_registered k.parties (participants 0 f.ballots) asked.errand.place asked.party parties.0 parties.1 asked.there in
     record {
       r = as_one.r;
@@ -89,17 +90,17 @@ module _ (laws : FamilyLaws) (w : World) (nth place reply now : ℕ) (o : Outwar
   heard_so = ap of_participant heard_vote
 
   alone : stages.decides_alone f.completion ≡ false
-  alone = vote_not_alone f o c numbered waits at decides sound.completion.there asks prepare
+  alone = vote_not_alone laws.completions f o c numbered waits at decides sound.completion.there asks prepare
 
   asked : IsAskedAs f o
-  asked = asked_as f o c numbered waits at decides alone f.completion refl sound.completion.there asks sound.completion.parties
+  asked = asked_as laws.completions f o c numbered waits at decides alone f.completion refl sound.completion.there asks sound.completion.parties
 
   heard_of : (number : ℕ) (other : Vote) → IsHeardVote f step.family e.act number other → VoteIsHeard w f step.family number other
   heard_of number other told = record {
     r = asked.r;
     there = asked.there;
     index = inner (sym asked.voter ∙ told.asked);
-    undecided = nothing_fixed f.completion sound.completion.there asks;
+    undecided = nothing_fixed laws.completions f.completion sound.completion.there asks;
     counted = told.counted;
     given = λ x leads. record {
       request = nth;
@@ -129,8 +130,8 @@ module _ (laws : FamilyLaws) (w : World) (nth place reply now : ℕ) (o : Outwar
   -- where the journal was asked for nothing, no decision is wanted then
   pub none_wanted : wanted_by (hears o.number (heard_in answer) f).family ≡ None → stages.wants_decision step.family.completion ≡ false
   none_wanted none =
-      (step_counts laws.causes f o answer now c waits at decides sound.completion.there asks vote heard_so stood settled tidy).kept.wants
-      (sym (ap stages.wants_decision (completion_then laws.causes f o.number (heard_in answer) c waits at decides sound.completion.there asks))
+      (step_counts laws.completions f o answer now c waits at decides sound.completion.there asks vote heard_so stood settled tidy).kept.wants
+      (sym (ap stages.wants_decision (completion_then laws.completions f o.number (heard_in answer) c waits at decides sound.completion.there asks))
       ∙ not_wanted (stages.wants_decision g.completion) (wants_done g) (decision_record g) (record_place g.completion) none)
     where
       g : Family
@@ -142,7 +143,7 @@ module _ (laws : FamilyLaws) (w : World) (nth place reply now : ℕ) (o : Outwar
 
   pub voted_is : stages.wants_decision step.family.completion ≡ false → StepIs w f step.family step.effects step.words
   voted_is undecided =
-      let x = step_counts laws.causes f o answer now c waits at decides sound.completion.there asks vote heard_so stood settled tidy in
+      let x = step_counts laws.completions f o answer now c waits at decides sound.completion.there asks vote heard_so stood settled tidy in
       record {
         key = laws.numbers.key f e stood;
         sound = laws.sound.steps f e stood sound;
@@ -152,8 +153,8 @@ module _ (laws : FamilyLaws) (w : World) (nth place reply now : ℕ) (o : Outwar
         registrations = x.registrations;
         on = x.on;
         back = x.back;
-        kept = step_kept laws.causes f o answer now c waits at decides sound.completion.there asks vote heard_so stood settled tidy alone undecided;
-        speaks = speaks_of laws.causes step.family (laws.sound.steps f e stood sound);
+        kept = step_kept laws.completions f o answer now c waits at decides sound.completion.there asks vote heard_so stood settled tidy alone undecided;
+        speaks = speaks_of laws.completions step.family (laws.sound.steps f e stood sound);
         heard = λ number other among. heard_of number other (laws.votes.told f e stood number other sound among);
         outcomes = laws.outcomes f e stood sound.completion.there;
         stays = λ fixed is. laws.stay f e stood fixed sound.completion.there is;

@@ -22,3 +22,4 @@ pub mod OverForGood
 pub mod Laws
 pub mod Asking
 pub mod Plays
+pub mod CompletionLaws

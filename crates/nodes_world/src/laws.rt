@@ -3,6 +3,7 @@ ghost use Rattle.nodes_world.specs.Agreement.{Agreement, ReachedDonesAreComplete
 ghost use Rattle.nodes_world.specs.AgreementSteps.{DeedsGo, ReachedCallsAreDelivered, StepsStayKnown};
 ghost use Rattle.nodes_world.specs.Asking.{HearingsMayAsk};
 ghost use Rattle.nodes_world.specs.Changes.{DeedsAreChanges};
+ghost use Rattle.nodes_world.specs.CompletionLaws.{CompletionLaws};
 ghost use Rattle.nodes_world.specs.Laws.{AppendsGoThrough, AppendsStrike, AskedJournalsKeep, AskedJournalsStop, RecordsAreRead, StoppedAppendsAreSafe, WhatIsLeftIsAnImage};
 ghost use Rattle.nodes_world.specs.OverForGood.{AnsweredCommitsAreStored, ClosedFamiliesAreStored, CommitsAreStored, DonesAreStored, ResourcesStay, ToldParticipantsAreStored};
 ghost use Rattle.nodes_world.specs.Plays.{WorldsPlay};
@@ -19,7 +20,18 @@ use ior_refs::same_octets_same_key;
 use ots_model::allowed_lines_are_safe;
 use ots_outside::writes_read_images;
 use recovery_coord::completes_once;
-use two_phase::tree_outcomes_have_causes;
+use two_phase::{
+    a_tree_word_waits_for_its_answer, an_answer_changes_one, tree_outcomes_have_causes,
+};
+
+/// The laws of completions of trees on which laws here rest.
+fn laws_of_completions()
+    ensures { CompletionLaws }
+{
+    tree_outcomes_have_causes();
+    a_tree_word_waits_for_its_answer();
+    an_answer_changes_one();
+}
 
 /// The strokes of an append leave the disk that a journal's append leaves. A crash inside each of its writes leaves what stood before
 /// that write, or that write too, by the image that is asked for; one inside a later write comes two writes nearer.
@@ -102,7 +114,7 @@ pub fn hearings_may_ask()
     completes_once();
     nodes_keep_decisions();
     held_records_stood();
-    tree_outcomes_have_causes();
+    laws_of_completions();
     steps_stay_known();
 }
 
@@ -126,7 +138,7 @@ pub fn steps_stay_known()
     families_tell_votes();
     family_outcomes_stay();
     histories_grow_by_entries();
-    tree_outcomes_have_causes();
+    laws_of_completions();
     same_octets_same_key();
 }
 
@@ -162,7 +174,7 @@ pub fn outcomes_last()
     completes_once();
     nodes_keep_decisions();
     held_records_stood();
-    tree_outcomes_have_causes();
+    laws_of_completions();
     steps_stay_known();
 }
 
@@ -188,7 +200,7 @@ pub fn commits_are_stored()
     families_hear_outcomes_answered();
     families_number_words();
     families_close_last();
-    tree_outcomes_have_causes();
+    laws_of_completions();
 }
 
 /// In each world that a script reaches, where a Done names the decision of a family, it is over for each resource that
@@ -208,6 +220,6 @@ pub fn dones_are_complete()
     families_hear_outcomes_answered();
     families_number_words();
     families_close_last();
-    tree_outcomes_have_causes();
+    laws_of_completions();
     steps_stay_known();
 }

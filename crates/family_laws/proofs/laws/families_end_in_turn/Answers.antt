@@ -2,4 +2,4 @@ use Rattle.family_laws.proofs.Steps.{families_end_in_turn}
 use Rattle.family_laws.proofs.laws.families_end_in_turn.Goals as goal
 
 pub returns : goal.returns
-returns c = families_end_in_turn c.tree_words_go_rightly.ensures
+returns c = families_end_in_turn c.laws_below.ensures

@@ -16,5 +16,5 @@ returns-clause-told c =
 
 pub returns-clause-closed : goal.returns-clause-closed
 returns-clause-closed c =
-    closed_are_stored c.tree_outcomes_have_causes.ensures c.families_close_last.ensures c.families_step_rightly.ensures c.families_hear_outcomes_answered.ensures
+    closed_are_stored c.laws_of_completions.ensures c.families_close_last.ensures c.families_step_rightly.ensures c.families_hear_outcomes_answered.ensures
     c.families_number_words.ensures c.steps_stay_known.ensures

@@ -16,8 +16,8 @@ the_laws c =
       answered = c.families_hear_outcomes_answered.ensures;
       numbers = c.families_number_words.ensures;
       close = c.families_close_last.ensures;
-      causes = c.tree_outcomes_have_causes.ensures;
-      may = known_may_ask c.tree_outcomes_have_causes.ensures
+      completions = c.laws_of_completions.ensures;
+      may = known_may_ask c.laws_of_completions.ensures
           (record {
             grow = c.journals_grow.ensures;
             read = c.records_are_read.ensures;

@@ -3,7 +3,7 @@ use Rattle.nodes_world.proofs.laws.hearings_may_ask.Goals as goal
 
 pub returns : goal.returns
 returns c =
-    hearings_may_ask c.tree_outcomes_have_causes.ensures
+    hearings_may_ask c.laws_of_completions.ensures
     (record {
       grow = c.journals_grow.ensures;
       read = c.records_are_read.ensures;

@@ -7,7 +7,7 @@ pub returns : goal.returns
 returns c =
     reached_outcomes_last c.journals_grow.ensures c.loads_are_safe.ensures c.records_are_read.ensures
     (hearings_go_on c.asked_journals_stay_in_order.ensures.keep c.asked_journals_stay_in_order.ensures.stop c.records_are_read.ensures
-    (known_may_ask c.tree_outcomes_have_causes.ensures
+    (known_may_ask c.laws_of_completions.ensures
     (record {
       grow = c.journals_grow.ensures;
       read = c.records_are_read.ensures;

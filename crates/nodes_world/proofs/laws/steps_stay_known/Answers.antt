@@ -20,5 +20,5 @@ returns c =
       votes = c.families_tell_votes.ensures;
       stay = c.family_outcomes_stay.ensures;
       grow = c.histories_grow_by_entries.ensures;
-      causes = c.tree_outcomes_have_causes.ensures;
+      completions = c.laws_of_completions.ensures;
     })
