@@ -33,15 +33,19 @@ fn main(rt: HostRuntime) -> io::Result<()> {
     let mut options = File::options();
     options.read(true).write(true).create(true);
     let disk = FileDisk::new(options.open(&rt, path.as_str())?, None);
-    let took = match kind.as_str() {
-        "bare" => journals::bare(&rt, disk, count)?,
-        "bare_dones" => journals::bare_dones(&rt, disk, count)?,
-        "load" => journals::load(&rt, disk)?,
-        "ends" => ends::ends(&rt, disk, count)?,
-        "load_end" => ends::load(&rt, disk)?,
-        "puts" => ends::puts(&rt, disk, count, 0)?,
-        "puts_beside" => ends::puts(&rt, disk, 1024, count)?,
-        kind => journals::journal(&rt, disk, kind, count)?,
-    };
+    let took = took(&rt, disk, kind.as_str(), count)?;
     writeln!(rt.stdout(), "{took}")
+}
+
+fn took(rt: &HostRuntime, disk: FileDisk, kind: &str, count: u32) -> io::Result<u128> {
+    match kind {
+        "bare" => journals::bare(rt, disk, count),
+        "bare_dones" => journals::bare_dones(rt, disk, count),
+        "load" => journals::load(rt, disk),
+        "ends" => ends::ends(rt, disk, count),
+        "load_end" => ends::load(rt, disk),
+        "puts" => ends::puts(rt, disk, count, 0),
+        "puts_beside" => ends::puts(rt, disk, 1024, count),
+        kind => journals::journal(rt, disk, kind, count),
+    }
 }

@@ -5,9 +5,10 @@
 //! - `done PLACE`, `reopen`: these calls.
 //! - `bytes`: the octets that the journal gives. `disk`: those that its disk reads. `standing`: what stands.
 
-use crate::records::{number, record_of};
-use decision_journal::{CellsEnd, Journal, JournalRecord, Put, Puts};
-use ots_outside::MemDisk;
+use crate::journals::{MemJournal, append_outcome, bytes, disk_octets, done, life, reopen};
+use crate::records::{append_record, number};
+use decision_journal::{CellsEnd, JournalRecord, Put, Puts, Standing};
+use ots_model::RefBytes;
 use std::alloc::Global;
 use std::io;
 use std::io::{ErrorKind, Write};
@@ -18,84 +19,106 @@ const MOST: usize = 20;
 /// Makes the call of a line, and tells its answer.
 pub fn call(
     alloc: Global,
-    journal: &mut Journal<MemDisk>,
+    journal: &mut MemJournal,
     line: &str,
     told: &mut Vec<u8>,
 ) -> io::Result<()> {
     let (word, rest) = line.split_once(' ').unwrap_or((line, ""));
     match word {
-        "append" => append(alloc, journal, 1, rest, told),
-        "times" => {
-            let (count, rest) = rest.split_once(' ').ok_or(ErrorKind::InvalidInput)?;
-            append(alloc, journal, number(count)?, rest, told)
-        }
-        "outcome" => append_outcome(journal, number(rest)?, told),
-        "done" => write!(told, "{:?}", journal.done(number(rest)?)),
-        "reopen" => write!(told, "{:?}", journal.reopen()),
-        "bytes" => {
-            let mut octets = Vec::new(alloc);
-            let answer = journal.bytes(&mut octets);
-            write!(told, "{answer:?} {}", hex::encode(alloc, &octets)?)
-        }
-        "disk" => write!(told, "{}", hex::encode(alloc, journal.disk().octets())?),
+        "append" => tell_append(alloc, journal, 1, rest, told),
+        "times" => tell_appends(alloc, journal, rest, told),
+        "outcome" => tell_outcome(journal, rest, told),
+        "done" => tell_done(journal, rest, told),
+        "reopen" => tell_reopen(journal, told),
+        "bytes" => tell_bytes(alloc, journal, told),
+        "disk" => tell_octets(alloc, disk_octets(journal), told),
         _ => tell_standing(journal, told),
     }
 }
 
 /// Appends a record so many times, and tells the last answer.
-fn append(
+fn tell_append(
     alloc: Global,
-    journal: &mut Journal<MemDisk>,
+    journal: &mut MemJournal,
     count: u32,
     words: &str,
     told: &mut Vec<u8>,
 ) -> io::Result<()> {
     let mut answer = Ok(0);
     for _ in 0..count {
-        let item = record_of(alloc, words)?;
-        journal.reserve()?;
-        answer = journal.append(item);
+        answer = append_record(alloc, journal, words)?;
     }
     write!(told, "{answer:?}")
 }
 
-/// Appends the outcome of cells, where it can follow.
-fn append_outcome(
-    journal: &mut Journal<MemDisk>,
-    place: u32,
+/// The same, where the words begin with how many times.
+fn tell_appends(
+    alloc: Global,
+    journal: &mut MemJournal,
+    words: &str,
     told: &mut Vec<u8>,
 ) -> io::Result<()> {
-    let item = JournalRecord::CellsOutcome(place, CellsEnd::Applied);
-    journal.reserve()?;
-    if journal.failed() || !journal.takes(&item) {
-        return write!(told, "it can't follow");
+    match words.split_once(' ') {
+        Some((count, words)) => tell_append(alloc, journal, number(count)?, words, told),
+        None => Err(ErrorKind::InvalidInput.into()),
     }
-    let answer = journal.append(item);
+}
+
+fn tell_outcome(journal: &mut MemJournal, place: &str, told: &mut Vec<u8>) -> io::Result<()> {
+    match append_outcome(journal, number(place)?)? {
+        Some(answer) => write!(told, "{answer:?}"),
+        None => write!(told, "it can't follow"),
+    }
+}
+
+fn tell_done(journal: &mut MemJournal, place: &str, told: &mut Vec<u8>) -> io::Result<()> {
+    let answer = done(journal, number(place)?);
     write!(told, "{answer:?}")
+}
+
+fn tell_reopen(journal: &mut MemJournal, told: &mut Vec<u8>) -> io::Result<()> {
+    let answer = reopen(journal);
+    write!(told, "{answer:?}")
+}
+
+fn tell_bytes(alloc: Global, journal: &mut MemJournal, told: &mut Vec<u8>) -> io::Result<()> {
+    let mut octets = Vec::new(alloc);
+    let answer = bytes(journal, &mut octets);
+    write!(told, "{answer:?} ")?;
+    tell_octets(alloc, octets.as_slice(), told)
+}
+
+fn tell_octets(alloc: Global, octets: &[u8], told: &mut Vec<u8>) -> io::Result<()> {
+    let digits = hex::encode(alloc, octets)?;
+    told.extend_from_slice(digits.as_bytes())?;
+    Ok(())
 }
 
 /// Tells the life, and the places of what stands.
-pub fn tell_standing(journal: &Journal<MemDisk>, told: &mut Vec<u8>) -> io::Result<()> {
-    write!(told, "life {}", journal.life())?;
-    let standing = journal.standing();
-    for standing in &standing[..standing.len().min(MOST)] {
+pub fn tell_standing(journal: &MemJournal, told: &mut Vec<u8>) -> io::Result<()> {
+    write!(told, "life {}", life(journal))?;
+    tell_places(standing(journal), told)
+}
+
+fn tell_places(standing: &[Standing], told: &mut Vec<u8>) -> io::Result<()> {
+    for standing in standing.get(..MOST).unwrap_or(standing) {
         write!(told, " {}", standing.place)?;
     }
     Ok(())
 }
 
+fn standing(journal: &MemJournal) -> &[Standing] {
+    journal.standing()
+}
+
 /// How many records stand, where those of cells count too.
-pub fn count_records(journal: &Journal<MemDisk>) -> usize {
-    journal.standing().len()
+pub fn count_records(journal: &MemJournal) -> usize {
+    standing(journal).len()
 }
 
 /// Tells the records that stand, but for so many of the first.
-pub fn tell_records(
-    journal: &Journal<MemDisk>,
-    known: usize,
-    told: &mut Vec<u8>,
-) -> io::Result<()> {
-    for standing in journal.standing().get(known..).unwrap_or(&[]) {
+pub fn tell_records(journal: &MemJournal, known: usize, told: &mut Vec<u8>) -> io::Result<()> {
+    for standing in standing(journal).get(known..).unwrap_or(&[]) {
         tell_record(&standing.item, told)?;
     }
     Ok(())
@@ -105,34 +128,52 @@ pub fn tell_records(
 fn tell_record(item: &JournalRecord, told: &mut Vec<u8>) -> io::Result<()> {
     match item {
         JournalRecord::CellsPrepared(life, number, recovery, puts) => {
-            write!(told, "; prepared {life} {number} {:?}", recovery.bytes())?;
-            tell_puts(puts, told)
+            tell_prepared(*life, *number, recovery, puts, told)
         }
         JournalRecord::CellsOnePhase(life, number, puts) => {
-            write!(told, "; one phase {life} {number}")?;
-            tell_puts(puts, told)
+            tell_one_phase(*life, *number, puts, told)
         }
-        JournalRecord::CellsOutcome(place, end) => { write!(told, "; {} {place}", end_word(*end)) }
+        JournalRecord::CellsOutcome(place, end) => write!(told, "; {} {place}", end_word(*end)),
         _ => write!(told, "; another record"),
     }
 }
 
+fn tell_prepared(
+    life: u32,
+    number: u64,
+    recovery: &RefBytes,
+    puts: &Puts,
+    told: &mut Vec<u8>,
+) -> io::Result<()> {
+    write!(told, "; prepared {life} {number} {:?}", recovery.bytes())?;
+    tell_puts(puts.items(), told)
+}
+
+fn tell_one_phase(life: u32, number: u64, puts: &Puts, told: &mut Vec<u8>) -> io::Result<()> {
+    write!(told, "; one phase {life} {number}")?;
+    tell_puts(puts.items(), told)
+}
+
 /// Tells the cells and their values; of more than 16 how many they are, the first and the last.
-fn tell_puts(puts: &Puts, told: &mut Vec<u8>) -> io::Result<()> {
-    match puts.items() {
-        [first, .., last] if puts.items().len() > 16 => {
-            write!(told, " {} cells:", puts.items().len())?;
-            tell_put(first, told)?;
-            write!(told, " to")?;
-            tell_put(last, told)
-        }
-        puts => {
-            for put in puts {
-                tell_put(put, told)?;
-            }
-            Ok(())
-        }
+fn tell_puts(puts: &[Put], told: &mut Vec<u8>) -> io::Result<()> {
+    match puts {
+        [first, .., last] if puts.len() > 16 => tell_ends(puts.len(), first, last, told),
+        puts => tell_all(puts, told),
     }
+}
+
+fn tell_ends(count: usize, first: &Put, last: &Put, told: &mut Vec<u8>) -> io::Result<()> {
+    write!(told, " {count} cells:")?;
+    tell_put(first, told)?;
+    write!(told, " to")?;
+    tell_put(last, told)
+}
+
+fn tell_all(puts: &[Put], told: &mut Vec<u8>) -> io::Result<()> {
+    for put in puts {
+        tell_put(put, told)?;
+    }
+    Ok(())
 }
 
 /// Tells a cell and its value.

@@ -1,25 +1,17 @@
 use crate::calls::{call, tell_standing};
 use crate::crashes::tell_crashes;
+use crate::end_calls::{LoadedEnd, load_end};
 use crate::end_runs::{tell_end, tell_stops, tell_words};
-use crate::records::{add_octets, number};
-use decision_journal::{Journal, JournalFault};
+use crate::journals::{Loaded, MemJournal, disk_of, into_disk, load};
+use crate::records::{add_octets, low_octet, number};
+use decision_journal::JournalFault;
 use ots_outside::{Back, MemDisk};
-use resource_end::{EndFault, ResourceEnd};
 use std::alloc::Global;
 use std::io;
 use std::io::Write;
 
-/// How many octets an area has at most.
-const AREA_LIMIT: u64 = 67_108_864;
-
 /// How many calls of a disk are looked at.
 pub const CALLS: u64 = 64;
-
-/// What comes of a load.
-type Loaded = Result<Journal<MemDisk>, Back<MemDisk, JournalFault>>;
-
-/// What comes of a load of a resource end.
-pub type LoadedEnd = Result<ResourceEnd<MemDisk>, Back<MemDisk, EndFault>>;
 
 /// What a disk holds, and what is done with it.
 #[derive(Drop)]
@@ -34,64 +26,128 @@ pub struct Case<'a> {
     pub looks: Vec<&'a str>,
 }
 
+// What a case is made of. Each kind of line has a function of its own.
 impl<'a> Case<'a> {
     /// The case that these lines make.
     pub fn of(alloc: Global, lines: &[&'a str]) -> io::Result<Case<'a>> {
-        let mut case = Case {
+        let mut case = Case::empty(alloc);
+        for line in lines {
+            case.add(alloc, line)?;
+        }
+        Ok(case)
+    }
+
+    fn empty(alloc: Global) -> Case<'a> {
+        Case {
             octets: Vec::new(alloc),
             area: 400,
             service: 1,
             calls: Vec::new(alloc),
             looks: Vec::new(alloc),
-        };
-        for line in lines {
-            match line.split_once(' ') {
-                Some(("octets", words)) => add_octets(alloc, &mut case.octets, words)?,
-                Some(("fill", count)) => {
-                    let length = case.octets.len().saturating_add(number(count)? as usize);
-                    case.octets.resize(length, 1)?;
-                }
-                Some(("area", area)) => case.area = u64::from(number(area)?),
-                Some(("service", service)) => case.service = u64::from(number(service)?),
-                Some(("then", look)) => case.looks.push(look)?,
-                _ => case.calls.push(line)?,
-            }
         }
-        Ok(case)
     }
 
-    /// Tries the case, and tells what came.
-    pub fn told(&self, alloc: Global, head: &str) -> io::Result<Vec<u8>> {
-        let mut told = Vec::new(alloc);
-        if head.starts_with("garbage") {
-            self.tell_garbage(alloc, &mut told)?;
-        } else if head.starts_with("fails") {
-            for call in 0..CALLS {
-                write!(told, "{call}: ")?;
-                let failing = vec![in alloc; call]?;
-                if !self.tell_run(alloc, failing, ", ", &mut told)? {
-                    break;
-                }
-            }
-        } else if head.starts_with("crashes") {
-            tell_crashes(alloc, self, &mut told)?;
-        } else if head.starts_with("end") {
-            tell_end(alloc, self, &mut told)?;
-        } else if head.starts_with("words") {
-            tell_words(alloc, self, &mut told)?;
-        } else if head.starts_with("stops") {
-            tell_stops(alloc, self, &mut told)?;
-        } else {
-            self.tell_run(alloc, Vec::new(alloc), "\n", &mut told)?;
+    fn add(&mut self, alloc: Global, line: &'a str) -> io::Result<()> {
+        match line.split_once(' ') {
+            Some((word, rest)) => self.add_word(alloc, line, word, rest),
+            None => self.add_call(line),
         }
-        Ok(told)
+    }
+
+    fn add_word(
+        &mut self,
+        alloc: Global,
+        line: &'a str,
+        word: &str,
+        rest: &'a str,
+    ) -> io::Result<()> {
+        match word {
+            "octets" => add_octets(alloc, &mut self.octets, rest),
+            "fill" => self.fill(rest),
+            "area" => self.set_area(rest),
+            "service" => self.set_service(rest),
+            "then" => self.add_look(rest),
+            _ => self.add_call(line),
+        }
+    }
+
+    fn fill(&mut self, count: &str) -> io::Result<()> {
+        let length = self.octets.len().saturating_add(number(count)? as usize);
+        self.octets.resize(length, 1)?;
+        Ok(())
+    }
+
+    fn set_area(&mut self, area: &str) -> io::Result<()> {
+        self.area = u64::from(number(area)?);
+        Ok(())
+    }
+
+    fn set_service(&mut self, service: &str) -> io::Result<()> {
+        self.service = u64::from(number(service)?);
+        Ok(())
+    }
+
+    fn add_look(&mut self, look: &'a str) -> io::Result<()> {
+        self.looks.push(look)?;
+        Ok(())
+    }
+
+    fn add_call(&mut self, call: &'a str) -> io::Result<()> {
+        self.calls.push(call)?;
+        Ok(())
+    }
+}
+
+impl<'a> Case<'a> {
+    /// Tries the case, and tells what came.
+    pub fn tell(&self, alloc: Global, head: &str, told: &mut Vec<u8>) -> io::Result<()> {
+        let (kind, _) = head.split_once(':').unwrap_or((head, ""));
+        match kind {
+            "garbage" => self.tell_garbage(alloc, told),
+            "fails" => self.tell_fails(alloc, told),
+            "crashes" => tell_crashes(alloc, self, told),
+            "end" => tell_end(alloc, self, told),
+            "words" => tell_words(alloc, self, told),
+            "stops" => tell_stops(alloc, self, told),
+            _ => self.tell_calls(alloc, told),
+        }
+    }
+
+    fn tell_calls(&self, alloc: Global, told: &mut Vec<u8>) -> io::Result<()> {
+        self.tell_run(alloc, Vec::new(alloc), "\n", told)?;
+        Ok(())
+    }
+
+    fn tell_fails(&self, alloc: Global, told: &mut Vec<u8>) -> io::Result<()> {
+        for call in 0..CALLS {
+            if !self.tell_fail(alloc, call, told)? {
+                break;
+            }
+        }
+        Ok(())
+    }
+
+    /// Runs the case on a disk of which a call fails. The result is whether it was made.
+    fn tell_fail(&self, alloc: Global, call: u64, told: &mut Vec<u8>) -> io::Result<bool> {
+        write!(told, "{call}: ")?;
+        self.tell_run(alloc, vec![in alloc; call]?, ", ", told)
     }
 
     /// Loads the journal that a disk of these octets holds, of which these calls fail.
     pub fn load(&self, alloc: Global, octets: &[u8], failing: Vec<u64>) -> io::Result<Loaded> {
-        let area = self.area.min(AREA_LIMIT);
-        let disk = MemDisk::new(alloc, octets.to_vec(alloc)?, failing)?;
-        Ok(Journal::load(alloc, disk, area, self.service))
+        let disk = disk_of(alloc, octets, failing)?;
+        Ok(load(alloc, disk, self.area, self.service))
+    }
+
+    /// Loads the resource end that a disk of these octets holds, of which these calls fail.
+    pub fn load_end(
+        &self,
+        alloc: Global,
+        octets: &[u8],
+        failing: Vec<u64>,
+    ) -> io::Result<LoadedEnd> {
+        let disk = disk_of(alloc, octets, failing)?;
+        Ok(load_end(alloc, disk, self.area, self.service))
     }
 
     /// Runs the case on a disk of which these calls fail, and tells each answer. Gives the disk back.
@@ -102,19 +158,37 @@ impl<'a> Case<'a> {
         between: &str,
         told: &mut Vec<u8>,
     ) -> io::Result<MemDisk> {
-        let mut journal = match self.load(alloc, self.octets.as_slice(), failing)? {
-            Ok(journal) => journal,
-            Err(back) => {
-                write!(told, "{:?}", back.fault)?;
-                return Ok(back.value);
-            }
-        };
-        tell_standing(&journal, told)?;
+        match self.load(alloc, self.octets.as_slice(), failing)? {
+            Ok(journal) => self.run_on(alloc, journal, between, told),
+            Err(back) => give_back(back, told),
+        }
+    }
+
+    fn run_on(
+        &self,
+        alloc: Global,
+        journal: MemJournal,
+        between: &str,
+        told: &mut Vec<u8>,
+    ) -> io::Result<MemDisk> {
+        let mut journal = journal;
+        self.make_calls(alloc, &mut journal, between, told)?;
+        Ok(into_disk(journal))
+    }
+
+    fn make_calls(
+        &self,
+        alloc: Global,
+        journal: &mut MemJournal,
+        between: &str,
+        told: &mut Vec<u8>,
+    ) -> io::Result<()> {
+        tell_standing(journal, told)?;
         for line in self.calls.as_slice() {
             write!(told, "{between}{line}: ")?;
-            call(alloc, &mut journal, line, told)?;
+            call(alloc, journal, line, told)?;
         }
-        Ok(journal.into_disk())
+        Ok(())
     }
 
     /// Runs the case, and tells what a load of what the disk reads then finds, and whether a call has failed.
@@ -126,21 +200,19 @@ impl<'a> Case<'a> {
         told: &mut Vec<u8>,
     ) -> io::Result<bool> {
         let disk = self.run(alloc, failing, between, told)?;
+        self.tell_left(alloc, &disk, between, told)
+    }
+
+    fn tell_left(
+        &self,
+        alloc: Global,
+        disk: &MemDisk,
+        between: &str,
+        told: &mut Vec<u8>,
+    ) -> io::Result<bool> {
         write!(told, "{between}then ")?;
         self.tell_load(alloc, disk.octets(), told)?;
         Ok(disk.faults() > 0)
-    }
-
-    /// Loads the resource end that a disk of these octets holds, of which these calls fail.
-    pub fn load_end(
-        &self,
-        alloc: Global,
-        octets: &[u8],
-        failing: Vec<u64>,
-    ) -> io::Result<LoadedEnd> {
-        let area = self.area.min(AREA_LIMIT);
-        let disk = MemDisk::new(alloc, octets.to_vec(alloc)?, failing)?;
-        Ok(ResourceEnd::load(alloc, disk, area, self.service))
     }
 
     /// Runs the case up to this call of the disk. From there on each call fails.
@@ -151,28 +223,74 @@ impl<'a> Case<'a> {
     /// Tells what a load of the octets finds, once one of them is another and the rest is cut off.
     fn tell_garbage(&self, alloc: Global, told: &mut Vec<u8>) -> io::Result<()> {
         for line in self.calls.as_slice() {
-            let mut octets = self.octets.clone()?;
-            let words: Vec<&str> = line.split_whitespace().collect(alloc)?;
-            if let [place, other, length] = words.as_slice() {
-                if let Some(octet) = octets.get_mut(number(place)? as usize) {
-                    *octet = number(other)?.to_be_bytes()[3];
-                }
-                octets.truncate(number(length)? as usize);
-            }
-            write!(told, "{line}: ")?;
-            self.tell_load(alloc, octets.as_slice(), told)?;
+            self.tell_changed(alloc, line, told)?;
         }
         Ok(())
     }
 
+    fn tell_changed(&self, alloc: Global, line: &str, told: &mut Vec<u8>) -> io::Result<()> {
+        write!(told, "{line}: ")?;
+        let octets = changed(alloc, line, self.octets.as_slice())?;
+        self.tell_load(alloc, octets.as_slice(), told)
+    }
+
     /// Tells what a load of these octets finds.
     fn tell_load(&self, alloc: Global, octets: &[u8], told: &mut Vec<u8>) -> io::Result<()> {
-        match self.load(alloc, octets, Vec::new(alloc))? {
-            Ok(journal) => tell_standing(&journal, told)?,
-            Err(back) => write!(told, "{:?}", back.fault)?,
-        }
-        writeln!(told)
+        let loaded = self.load(alloc, octets, Vec::new(alloc))?;
+        tell_loaded(&loaded, told)
     }
+}
+
+fn tell_loaded(loaded: &Loaded, told: &mut Vec<u8>) -> io::Result<()> {
+    tell_found(loaded, told)?;
+    writeln!(told)
+}
+
+fn tell_found(loaded: &Loaded, told: &mut Vec<u8>) -> io::Result<()> {
+    match loaded {
+        Ok(journal) => tell_standing(journal, told),
+        Err(back) => write!(told, "{:?}", back.fault),
+    }
+}
+
+/// Tells why a load was refused, and gives the disk back.
+fn give_back(back: Back<MemDisk, JournalFault>, told: &mut Vec<u8>) -> io::Result<MemDisk> {
+    write!(told, "{:?}", back.fault)?;
+    Ok(back.value)
+}
+
+/// The octets, of which one is another, and the rest is cut off, as a line says.
+fn changed(alloc: Global, line: &str, octets: &[u8]) -> io::Result<Vec<u8>> {
+    let mut octets = octets.to_vec(alloc)?;
+    change(alloc, line, &mut octets)?;
+    Ok(octets)
+}
+
+fn change(alloc: Global, line: &str, octets: &mut Vec<u8>) -> io::Result<()> {
+    let words: Vec<&str> = line.split_whitespace().collect(alloc)?;
+    change_by(words.as_slice(), octets)
+}
+
+fn change_by(words: &[&str], octets: &mut Vec<u8>) -> io::Result<()> {
+    match words {
+        [place, other, length] => {
+            change_at(
+                octets,
+                number(place)?,
+                low_octet(number(other)?),
+                number(length)?,
+            );
+            Ok(())
+        }
+        _ => Ok(()),
+    }
+}
+
+fn change_at(octets: &mut Vec<u8>, place: u32, other: u8, length: u32) {
+    if let Some(octet) = octets.get_mut(place as usize) {
+        *octet = other;
+    }
+    octets.truncate(length as usize);
 }
 
 /// The calls of a disk from this one on.

@@ -1,6 +1,8 @@
 //! What a crash leaves, in each call of a disk.
 
 use crate::case::{CALLS, Case};
+use crate::journals::{MemJournal, bytes, life};
+use ots_outside::MemDisk;
 use std::alloc::Global;
 use std::io;
 use std::io::Write;
@@ -17,26 +19,95 @@ struct Row {
 /// Tells what a crash in each call of the disk leaves.
 pub fn tell_crashes(alloc: Global, case: &Case, told: &mut Vec<u8>) -> io::Result<()> {
     let end = case.stopped(alloc, CALLS)?;
+    tell_each(alloc, case, end.octets(), told)
+}
+
+fn tell_each(alloc: Global, case: &Case, end: &[u8], told: &mut Vec<u8>) -> io::Result<()> {
     for call in 0..CALLS {
-        let before = case.stopped(alloc, call)?;
-        if before.faults() == 0 {
+        if !tell_crash(alloc, case, call, end, told)? {
             break;
         }
-        let after = case.stopped(alloc, call + 1)?;
-        let written = difference(before.octets(), after.octets());
-        write!(told, "{call}: {} to {}:", written.start, written.end)?;
-        let rows = rows(alloc, case, before.octets(), after.octets(), end.octets())?;
-        for row in rows.as_slice() {
-            let Row {
-                records,
-                life,
-                images,
-            } = row;
-            write!(told, " {images} of {records} and life {life}")?;
-        }
-        writeln!(told)?;
     }
     Ok(())
+}
+
+/// Tells what a crash in a call of the disk leaves. The result is whether it was made.
+fn tell_crash(
+    alloc: Global,
+    case: &Case,
+    call: u64,
+    end: &[u8],
+    told: &mut Vec<u8>,
+) -> io::Result<bool> {
+    let before = case.stopped(alloc, call)?;
+    tell_made(alloc, case, call, &before, end, told)
+}
+
+fn tell_made(
+    alloc: Global,
+    case: &Case,
+    call: u64,
+    before: &MemDisk,
+    end: &[u8],
+    told: &mut Vec<u8>,
+) -> io::Result<bool> {
+    let is_made = before.faults() > 0;
+    if is_made {
+        write!(told, "{call}: ")?;
+        tell_left(
+            alloc,
+            case,
+            call.saturating_add(1),
+            before.octets(),
+            end,
+            told,
+        )?;
+    }
+    Ok(is_made)
+}
+
+fn tell_left(
+    alloc: Global,
+    case: &Case,
+    next: u64,
+    before: &[u8],
+    end: &[u8],
+    told: &mut Vec<u8>,
+) -> io::Result<()> {
+    let after = case.stopped(alloc, next)?;
+    tell_between(alloc, case, before, after.octets(), end, told)
+}
+
+fn tell_between(
+    alloc: Global,
+    case: &Case,
+    before: &[u8],
+    after: &[u8],
+    end: &[u8],
+    told: &mut Vec<u8>,
+) -> io::Result<()> {
+    tell_difference(difference(before, after), told)?;
+    let rows = rows(alloc, case, before, after, end)?;
+    tell_rows(rows.as_slice(), told)
+}
+
+fn tell_difference(written: Range<usize>, told: &mut Vec<u8>) -> io::Result<()> {
+    write!(told, "{} to {}:", written.start, written.end)
+}
+
+fn tell_rows(rows: &[Row], told: &mut Vec<u8>) -> io::Result<()> {
+    for row in rows {
+        tell_row(row, told)?;
+    }
+    writeln!(told)
+}
+
+fn tell_row(row: &Row, told: &mut Vec<u8>) -> io::Result<()> {
+    write!(
+        told,
+        " {} of {} and life {}",
+        row.images, row.records, row.life
+    )
 }
 
 /// The places from the first that differs to the last.
@@ -61,10 +132,23 @@ fn rows(
     end: &[u8],
 ) -> io::Result<Vec<Row>> {
     let mut rows = Vec::new(alloc);
-    for image in images(alloc, before, after)?.as_slice() {
-        count_image(alloc, case, image.as_slice(), end, &mut rows)?;
-    }
+    let images = images(alloc, before, after)?;
+    count_images(alloc, case, images.as_slice(), end, &mut rows)?;
     Ok(rows)
+}
+
+fn count_images(
+    alloc: Global,
+    case: &Case,
+    images: &[Vec<u8>],
+    end: &[u8],
+    rows: &mut Vec<Row>,
+) -> io::Result<()> {
+    for image in images {
+        let (records, life) = records_of(alloc, case, image.as_slice(), end)?;
+        count_image(records, life, rows)?;
+    }
+    Ok(())
 }
 
 /// The images that a crash can leave. Each has the front of what was written, and behind it what stood there, or octets
@@ -75,46 +159,39 @@ pub fn images(alloc: Global, before: &[u8], after: &[u8]) -> io::Result<Vec<Vec<
     for count in written.start..=written.end {
         images.push(torn(alloc, before, after, count)?)?;
     }
-    add_ones(alloc, after, written, &mut images)?;
+    for count in written.start..written.end {
+        images.push(with_ones(alloc, after, count, written.end)?)?;
+    }
     Ok(images)
 }
 
-/// Adds the images with octets that are 1.
-fn add_ones(
-    alloc: Global,
-    after: &[u8],
-    written: Range<usize>,
-    images: &mut Vec<Vec<u8>>,
-) -> io::Result<()> {
-    for count in written.start..written.end {
-        let mut ones = after.to_vec(alloc)?;
-        if let Some(rest) = ones.as_mut_slice().get_mut(count..written.end) {
-            rest.fill(1);
-        }
-        images.push(ones)?;
+/// The octets, of which those between two places are 1.
+fn with_ones(alloc: Global, octets: &[u8], start: usize, end: usize) -> io::Result<Vec<u8>> {
+    let mut ones = octets.to_vec(alloc)?;
+    fill(ones.as_mut_slice(), start, end);
+    Ok(ones)
+}
+
+fn fill(octets: &mut [u8], start: usize, end: usize) {
+    if let Some(rest) = octets.get_mut(start..end) {
+        rest.fill(1);
     }
-    Ok(())
 }
 
 /// So many octets of what was written, and what stood behind them.
 fn torn(alloc: Global, before: &[u8], after: &[u8], count: usize) -> io::Result<Vec<u8>> {
-    let mut octets = after.get(..count).unwrap_or(after).to_vec(alloc)?;
-    if let Some(rest) = before.get(count..) {
-        octets.extend_from_slice(rest)?;
-    }
+    let mut octets = front(after, count).to_vec(alloc)?;
+    octets.extend_from_slice(before.get(count..).unwrap_or(&[]))?;
     Ok(octets)
 }
 
-/// Loads an image, and counts it by its records, which stand in front of the end. One that is refused, or that has other
-/// records, is counted as one of no octets.
-fn count_image(
-    alloc: Global,
-    case: &Case,
-    image: &[u8],
-    end: &[u8],
-    rows: &mut Vec<Row>,
-) -> io::Result<()> {
-    let (records, life) = records_of(alloc, case, image, end)?.unwrap_or((0, 0));
+/// So many octets, or all of them.
+fn front(octets: &[u8], count: usize) -> &[u8] {
+    octets.get(..count).unwrap_or(octets)
+}
+
+/// Counts an image by its records.
+fn count_image(records: usize, life: u32, rows: &mut Vec<Row>) -> io::Result<()> {
     for row in rows.as_mut_slice() {
         if row.records == records && row.life == life {
             row.images = row.images.saturating_add(1);
@@ -129,25 +206,29 @@ fn count_image(
     Ok(())
 }
 
-/// How many octets the records of an image have, and the life that its load begins, where they stand in front of the end.
-fn records_of(
-    alloc: Global,
-    case: &Case,
-    image: &[u8],
-    end: &[u8],
-) -> io::Result<Option<(usize, u32)>> {
-    let Ok(mut journal) = case.load(alloc, image, Vec::new(alloc))? else {
-        return Ok(None);
-    };
-    let mut octets = Vec::new(alloc);
-    if journal.bytes(&mut octets).is_err() {
-        return Ok(None);
+/// How many octets the records of an image have, and the life that its load begins. It has none where the load is refused, or
+/// where they don't stand in front of the end.
+fn records_of(alloc: Global, case: &Case, image: &[u8], end: &[u8]) -> io::Result<(usize, u32)> {
+    match case.load(alloc, image, Vec::new(alloc))? {
+        Ok(mut journal) => Ok(records_before(alloc, &mut journal, end)),
+        Err(_) => Ok((0, 0)),
     }
+}
+
+fn records_before(alloc: Global, journal: &mut MemJournal, end: &[u8]) -> (usize, u32) {
+    let mut octets = Vec::new(alloc);
+    match bytes(journal, &mut octets) {
+        Ok(()) => counted(octets.as_slice(), life(journal), end),
+        Err(_) => (0, 0),
+    }
+}
+
+fn counted(octets: &[u8], life: u32, end: &[u8]) -> (usize, u32) {
     // Behind the records are the next life, of ten octets, and a gate.
     let count = octets.len().saturating_sub(11);
-    if end.starts_with(&octets[..count]) {
-        Ok(Some((count, journal.life())))
+    if end.starts_with(front(octets, count)) {
+        (count, life)
     } else {
-        Ok(None)
+        (0, 0)
     }
 }

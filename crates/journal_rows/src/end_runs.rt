@@ -3,9 +3,11 @@
 //! coordinator where it prepared, and its puts.
 
 use crate::calls::{count_records, tell_records};
-use crate::case::{CALLS, Case, LoadedEnd, calls_from};
+use crate::case::{CALLS, Case, calls_from};
 use crate::crashes::images;
+use crate::end_calls::{LoadedEnd, end_disk};
 use crate::ends::{call, tell_fault};
+use crate::journals::Loaded;
 use crate::records::number;
 use ots_outside::MemDisk;
 use std::alloc::Global;
@@ -38,45 +40,98 @@ pub fn tell_end(alloc: Global, case: &Case, told: &mut Vec<u8>) -> io::Result<()
 
 /// Makes the calls and one word more, for each word; and behind each of these the words again, one each time, and a look
 /// at the cell 5.
-pub fn tell_words(alloc: Global, case: &Case, told: &mut Vec<u8>) -> io::Result<()> {
+pub fn tell_words<'a>(alloc: Global, case: &Case<'a>, told: &mut Vec<u8>) -> io::Result<()> {
     for word in WORDS {
-        let mut lines = case.calls.clone()?;
-        lines.push(word)?;
-        tell_last(alloc, case, lines.as_slice(), told)?;
-        tell_next(alloc, case, &mut lines, told)?;
+        tell_word(alloc, case, word, told)?;
     }
     Ok(())
 }
 
-/// Tells what each word comes to behind these calls.
+fn tell_word<'a>(
+    alloc: Global,
+    case: &Case<'a>,
+    word: &'a str,
+    told: &mut Vec<u8>,
+) -> io::Result<()> {
+    let mut lines = case.calls.clone()?;
+    lines.push(word)?;
+    tell_next(alloc, case, &mut lines, told)
+}
+
+/// Tells what these calls come to, and each word behind them.
 fn tell_next<'a>(
     alloc: Global,
     case: &Case,
     lines: &mut Vec<&'a str>,
     told: &mut Vec<u8>,
 ) -> io::Result<()> {
+    tell_last(alloc, case, lines.as_slice(), told)?;
     for word in WORDS {
-        write!(told, "  ")?;
-        lines.push(word)?;
-        tell_last(alloc, case, lines.as_slice(), told)?;
-        lines.pop();
+        tell_more(alloc, case, lines, word, told)?;
     }
+    tell_more(alloc, case, lines, "cell 5", told)
+}
+
+/// Tells what one more call comes to behind these.
+fn tell_more<'a>(
+    alloc: Global,
+    case: &Case,
+    lines: &mut Vec<&'a str>,
+    more: &'a str,
+    told: &mut Vec<u8>,
+) -> io::Result<()> {
     write!(told, "  ")?;
-    lines.push("cell 5")?;
-    tell_last(alloc, case, lines.as_slice(), told)
+    lines.push(more)?;
+    tell_last(alloc, case, lines.as_slice(), told)?;
+    lines.pop();
+    Ok(())
 }
 
 /// Makes these calls, and tells the last, its answer, and the records that it wrote.
 fn tell_last(alloc: Global, case: &Case, lines: &[&str], told: &mut Vec<u8>) -> io::Result<()> {
-    let [first @ .., _] = lines else {
-        return Ok(());
-    };
+    match lines {
+        [first @ .., _] => tell_behind(alloc, case, first, lines, told),
+        [] => Ok(()),
+    }
+}
+
+fn tell_behind(
+    alloc: Global,
+    case: &Case,
+    first: &[&str],
+    lines: &[&str],
+    told: &mut Vec<u8>,
+) -> io::Result<()> {
     let mut known = Vec::new(alloc);
     let before = run(alloc, case, Vec::new(alloc), first, "", &mut known)?;
+    tell_new(alloc, case, lines, known.len(), before.octets(), told)
+}
+
+/// Makes these calls, and tells the answers but for so many octets, and the records that a disk holds more than before.
+fn tell_new(
+    alloc: Global,
+    case: &Case,
+    lines: &[&str],
+    known: usize,
+    before: &[u8],
+    told: &mut Vec<u8>,
+) -> io::Result<()> {
     let mut answers = Vec::new(alloc);
     let after = run(alloc, case, Vec::new(alloc), lines, "", &mut answers)?;
-    told.extend_from_slice(answers.get(known.len()..).unwrap_or(&[]))?;
-    tell_written(alloc, case, before.octets(), after.octets(), told)?;
+    let answer = answers.get(known..).unwrap_or(&[]);
+    tell_call_of(alloc, case, answer, before, after.octets(), told)
+}
+
+fn tell_call_of(
+    alloc: Global,
+    case: &Case,
+    answer: &[u8],
+    before: &[u8],
+    after: &[u8],
+    told: &mut Vec<u8>,
+) -> io::Result<()> {
+    told.extend_from_slice(answer)?;
+    tell_written(alloc, case, before, after, told)?;
     writeln!(told)
 }
 
@@ -88,12 +143,26 @@ fn tell_written(
     after: &[u8],
     told: &mut Vec<u8>,
 ) -> io::Result<()> {
-    let known = match case.load(alloc, before, Vec::new(alloc))? {
-        Ok(journal) => count_records(&journal),
+    let known = count_standing(alloc, case, before)?;
+    let loaded = case.load(alloc, after, Vec::new(alloc))?;
+    tell_more_records(&loaded, known, told)
+}
+
+fn count_standing(alloc: Global, case: &Case, octets: &[u8]) -> io::Result<usize> {
+    let loaded = case.load(alloc, octets, Vec::new(alloc))?;
+    Ok(standing_in(&loaded))
+}
+
+fn standing_in(loaded: &Loaded) -> usize {
+    match loaded {
+        Ok(journal) => count_records(journal),
         Err(_) => 0,
-    };
-    match case.load(alloc, after, Vec::new(alloc))? {
-        Ok(journal) => tell_records(&journal, known, told),
+    }
+}
+
+fn tell_more_records(loaded: &Loaded, known: usize, told: &mut Vec<u8>) -> io::Result<()> {
+    match loaded {
+        Ok(journal) => tell_records(journal, known, told),
         Err(back) => write!(told, "; {:?}", back.fault),
     }
 }
@@ -123,8 +192,7 @@ fn go_on(
     let mut loaded = loaded;
     let mut gap = "";
     for line in lines {
-        write!(told, "{gap}{line}: ")?;
-        loaded = next_end(alloc, case, loaded, line, told)?;
+        loaded = next_end(alloc, case, loaded, gap, line, told)?;
         gap = between;
     }
     Ok(disk_of(loaded))
@@ -136,27 +204,52 @@ fn next_end(
     alloc: Global,
     case: &Case,
     loaded: LoadedEnd,
+    gap: &str,
     line: &str,
     told: &mut Vec<u8>,
 ) -> io::Result<LoadedEnd> {
-    let failing = match line.split_once(' ') {
-        Some(("fail", call)) => vec![in alloc; u64::from(number(call)?)]?,
-        _ if line == "crash" => Vec::new(alloc),
-        _ => return tell_call(alloc, loaded, line, told),
-    };
-    let disk = disk_of(loaded);
-    let loaded = case.load_end(alloc, disk.octets(), failing)?;
-    match &loaded {
-        Ok(_) => write!(told, "ok")?,
-        Err(back) => tell_fault(back.fault, told)?,
+    let (word, rest) = line.split_once(' ').unwrap_or((line, ""));
+    match word {
+        "fail" | "crash" => {
+            let disk = disk_of(loaded);
+            write!(told, "{gap}{line}: ")?;
+            load_again(alloc, case, disk.octets(), rest, told)
+        }
+        _ => tell_call(alloc, loaded, gap, line, told),
     }
+}
+
+/// Loads an end from these octets. A call of its disk may be named, which then fails.
+fn load_again(
+    alloc: Global,
+    case: &Case,
+    octets: &[u8],
+    call: &str,
+    told: &mut Vec<u8>,
+) -> io::Result<LoadedEnd> {
+    let loaded = case.load_end(alloc, octets, failing(alloc, call)?)?;
+    tell_loaded(&loaded, told)?;
     Ok(loaded)
+}
+
+fn failing(alloc: Global, call: &str) -> io::Result<Vec<u64>> {
+    match call {
+        "" => Ok(Vec::new(alloc)),
+        call => Ok(vec![in alloc; u64::from(number(call)?)]?),
+    }
+}
+
+fn tell_loaded(loaded: &LoadedEnd, told: &mut Vec<u8>) -> io::Result<()> {
+    match loaded {
+        Ok(_) => write!(told, "ok"),
+        Err(back) => tell_fault(back.fault, told),
+    }
 }
 
 /// The disk of what was loaded.
 fn disk_of(loaded: LoadedEnd) -> MemDisk {
     match loaded {
-        Ok(end) => end.into_disk(),
+        Ok(end) => end_disk(end),
         Err(back) => back.value,
     }
 }
@@ -165,18 +258,26 @@ fn disk_of(loaded: LoadedEnd) -> MemDisk {
 fn tell_call(
     alloc: Global,
     loaded: LoadedEnd,
+    gap: &str,
     line: &str,
     told: &mut Vec<u8>,
 ) -> io::Result<LoadedEnd> {
+    let mut loaded = loaded;
+    call_loaded(alloc, &mut loaded, gap, line, told)?;
+    Ok(loaded)
+}
+
+fn call_loaded(
+    alloc: Global,
+    loaded: &mut LoadedEnd,
+    gap: &str,
+    line: &str,
+    told: &mut Vec<u8>,
+) -> io::Result<()> {
+    write!(told, "{gap}{line}: ")?;
     match loaded {
-        Ok(mut end) => {
-            call(alloc, &mut end, line, told)?;
-            Ok(Ok(end))
-        }
-        Err(back) => {
-            tell_fault(back.fault, told)?;
-            Ok(Err(back))
-        }
+        Ok(end) => call(alloc, end, line, told),
+        Err(back) => tell_fault(back.fault, told),
     }
 }
 
@@ -185,54 +286,132 @@ fn tell_call(
 pub fn tell_stops(alloc: Global, case: &Case, told: &mut Vec<u8>) -> io::Result<()> {
     let mut last = Vec::new(alloc);
     for call in 0..CALLS {
-        let mut row = Vec::new(alloc);
-        let failed = tell_stop(alloc, case, call, &mut row)?;
-        if row != last {
-            write!(told, "{call}: ")?;
-            told.extend_from_slice(&row)?;
-            last = row;
-        }
-        if !failed {
+        if !tell_stop(alloc, case, call, &mut last, told)? {
             break;
         }
     }
     Ok(())
 }
 
+/// Makes the calls, while all calls of the disk fail from this one on, and tells what comes of them where it isn't what came
+/// last. The result is whether the disk came so far.
+fn tell_stop(
+    alloc: Global,
+    case: &Case,
+    call: u64,
+    last: &mut Vec<u8>,
+    told: &mut Vec<u8>,
+) -> io::Result<bool> {
+    let mut row = Vec::new(alloc);
+    let failed = stop(alloc, case, call, &mut row)?;
+    tell_other(call, row, last, told)?;
+    Ok(failed)
+}
+
+fn tell_other(call: u64, row: Vec<u8>, last: &mut Vec<u8>, told: &mut Vec<u8>) -> io::Result<()> {
+    if row != *last {
+        write!(told, "{call}: ")?;
+        told.extend_from_slice(row.as_slice())?;
+        *last = row;
+    }
+    Ok(())
+}
+
 /// Makes the calls, while all calls of the disk fail from this one on, and tells the answers, and what comes of the images
 /// that a crash in that call leaves. The result is whether the disk came so far.
-fn tell_stop(alloc: Global, case: &Case, call: u64, told: &mut Vec<u8>) -> io::Result<bool> {
+fn stop(alloc: Global, case: &Case, call: u64, told: &mut Vec<u8>) -> io::Result<bool> {
     let lines = case.calls.as_slice();
     let before = run(alloc, case, calls_from(alloc, call)?, lines, ", ", told)?;
-    let failing = calls_from(alloc, call.saturating_add(1))?;
-    let after = run(alloc, case, failing, lines, "", &mut Vec::new(alloc))?;
+    tell_stopped(alloc, case, call.saturating_add(1), &before, told)
+}
+
+fn tell_stopped(
+    alloc: Global,
+    case: &Case,
+    next: u64,
+    before: &MemDisk,
+    told: &mut Vec<u8>,
+) -> io::Result<bool> {
     writeln!(told)?;
-    let images = images(alloc, before.octets(), after.octets())?;
-    tell_outcomes(outcomes(alloc, case, images.as_slice())?.as_slice(), told)?;
+    tell_left(alloc, case, next, before.octets(), told)?;
     Ok(before.faults() > 0)
 }
 
-/// Tells outcomes.
+/// Tells what comes of the images that a crash leaves in the call of the disk in front of this one.
+fn tell_left(
+    alloc: Global,
+    case: &Case,
+    next: u64,
+    before: &[u8],
+    told: &mut Vec<u8>,
+) -> io::Result<()> {
+    let lines = case.calls.as_slice();
+    let after = run(
+        alloc,
+        case,
+        calls_from(alloc, next)?,
+        lines,
+        "",
+        &mut Vec::new(alloc),
+    )?;
+    tell_between(alloc, case, before, after.octets(), told)
+}
+
+fn tell_between(
+    alloc: Global,
+    case: &Case,
+    before: &[u8],
+    after: &[u8],
+    told: &mut Vec<u8>,
+) -> io::Result<()> {
+    let images = images(alloc, before, after)?;
+    tell_images(alloc, case, images.as_slice(), told)
+}
+
+fn tell_images(
+    alloc: Global,
+    case: &Case,
+    images: &[Vec<u8>],
+    told: &mut Vec<u8>,
+) -> io::Result<()> {
+    let outcomes = outcomes(alloc, case, images)?;
+    tell_outcomes(outcomes.as_slice(), told)
+}
+
 fn tell_outcomes(outcomes: &[Outcome], told: &mut Vec<u8>) -> io::Result<()> {
     for outcome in outcomes {
-        write!(told, "  {}: ", outcome.images)?;
-        told.extend_from_slice(outcome.answers.as_slice())?;
-        writeln!(told)?;
+        tell_outcome(outcome, told)?;
     }
     Ok(())
+}
+
+fn tell_outcome(outcome: &Outcome, told: &mut Vec<u8>) -> io::Result<()> {
+    write!(told, "  {}: ", outcome.images)?;
+    told.extend_from_slice(outcome.answers.as_slice())?;
+    writeln!(told)
 }
 
 /// Loads an end from each image, makes the looks, and counts the images by the answers.
 fn outcomes(alloc: Global, case: &Case, images: &[Vec<u8>]) -> io::Result<Vec<Outcome>> {
     let mut outcomes = Vec::new(alloc);
     for image in images {
-        let mut answers = Vec::new(alloc);
-        let loaded = case.load_end(alloc, image.as_slice(), Vec::new(alloc))?;
-        let looks = case.looks.as_slice();
-        go_on(alloc, case, loaded, looks, ", ", &mut answers)?;
+        let answers = answers_of(alloc, case, image.as_slice())?;
         count_outcome(answers, &mut outcomes)?;
     }
     Ok(outcomes)
+}
+
+/// The answers to the looks that an end gives which is loaded from an image.
+fn answers_of(alloc: Global, case: &Case, image: &[u8]) -> io::Result<Vec<u8>> {
+    let mut answers = Vec::new(alloc);
+    look(alloc, case, image, &mut answers)?;
+    Ok(answers)
+}
+
+fn look(alloc: Global, case: &Case, image: &[u8], answers: &mut Vec<u8>) -> io::Result<()> {
+    let loaded = case.load_end(alloc, image, Vec::new(alloc))?;
+    go_on(alloc, case, loaded, case.looks.as_slice(), ", ", answers)?;
+    Ok(())
 }
 
 /// Counts an image by its answers.

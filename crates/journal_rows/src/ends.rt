@@ -8,31 +8,36 @@
 //! - `prepare L N`, `commit L N`, `rollback L N`, `one_phase L N`, `forget L N`: a word, what it is answered, and what
 //!   that is shown as.
 
-use crate::records::number;
+use crate::end_calls::{
+    MemEnd, asks, bind, choose, commit, commit_alone, forget, fresh, get, learn, prepare, put,
+    refuse, roll_back, service, unmake,
+};
+use crate::records::{low_octet, number};
 use ior_refs::ObjectKey;
 use ots_model::tree::Heard;
-use ots_model::{Decision, Disposition, RefBytes, Status};
-use ots_outside::MemDisk;
+use ots_model::{CallNumber, Decision, Disposition, RefBytes, Status};
 use recovery_coord::Outbox;
-use resource_end::{EndFault, ResourceEnd};
+use resource_end::EndFault;
 use std::alloc::Global;
 use std::io;
 use std::io::{ErrorKind, Write};
 
 /// Makes the call of a line, and tells its answer.
-pub fn call(
+pub fn call(alloc: Global, end: &mut MemEnd, line: &str, told: &mut Vec<u8>) -> io::Result<()> {
+    let words: Vec<&str> = line.split_whitespace().collect(alloc)?;
+    call_words(alloc, end, words.as_slice(), told)
+}
+
+fn call_words(
     alloc: Global,
-    end: &mut ResourceEnd<MemDisk>,
-    line: &str,
+    end: &mut MemEnd,
+    words: &[&str],
     told: &mut Vec<u8>,
 ) -> io::Result<()> {
-    let words: Vec<&str> = line.split_whitespace().collect(alloc)?;
-    match words.as_slice() {
-        [_] => call_alone(alloc, end, line, told),
-        ["fresh", "A"] => tell_fresh(end, b'A', 1, told),
-        ["fresh", "Y"] => tell_fresh(end, b'Y', 1, told),
-        ["fresh", count] => tell_fresh(end, b'R', number(count)?, told),
-        [_, cell] => write!(told, "{:?}", end.stored(u64::from(number(cell)?))),
+    match words {
+        [word] => call_alone(alloc, end, word, told),
+        ["fresh", what] => call_fresh(end, what, told),
+        [_, cell] => tell_cell(end, cell, told),
         [word, life, of, rest @ ..] => {
             let key = key_of(end, life, of)?;
             call_on(alloc, end, &key, word, rest, told)
@@ -41,16 +46,24 @@ pub fn call(
     }
 }
 
+fn call_fresh(end: &mut MemEnd, what: &str, told: &mut Vec<u8>) -> io::Result<()> {
+    match what {
+        "A" => tell_fresh(end, b'A', 1, told),
+        "Y" => tell_fresh(end, b'Y', 1, told),
+        count => tell_fresh(end, b'R', number(count)?, told),
+    }
+}
+
+fn tell_cell(end: &MemEnd, cell: &str, told: &mut Vec<u8>) -> io::Result<()> {
+    write!(told, "{:?}", end.stored(u64::from(number(cell)?)))
+}
+
 /// The key of the object with this life and number.
-fn key_of(end: &ResourceEnd<MemDisk>, life: &str, of: &str) -> io::Result<ObjectKey> {
+fn key_of(end: &MemEnd, life: &str, of: &str) -> io::Result<ObjectKey> {
     let (of, letter) = of.split_once('-').unwrap_or((of, "R"));
     Ok(ObjectKey {
-        kind: match letter {
-            "A" => b'A',
-            "Y" => b'Y',
-            _ => b'R',
-        },
-        service: end.service(),
+        kind: kind_of(letter),
+        service: service(end),
         life: number(life)?,
         slot: 0,
         generation: u64::from(number(of)?),
@@ -58,51 +71,71 @@ fn key_of(end: &ResourceEnd<MemDisk>, life: &str, of: &str) -> io::Result<Object
     })
 }
 
+fn kind_of(letter: &str) -> u8 {
+    match letter {
+        "A" => b'A',
+        "Y" => b'Y',
+        _ => b'R',
+    }
+}
+
 /// Makes a call that names no resource.
-fn call_alone(
-    alloc: Global,
-    end: &mut ResourceEnd<MemDisk>,
-    word: &str,
-    told: &mut Vec<u8>,
-) -> io::Result<()> {
-    if word == "fresh" {
-        return tell_fresh(end, b'R', 1, told);
+fn call_alone(alloc: Global, end: &mut MemEnd, word: &str, told: &mut Vec<u8>) -> io::Result<()> {
+    match word {
+        "fresh" => tell_fresh(end, b'R', 1, told),
+        _ => tell_asks(alloc, end, told),
     }
+}
+
+fn tell_asks(alloc: Global, end: &MemEnd, told: &mut Vec<u8>) -> io::Result<()> {
     let mut out = Outbox::new(alloc);
-    if let Err(fault) = end.asks(&mut out) {
-        return tell_fault(fault, told);
+    match asks(end, &mut out) {
+        Ok(()) => tell_out(&mut out, told),
+        Err(fault) => tell_fault(fault, told),
     }
+}
+
+/// Tells the first eight asks.
+fn tell_out(out: &mut Outbox, told: &mut Vec<u8>) -> io::Result<()> {
     for _ in 0..8 {
-        if let Some(ask) = out.take() {
-            write!(told, "{} {} ", ask.number.life, ask.number.generation)?;
-            write!(told, "{:?} ", ask.to.bytes())?;
-        }
+        tell_ask(out, told)?;
     }
     Ok(())
 }
 
-/// Makes so many objects with keys of this letter, and tells the last answer.
-fn tell_fresh(
-    end: &mut ResourceEnd<MemDisk>,
-    letter: u8,
-    count: u32,
-    told: &mut Vec<u8>,
-) -> io::Result<()> {
-    let mut answer = Err(EndFault::NoResources);
-    for _ in 0..count {
-        answer = end.fresh(letter);
+fn tell_ask(out: &mut Outbox, told: &mut Vec<u8>) -> io::Result<()> {
+    match out.take() {
+        Some(ask) => tell_number(&ask.number, &ask.to, told),
+        None => Ok(()),
     }
-    match answer {
+}
+
+fn tell_number(number: &CallNumber, to: &RefBytes, told: &mut Vec<u8>) -> io::Result<()> {
+    write!(told, "{} {} ", number.life, number.generation)?;
+    write!(told, "{:?} ", to.bytes())
+}
+
+/// Makes so many objects with keys of this letter, and tells the last answer.
+fn tell_fresh(end: &mut MemEnd, letter: u8, count: u32, told: &mut Vec<u8>) -> io::Result<()> {
+    match fresh_many(end, letter, count) {
         Ok(key) => write!(told, "{} {}", key.life, key.generation),
         Err(fault) => tell_fault(fault, told),
     }
 }
 
+fn fresh_many(end: &mut MemEnd, letter: u8, count: u32) -> Result<ObjectKey, EndFault> {
+    let mut answer = Err(EndFault::NoResources);
+    for _ in 0..count {
+        answer = fresh(end, letter);
+    }
+    answer
+}
+
 /// A resource puts so many cells. The result is the last answer.
-fn put_many(end: &mut ResourceEnd<MemDisk>, key: &ObjectKey, count: u32) -> Result<(), EndFault> {
+fn put_many(end: &mut MemEnd, key: &ObjectKey, count: u32) -> Result<(), EndFault> {
     let mut answer = Ok(());
     for cell in 0..count {
-        answer = end.put(key, u64::from(cell), 1);
+        answer = put(end, key, u64::from(cell), 1);
     }
     answer
 }
@@ -110,34 +143,69 @@ fn put_many(end: &mut ResourceEnd<MemDisk>, key: &ObjectKey, count: u32) -> Resu
 /// Makes a call on a resource.
 fn call_on(
     alloc: Global,
-    end: &mut ResourceEnd<MemDisk>,
+    end: &mut MemEnd,
     key: &ObjectKey,
     word: &str,
     rest: &[&str],
     told: &mut Vec<u8>,
 ) -> io::Result<()> {
-    let answer = match (word, rest) {
-        ("put", [cell, value]) => {
-            end.put(key, u64::from(number(cell)?), u64::from(number(value)?))
+    match rest {
+        [] => call_plain(end, key, word, told),
+        [first] => call_with(alloc, end, key, word, first, told),
+        [cell, value, ..] => {
+            let answer = put(
+                end,
+                key,
+                u64::from(number(cell)?),
+                u64::from(number(value)?),
+            );
+            tell_answer(answer, told)
         }
-        ("puts", [count]) => put_many(end, key, number(count)?),
-        ("get", [cell]) => match end.get(key, u64::from(number(cell)?)) {
-            Ok(value) => return write!(told, "{value:?}"),
-            Err(fault) => Err(fault),
-        },
-        ("bind", [octet]) => {
-            let octets = vec![in alloc; number(octet)?.to_be_bytes()[3]]?;
-            end.bind(key, RefBytes::from_vec(octets))
+    }
+}
+
+fn call_plain(end: &mut MemEnd, key: &ObjectKey, word: &str, told: &mut Vec<u8>) -> io::Result<()> {
+    match word {
+        "unmake" => {
+            unmake(end, key);
+            write!(told, "ok")
         }
-        ("unmake", []) => {
-            end.unmake(key);
-            Ok(())
-        }
-        ("refuse", []) => end.refuse(key),
-        ("choose", [decision]) => end.choose_heuristic(key, decision_of(decision)),
-        ("learn", [status]) => end.learn(key, &heard_of(status)),
-        _ => return tell_word(end, key, word, told),
-    };
+        "refuse" => tell_answer(refuse(end, key), told),
+        _ => tell_word(end, key, word, told),
+    }
+}
+
+fn call_with(
+    alloc: Global,
+    end: &mut MemEnd,
+    key: &ObjectKey,
+    word: &str,
+    with: &str,
+    told: &mut Vec<u8>,
+) -> io::Result<()> {
+    match word {
+        "puts" => tell_answer(put_many(end, key, number(with)?), told),
+        "get" => tell_got(get(end, key, u64::from(number(with)?)), told),
+        "bind" => tell_answer(bind(end, key, recovery_of(alloc, with)?), told),
+        "choose" => tell_answer(choose(end, key, decision_of(with)), told),
+        _ => tell_answer(learn(end, key, &heard_of(with)), told),
+    }
+}
+
+/// A reference of one octet.
+fn recovery_of(alloc: Global, octet: &str) -> io::Result<RefBytes> {
+    let octet = low_octet(number(octet)?);
+    Ok(RefBytes::from_vec(vec![in alloc; octet]?))
+}
+
+fn tell_got(answer: Result<Option<u64>, EndFault>, told: &mut Vec<u8>) -> io::Result<()> {
+    match answer {
+        Ok(value) => write!(told, "{value:?}"),
+        Err(fault) => tell_fault(fault, told),
+    }
+}
+
+fn tell_answer(answer: Result<(), EndFault>, told: &mut Vec<u8>) -> io::Result<()> {
     match answer {
         Ok(()) => write!(told, "ok"),
         Err(fault) => tell_fault(fault, told),
@@ -145,41 +213,55 @@ fn call_on(
 }
 
 /// Tells a resource a word.
-fn tell_word(
-    end: &mut ResourceEnd<MemDisk>,
-    key: &ObjectKey,
-    word: &str,
-    told: &mut Vec<u8>,
-) -> io::Result<()> {
-    let answer = match word {
-        "prepare" => end.prepare(key),
-        "commit" => end.commit(key),
-        "rollback" => end.rollback(key),
-        "one_phase" => end.commit_one_phase(key),
-        _ => end.forget(key),
-    };
-    match answer {
-        Ok(Heard::Voted(vote)) => write!(told, "{vote:?}")?,
-        Ok(Heard::Heuristic(Disposition::Committed)) => write!(told, "heuristic commit")?,
-        Ok(Heard::Heuristic(Disposition::RolledBack)) => write!(told, "heuristic rollback")?,
-        Ok(Heard::Heuristic(_)) => write!(told, "heuristic hazard")?,
-        Ok(Heard::RolledBack) => write!(told, "rolled back")?,
-        Ok(Heard::NotPrepared) => write!(told, "not prepared")?,
-        Ok(_) => write!(told, "ok")?,
+fn tell_word(end: &mut MemEnd, key: &ObjectKey, word: &str, told: &mut Vec<u8>) -> io::Result<()> {
+    match answer_to(end, key, word) {
+        Ok(heard) => tell_heard(&heard, told)?,
         Err(fault) => tell_fault(fault, told)?,
     }
-    if let Some(shown) = end.changed() {
-        write!(told, ", {shown:?}")?;
+    tell_changed(end.changed(), told)
+}
+
+fn answer_to(end: &mut MemEnd, key: &ObjectKey, word: &str) -> Result<Heard, EndFault> {
+    match word {
+        "prepare" => prepare(end, key),
+        "commit" => commit(end, key),
+        "rollback" => roll_back(end, key),
+        "one_phase" => commit_alone(end, key),
+        _ => forget(end, key),
     }
-    Ok(())
+}
+
+fn tell_heard(heard: &Heard, told: &mut Vec<u8>) -> io::Result<()> {
+    match heard {
+        Heard::Voted(vote) => write!(told, "{vote:?}"),
+        Heard::Heuristic(disposition) => write!(told, "{}", heuristic_word(*disposition)),
+        Heard::RolledBack => write!(told, "rolled back"),
+        Heard::NotPrepared => write!(told, "not prepared"),
+        _ => write!(told, "ok"),
+    }
+}
+
+fn heuristic_word(disposition: Disposition) -> &'static str {
+    match disposition {
+        Disposition::Committed => "heuristic commit",
+        Disposition::RolledBack => "heuristic rollback",
+        _ => "heuristic hazard",
+    }
+}
+
+fn tell_changed(shown: Option<Status>, told: &mut Vec<u8>) -> io::Result<()> {
+    match shown {
+        Some(shown) => write!(told, ", {shown:?}"),
+        None => Ok(()),
+    }
 }
 
 /// The decision of a word.
 fn decision_of(word: &str) -> Decision {
-    if word == "commit" {
-        return Decision::Commit;
+    match word {
+        "commit" => Decision::Commit,
+        _ => Decision::Rollback,
     }
-    Decision::Rollback
 }
 
 /// The answer that a recovery coordinator gives by this word.
@@ -196,11 +278,17 @@ fn heard_of(word: &str) -> Heard {
 pub fn tell_fault(fault: EndFault, told: &mut Vec<u8>) -> io::Result<()> {
     match fault {
         EndFault::Transient(of) => write!(told, "held by {of}"),
-        EndFault::Inactive => write!(told, "inactive"),
-        EndFault::ObjectNotExist => write!(told, "unknown"),
-        EndFault::PersistStore => write!(told, "the disk failed"),
-        EndFault::NoResources => write!(told, "no room"),
         EndFault::Start(fault) => write!(told, "{fault:?}"),
-        EndFault::Memory => write!(told, "memory"),
+        fault => write!(told, "{}", fault_word(fault)),
+    }
+}
+
+fn fault_word(fault: EndFault) -> &'static str {
+    match fault {
+        EndFault::Inactive => "inactive",
+        EndFault::ObjectNotExist => "unknown",
+        EndFault::PersistStore => "the disk failed",
+        EndFault::NoResources => "no room",
+        _ => "memory",
     }
 }

@@ -1,6 +1,6 @@
 //! Runs the cases on standard input, each on a journal or a resource end over a disk in memory, and tells what comes of it.
 //!
-//! A case begins with a line `== KIND ..`. The lines behind it say what the disk holds at first, and what is done:
+//! A case begins with a line `== KIND: ..`. The lines behind it say what the disk holds at first, and what is done:
 //!
 //! - `octets HEX ..`: these octets too. `fill N`: so many more that are 1.
 //! - `area N`, `service N`: what it is loaded with.
@@ -29,27 +29,46 @@
 #![tactic(auto)]
 
 use case::Case;
+use std::alloc::Global;
 use std::io;
 use std::io::Write;
 
 mod calls;
 mod case;
 mod crashes;
+mod end_calls;
 mod end_runs;
 mod ends;
+mod journals;
 mod records;
 
 fn main(rt: HostRuntime) -> io::Result<()> {
     let text = io::read_to_string(rt.alloc(), rt.stdin())?;
     let mut out = rt.stdout();
     for case in text.as_str().split("\n== ").skip(1) {
-        let lines: Vec<&str> = case.lines().collect(rt.alloc())?;
-        if let [head, lines @ ..] = lines.as_slice() {
-            let case = Case::of(rt.alloc(), lines)?;
-            let told = case.told(rt.alloc(), head)?;
-            writeln!(out, "== {head}")?;
-            out.write_all(told.as_slice())?;
-        }
+        let told = told(rt.alloc(), case)?;
+        out.write_all(told.as_slice())?;
     }
     Ok(())
+}
+
+/// The head of a case, and what comes of it.
+fn told(alloc: Global, case: &str) -> io::Result<Vec<u8>> {
+    let mut told = Vec::new(alloc);
+    let lines: Vec<&str> = case.lines().collect(alloc)?;
+    tell_lines(alloc, lines.as_slice(), &mut told)?;
+    Ok(told)
+}
+
+fn tell_lines(alloc: Global, lines: &[&str], told: &mut Vec<u8>) -> io::Result<()> {
+    match lines {
+        [head, lines @ ..] => tell_case(alloc, head, lines, told),
+        [] => Ok(()),
+    }
+}
+
+fn tell_case(alloc: Global, head: &str, lines: &[&str], told: &mut Vec<u8>) -> io::Result<()> {
+    writeln!(told, "== {head}")?;
+    let case = Case::of(alloc, lines)?;
+    case.tell(alloc, head, told)
 }

@@ -11,7 +11,8 @@ ghost use Rattle.decision_journal.specs.Journal.{Found, can_follow};
 ghost use Rattle.decision_journal.specs.Layout.{Fits, FitsPuts, FitsReference, FitsRegistrations};
 ghost use Rattle.decision_journal.specs.State.{cells_in};
 
-use decision_journal::{JournalRecord, Put, Puts, Registration, Registrations};
+use crate::journals::MemJournal;
+use decision_journal::{JournalFault, JournalRecord, Put, Puts, Registration, Registrations};
 use ots_model::{REFERENCE_LIMIT, RefBytes, RetryKey};
 use std::alloc::Global;
 use std::io;
@@ -28,15 +29,41 @@ pub fn number(word: &str) -> io::Result<u32> {
     Ok(word.parse().ok().ok_or(ErrorKind::InvalidInput)?)
 }
 
+/// The lowest octet of a number.
+pub fn low_octet(number: u32) -> u8 {
+    number.to_be_bytes()[3]
+}
+
 /// Appends the octets of hexadecimal words.
 pub fn add_octets(alloc: Global, octets: &mut Vec<u8>, words: &str) -> io::Result<()> {
     for word in words.split_whitespace() {
-        let word = hex::decode(alloc, word)
-            .ok()
-            .ok_or(ErrorKind::InvalidInput)?;
-        octets.extend_from_slice(&word)?;
+        add_word(alloc, octets, word)?;
     }
     Ok(())
+}
+
+fn add_word(alloc: Global, octets: &mut Vec<u8>, word: &str) -> io::Result<()> {
+    let word = decoded(alloc, word)?;
+    octets.extend_from_slice(word.as_slice())?;
+    Ok(())
+}
+
+fn decoded(alloc: Global, word: &str) -> io::Result<Vec<u8>> {
+    match hex::decode(alloc, word) {
+        Ok(octets) => Ok(octets),
+        Err(_) => Err(ErrorKind::InvalidInput.into()),
+    }
+}
+
+/// Appends the record that words stand for, once there is room for it.
+pub fn append_record(
+    alloc: Global,
+    journal: &mut MemJournal,
+    words: &str,
+) -> io::Result<Result<u32, JournalFault>> {
+    let item = record_of(alloc, words)?;
+    journal.reserve()?;
+    Ok(journal.append(item))
 }
 
 /// The record that words stand for. It can follow any others.
@@ -67,9 +94,7 @@ pub fn record_of(alloc: Global, words: &str) -> io::Result<JournalRecord>
 fn reference_of(alloc: Global, word: &str) -> io::Result<RefBytes>
     ensures { IfOk result FitsReference }
 {
-    let octets = hex::decode(alloc, word)
-        .ok()
-        .ok_or(ErrorKind::InvalidInput)?;
+    let octets = decoded(alloc, word)?;
     if octets.len() > REFERENCE_LIMIT {
         return Err(ErrorKind::InvalidInput.into());
     }

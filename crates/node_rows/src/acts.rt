@@ -19,27 +19,51 @@ use std::io::ErrorKind;
 
 /// The call that these words stand for.
 pub fn act_of(alloc: Global, words: &[&str]) -> io::Result<Act> {
-    let act = match words {
-        [name] => act_alone(name),
-        ["commit", _] => Some(Act::Commit(true)),
-        ["superior", word] => Some(Act::Superior(word_of(word))),
-        ["replay_completion", index, name] => {
-            Some(Act::Replay(number(index)?, reference(alloc, name)?))
-        }
-        ["register_resource", name, rest @ ..] => Some(Act::RegisterResource(
-            reference(alloc, name)?,
-            !rest.is_empty(),
-        )),
-        ["register_subtran_aware", name] => {
-            Some(Act::RegisterSubtranAware(reference(alloc, name)?))
-        }
-        ["register_synchronization", name] => {
-            Some(Act::RegisterSynchronization(reference(alloc, name)?))
-        }
-        [relation, other @ ..] => relation_to(relation, coordinator_of(other)?),
-        [] => None,
-    };
-    Ok(act.ok_or(ErrorKind::InvalidInput)?)
+    match act_by(alloc, words)? {
+        Some(act) => Ok(act),
+        None => Err(ErrorKind::InvalidInput.into()),
+    }
+}
+
+fn act_by(alloc: Global, words: &[&str]) -> io::Result<Option<Act>> {
+    match words {
+        [name] => Ok(act_alone(name)),
+        ["replay_completion", index, name] => replay(alloc, index, name),
+        ["register_resource", name, rest @ ..] => register(alloc, name, !rest.is_empty()),
+        [name, with] => act_with(alloc, name, with),
+        [relation, other @ ..] => related(relation, other),
+        [] => Ok(None),
+    }
+}
+
+fn act_with(alloc: Global, name: &str, with: &str) -> io::Result<Option<Act>> {
+    match name {
+        "commit" => Ok(Some(Act::Commit(true))),
+        "superior" => Ok(Some(Act::Superior(word_of(with)))),
+        "register_subtran_aware" => register_aware(alloc, with),
+        "register_synchronization" => register_synchronization(alloc, with),
+        _ => related(name, &[with]),
+    }
+}
+
+fn replay(alloc: Global, index: &str, name: &str) -> io::Result<Option<Act>> {
+    Ok(Some(Act::Replay(number(index)?, reference(alloc, name)?)))
+}
+
+fn register(alloc: Global, name: &str, aware: bool) -> io::Result<Option<Act>> {
+    Ok(Some(Act::RegisterResource(reference(alloc, name)?, aware)))
+}
+
+fn register_aware(alloc: Global, name: &str) -> io::Result<Option<Act>> {
+    Ok(Some(Act::RegisterSubtranAware(reference(alloc, name)?)))
+}
+
+fn register_synchronization(alloc: Global, name: &str) -> io::Result<Option<Act>> {
+    Ok(Some(Act::RegisterSynchronization(reference(alloc, name)?)))
+}
+
+fn related(relation: &str, other: &[&str]) -> io::Result<Option<Act>> {
+    Ok(relation_to(relation, coordinator_of(other)?))
 }
 
 /// A reference of this letter alone.

@@ -14,11 +14,12 @@ ghost use Rattle.service_node.specs.Given.{node_makes};
 
 use crate::acts::{act_of, heard_of};
 use crate::client::Client;
+use crate::node_calls::{MemNode, create, tick};
 use crate::tell::{tell_answer, tell_phase, tell_records, tell_tick, tell_words};
-use coordinator::{Act, Event};
+use coordinator::{Act, Event, NodeFault, StepAnswer};
+use ior_refs::ObjectKey;
 use ots_model::{CallNumber, RetryKey};
-use ots_outside::MemDisk;
-use service_node::Node;
+use service_node::Happenings;
 use std::alloc::Global;
 use std::io;
 use std::io::{ErrorKind, Write};
@@ -31,27 +32,45 @@ pub fn number(word: &str) -> io::Result<u32> {
 /// Carries out the commands of a line, and tells their answers.
 pub fn play(
     alloc: Global,
-    node: &mut Node<MemDisk>,
+    node: &mut MemNode,
     client: &mut Client,
     line: &str,
     told: &mut Vec<u8>,
 ) -> io::Result<()> {
     for command in line.split("; ") {
-        let words: Vec<&str> = command.split_whitespace().collect(alloc)?;
-        match words.as_slice() {
-            ["times", count, call @ ..] => {
-                repeat(alloc, node, client, number(count)?, call, told)?;
-            }
-            words => carry_out(alloc, node, client, words, told)?,
-        }
+        play_command(alloc, node, client, command, told)?;
     }
     Ok(())
+}
+
+fn play_command(
+    alloc: Global,
+    node: &mut MemNode,
+    client: &mut Client,
+    command: &str,
+    told: &mut Vec<u8>,
+) -> io::Result<()> {
+    let words: Vec<&str> = command.split_whitespace().collect(alloc)?;
+    play_words(alloc, node, client, words.as_slice(), told)
+}
+
+fn play_words(
+    alloc: Global,
+    node: &mut MemNode,
+    client: &mut Client,
+    words: &[&str],
+    told: &mut Vec<u8>,
+) -> io::Result<()> {
+    match words {
+        ["times", count, call @ ..] => repeat(alloc, node, client, number(count)?, call, told),
+        words => carry_out(alloc, node, client, words, told),
+    }
 }
 
 /// Makes a call so many times, and tells the last answer.
 fn repeat(
     alloc: Global,
-    node: &mut Node<MemDisk>,
+    node: &mut MemNode,
     client: &mut Client,
     count: u32,
     call: &[&str],
@@ -69,33 +88,63 @@ fn repeat(
 /// Carries out a command, and tells its answer.
 fn carry_out(
     alloc: Global,
-    node: &mut Node<MemDisk>,
+    node: &mut MemNode,
     client: &mut Client,
     words: &[&str],
     told: &mut Vec<u8>,
 ) -> io::Result<()> {
     match words {
-        ["branch", branch] => client.branch = number(branch)?,
-        ["at", now] => client.now = u64::from(number(now)?),
-        ["retry", number_of] => client.retry = Some(retry_key(number(number_of)?)),
-        ["service", service] => client.key.service = u64::from(number(service)?),
-        ["key", kind, key @ ..] => set_key(client, kind, key)?,
-        ["create", seconds] => create(node, client, number(seconds)?, told)?,
-        ["tick"] => tick(node, client, told)?,
-        ["records"] => tell_records(node, told)?,
-        ["hear", heard] => hear(node, client, heard, told)?,
-        ["answer", serial, heard] => {
-            let of = CallNumber {
-                life: client.key.life,
-                slot: client.key.slot,
-                generation: client.key.generation,
-                serial: number(serial)?,
-            };
-            apply(node, client, Act::Answer(of, heard_of(heard)), told)?;
-        }
-        words => apply(node, client, act_of(alloc, words)?, told)?,
+        ["key", kind, key @ ..] => set_key(client, kind, key),
+        ["tick"] => tell_ticking(node, client, told),
+        ["records"] => tell_records(node, told),
+        ["answer", serial, heard] => answer(node, client, number(serial)?, heard, told),
+        [word, rest] => carry_out_with(alloc, node, client, word, rest, told),
+        words => apply(node, client, act_of(alloc, words)?, told),
+    }
+}
+
+/// Carries out a command of two words.
+fn carry_out_with(
+    alloc: Global,
+    node: &mut MemNode,
+    client: &mut Client,
+    word: &str,
+    rest: &str,
+    told: &mut Vec<u8>,
+) -> io::Result<()> {
+    match word {
+        "branch" | "at" | "retry" | "service" => set(client, word, number(rest)?),
+        "create" => begin(node, client, number(rest)?, told),
+        "hear" => hear(node, client, rest, told),
+        _ => apply(node, client, act_of(alloc, &[word, rest])?, told),
+    }
+}
+
+fn set(client: &mut Client, word: &str, number: u32) -> io::Result<()> {
+    match word {
+        "branch" => client.branch = number,
+        "at" => client.now = u64::from(number),
+        "retry" => client.retry = Some(retry_key(number)),
+        _ => client.key.service = u64::from(number),
     }
     Ok(())
+}
+
+/// The word of the family with this number is answered.
+fn answer(
+    node: &mut MemNode,
+    client: &mut Client,
+    serial: u32,
+    heard: &str,
+    told: &mut Vec<u8>,
+) -> io::Result<()> {
+    let of = CallNumber {
+        life: client.key.life,
+        slot: client.key.slot,
+        generation: client.key.generation,
+        serial,
+    };
+    apply(node, client, Act::Answer(of, heard_of(heard)), told)
 }
 
 /// The key of a call.
@@ -119,56 +168,81 @@ fn set_key(client: &mut Client, kind: &str, words: &[&str]) -> io::Result<()> {
 }
 
 /// A family begins.
-fn create(
-    node: &mut Node<MemDisk>,
+fn begin(
+    node: &mut MemNode,
     client: &mut Client,
     seconds: u32,
     told: &mut Vec<u8>,
 ) -> io::Result<()> {
-    match node.create(client.now, seconds) {
+    match create(node, client.now, seconds) {
         Ok(key) => {
             client.key = key;
-            write!(
-                told,
-                " life {} slot {} number {}",
-                key.life, key.slot, key.generation
-            )
+            tell_key(&key, told)
         }
-        Err(fault) => write!(told, " {fault:?}"),
+        Err(fault) => tell_fault(&fault, told),
     }
 }
 
+fn tell_key(key: &ObjectKey, told: &mut Vec<u8>) -> io::Result<()> {
+    write!(
+        told,
+        " life {} slot {} number {}",
+        key.life, key.slot, key.generation
+    )
+}
+
+fn tell_fault(fault: &NodeFault, told: &mut Vec<u8>) -> io::Result<()> {
+    write!(told, " {fault:?}")
+}
+
 /// The clock of the node goes on.
-fn tick(node: &mut Node<MemDisk>, client: &mut Client, told: &mut Vec<u8>) -> io::Result<()> {
-    match node.tick(client.now, &mut client.out) {
-        Ok(happened) => tell_tick(&happened, told)?,
-        Err(fault) => write!(told, " {fault:?}")?,
-    }
+fn tell_ticking(node: &mut MemNode, client: &mut Client, told: &mut Vec<u8>) -> io::Result<()> {
+    tell_ticked(tick(node, client.now, &mut client.out), told)?;
     tell_words(client, told)
+}
+
+fn tell_ticked(answer: Result<Happenings, NodeFault>, told: &mut Vec<u8>) -> io::Result<()> {
+    match answer {
+        Ok(happened) => tell_tick(&happened, told),
+        Err(fault) => tell_fault(&fault, told),
+    }
 }
 
 /// The word that has waited longest is answered.
 fn hear(
-    node: &mut Node<MemDisk>,
+    node: &mut MemNode,
     client: &mut Client,
     heard: &str,
     told: &mut Vec<u8>,
 ) -> io::Result<()> {
     match client.waiting.pop_front() {
         Some(of) => apply(node, client, Act::Answer(of, heard_of(heard)), told),
-        None => write!(told, " no word"),
+        None => tell_none(told),
     }
 }
 
+fn tell_none(told: &mut Vec<u8>) -> io::Result<()> {
+    write!(told, " no word")
+}
+
 /// Makes a call, and tells its answer, the words that go out and the phase.
-fn apply(
-    node: &mut Node<MemDisk>,
+fn apply(node: &mut MemNode, client: &mut Client, act: Act, told: &mut Vec<u8>) -> io::Result<()> {
+    match answer_to(node, client, act) {
+        Some(answer) => tell_answered(answer, told)?,
+        None => return Err(ErrorKind::InvalidInput.into()),
+    }
+    tell_words(client, told)?;
+    tell_phase(node, &client.key, told)
+}
+
+/// Makes a call, but for one that a node itself makes.
+fn answer_to(
+    node: &mut MemNode,
     client: &mut Client,
     act: Act,
-    told: &mut Vec<u8>,
-) -> io::Result<()> {
+) -> Option<Result<StepAnswer, NodeFault>> {
     if is_made(&act) {
-        return Err(ErrorKind::InvalidInput.into());
+        return None;
     }
     let event = Event {
         key: client.retry.take(),
@@ -176,12 +250,14 @@ fn apply(
         now: client.now,
         act,
     };
-    match node.apply(&client.key, &event, &mut client.out) {
-        Ok(answer) => tell_answer(&answer, told)?,
-        Err(fault) => write!(told, " {fault:?}")?,
+    Some(node.apply(&client.key, &event, &mut client.out))
+}
+
+fn tell_answered(answer: Result<StepAnswer, NodeFault>, told: &mut Vec<u8>) -> io::Result<()> {
+    match answer {
+        Ok(answer) => tell_answer(&answer, told),
+        Err(fault) => tell_fault(&fault, told),
     }
-    tell_words(client, told)?;
-    tell_phase(node, &client.key, told)
 }
 
 /// Whether a node itself tells its families this.

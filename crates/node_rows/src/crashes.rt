@@ -16,15 +16,33 @@ struct Row {
 /// Tells what the next lives make of what a crash in each call of the disk leaves.
 pub fn tell_crashes(alloc: Global, case: &Case, told: &mut Vec<u8>) -> io::Result<()> {
     for call in 0..CALLS {
-        let before = case.stopped(alloc, call)?;
-        if before.faults() == 0 {
+        if !tell_crash(alloc, case, call, told)? {
             break;
         }
-        let after = case.stopped(alloc, call + 1)?;
-        write!(told, "{call}:")?;
-        tell_images(alloc, case, before.octets(), after.octets(), told)?;
     }
     Ok(())
+}
+
+/// Tells what they make of what a crash in this call leaves. The result is whether it was made.
+fn tell_crash(alloc: Global, case: &Case, call: u64, told: &mut Vec<u8>) -> io::Result<bool> {
+    let before = case.stopped(alloc, call)?;
+    let is_made = before.faults() > 0;
+    if is_made {
+        write!(told, "{call}:")?;
+        tell_left(alloc, case, call.saturating_add(1), before.octets(), told)?;
+    }
+    Ok(is_made)
+}
+
+fn tell_left(
+    alloc: Global,
+    case: &Case,
+    next: u64,
+    before: &[u8],
+    told: &mut Vec<u8>,
+) -> io::Result<()> {
+    let after = case.stopped(alloc, next)?;
+    tell_images(alloc, case, before, after.octets(), told)
 }
 
 /// Tells which places a call writes, and what the next lives make of what a crash in it leaves.
@@ -37,24 +55,60 @@ fn tell_images(
 ) -> io::Result<()> {
     let written = difference(before, after);
     writeln!(told, " {} to {}", written.start, written.end)?;
-    let mut ones = after.to_vec(alloc)?;
-    if let Some(part) = ones.as_mut_slice().get_mut(written.start..written.end) {
+    let rows = rows(alloc, case, before, after, &written)?;
+    tell_rows(rows.as_slice(), told)
+}
+
+fn rows(
+    alloc: Global,
+    case: &Case,
+    before: &[u8],
+    after: &[u8],
+    written: &Range<usize>,
+) -> io::Result<Vec<Row>> {
+    let mut rows = Vec::new(alloc);
+    count_torn(alloc, case, after, before, written, &mut rows)?;
+    count_ones(alloc, case, after, written, &mut rows)?;
+    Ok(rows)
+}
+
+/// Counts the images of which a part of what was written is there, and behind it octets that are 1.
+fn count_ones(
+    alloc: Global,
+    case: &Case,
+    after: &[u8],
+    written: &Range<usize>,
+    rows: &mut Vec<Row>,
+) -> io::Result<()> {
+    let ones = with_ones(alloc, after, written.start, written.end)?;
+    count_torn(alloc, case, after, ones.as_slice(), written, rows)
+}
+
+/// The octets, of which those between two places are 1.
+fn with_ones(alloc: Global, octets: &[u8], start: usize, end: usize) -> io::Result<Vec<u8>> {
+    let mut ones = octets.to_vec(alloc)?;
+    fill(ones.as_mut_slice(), start, end);
+    Ok(ones)
+}
+
+fn fill(octets: &mut [u8], start: usize, end: usize) {
+    if let Some(part) = octets.get_mut(start..end) {
         part.fill(1);
     }
-    let mut rows = Vec::new(alloc);
-    count_torn(alloc, case, after, before, &written, &mut rows)?;
-    count_torn(alloc, case, after, ones.as_slice(), &written, &mut rows)?;
-    tell_rows(rows.as_slice(), told)
 }
 
 /// Tells how many images lead to what.
 fn tell_rows(rows: &[Row], told: &mut Vec<u8>) -> io::Result<()> {
     for row in rows {
-        write!(told, "  {}:", row.images)?;
-        told.extend_from_slice(row.told.as_slice())?;
-        writeln!(told)?;
+        tell_row(row, told)?;
     }
     Ok(())
+}
+
+fn tell_row(row: &Row, told: &mut Vec<u8>) -> io::Result<()> {
+    write!(told, "  {}:", row.images)?;
+    told.extend_from_slice(row.told.as_slice())?;
+    writeln!(told)
 }
 
 /// The places from the first that differs to the last.
@@ -80,19 +134,29 @@ fn count_torn(
     rows: &mut Vec<Row>,
 ) -> io::Result<()> {
     for count in written.start..=written.end {
-        let mut octets = after.get(..count).unwrap_or(after).to_vec(alloc)?;
-        if let Some(rest) = behind.get(count..) {
-            octets.extend_from_slice(rest)?;
-        }
+        let octets = torn(alloc, after, behind, count)?;
         count_image(alloc, case, octets.as_slice(), rows)?;
     }
     Ok(())
+}
+
+/// So many octets of what was written, and what stands behind them.
+fn torn(alloc: Global, after: &[u8], behind: &[u8], count: usize) -> io::Result<Vec<u8>> {
+    let mut octets = after.get(..count).unwrap_or(after).to_vec(alloc)?;
+    if let Some(rest) = behind.get(count..) {
+        octets.extend_from_slice(rest)?;
+    }
+    Ok(octets)
 }
 
 /// Plays the next lives from an image on, and counts it with those that lead to the same.
 fn count_image(alloc: Global, case: &Case, image: &[u8], rows: &mut Vec<Row>) -> io::Result<()> {
     let mut told = Vec::new(alloc);
     case.tell_next(alloc, image, &mut told)?;
+    add_image(told, rows)
+}
+
+fn add_image(told: Vec<u8>, rows: &mut Vec<Row>) -> io::Result<()> {
     for row in rows.as_mut_slice() {
         if row.told == told {
             row.images = row.images.saturating_add(1);

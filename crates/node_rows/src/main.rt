@@ -1,6 +1,6 @@
 //! Runs the cases on standard input, each on a node over a disk in memory, and tells what comes of it.
 //!
-//! A case begins with a line `== KIND ..`. The lines behind it are of these kinds:
+//! A case begins with a line `== KIND: ..`. The lines behind it are of these kinds:
 //!
 //! - `octets HEX`: what the disk holds at first. `area N`: the area of its journal.
 //! - `fail N ..`: these calls of the disk fail.
@@ -18,6 +18,7 @@
 #![tactic(auto)]
 
 use case::Case;
+use std::alloc::Global;
 use std::io;
 use std::io::Write;
 
@@ -26,17 +27,29 @@ mod case;
 mod client;
 mod commands;
 mod crashes;
+mod node_calls;
 mod tell;
 
 fn main(rt: HostRuntime) -> io::Result<()> {
     let text = io::read_to_string(rt.alloc(), rt.stdin())?;
     let mut out = rt.stdout();
-    for text in text.as_str().split("\n== ").skip(1) {
-        let (head, lines) = text.split_once('\n').unwrap_or((text, ""));
-        let case = Case::of(rt.alloc(), lines)?;
-        let told = case.told(rt.alloc(), head)?;
-        writeln!(out, "== {head}")?;
+    for case in text.as_str().split("\n== ").skip(1) {
+        let told = told(rt.alloc(), case)?;
         out.write_all(told.as_slice())?;
     }
     Ok(())
+}
+
+/// The head of a case, and what comes of it.
+fn told(alloc: Global, case: &str) -> io::Result<Vec<u8>> {
+    let mut told = Vec::new(alloc);
+    let (head, lines) = case.split_once('\n').unwrap_or((case, ""));
+    tell_case(alloc, head, lines, &mut told)?;
+    Ok(told)
+}
+
+fn tell_case(alloc: Global, head: &str, lines: &str, told: &mut Vec<u8>) -> io::Result<()> {
+    writeln!(told, "== {head}")?;
+    let case = Case::of(alloc, lines)?;
+    case.tell(alloc, head, told)
 }

@@ -1,11 +1,14 @@
 //! Tells answers, words and records.
 
 use crate::client::Client;
+use crate::node_calls::{MemNode, held, life, standing};
 use coordinator::{Effect, Finished, Said, StepAnswer};
+use decision_journal::Standing;
 use ior_refs::ObjectKey;
+use ots_model::CallNumber;
 use ots_model::tree::{Outward, Parent, Word};
-use ots_outside::MemDisk;
-use service_node::{Happenings, Node};
+use recovery_coord::Held;
+use service_node::{Happening, Happenings};
 use std::io;
 use std::io::Write;
 
@@ -29,8 +32,7 @@ fn tell_what_happened(
     told: &mut Vec<u8>,
 ) -> io::Result<()> {
     for answer in finished {
-        write!(told, ", to {}: ", answer.position)?;
-        tell_said(&answer.said, told)?;
+        tell_finished(answer, told)?;
     }
     for effect in effects {
         write!(told, ", {effect:?}")?;
@@ -38,25 +40,50 @@ fn tell_what_happened(
     Ok(())
 }
 
+fn tell_finished(answer: &Finished, told: &mut Vec<u8>) -> io::Result<()> {
+    write!(told, ", to {}: ", answer.position)?;
+    tell_said(&answer.said, told)
+}
+
 /// Tells what a tick did to families.
 pub fn tell_tick(happened: &Happenings, told: &mut Vec<u8>) -> io::Result<()> {
     write!(told, " ticked")?;
     for happening in happened.items() {
-        write!(told, ", in slot {}", happening.key.slot)?;
-        tell_what_happened(happening.finished.items(), happening.effects.items(), told)?;
+        tell_happening(happening, told)?;
     }
     Ok(())
+}
+
+fn tell_happening(happening: &Happening, told: &mut Vec<u8>) -> io::Result<()> {
+    write!(told, ", in slot {}", happening.key.slot)?;
+    tell_what_happened(happening.finished.items(), happening.effects.items(), told)
 }
 
 /// Tells the words that go out, which then wait for their answers.
 pub fn tell_words(client: &mut Client, told: &mut Vec<u8>) -> io::Result<()> {
     for _ in 0..MOST {
-        let Some(outward) = client.out.take() else {
+        if !tell_next_word(client, told)? {
             break;
-        };
-        tell_word(&outward, told)?;
-        client.waiting.push_back(outward.number)?;
+        }
     }
+    Ok(())
+}
+
+/// Tells a word that goes out. The result is whether there is one.
+fn tell_next_word(client: &mut Client, told: &mut Vec<u8>) -> io::Result<bool> {
+    match client.out.take() {
+        Some(outward) => {
+            tell_waiting(client, &outward, told)?;
+            Ok(true)
+        }
+        None => Ok(false),
+    }
+}
+
+/// Tells a word, which then waits for its answer.
+fn tell_waiting(client: &mut Client, outward: &Outward, told: &mut Vec<u8>) -> io::Result<()> {
+    tell_word(outward, told)?;
+    client.waiting.push_back(outward.number)?;
     Ok(())
 }
 
@@ -66,34 +93,45 @@ fn tell_word(outward: &Outward, told: &mut Vec<u8>) -> io::Result<()> {
     tell_name(&outward.word, told)?;
     write!(told, " {} ", outward.registration)?;
     told.extend_from_slice(outward.to.bytes())?;
-    if outward.number.slot == u32::MAX {
-        write!(told, " again {}", outward.number.generation)?;
+    tell_number(&outward.number, told)?;
+    match outward.receipt {
+        Some(receipt) => write!(told, " by {}", receipt.place),
+        None => Ok(()),
     }
-    write!(told, " #{}", outward.number.serial)?;
-    if let Some(receipt) = outward.receipt {
-        write!(told, " by {}", receipt.place)?;
+}
+
+fn tell_number(number: &CallNumber, told: &mut Vec<u8>) -> io::Result<()> {
+    if number.slot == u32::MAX {
+        write!(told, " again {}", number.generation)?;
     }
-    Ok(())
+    write!(told, " #{}", number.serial)
 }
 
 /// Tells the name of a word.
 fn tell_name(word: &Word, told: &mut Vec<u8>) -> io::Result<()> {
     match word {
-        Word::Prepare => write!(told, "prepare"),
-        Word::Commit => write!(told, "commit"),
-        Word::CommitOnePhase => write!(told, "commit_one_phase"),
-        Word::Rollback => write!(told, "rollback"),
-        Word::Forget => write!(told, "forget"),
-        Word::BeforeCompletion => write!(told, "before_completion"),
         Word::AfterCompletion(status) => write!(told, "after_completion {status:?}"),
         Word::CommitSub(Parent::Branch(parent)) => write!(told, "commit_subtransaction {parent}"),
-        Word::RollbackSub => write!(told, "rollback_subtransaction"),
-        _ => write!(told, "another word"),
+        word => write!(told, "{}", word_name(word)),
+    }
+}
+
+/// The name of a word that has nothing behind it.
+fn word_name(word: &Word) -> &'static str {
+    match word {
+        Word::Prepare => "prepare",
+        Word::Commit => "commit",
+        Word::CommitOnePhase => "commit_one_phase",
+        Word::Rollback => "rollback",
+        Word::Forget => "forget",
+        Word::BeforeCompletion => "before_completion",
+        Word::RollbackSub => "rollback_subtransaction",
+        _ => "another word",
     }
 }
 
 /// Tells how far the transaction has come whose family is called, and whether it is finished.
-pub fn tell_phase(node: &Node<MemDisk>, key: &ObjectKey, told: &mut Vec<u8>) -> io::Result<()> {
+pub fn tell_phase(node: &MemNode, key: &ObjectKey, told: &mut Vec<u8>) -> io::Result<()> {
     match node.family(key) {
         Some(family) if family.finished() => write!(told, " | {:?}, finished", family.phase()),
         Some(family) => write!(told, " | {:?}", family.phase()),
@@ -102,15 +140,24 @@ pub fn tell_phase(node: &Node<MemDisk>, key: &ObjectKey, told: &mut Vec<u8>) -> 
 }
 
 /// Tells the life, the records that are told again, with what each registration waits for, and those that stand.
-pub fn tell_records(node: &Node<MemDisk>, told: &mut Vec<u8>) -> io::Result<()> {
-    write!(told, " life {}", node.life())?;
-    for held in node.records() {
-        write!(told, ", held {}", held.place)?;
-        for party in held.parties.items() {
-            write!(told, " {} {:?}", party.index, party.due)?;
-        }
+pub fn tell_records(node: &MemNode, told: &mut Vec<u8>) -> io::Result<()> {
+    write!(told, " life {}", life(node))?;
+    for held in held(node) {
+        tell_held(held, told)?;
     }
-    for standing in node.journal().standing() {
+    tell_standing(standing(node), told)
+}
+
+fn tell_held(held: &Held, told: &mut Vec<u8>) -> io::Result<()> {
+    write!(told, ", held {}", held.place)?;
+    for party in held.parties.items() {
+        write!(told, " {} {:?}", party.index, party.due)?;
+    }
+    Ok(())
+}
+
+fn tell_standing(standing: &[Standing], told: &mut Vec<u8>) -> io::Result<()> {
+    for standing in standing {
         write!(told, ", {} stands", standing.place)?;
     }
     Ok(())
@@ -122,14 +169,16 @@ fn tell_said(said: &Said, told: &mut Vec<u8>) -> io::Result<()> {
         Said::Flag(yes) => write!(told, "{yes}"),
         Said::State(status) => write!(told, "{status:?}"),
         Said::Number(number) => write!(told, "{number}"),
-        Said::Name(name) => {
-            told.extend_from_slice(name.bytes())?;
-            Ok(())
-        }
+        Said::Name(name) => tell_bytes(name.bytes(), told),
         Said::Made(number) => write!(told, "made {number}"),
         Said::Voted(vote) => write!(told, "{vote:?}"),
         said => write!(told, "{}", name_of(said)),
     }
+}
+
+fn tell_bytes(bytes: &[u8], told: &mut Vec<u8>) -> io::Result<()> {
+    told.extend_from_slice(bytes)?;
+    Ok(())
 }
 
 /// The name of an answer without a value.

@@ -158,7 +158,6 @@ impl Trial {
 
     fn create(&mut self, told: &mut Vec<u8>, word: &str) -> io::Result<()> {
         let parent = self.branch(word)?;
-        self.tree.reserve()?;
         match self.tree.create_sub(parent) {
             Ok(branch) => writeln!(told, "branch {branch}"),
             Err(fault) => writeln!(told, "{fault:?}"),

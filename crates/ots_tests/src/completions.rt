@@ -1,9 +1,11 @@
 //! Tests of completions whose allocations fail.
+ghost use Rattle.std.specs.Prelude.{◌<◌, length};
 
 use ots_model::tree::{Heard, Outcome};
 use ots_model::{CallNumber, Ground, RefBytes, Stood, Vote};
 use resource_votes::Votes;
 use std::alloc::Global;
+use std::process::Abort;
 use std::test::Fail;
 use two_phase::Completion;
 use txn_tree::Tree;
@@ -19,11 +21,48 @@ const FIRST: CallNumber = CallNumber {
 fn two_registered(alloc: Global) -> Option<Votes> {
     let tree = Tree::new(alloc).ok()?;
     let mut votes = Votes::new(alloc).ok()?;
-    for _resource in 0..2 {
-        let to = RefBytes::new(alloc, b"a participant").ok()?;
-        votes.register(&tree, 0, to, false).ok()?;
-    }
+    register(alloc, &tree, &mut votes)?;
+    register(alloc, &tree, &mut votes)?;
     Some(votes)
+}
+
+fn register(alloc: Global, tree: &Tree, votes: &mut Votes) -> Option<()>
+    requires { 0 < length tree.now.rows }
+{
+    let to = RefBytes::new(alloc, b"a participant").ok()?;
+    votes.register(tree, 0, to, false).ok()?;
+    Some(())
+}
+
+/// The completion of the top-level transaction, which has begun, where there is memory for it.
+fn begun(alloc: Global, votes: &Votes) -> Option<Completion> {
+    let mut completion = Completion::idle(alloc);
+    let count = votes.participants(0).count() as u32;
+    completion.reserve(count).ok()?;
+    completion.start(votes, 0, true, FIRST, false);
+    Some(completion)
+}
+
+/// The next word is answered so, and a record stands.
+fn answer_next(completion: &mut Completion, heard: &Heard) -> Result<(), Fail> {
+    let outward = completion.next().ok_or("no word")?;
+    completion.answer(&outward.number, heard);
+    completion.decided(Stood::Stands(4));
+    Ok(())
+}
+
+fn check(rt: &impl Abort, completion: &mut Completion) -> Result<(), Fail> {
+    answer_next(completion, &Heard::Voted(Vote::VoteCommit))?;
+    answer_next(completion, &Heard::Voted(Vote::VoteCommit))?;
+    answer_next(completion, &Heard::Done)?;
+    answer_next(completion, &Heard::NoObject)?;
+    check_committed(rt, completion);
+    Ok(())
+}
+
+fn check_committed(rt: &impl Abort, completion: &Completion) {
+    assert!(rt; completion.outcome() == Some(Outcome::Commit(Ground::Record)));
+    assert!(rt; completion.is_settled() && completion.report().is_none());
 }
 
 /// Where the N-th allocation is made to fail, this shows that nothing behind `reserve` asks for memory.
@@ -32,24 +71,8 @@ fn what_comes_behind_reserve_needs_no_memory(rt: HostRuntime) -> Result<(), Fail
     let Some(votes) = two_registered(rt.alloc()) else {
         return Ok(());
     };
-    let mut completion = Completion::idle(rt.alloc());
-    let count = votes.participants(0).count() as u32;
-    if completion.reserve(count).is_err() {
-        return Ok(());
+    match begun(rt.alloc(), &votes) {
+        Some(mut completion) => check(&rt, &mut completion),
+        None => Ok(()),
     }
-    completion.start(&votes, 0, true, FIRST, false);
-    let answers = [
-        Heard::Voted(Vote::VoteCommit),
-        Heard::Voted(Vote::VoteCommit),
-        Heard::Done,
-        Heard::NoObject,
-    ];
-    for heard in &answers {
-        let outward = completion.next().ok_or("no word")?;
-        completion.answer(&outward.number, heard);
-        completion.decided(Stood::Stands(4));
-    }
-    assert!(rt; completion.outcome() == Some(Outcome::Commit(Ground::Record)));
-    assert!(rt; completion.is_settled() && completion.report().is_none());
-    Ok(())
 }

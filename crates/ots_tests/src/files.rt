@@ -5,6 +5,7 @@ use ots_outside::{Disk, DiskRefusal, FileDisk};
 use std::alloc::Global;
 use std::fs::File;
 use std::io::ErrorKind;
+use std::process::Abort;
 use std::{fs, io};
 
 /// A disk over the file of this name, which is made where there is none. A fresh one has no octets.
@@ -24,19 +25,38 @@ fn keep(disk: &mut FileDisk, place: u64, bytes: &[u8]) -> Result<(), DiskRefusal
 #[test]
 fn a_file_keeps_what_is_synced(rt: HostRuntime) -> io::Result<()> {
     let long = vec![in rt.alloc(); 2; 70_000]?;
-    let mut disk = file_disk(&rt, "ots_file_disk", true)?;
-    assert!(rt; keep(&mut disk, 0, &[1; 150]) == Ok(()));
-    assert!(rt; keep(&mut disk, 0, b"xy") == Ok(()));
-    assert!(rt; keep(&mut disk, 120, &long) == Ok(()));
-    let mut disk = file_disk(&rt, "ots_file_disk", false)?;
-    assert!(rt; disk.len() == Ok(70_120));
-    let mut seam = [0; 4];
-    assert!(rt; disk.read_at(118, &mut seam) == Ok(()));
-    assert!(rt; seam == [1, 1, 2, 2]);
-    let mut back = vec![in rt.alloc(); 0; 70_000]?;
-    assert!(rt; disk.read_at(120, &mut back) == Ok(()));
-    assert!(rt; back == long);
+    write_pieces(&rt, &rt, long.as_slice())?;
+    check_pieces(&rt, &rt, long.as_slice())?;
     fs::remove_file(&rt, "ots_file_disk")
+}
+
+fn write_pieces(rt: &HostRuntime, stop: &impl Abort, long: &[u8]) -> io::Result<()> {
+    let mut disk = file_disk(rt, "ots_file_disk", true)?;
+    assert!(stop; keep(&mut disk, 0, &[1; 150]) == Ok(()));
+    assert!(stop; keep(&mut disk, 0, b"xy") == Ok(()));
+    assert!(stop; keep(&mut disk, 120, long) == Ok(()));
+    Ok(())
+}
+
+fn check_pieces(rt: &HostRuntime, stop: &impl Abort, long: &[u8]) -> io::Result<()> {
+    let mut disk = file_disk(rt, "ots_file_disk", false)?;
+    assert!(stop; disk.len() == Ok(70_120));
+    let mut seam = [0; 4];
+    assert!(stop; disk.read_at(118, &mut seam) == Ok(()));
+    assert!(stop; seam == [1, 1, 2, 2]);
+    check_long(stop, rt.alloc(), &mut disk, long)
+}
+
+fn check_long(
+    stop: &impl Abort,
+    alloc: Global,
+    disk: &mut FileDisk,
+    long: &[u8],
+) -> io::Result<()> {
+    let mut back = vec![in alloc; 0; 70_000]?;
+    assert!(stop; disk.read_at(120, &mut back) == Ok(()));
+    assert!(stop; back.as_slice() == long);
+    Ok(())
 }
 
 #[test]
@@ -55,14 +75,22 @@ fn a_file_is_read_within_its_octets(rt: HostRuntime) -> io::Result<()> {
 
 /// A disk over a device whose syncs fail, or over a file of this name whose folder can't be synced.
 fn unsynced(rt: &HostRuntime, name: &str) -> io::Result<FileDisk> {
-    let device = "/dev/null";
+    match name {
+        "/dev/null" => device_disk(rt),
+        name => disk_in_no_folder(rt, name),
+    }
+}
+
+fn device_disk(rt: &HostRuntime) -> io::Result<FileDisk> {
     let mut options = File::options();
     options.read(true).write(true);
-    if name == device {
-        return Ok(FileDisk::new(options.open(rt, name)?, None));
-    }
-    options.create(true).truncate(true);
-    let folder = File::open(rt, device)?;
+    Ok(FileDisk::new(options.open(rt, "/dev/null")?, None))
+}
+
+fn disk_in_no_folder(rt: &HostRuntime, name: &str) -> io::Result<FileDisk> {
+    let mut options = File::options();
+    options.read(true).write(true).create(true).truncate(true);
+    let folder = File::open(rt, "/dev/null")?;
     Ok(FileDisk::new(options.open(rt, name)?, Some(folder)))
 }
 
@@ -114,28 +142,48 @@ fn counts(journal: &Journal<FileDisk>) -> (u32, usize, u64) {
 
 #[test]
 fn a_file_keeps_a_journal(rt: HostRuntime) -> io::Result<()> {
-    let mut journal = next_life(&rt, "ots_file_journal", true)?;
-    assert!(rt; decide(rt.alloc(), &mut journal) == Ok(26));
-    let mut journal = next_life(&rt, "ots_file_journal", false)?;
-    assert!(rt; counts(&journal) == (2, 1, 0));
-    assert!(rt; done(&mut journal, 26) == Ok(()));
-    let journal = next_life(&rt, "ots_file_journal", false)?;
-    assert!(rt; counts(&journal) == (3, 0, 0));
+    first_life(&rt, &rt)?;
+    second_life(&rt, &rt)?;
+    third_life(&rt, &rt)?;
     fs::remove_file(&rt, "ots_file_journal")
+}
+
+fn first_life(rt: &HostRuntime, stop: &impl Abort) -> io::Result<()> {
+    let mut journal = next_life(rt, "ots_file_journal", true)?;
+    assert!(stop; decide(rt.alloc(), &mut journal) == Ok(26));
+    Ok(())
+}
+
+fn second_life(rt: &HostRuntime, stop: &impl Abort) -> io::Result<()> {
+    let mut journal = next_life(rt, "ots_file_journal", false)?;
+    assert!(stop; counts(&journal) == (2, 1, 0));
+    assert!(stop; done(&mut journal, 26) == Ok(()));
+    Ok(())
+}
+
+fn third_life(rt: &HostRuntime, stop: &impl Abort) -> io::Result<()> {
+    let journal = next_life(rt, "ots_file_journal", false)?;
+    assert!(stop; counts(&journal) == (3, 0, 0));
+    Ok(())
 }
 
 fn reread(journal: &mut Journal<FileDisk>) -> Result<(), JournalFault> {
     journal.reopen()
 }
 
+fn change(rt: &HostRuntime, name: &str, place: u64, octet: u8) -> io::Result<()> {
+    let mut disk = file_disk(rt, name, false)?;
+    match keep(&mut disk, place, &[octet]) {
+        Ok(()) => Ok(()),
+        Err(_) => Err(ErrorKind::Other.into()),
+    }
+}
+
 /// What a journal of one life tells that is read again once an octet of its file is another.
 fn changed(rt: &HostRuntime, place: u64, octet: u8) -> io::Result<Result<(), JournalFault>> {
     let name = "ots_file_changed";
     let mut journal = next_life(rt, name, true)?;
-    let mut disk = file_disk(rt, name, false)?;
-    if keep(&mut disk, place, &[octet]).is_err() {
-        return Err(ErrorKind::Other.into());
-    }
+    change(rt, name, place, octet)?;
     let answer = reread(&mut journal);
     fs::remove_file(rt, name)?;
     Ok(answer)

@@ -18,10 +18,16 @@ pub fn octets(rt: &impl Abort, alloc: Global, words: &str) -> Result<Vec<u8>, Fa
 {
     let mut octets = Vec::new(alloc);
     for word in words.split_whitespace() {
-        octets.extend_from_slice(&hex::decode(alloc, word)?)?;
+        add_word(alloc, &mut octets, word)?;
     }
     assert!(rt; octets.len() <= 1000);
     Ok(octets)
+}
+
+fn add_word(alloc: Global, octets: &mut Vec<u8>, word: &str) -> Result<(), Fail> {
+    let word = hex::decode(alloc, word)?;
+    octets.extend_from_slice(&word)?;
+    Ok(())
 }
 
 fn number(order: Order, number: u32) -> [u8; 4] {
@@ -62,9 +68,14 @@ fn append(into: &mut Vec<u8>, order: Order, part: &Part) -> Result<(), Fail>
 /// A stream to which these octets have come, for which memory was taken before.
 fn stream_of(alloc: Global, bytes: &[u8]) -> Result<Stream, Fail> {
     let mut stream = Stream::new(alloc);
+    feed_whole(&mut stream, bytes)?;
+    Ok(stream)
+}
+
+fn feed_whole(stream: &mut Stream, bytes: &[u8]) -> Result<(), Fail> {
     stream.reserve(bytes.len())?;
     stream.feed(bytes)?;
-    Ok(stream)
+    Ok(())
 }
 
 // The calls of a stream, each without what its contract says: no test needs it.

@@ -10,6 +10,7 @@ use ots_context::{
 };
 use ots_model::{Endpoint, Octets, RefBytes};
 use std::alloc::Global;
+use std::process::Abort;
 use std::test::Fail;
 
 /// The canonical octets of the reference to the first resource of the service 2, at e1 and port 1.
@@ -49,10 +50,13 @@ fn our_own_reference_has_its_octets(rt: HostRuntime) -> Result<(), Fail> {
         b"IDL:omg.org/CosTransactions/Resource:1.0",
         b"e1",
     )??;
-    let octets = made.to_bytes(rt.alloc())?;
-    let digits = hex::encode(rt.alloc(), octets.bytes())?;
+    check_octets(&rt, rt.alloc(), &made.to_bytes(rt.alloc())?)
+}
+
+fn check_octets(rt: &impl Abort, alloc: Global, octets: &RefBytes) -> Result<(), Fail> {
+    assert!(rt; key_within(alloc, octets)? == Some(key()));
+    let digits = hex::encode(alloc, octets.bytes())?;
     assert!(rt; digits.as_str() == resource());
-    assert!(rt; key_within(rt.alloc(), &octets)? == Some(key()));
     Ok(())
 }
 
@@ -81,14 +85,31 @@ fn numbers(generation: u64, branch: u32) -> OwnNumbers {
 
 #[test]
 fn otids_have_their_names_and_hashes(rt: HostRuntime) -> Result<(), Fail> {
-    let own = Otid::own(rt.alloc(), &numbers(1, 0))?;
+    check_own(&rt, rt.alloc())?;
+    let foreign = Otid::new(rt.alloc(), -3, 1, b"\x0a\xff")?;
+    check_name(&rt, rt.alloc(), &foreign, b"-3.0aff")
+}
+
+fn check_own(rt: &impl Abort, alloc: Global) -> Result<(), Fail> {
+    let own = Otid::own(alloc, &numbers(1, 0))?;
     assert!(rt; own.own_numbers() == Some(numbers(1, 0)));
-    assert!(rt; name_of(rt.alloc(), &own)?.bytes() == b"1.1.1.0".as_slice());
     assert!(rt; hash_of(&own) == 1_060_830_211);
     assert!(rt; global_part(&own).len() == 20);
-    let foreign = Otid::new(rt.alloc(), -3, 1, b"\x0a\xff")?;
-    assert!(rt; name_of(rt.alloc(), &foreign)?.bytes() == b"-3.0aff".as_slice());
+    check_name(rt, alloc, &own, b"1.1.1.0")
+}
+
+fn check_name(rt: &impl Abort, alloc: Global, otid: &Otid, name: &[u8]) -> Result<(), Fail> {
+    let found = name_of(alloc, otid)?;
+    assert!(rt; found.bytes() == name);
     Ok(())
+}
+
+/// The slot of 256 that the hash of a transaction falls into.
+fn slot_of(alloc: Global, generation: u64) -> Result<usize, Fail>
+    ensures { IfOk result (λ slot. slot < 256) }
+{
+    let own = Otid::own(alloc, &numbers(generation, 0))?;
+    Ok((hash_of(&own) % 256) as usize)
 }
 
 /// Chance would put 391 of them into a slot, and with four deviations of 20 between 312 and 470.
@@ -96,20 +117,23 @@ fn otids_have_their_names_and_hashes(rt: HostRuntime) -> Result<(), Fail> {
 fn hashes_spread_as_evenly_as_chance(rt: HostRuntime) -> Result<(), Fail> {
     let mut counts = [0u32; 256];
     for generation in 1..=100_000 {
-        let own = Otid::own(rt.alloc(), &numbers(generation, 0))?;
-        let slot = (hash_of(&own) % 256) as usize;
+        let slot = slot_of(rt.alloc(), generation)?;
         counts[slot] = counts[slot].wrapping_add(1);
     }
     assert!(rt; counts.iter().all(|count| *count >= 312 && *count <= 470));
     Ok(())
 }
 
+fn nil(alloc: Global) -> Result<ObjectRef, Fail> {
+    let nil = RefBytes::new(alloc, &[0, 0, 0, 1, 0, 0, 0, 0, 0, 0, 0, 0])?;
+    Ok(ObjectRef::from_bytes(alloc, &nil)?)
+}
+
 /// The identity of a branch of one transaction, with nil references.
 fn identity(alloc: Global, branch: u32) -> Result<Identity, Fail> {
-    let nil = RefBytes::new(alloc, &[0, 0, 0, 1, 0, 0, 0, 0, 0, 0, 0, 0])?;
     Ok(Identity {
-        coord: ObjectRef::from_bytes(alloc, &nil)?,
-        term: ObjectRef::from_bytes(alloc, &nil)?,
+        coord: nil(alloc)?,
+        term: nil(alloc)?,
         otid: Otid::own(alloc, &numbers(1, branch))?,
     })
 }
@@ -118,9 +142,14 @@ fn identity(alloc: Global, branch: u32) -> Result<Identity, Fail> {
 fn branches(alloc: Global, count: u32) -> Result<Identities, Fail> {
     let mut all = Vec::new(alloc);
     for branch in 1..=count {
-        all.push(identity(alloc, branch)?)?;
+        add_branch(alloc, &mut all, branch)?;
     }
     Ok(Identities::from_vec(all))
+}
+
+fn add_branch(alloc: Global, all: &mut Vec<Identity>, branch: u32) -> Result<(), Fail> {
+    all.push(identity(alloc, branch)?)?;
+    Ok(())
 }
 
 /// The octets of a context with so many parents and this tail, or why it isn't written.
@@ -145,7 +174,11 @@ fn sixteen_parents_are_written(rt: HostRuntime) -> Result<(), Fail> {
         .into_vec();
     assert!(rt; parents.len() == 16);
     assert!(rt; parents[15].otid.own_numbers() == Some(numbers(1, 16)));
-    let refused = written(rt.alloc(), 17, AnyTail::Null)?.err();
+    check_refused(&rt, rt.alloc())
+}
+
+fn check_refused(rt: &impl Abort, alloc: Global) -> Result<(), Fail> {
+    let refused = written(alloc, 17, AnyTail::Null)?.err();
     assert!(rt; refused == Some(ContextFault::TooMany(68)));
     Ok(())
 }

@@ -3,6 +3,7 @@
 use cdr_values::{CdrFault, Order, Reader, Writer};
 use ots_model::Octets;
 use std::alloc::Global;
+use std::process::Abort;
 use std::test::Fail;
 
 /// An encapsulation of the values that `written` writes.
@@ -18,6 +19,11 @@ const LITTLE: [u8; 43] = [
 
 fn written(alloc: Global, order: Order) -> Result<Octets, CdrFault> {
     let mut writer = Writer::encapsulation(alloc, order)?;
+    write_all(&mut writer)?;
+    Ok(writer.finish())
+}
+
+fn write_all(writer: &mut Writer) -> Result<(), CdrFault> {
     writer.octet(7)?;
     writer.ushort(0x0102)?;
     writer.boolean(true)?;
@@ -25,32 +31,44 @@ fn written(alloc: Global, order: Order) -> Result<Octets, CdrFault> {
     writer.string(b"hi")?;
     writer.octets(&[170, 187])?;
     writer.ulonglong(0x0102_0304_0506_0708)?;
+    write_and_take_back(writer)?;
+    writer.raw(&[5, 6, 7])
+}
+
+fn write_and_take_back(writer: &mut Writer) -> Result<(), CdrFault> {
     let place = writer.place();
     writer.align(4)?;
     writer.octet(9)?;
     writer.take_back(place);
-    writer.raw(&[5, 6, 7])?;
-    Ok(writer.finish())
+    Ok(())
+}
+
+/// The octets are written, and give the values back.
+fn check(rt: &impl Abort, alloc: Global, order: Order, bytes: &[u8; 43]) -> Result<(), Fail> {
+    let octets = written(alloc, order)?;
+    assert!(rt; octets.bytes() == bytes.as_slice());
+    check_read(rt, bytes)
+}
+
+fn check_read(rt: &impl Abort, bytes: &[u8; 43]) -> Result<(), Fail> {
+    let mut reader = Reader::encapsulation(bytes)?;
+    assert!(rt; reader.octet() == Ok(7));
+    assert!(rt; reader.ushort() == Ok(0x0102));
+    assert!(rt; reader.boolean() == Ok(true));
+    assert!(rt; reader.align(4) == Ok(()));
+    assert!(rt; reader.ulong() == Ok(0x0102_0304));
+    assert!(rt; reader.string() == Ok(b"hi".as_slice()));
+    assert!(rt; reader.octets() == Ok([170, 187].as_slice()));
+    assert!(rt; reader.ulonglong() == Ok(0x0102_0304_0506_0708));
+    assert!(rt; reader.place() == 40);
+    assert!(rt; reader.rest() == [5, 6, 7].as_slice());
+    Ok(())
 }
 
 #[test]
 fn each_type_is_written_and_read(rt: HostRuntime) -> Result<(), Fail> {
-    for (bytes, order) in [(BIG, Order::Big), (LITTLE, Order::Little)] {
-        let octets = written(rt.alloc(), order)?;
-        assert!(rt; octets.bytes() == bytes.as_slice());
-        let mut reader = Reader::encapsulation(&bytes)?;
-        assert!(rt; reader.octet() == Ok(7));
-        assert!(rt; reader.ushort() == Ok(0x0102));
-        assert!(rt; reader.boolean() == Ok(true));
-        assert!(rt; reader.align(4) == Ok(()));
-        assert!(rt; reader.ulong() == Ok(0x0102_0304));
-        assert!(rt; reader.string() == Ok(b"hi".as_slice()));
-        assert!(rt; reader.octets() == Ok([170, 187].as_slice()));
-        assert!(rt; reader.ulonglong() == Ok(0x0102_0304_0506_0708));
-        assert!(rt; reader.place() == 40);
-        assert!(rt; reader.rest() == [5, 6, 7].as_slice());
-    }
-    Ok(())
+    check(&rt, rt.alloc(), Order::Big, &BIG)?;
+    check(&rt, rt.alloc(), Order::Little, &LITTLE)
 }
 
 fn too_long(place: u32, length: u32) -> Result<(), CdrFault> {

@@ -4,10 +4,20 @@ use super::vectors::{LOCATED, REGISTER_RESOURCE};
 use super::{Part, append, feed, next_framed, next_message, octets, standing, stream_of};
 use cdr_values::Order;
 use giop_frames::{Kind, Message, Version};
-use giop_streams::Stream;
+use giop_streams::{Framed, Stream};
 use std::alloc::Global;
 use std::process::Abort;
 use std::test::Fail;
+
+fn check_head(rt: &impl Abort, framed: &Framed) {
+    assert!(rt; matches!(framed.version, Version::V1_2));
+    assert!(rt; framed.place == 0);
+}
+
+/// Its byte order, its size and its start.
+fn shape(framed: &Framed) -> (Order, u32, u32) {
+    (framed.order, framed.size, framed.start)
+}
 
 /// The next message of the stream, which begins it and has this byte order, this size and this start.
 fn next(
@@ -19,9 +29,8 @@ fn next(
 ) -> Result<Message, Fail> {
     match next_framed(stream)? {
         Some(framed) => {
-            assert!(rt; matches!(framed.version, Version::V1_2));
-            assert!(rt; framed.place == 0);
-            assert!(rt; (framed.order, framed.size, framed.start) == (order, size, start));
+            check_head(rt, &framed);
+            assert!(rt; shape(&framed) == (order, size, start));
             Ok(framed.message)
         }
         None => panic!(rt; "no message"),
@@ -49,11 +58,15 @@ fn check_last(rt: &impl Abort, stream: &mut Stream) -> Result<(), Fail> {
 fn a_stream_gives_messages_and_tells_what_it_holds(rt: HostRuntime) -> Result<(), Fail> {
     let bytes = octets(&rt, rt.alloc(), LOCATED)?;
     let mut stream = stream_of(rt.alloc(), &bytes)?;
-    feed(&mut stream, b"GIOP\x01\x02\0")?;
-    assert!(rt; standing(&stream) == (0, true, 29));
-    check_first(&rt, &mut stream)?;
-    feed(&mut stream, b"\x05\0\0\0\0")?;
-    check_last(&rt, &mut stream)
+    check_stream(&rt, &mut stream)
+}
+
+fn check_stream(rt: &impl Abort, stream: &mut Stream) -> Result<(), Fail> {
+    feed(stream, b"GIOP\x01\x02\0")?;
+    assert!(rt; standing(stream) == (0, true, 29));
+    check_first(rt, stream)?;
+    feed(stream, b"\x05\0\0\0\0")?;
+    check_last(rt, stream)
 }
 
 /// A part of a little endian Request.
@@ -81,14 +94,20 @@ fn in_parts(alloc: Global, content: &[u8], first: usize) -> Result<Vec<u8>, Fail
     requires { (first < length content.now) × (length content.now ≤ 1000) }
 {
     let mut bytes = Vec::new(alloc);
-    append_piece(&mut bytes, true, &[], &content[..first])?;
+    append_parts(&mut bytes, content, first)?;
+    Ok(bytes)
+}
+
+fn append_parts(bytes: &mut Vec<u8>, content: &[u8], first: usize) -> Result<(), Fail>
+    requires { (first < length content.now) × (length content.now ≤ 1000) }
+{
+    append_piece(bytes, true, &[], &content[..first])?;
     let rest = &content[first..];
     let last = (rest.len() - 1) / 8 * 8;
     for piece in rest[..last].chunks(8) {
-        append_piece(&mut bytes, true, &[5], piece)?;
+        append_piece(bytes, true, &[5], piece)?;
     }
-    append_piece(&mut bytes, false, &[5], &rest[last..])?;
-    Ok(bytes)
+    append_piece(bytes, false, &[5], &rest[last..])
 }
 
 /// The message is register_resource, with this body.
@@ -122,8 +141,14 @@ fn check_parts(rt: &impl Abort, alloc: Global, content: &[u8], first: u32) -> Re
 fn fields_may_be_cut_into_parts(rt: HostRuntime) -> Result<(), Fail> {
     let whole = octets(&rt, rt.alloc(), REGISTER_RESOURCE)?;
     assert!(rt; whole.len() == 412);
+    check_all(&rt, rt.alloc(), &whole[12..])
+}
+
+fn check_all(rt: &impl Abort, alloc: Global, content: &[u8]) -> Result<(), Fail>
+    requires { length content.now ≡ 400 }
+{
     for count in 0..49_u32 {
-        check_parts(&rt, rt.alloc(), &whole[12..], 4 + 8 * count)?;
+        check_parts(rt, alloc, content, 4 + 8 * count)?;
     }
     Ok(())
 }

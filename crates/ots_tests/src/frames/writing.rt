@@ -142,11 +142,24 @@ fn contexts_are_made_of_a_vector_and_give_it_back(rt: HostRuntime) -> Result<(),
 #[test]
 fn a_message_has_its_own_octets(rt: HostRuntime) -> Result<(), Fail> {
     let mut into = b"before".to_vec(rt.alloc())?;
-    encode(rt.alloc(), &Message::Close, &mut into)?;
-    into.push(7)?;
+    write_close(rt.alloc(), &mut into)?;
+    assert!(rt; into.len() == 19);
     let (before, behind) = into.split_at(6);
     assert!(rt; before == b"before".as_slice());
-    assert!(rt; behind.len() == 13);
-    assert!(rt; decode(rt.alloc(), behind)?.used == 12);
+    assert!(rt; used(rt.alloc(), behind)? == 12);
     Ok(())
+}
+
+/// Appends a message and an octet.
+fn write_close(alloc: Global, into: &mut Vec<u8>) -> Result<(), Fail> {
+    encode(alloc, &Message::Close, into)?;
+    into.push(7)?;
+    Ok(())
+}
+
+/// How many octets the message in front of others has.
+fn used(alloc: Global, octets: &[u8]) -> Result<u32, Fail>
+    requires { length octets.now ≡ 13 }
+{
+    Ok(decode(alloc, octets)?.used)
 }

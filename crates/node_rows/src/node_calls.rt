@@ -1,0 +1,56 @@
+//! The calls of a node over a disk in memory, each without what its contract says: no case needs it.
+
+use coordinator::NodeFault;
+use decision_journal::Standing;
+use ior_refs::ObjectKey;
+use ots_outside::{Back, MemDisk};
+use recovery_coord::{Held, Outbox};
+use service_node::{Happenings, Node};
+use std::alloc::Global;
+use std::io;
+
+/// A node over a disk in memory.
+pub type MemNode = Node<MemDisk>;
+
+/// How many octets an area has at most.
+const AREA_LIMIT: u64 = 67_108_864;
+
+/// Makes the call `Node::load`, with an area within the limit.
+pub fn load(alloc: Global, disk: MemDisk, area: u64) -> Result<MemNode, Back<MemDisk, NodeFault>> {
+    Node::load(alloc, disk, area.min(AREA_LIMIT), 1)
+}
+
+/// A disk of these octets, of which these calls fail.
+pub fn disk_of(alloc: Global, octets: &[u8], failing: Vec<u64>) -> io::Result<MemDisk> {
+    Ok(MemDisk::new(alloc, octets.to_vec(alloc)?, failing)?)
+}
+
+/// Makes the call `crash`.
+pub fn crash(node: MemNode) -> MemDisk {
+    node.crash()
+}
+
+/// Makes the call `create`.
+pub fn create(node: &mut MemNode, now: u64, seconds: u32) -> Result<ObjectKey, NodeFault> {
+    node.create(now, seconds)
+}
+
+/// Makes the call `tick`.
+pub fn tick(node: &mut MemNode, now: u64, out: &mut Outbox) -> Result<Happenings, NodeFault> {
+    node.tick(now, out)
+}
+
+/// Makes the call `life`.
+pub fn life(node: &MemNode) -> u32 {
+    node.life()
+}
+
+/// Makes the call `records`.
+pub fn held(node: &MemNode) -> &[Held] {
+    node.records()
+}
+
+/// Makes the call `journal`.
+pub fn standing(node: &MemNode) -> &[Standing] {
+    node.journal().standing()
+}
