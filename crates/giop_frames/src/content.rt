@@ -4,7 +4,7 @@ ghost use Rattle.giop_frames.specs.Fault.{Finds};
 ghost use Rattle.giop_frames.specs.Message.{target_kept};
 ghost use Rattle.giop_frames.specs.Layout.{kept_tail, message_with, tail_start};
 ghost use Rattle.giop_frames.specs.Content.{GivesKept, message_by, start_by};
-ghost use Rattle.giop_frames.specs.Walk.{IsWalked, context_of, message_found, spanned, target_of, told_by};
+ghost use Rattle.giop_frames.specs.Walk.{IsAsFar, IsWalked, context_of, message_found, spanned, target_of, told_by};
 
 use crate::fault::FrameFault;
 use crate::found::{Found, FoundContext, FoundTarget, Span};
@@ -30,7 +30,7 @@ pub fn read_message(alloc: Global, header: Header, content: &[u8]) -> Result<Con
     ensures memory { IfErr result (λ fault. fault ≡ FrameFault.Memory → GivesKept (message_by header content.now)) }
     ensures start { IfOk result (λ found. found.start ≡ start_by header content.now) }
 {
-    finish_message(alloc, header, content, Walk::new(header))
+    finish_message(alloc, header, content, &mut Walk::new(header))
 }
 
 /// The message whose first part has this header, with this content, over which a walk goes on to the end.
@@ -38,14 +38,16 @@ pub fn finish_message(
     alloc: Global,
     header: Header,
     content: &[u8],
-    mut walk: Walk,
+    walk: &mut Walk,
 ) -> Result<Content, FrameFault>
     requires short { length content.now ≤ size_limit }
-    requires walked { IsWalked header content.now walk }
+    requires walked { IsWalked header content.now walk.old }
     ensures message { Finds (λ found. found.message) result (message_by header content.now) }
     ensures told { IfErr (message_by header content.now) (λ fault. result ≡ Err fault) }
     ensures memory { IfErr result (λ fault. fault ≡ FrameFault.Memory → GivesKept (message_by header content.now)) }
     ensures start { IfOk result (λ found. found.start ≡ start_by header content.now) }
+    ensures walked { IsWalked header content.now walk.new }
+    ensures far { IsAsFar header content.now walk.new }
 {
     walk.go_on(header, content)?;
     let place = walk.place;

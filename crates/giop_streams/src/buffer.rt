@@ -3,6 +3,7 @@ ghost use Rattle.std.specs.Prelude.{◌≡◌, ◌+◌, ◌-◌, ◌<◌, ◌≤
 use giop_frames::front;
 use std::alloc::{AllocError, Global};
 use std::marker::Model;
+use std::mem::replace;
 
 /// Octets in the front of memory that is filled with octets to its end, so that more of them are copied there at once.
 /// Contracts see the octets, and for how many there is memory.
@@ -131,8 +132,12 @@ fn fill(memory: &mut Vec<u8>)
     ensures filled { length memory.new.items ≡ vec_capacity memory.new }
     ensures memory { vec_capacity memory.new ≡ vec_capacity memory.old }
 {
-    let more = memory.capacity().saturating_sub(memory.len());
+    let alloc = *memory.allocator();
+    // No one else sees them while they are written, so that they are written in one go.
+    let mut octets = replace(memory, Vec::new(alloc));
+    let more = octets.capacity().saturating_sub(octets.len());
     for place in 0..more {
-        memory.push_reserved(0);
+        octets.push_reserved(0);
     }
+    *memory = octets;
 }

@@ -47,13 +47,15 @@ pub fn finish_framed(
     place: u64,
     header: Header,
     content: &[u8],
-    walk: Walk,
+    walk: &mut Walk,
 ) -> Result<Framed, FrameFault>
     requires short { length content.now ≤ size_limit }
-    requires walked { IsWalked header content.now walk }
-    requires far { IsAsFar header content.now walk }
+    requires walked { IsWalked header content.now walk.old }
+    requires far { IsAsFar header content.now walk.old }
     ensures whole { Finds (λ framed. Some framed) result (whole_by place header content.now) }
     ensures memory { IfErr result (λ fault. fault ≡ FrameFault.Memory → GivesKept (message_by header content.now)) }
+    ensures walked { IsWalked header content.now walk.new }
+    ensures far { IsAsFar header content.now walk.new }
 {
     let found = finish_message(alloc, header, content, walk)?;
     Ok(frame(place, header, found))

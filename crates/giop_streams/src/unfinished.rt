@@ -106,10 +106,7 @@ impl Unfinished {
         ensures memory { IfErr result (λ fault. fault ≡ FrameFault.Memory → MayJoin self.old.content octets.now) }
         ensures err { OnErr result (self.new ≡ self.old) }
     {
-        let mut walk = *self.walk;
-        go_so_far(&mut walk, self.header, &mut self.content, octets)?;
-        *self.walk = walk;
-        Ok(())
+        go_so_far(&mut self.walk, self.header, &mut self.content, octets)
     }
 
     /// Its last octets have come.
@@ -122,46 +119,52 @@ impl Unfinished {
             MayEnd self.old.header self.old.content octets.now) }
         ensures err { OnErr result (self.new ≡ self.old) }
     {
-        let before = self.content.len();
-        let finished = finish_joined(
+        finish_joined(
             alloc,
             self.place,
             self.header,
-            *self.walk,
+            &mut self.walk,
             &mut self.content,
             octets,
-        );
-        self.content.truncate(before);
-        finished
+        )
     }
 }
 
 /// The last octets of a message have come behind its content, and a walk that stood where octets were wanting goes on
-/// over them. The content has them behind it then, or is as it was.
+/// over them. Where it isn't given the content is as it was.
 fn finish_joined(
     alloc: Global,
     place: u64,
     header: Header,
-    mut walk: Walk,
+    walk: &mut Walk,
     content: &mut Buffer,
     octets: &[u8],
 ) -> Result<Framed, FrameFault>
     requires content { length content.old.octets ≤ size_limit }
     requires octets { length octets.now ≤ size_limit }
     requires first { is_fragment header.kind ≡ false }
-    requires walked { IsWalked header content.old.octets walk }
-    requires far { IsAsFar header content.old.octets walk }
+    requires walked { IsWalked header content.old.octets walk.old }
+    requires far { IsAsFar header content.old.octets walk.old }
     requires room { content.old.memory ≤ joined_memory_limit }
     ensures says { IfOk result (λ framed.
         limited_whole place header (content.old.octets ++ octets.now) ≡ Ok (Some framed)) }
     ensures refused { IfErr result (λ fault.
         Fails fault (limited_whole place header (content.old.octets ++ octets.now))) }
     ensures memory { IfErr result (λ fault. fault ≡ FrameFault.Memory → MayEnd header content.old.octets octets.now) }
-    ensures front { take (length content.old.octets) content.new.octets ≡ content.old.octets }
+    ensures walked { IsWalked header content.new.octets walk.new }
+    ensures far { IsAsFar header content.new.octets walk.new }
+    ensures err { OnErr result (content.new.octets ≡ content.old.octets) }
     ensures room { content.new.memory ≤ joined_memory_limit }
 {
-    go_so_far(&mut walk, header, content, octets)?;
-    finish_framed(alloc, place, header, content.octets(), walk)
+    let before = content.len();
+    go_so_far(walk, header, content, octets)?;
+    match finish_framed(alloc, place, header, content.octets(), walk) {
+        Ok(framed) => Ok(framed),
+        Err(fault) => {
+            take_back(walk, header, content, before);
+            Err(fault)
+        }
+    }
 }
 
 /// More octets of a message have come behind its content, and a walk that stood where octets were wanting goes on over
@@ -181,9 +184,9 @@ fn go_so_far(
     requires room { content.old.memory ≤ joined_memory_limit }
     ensures joined { OnOk result (content.new.octets ≡ content.old.octets ++ octets.now) }
     ensures short { length content.new.octets ≤ size_limit }
-    ensures walked { OnOk result (IsWalked header content.new.octets walk.new) }
-    ensures far { OnOk result (IsAsFar header content.new.octets walk.new) }
-    ensures forward { walk.old.place ≤ walk.new.place }
+    ensures walked { IsWalked header content.new.octets walk.new }
+    ensures far { IsAsFar header content.new.octets walk.new }
+    ensures forward { OnOk result (walk.old.place ≤ walk.new.place) }
     ensures says { OnOk result (limited_so_far header (content.old.octets ++ octets.now) ≡ Ok None) }
     ensures refused { IfErr result (λ fault. Fails fault (limited_so_far header (content.old.octets ++ octets.now))) }
     ensures memory { IfErr result (λ fault. fault ≡ FrameFault.Memory →
@@ -194,10 +197,26 @@ fn go_so_far(
     let before = content.len();
     join(content, octets)?;
     if let Err(fault) = walk_so_far(walk, header, content.octets()) {
-        content.truncate(before);
+        take_back(walk, header, content, before);
         return Err(fault);
     }
     Ok(())
+}
+
+/// The octets behind so many of a message are taken back, and a walk goes over those in front of them anew. So a stream pays
+/// for its first refusal, and no Fragment for a copy of the walk.
+fn take_back(walk: &mut Walk, header: Header, content: &mut Buffer, before: usize)
+    requires content { length content.old.octets ≤ size_limit }
+    requires first { is_fragment header.kind ≡ false }
+    requires room { content.old.memory ≤ joined_memory_limit }
+    ensures octets { content.new.octets ≡ take before content.old.octets }
+    ensures walked { IsWalked header content.new.octets walk.new }
+    ensures far { IsAsFar header content.new.octets walk.new }
+    ensures room { content.new.memory ≤ joined_memory_limit }
+{
+    content.truncate(before);
+    *walk = Walk::new(header);
+    let _ = walk_so_far(walk, header, content.octets());
 }
 
 /// Appends more octets of a message to its content, which then has at most 65,536 (our profile). Where there is no memory

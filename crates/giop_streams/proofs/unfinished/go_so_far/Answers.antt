@@ -25,7 +25,7 @@ returns-in-Err-clause-memory c e = absurd (c.in-Err.ensures.memory e)
 pub returns-in-Err-clause-err : goal.returns-in-Err-clause-err
 returns-in-Err-clause-err c =
     let old = c.args.content.now.octets in
-    c.truncate.ensures.octets ∙ ap (take c.len-before.result) c.in_ok-join.ensures.joined ∙ take_at old c.args.octets.now c.len-before.result (omega arith)
+    c.take_back.ensures.octets ∙ ap (take c.len-before.result) c.in_ok-join.ensures.joined ∙ take_at old c.args.octets.now c.len-before.result (omega arith)
 
 pub returns-clause-says : goal.returns-clause-says
 returns-clause-says c =
