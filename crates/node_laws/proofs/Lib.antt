@@ -1,0 +1,13 @@
+mod Lists
+mod Slots
+mod Lived
+mod Courses
+mod Sending
+mod Stands
+mod Held
+mod Families
+mod Rules
+mod Rests
+mod Undecided
+mod Numbered
+mod Dones

@@ -1,0 +1,6 @@
+pub mod Lives
+pub mod Numbers
+pub mod Rules
+pub mod Commits
+pub mod Rollbacks
+pub mod Dones
