@@ -32,17 +32,17 @@ fn a_file_keeps_what_is_synced(rt: HostRuntime) -> io::Result<()> {
 
 fn write_pieces(rt: &HostRuntime, stop: &impl Abort, long: &[u8]) -> io::Result<()> {
     let mut disk = file_disk(rt, "ots_file_disk", true)?;
-    assert!(stop; keep(&mut disk, 0, &[1; 150]) == Ok(()));
-    assert!(stop; keep(&mut disk, 0, b"xy") == Ok(()));
-    assert!(stop; keep(&mut disk, 120, long) == Ok(()));
+    assert!(stop; keep(&mut disk, 4_000_000, &[1; 150]) == Ok(()));
+    assert!(stop; keep(&mut disk, 4_000_000, b"xy") == Ok(()));
+    assert!(stop; keep(&mut disk, 4_000_120, long) == Ok(()));
     Ok(())
 }
 
 fn check_pieces(rt: &HostRuntime, stop: &impl Abort, long: &[u8]) -> io::Result<()> {
     let mut disk = file_disk(rt, "ots_file_disk", false)?;
-    assert!(stop; disk.len() == Ok(70_120));
+    assert!(stop; disk.len() == Ok(4_070_120));
     let mut seam = [0; 4];
-    assert!(stop; disk.read_at(118, &mut seam) == Ok(()));
+    assert!(stop; disk.read_at(4_000_118, &mut seam) == Ok(()));
     assert!(stop; seam == [1, 1, 2, 2]);
     check_long(stop, rt.alloc(), &mut disk, long)
 }
@@ -54,7 +54,7 @@ fn check_long(
     long: &[u8],
 ) -> io::Result<()> {
     let mut back = vec![in alloc; 0; 70_000]?;
-    assert!(stop; disk.read_at(120, &mut back) == Ok(()));
+    assert!(stop; disk.read_at(4_000_120, &mut back) == Ok(()));
     assert!(stop; back.as_slice() == long);
     Ok(())
 }
@@ -179,10 +179,24 @@ fn change(rt: &HostRuntime, name: &str, place: u64, octet: u8) -> io::Result<()>
     }
 }
 
-/// What a journal of one life tells that is read again once an octet of its file is another.
-fn changed(rt: &HostRuntime, place: u64, octet: u8) -> io::Result<Result<(), JournalFault>> {
-    let name = "ots_file_changed";
+/// A journal of one life, with a decision behind it or without.
+fn one_life(rt: &HostRuntime, name: &str, decided: bool) -> io::Result<Journal<FileDisk>> {
     let mut journal = next_life(rt, name, true)?;
+    if decided {
+        let _ = decide(rt.alloc(), &mut journal);
+    }
+    Ok(journal)
+}
+
+/// What such a journal tells that is read again once an octet of its file is another.
+fn changed(
+    rt: &HostRuntime,
+    decided: bool,
+    place: u64,
+    octet: u8,
+) -> io::Result<Result<(), JournalFault>> {
+    let name = "ots_file_changed";
+    let mut journal = one_life(rt, name, decided)?;
     change(rt, name, place, octet)?;
     let answer = reread(&mut journal);
     fs::remove_file(rt, name)?;
@@ -192,13 +206,15 @@ fn changed(rt: &HostRuntime, place: u64, octet: u8) -> io::Result<Result<(), Jou
 #[test]
 fn a_changed_journal_is_refused_at_its_place(rt: HostRuntime) -> io::Result<()> {
     // The mark in front, and the number of the service.
-    assert!(rt; changed(&rt, 0, 88)? == Err(JournalFault::BadHeader(0)));
-    assert!(rt; changed(&rt, 15, 2)? == Err(JournalFault::BadHeader(15)));
+    assert!(rt; changed(&rt, false, 0, 88)? == Err(JournalFault::BadHeader(0)));
+    assert!(rt; changed(&rt, false, 15, 2)? == Err(JournalFault::BadHeader(15)));
     // The number of the life is told at the gate of its record, and so is a record that is gone.
-    assert!(rt; changed(&rt, 25, 2)? == Err(JournalFault::BadRecord(16)));
-    assert!(rt; changed(&rt, 16, 0)? == Err(JournalFault::BadRecord(16)));
+    assert!(rt; changed(&rt, false, 25, 2)? == Err(JournalFault::BadRecord(16)));
+    assert!(rt; changed(&rt, false, 16, 0)? == Err(JournalFault::BadRecord(16)));
     // The gate at the end may be anything but 1.
-    assert!(rt; changed(&rt, 26, 7)? == Ok(()));
-    assert!(rt; changed(&rt, 26, 1)? == Err(JournalFault::BadRecord(26)));
+    assert!(rt; changed(&rt, false, 26, 7)? == Ok(()));
+    assert!(rt; changed(&rt, false, 26, 1)? == Err(JournalFault::BadRecord(26)));
+    // A later record that is gone is told at its own gate.
+    assert!(rt; changed(&rt, true, 26, 0)? == Err(JournalFault::BadRecord(26)));
     Ok(())
 }
