@@ -1,4 +1,4 @@
--- The kinds of lines that these scripts tell, spelled as they are printed (our profile).
+-- The kinds of lines that these scripts tell, in the order of what is printed of each (our profile).
 use Rattle.std.specs.Prelude.{ℕ, true, false, List, codes}
 use Rattle.ots_model.specs.declared.completion.Ground.TheVariants.{Record}
 use Rattle.ots_model.specs.declared.completion.Outcome.TheVariants as outcomes

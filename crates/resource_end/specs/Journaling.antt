@@ -143,7 +143,7 @@ abbrev pub IsMadeOrUnmade : {D : Type 0} → ℕ → EndState D → EndState D �
 IsMadeOrUnmade letter before after said = IsAlone before after said (fresh letter before.end) ⊎ IsUnmade letter before after said
 
 -- Why a call is refused with a fault that isn't of the resource. PersistStore: the disk's count of faults rose, or the journal was
--- read again from a disk that tells nothing of itself, and which gave other octets. Memory: the disk may want some, or the call
+-- read again from a disk that tells nothing of itself. Memory: the disk may want some, or the call
 -- itself wanted some, which leaves a journal that needs no rereading
 abbrev pub IsCause : {D : Type 0} → Bool → (D → Option DiskState) → (D → ℕ) → JournalState D → JournalState D → EndFault → Type 0
 IsCause wants told count before after (faults.Transient number) = Unit {0}
