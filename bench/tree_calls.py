@@ -155,12 +155,12 @@ class Completion:
             if answer is None:
                 return None
             if self.decides_alone:
-                return {"ok": "Commit(OnePhase)", "TRANSACTION_ROLLEDBACK": f"Rollback(Vote({g}))"}.get(answer, "Unknown")
+                return {"ok": "Commit(OnePhase)", "TRANSACTION_ROLLEDBACK": f"Rollback(Phase(Vote({g})))"}.get(answer, "Unknown")
             if answer not in CONSENTS:
-                return f"Rollback({REFUSALS.get(answer, 'PrepareFault')}({g}))"
+                return f"Rollback(Phase({REFUSALS.get(answer, 'PrepareFault')}({g})))"
         if "VoteCommit" not in self.asked.values():
             return "Commit(Nobody)"
-        return {"stands": "Commit(Record)", "full": "Rollback(JournalFull(27, 296))", "none": "Rollback(NotStored)"}.get(self.record)
+        return {"stands": "Commit(Record)", "full": "Rollback(Phase(JournalFull(27, 296)))", "none": "Rollback(NotStored)"}.get(self.record)
 
     def hearers(self):
         """Those to whom the outcome is told."""

@@ -6,6 +6,7 @@ use Rattle.ots_model.specs.declared.completion.CallNumber.{CallNumber}
 use Rattle.ots_model.specs.declared.completion.Stood.{Stood}
 use Rattle.ots_model.specs.declared.tree.Heard.{Heard}
 use Rattle.ots_model.specs.declared.tree.Outward.{Outward}
+use Rattle.ots_model.specs.declared.completion.Word.TheVariants as phase_words
 use Rattle.ots_model.specs.declared.tree.Word.TheVariants as words
 use Rattle.decision_journal.specs.declared.record.JournalRecord.{JournalRecord}
 use Rattle.two_phase.specs.Course as course
@@ -31,7 +32,7 @@ outcomes_stay law f e stood fixed there is =
     (stays law fixed f.completion (family_step f e stood).family.completion (steps_right f e stood).proceeds there).same is
 
 -- a word of the completion that is commit rests on the record
-by_record : (s : Standing) (o w : Outward) (c : Course) → GoesRightly w c → w.word ≡ words.Commit → s ≡ UnderWay (course.after_next c)
+by_record : (s : Standing) (o w : Outward) (c : Course) → GoesRightly w c → w.word ≡ words.Phase phase_words.Commit → s ≡ UnderWay (course.after_next c)
     → o.registration ≡ w.registration → o.to ≡ w.to → o.receipt ≡ w.receipt → IsByRecord s o
 by_record s o w c g is now registration reference receipt = record {
   before = c;

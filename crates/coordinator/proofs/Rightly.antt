@@ -10,7 +10,7 @@ use Rattle.ots_model.specs.declared.completion.Stood.{Stood}
 use Rattle.ots_model.specs.declared.completion.Stood.TheVariants as answers
 use Rattle.ots_model.specs.declared.completion.Heard.{Heard as ParticipantHeard}
 use Rattle.ots_model.specs.declared.tree.Heard.{Heard}
-use Rattle.ots_model.specs.declared.tree.Outcome.{Outcome}
+use Rattle.ots_model.specs.Numbered.{Outcome}
 use Rattle.ots_model.specs.declared.tree.Outward.{Outward}
 use Rattle.ots_model.specs.declared.tree.Reason.{Reason}
 use Rattle.ots_model.specs.declared.tree.Reason.TheVariants as reasons
@@ -45,8 +45,8 @@ use Rattle.resource_votes.specs.Ballots.{Ballots, adopted}
 use Rattle.resource_votes.specs.declared.registration.VoteFault.{VoteFault}
 use Rattle.two_phase.specs.LawsOfReached.{TreeOutcomeStays}
 use Rattle.two_phase.specs.LawsOfReached.IsReached.{begins as reached, rolls_back as reached_by_rollback, goes_on as reached_on}
-use Rattle.ots_model.specs.declared.tree.Outcome.TheVariants as outcomes
-use Rattle.ots_model.specs.declared.completion.Heard.TheVariants as participants
+use Rattle.ots_model.specs.declared.completion.Outcome.TheVariants as outcomes
+use Rattle.ots_model.specs.declared.completion.Heard.TheVariants as phase_hears
 use Rattle.coordinator.specs.declared.effect.Effect.{Effect}
 use Rattle.coordinator.specs.Laws.{IsThere, IsNewOutcome, FamiliesDecideOnce, Proceeds, still, asks, rolls_back as starts_back, goes_on as proceeds_on, further, GoesOut, IsOfSubtransaction, FamiliesStepRightly}
 
@@ -358,16 +358,16 @@ hears_answer (UnderWay k) n h = proceeds_on k (course.after_answer n h k) (by_an
 
 -- votes are no outcome
 vote_effects_new : (s later : Standing) (h : ParticipantHeard) (o : Option ℕ) → AllByRecursion (IsNewOutcome s later) (vote_effects h o)
-vote_effects_new s later (participants.Voted vote) (Some p) = (tt, tt)
-vote_effects_new s later (participants.Voted vote) None = tt
-vote_effects_new s later participants.Done o = tt
-vote_effects_new s later (participants.Heuristic d) o = tt
-vote_effects_new s later participants.RolledBack o = tt
-vote_effects_new s later participants.NotPrepared o = tt
-vote_effects_new s later participants.NoObject o = tt
-vote_effects_new s later participants.Other o = tt
-vote_effects_new s later participants.Lost o = tt
-vote_effects_new s later participants.Starved o = tt
+vote_effects_new s later (phase_hears.Voted vote) (Some p) = (tt, tt)
+vote_effects_new s later (phase_hears.Voted vote) None = tt
+vote_effects_new s later phase_hears.Done o = tt
+vote_effects_new s later (phase_hears.Heuristic d) o = tt
+vote_effects_new s later phase_hears.RolledBack o = tt
+vote_effects_new s later phase_hears.NotPrepared o = tt
+vote_effects_new s later phase_hears.NoObject o = tt
+vote_effects_new s later phase_hears.Other o = tt
+vote_effects_new s later phase_hears.Lost o = tt
+vote_effects_new s later phase_hears.Starved o = tt
 
 told_participant_quiet : (n : CallNumber) (h : Heard) (f : Family) → Quiet f.completion (told_participant n h f)
 unfolding told_participant

@@ -6,7 +6,7 @@ use Rattle.ots_model.specs.declared.completion.Stood.TheVariants.{Unsure}
 use Rattle.ots_model.specs.declared.completion.Vote.TheVariants.{VoteCommit}
 use Rattle.ots_model.specs.declared.service.Status.{Status}
 use Rattle.ots_model.specs.declared.service.Status.TheVariants as status
-use Rattle.ots_model.specs.declared.tree.Heard.TheVariants as hears
+use Rattle.ots_model.specs.declared.completion.Heard.TheVariants as phase_hears
 use Rattle.coordinator.specs.declared.event.Act.{Act}
 use Rattle.coordinator.specs.declared.event.Act.TheVariants as acts
 use Rattle.coordinator.specs.declared.said.Said.{Said}
@@ -49,29 +49,29 @@ abbrev pub one_phase : List Turn
 one_phase = active ++ begun_commit ∷ []
 
 abbrev pub unknown : List Turn
-unknown = one_phase ++ heard 1 hears.Lost ∷ []
+unknown = one_phase ++ heard 1 phase_hears.Lost ∷ []
 
 abbrev pub rolling_back : List Turn
 rolling_back = active ++ on 0 acts.Rollback ∷ []
 
 abbrev pub rolled_back : List Turn
-rolled_back = rolling_back ++ heard 1 hears.Done ∷ []
+rolled_back = rolling_back ++ heard 1 phase_hears.Done ∷ []
 
 -- with two
 abbrev pub preparing : List Turn
 preparing = active ++ register 0 other ∷ begun_commit ∷ []
 
 abbrev pub one_vote : List Turn
-one_vote = preparing ++ heard 1 (hears.Voted VoteCommit) ∷ []
+one_vote = preparing ++ heard 1 (phase_hears.Voted VoteCommit) ∷ []
 
 abbrev pub doubt : List Turn
-doubt = one_vote ++ journal (Unsure (Counted 0 1)) (heard 2 (hears.Voted VoteCommit)) ∷ []
+doubt = one_vote ++ journal (Unsure (Counted 0 1)) (heard 2 (phase_hears.Voted VoteCommit)) ∷ []
 
 abbrev pub committing : List Turn
-committing = one_vote ++ stands (heard 2 (hears.Voted VoteCommit)) ∷ []
+committing = one_vote ++ stands (heard 2 (phase_hears.Voted VoteCommit)) ∷ []
 
 abbrev pub committed : List Turn
-committed = committing ++ heard 3 hears.Done ∷ stands (heard 4 hears.Done) ∷ []
+committed = committing ++ heard 3 phase_hears.Done ∷ stands (heard 4 phase_hears.Done) ∷ []
 
 -- with a subtransaction, in each of its states
 abbrev pub sub_active : List Turn

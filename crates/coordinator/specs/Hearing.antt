@@ -9,7 +9,7 @@ use Rattle.ots_model.specs.declared.completion.CallNumber.{CallNumber}
 use Rattle.ots_model.specs.declared.completion.Doubted.{Doubted}
 use Rattle.ots_model.specs.declared.completion.Doubted.TheVariants as doubts
 use Rattle.ots_model.specs.declared.completion.Heard.{Heard as ParticipantHeard}
-use Rattle.ots_model.specs.declared.completion.Heard.TheVariants as participants
+use Rattle.ots_model.specs.declared.completion.Heard.TheVariants as phase_hears
 use Rattle.ots_model.specs.declared.completion.Stood.{Stood}
 use Rattle.ots_model.specs.declared.completion.Stood.TheVariants as answers
 use Rattle.ots_model.specs.declared.service.RetryKey.{RetryKey}
@@ -57,7 +57,7 @@ marks_parent (Some above) f = marks above f
 marks_parent None f = only f
 
 abbrev pub is_plain : Heard → Bool
-is_plain hears.Done = true
+is_plain (hears.Phase phase_hears.Done) = true
 is_plain _ = false
 
 -- a resource was told of the commit of a subtransaction: where it didn't answer plainly, the parent is marked
@@ -70,7 +70,7 @@ told_end (RollsBack says) b h f = only f
 
 -- why a synchronization that didn't answer plainly rolls the transaction back
 abbrev pub reason_of : ℕ → Heard → Reason
-reason_of index hears.Starved = reasons.SyncStarved index
+reason_of index (hears.Phase phase_hears.Starved) = reasons.SyncStarved index
 reason_of index _ = reasons.SyncLost index
 
 -- a synchronization was called: where it didn't answer plainly, the commit is given up
@@ -80,7 +80,7 @@ told_before b called c h f =
 
 -- a vote is counted: what the registration has answered that was asked
 abbrev pub vote_effects : ParticipantHeard → Option ℕ → List Effect
-vote_effects (participants.Voted vote) (Some registration) = effects.Voted registration vote ∷ []
+vote_effects (phase_hears.Voted vote) (Some registration) = effects.Voted registration vote ∷ []
 vote_effects _ _ = []
 
 -- the number that the completion knows its word by

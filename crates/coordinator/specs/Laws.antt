@@ -6,10 +6,11 @@ use Rattle.std.specs.List.{AllByRecursion, list_any}
 use Rattle.ots_model.specs.declared.completion.CallNumber.{CallNumber}
 use Rattle.ots_model.specs.declared.completion.Stood.{Stood}
 use Rattle.ots_model.specs.declared.tree.Heard.{Heard}
-use Rattle.ots_model.specs.declared.tree.Outcome.{Outcome}
+use Rattle.ots_model.specs.Numbered.{Outcome}
 use Rattle.ots_model.specs.declared.tree.Outward.{Outward}
 use Rattle.ots_model.specs.declared.tree.Reason.{Reason}
 use Rattle.ots_model.specs.declared.tree.Word.{Word}
+use Rattle.ots_model.specs.declared.completion.Word.TheVariants as phase_words
 use Rattle.ots_model.specs.declared.tree.Word.TheVariants as words
 use Rattle.resource_votes.specs.declared.registration.Registration.{Registration}
 use Rattle.two_phase.specs.Course as course
@@ -57,7 +58,7 @@ pub record IsOfCompletion (s : Standing) (o : Outward) : Type 0 where
 abbrev pub IsOfSubtransaction : Word → Type 0
 IsOfSubtransaction words.RollbackSub = Unit {0}
 IsOfSubtransaction (words.CommitSub above) = Unit {0}
-IsOfSubtransaction words.Rollback = Unit {0}
+IsOfSubtransaction (words.Phase phase_words.Rollback) = Unit {0}
 IsOfSubtransaction words.BeforeCompletion = Unit {0}
 IsOfSubtransaction (words.AfterCompletion status) = Unit {0}
 IsOfSubtransaction _ = ⊥
@@ -113,12 +114,13 @@ pub record IsByRecord (s : Standing) (o : Outward) : Type 0 where
   pub party : Party
   pub registration : o.registration ≡ party.index
   pub reference : o.to ≡ party.to
-  pub receipt : o.receipt ≡ course.receipt_of words.Commit (course.record_place before.stood before.reread) party.index
+  pub receipt : o.receipt
+      ≡ course.receipt_of (words.Phase phase_words.Commit) (course.record_place before.stood before.reread) party.index
   pub may : MayBeTold party before
 
 -- each commit word of a step does
 abbrev pub CommitGoesByRecord : Standing → Outward → Type 0
-CommitGoesByRecord s o = o.word ≡ words.Commit → IsByRecord s o
+CommitGoesByRecord s o = o.word ≡ words.Phase phase_words.Commit → IsByRecord s o
 
 abbrev pub FamiliesCommitByRecord : Type 0
 FamiliesCommitByRecord = (f : Family) (e : Event) (stood : Option Stood)

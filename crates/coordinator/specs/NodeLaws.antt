@@ -4,6 +4,7 @@ use Rattle.std.specs.List.{AllByRecursion}
 use Rattle.ior_refs.specs.declared.key.ObjectKey.{ObjectKey}
 use Rattle.ots_model.specs.declared.completion.Stood.{Stood}
 use Rattle.ots_model.specs.declared.tree.Outward.{Outward}
+use Rattle.ots_model.specs.declared.completion.Word.TheVariants as phase_words
 use Rattle.ots_model.specs.declared.tree.Word.TheVariants as words
 use Rattle.two_phase.specs.Stages.{Standing}
 use Rattle.decision_journal.specs.Journal.{found_in}
@@ -68,7 +69,7 @@ pub record IsDecided (o : Outward) : Type 0 where
   pub by_record : IsByRecord completion o
 
 abbrev pub GoesDecided : Outward → Type 0
-GoesDecided o = o.word ≡ words.Commit → IsDecided o
+GoesDecided o = o.word ≡ words.Phase phase_words.Commit → IsDecided o
 
 -- so does each commit word of a call, and each one of a tick that isn't told again
 pub record NodesCommitByRecord : Type 0 where

@@ -5,10 +5,13 @@ use Rattle.ior_refs.specs.declared.key.ObjectKey.{ObjectKey}
 use Rattle.ots_model.specs.declared.completion.CallNumber.{CallNumber}
 use Rattle.ots_model.specs.declared.completion.Vote.TheVariants.{VoteCommit}
 use Rattle.ots_model.specs.declared.service.Status.TheVariants as status
-use Rattle.ots_model.specs.declared.tree.Heard.{Heard}
+use Rattle.ots_model.specs.declared.completion.Heard.{Heard as PhaseHeard}
+use Rattle.ots_model.specs.declared.completion.Heard.TheVariants as phase_hears
 use Rattle.ots_model.specs.declared.tree.Heard.TheVariants as hears
 use Rattle.ots_model.specs.declared.tree.Outward.{Outward}
+use Rattle.ots_model.specs.declared.completion.Word.{Word as PhaseWord}
 use Rattle.ots_model.specs.declared.tree.Word.{Word}
+use Rattle.ots_model.specs.declared.completion.Word.TheVariants as phase_words
 use Rattle.ots_model.specs.declared.tree.Word.TheVariants as words
 use Rattle.decision_journal.specs.declared.journal.Standing.{Standing}
 use Rattle.decision_journal.specs.declared.record.JournalRecord.{JournalRecord}
@@ -72,11 +75,12 @@ with_one = (creates 0 0 new_node).node
 -- two resources vote commit, and the decision record stands at place 26
 abbrev pub to_record : List Turn
 to_record =
-    register 0 one ∷ register 0 other ∷ keyed 3 (on 0 (acts.Commit false)) ∷ heard 1 (hears.Voted VoteCommit)
-    ∷ stands (heard 2 (hears.Voted VoteCommit)) ∷ []
+    register 0 one ∷ register 0 other ∷ keyed 3 (on 0 (acts.Commit false)) ∷ heard 1 (phase_hears.Voted VoteCommit)
+    ∷ stands (heard 2 (phase_hears.Voted VoteCommit)) ∷ []
 
-abbrev pub of_tree : ℕ → Word → List NodeSent
-of_tree serial w = record { number = record { life = 1; slot = 0; generation = 1; serial = serial }; word = w } ∷ []
+abbrev pub of_tree : ℕ → PhaseWord → List NodeSent
+of_tree serial w =
+    record { number = record { life = 1; slot = 0; generation = 1; serial = serial }; word = words.Phase w } ∷ []
 
 abbrev pub says_only : Said → CallShown
 says_only answer = record { said = Ok answer; words = []; effects = [] }
@@ -108,10 +112,10 @@ abbrev pub again_number : ℕ → CallNumber
 again_number index = record { life = 2; slot = 4294967295; generation = 26; serial = index }
 
 abbrev pub commit_again : ℕ → NodeSent
-commit_again index = record { number = again_number index; word = words.Commit }
+commit_again index = record { number = again_number index; word = words.Phase phase_words.Commit }
 
-abbrev pub hears_again : ℕ → Heard → Turn
-hears_again index h = on 0 (acts.Answer (again_number index) h)
+abbrev pub hears_again : ℕ → PhaseHeard → Turn
+hears_again index h = on 0 (acts.Answer (again_number index) (hears.Phase h))
 
 -- the keys by which the record answers: those of its terminator and of its recovery coordinators
 abbrev pub terminator : ObjectKey
@@ -125,7 +129,7 @@ replay index resource = on index (acts.Replay index resource)
 
 -- one resource answers, and then the other, after which the Done stands; a stale answer counts for nothing
 abbrev pub both_answer : List Turn
-both_answer = hears_again 1 hears.Done ∷ hears_again 1 hears.Other ∷ stands (hears_again 2 hears.NoObject) ∷ hears_again 2 hears.Done ∷ []
+both_answer = hears_again 1 phase_hears.Done ∷ hears_again 1 phase_hears.Other ∷ stands (hears_again 2 phase_hears.NoObject) ∷ hears_again 2 phase_hears.Done ∷ []
 
 -- the first family has ended, and the others are to be made in turn from its slot on
 abbrev pub ended_one : Node
@@ -146,9 +150,9 @@ pub record NodesPlay : Type 0 where
   pub old_key_is_gone : calls_show first_key (on 0 acts.GetStatus ∷ []) (creates 0 0 (round ended_one)).node ≡ refused faults.ObjectNotExist ∷ []
   -- up to the decision record
   pub works : calls_show first_key to_record with_one
-      ≡ says_only (said.Made 1) ∷ says_only (said.Made 2) ∷ shows_words said.Later (of_tree 1 words.Prepare) []
-      ∷ shows_words said.Plain (of_tree 2 words.Prepare) (effects.Voted 1 VoteCommit ∷ [])
-      ∷ shows_words said.Plain (of_tree 3 words.Commit) (effects.Voted 2 VoteCommit ∷ decides_record ∷ []) ∷ []
+      ≡ says_only (said.Made 1) ∷ says_only (said.Made 2) ∷ shows_words said.Later (of_tree 1 phase_words.Prepare) []
+      ∷ shows_words said.Plain (of_tree 2 phase_words.Prepare) (effects.Voted 1 VoteCommit ∷ [])
+      ∷ shows_words said.Plain (of_tree 3 phase_words.Commit) (effects.Voted 2 VoteCommit ∷ decides_record ∷ []) ∷ []
   pub record_stands : (after_calls first_key to_record with_one).found.standing ≡ left_standing
   -- its crash: the record is told again in the next life
   pub next_life : life crashed ≡ 2
@@ -156,7 +160,7 @@ pub record NodesPlay : Type 0 where
   pub tells_again : map node_sent (ticks 5 crashed).words ≡ commit_again 1 ∷ commit_again 2 ∷ []
   pub hears_both : calls_show first_key both_answer crashed
       ≡ says_only said.Plain ∷ says_only said.Plain ∷ shows_words said.Plain [] (effects.Done ∷ []) ∷ refused faults.ObjectNotExist ∷ []
-  pub tells_the_rest : map node_sent (ticks 5 (after_calls first_key (hears_again 1 hears.Done ∷ []) crashed)).words ≡ commit_again 2 ∷ []
+  pub tells_the_rest : map node_sent (ticks 5 (after_calls first_key (hears_again 1 phase_hears.Done ∷ []) crashed)).words ≡ commit_again 2 ∷ []
   pub nothing_is_left : (after_calls first_key both_answer crashed).found.standing ≡ []
   pub nothing_is_told : (ticks 5 (after_calls first_key both_answer crashed)).words ≡ []
   -- what the record answers

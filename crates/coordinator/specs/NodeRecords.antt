@@ -7,6 +7,7 @@ use Rattle.ots_model.specs.declared.completion.Vote.TheVariants.{VoteCommit}
 use Rattle.ots_model.specs.declared.service.RetryKey.{RetryKey}
 use Rattle.ots_model.specs.declared.service.Status.{Status}
 use Rattle.ots_model.specs.declared.tree.Word.{Word}
+use Rattle.ots_model.specs.declared.completion.Word.TheVariants as phase_words
 use Rattle.ots_model.specs.declared.tree.Word.TheVariants as words
 use Rattle.recovery_coord.specs.Limits.{recovery_kind}
 use Rattle.recovery_coord.specs.Replay.{is_of_tree, party_named}
@@ -59,8 +60,8 @@ recovery_says r resource None = None
 
 -- a superior's word, of a subordinate that was told to decide for itself and has decided to commit
 abbrev pub word_said : Word → Said
-word_said words.Prepare = said.Voted VoteCommit
-word_said words.Rollback = said.HeuristicCommit
+word_said (words.Phase phase_words.Prepare) = said.Voted VoteCommit
+word_said (words.Phase phase_words.Rollback) = said.HeuristicCommit
 word_said _ = said.Transient
 
 abbrev pub resource_says : Kind → Word → Option Said

@@ -4,8 +4,8 @@ use Rattle.std.specs.Prelude.{ℕ, ◌==◌, ◌&&◌, Bool, true, false, not, O
 use Rattle.std.specs.Option.{option_map_or}
 use Rattle.ots_model.specs.declared.service.Status.{Status}
 use Rattle.ots_model.specs.declared.service.Status.TheVariants as status
-use Rattle.ots_model.specs.declared.tree.Outcome.{Outcome}
-use Rattle.ots_model.specs.declared.tree.Outcome.TheVariants as outcomes
+use Rattle.ots_model.specs.Numbered.{Outcome}
+use Rattle.ots_model.specs.declared.completion.Outcome.TheVariants as outcomes
 use Rattle.txn_tree.specs.Rows.{state, parent, is_live_branch}
 use Rattle.txn_tree.specs.Calls as tree
 use Rattle.two_phase.specs.Stages as stages

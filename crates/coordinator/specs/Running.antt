@@ -4,8 +4,9 @@
 -- each word after the answer to the one before, is our profile).
 use Rattle.std.specs.Prelude.{ℕ, zero, suc, ◌==◌, ◌&&◌, Bool, true, false, not, List, [], ◌∷◌, ◌++◌, length, map, filter, Option, Some, None, if◌then◌else◌}
 use Rattle.ots_model.specs.declared.tree.Parent.TheVariants.{Branch}
-use Rattle.ots_model.specs.declared.tree.Outcome.{Outcome}
+use Rattle.ots_model.specs.Numbered.{Outcome}
 use Rattle.ots_model.specs.declared.tree.Word.{Word}
+use Rattle.ots_model.specs.declared.completion.Word.TheVariants as phase_words
 use Rattle.ots_model.specs.declared.tree.Word.TheVariants as words
 use Rattle.resource_votes.specs.Ballots.{Ballots, participants, adopted}
 use Rattle.resource_votes.specs.declared.registration.Registration.{Registration}
@@ -39,7 +40,7 @@ commit_duties b branch None = []
 abbrev pub word_of : Ending → Word
 word_of TellsRollback = words.RollbackSub
 word_of (TellsCommit above) = words.CommitSub (Branch above)
-word_of RollsBackUpdates = words.Rollback
+word_of RollsBackUpdates = words.Phase phase_words.Rollback
 
 abbrev pub duty_notice : Duty → Notice
 duty_notice d = notice_to (word_of d.ending) d.resource

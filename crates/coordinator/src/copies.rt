@@ -57,16 +57,8 @@ fn copy_heard(alloc: Global, heard: &Heard) -> Result<Heard, AllocError>
     ensures { IfOk result (λ copy. copy ≡ heard.now) }
 {
     Ok(match heard {
-        Heard::Done => Heard::Done,
-        Heard::Voted(vote) => Heard::Voted(*vote),
-        Heard::Heuristic(disposition) => Heard::Heuristic(*disposition),
-        Heard::RolledBack => Heard::RolledBack,
-        Heard::NotPrepared => Heard::NotPrepared,
-        Heard::NoObject => Heard::NoObject,
+        Heard::Phase(heard) => Heard::Phase(*heard),
         Heard::Told(status) => Heard::Told(*status),
         Heard::Enlisted(reference) => Heard::Enlisted(reference.copy(alloc)?),
-        Heard::Other => Heard::Other,
-        Heard::Lost => Heard::Lost,
-        Heard::Starved => Heard::Starved,
     })
 }

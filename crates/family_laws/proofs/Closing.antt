@@ -6,13 +6,13 @@ use Rattle.std.specs.Option.{option_map, option_map_or}
 use Rattle.ots_model.specs.declared.completion.CallNumber.{CallNumber}
 use Rattle.ots_model.specs.declared.completion.Ground.TheVariants.{Nobody}
 use Rattle.ots_model.specs.declared.completion.Heard.{Heard as ParticipantHeard}
-use Rattle.ots_model.specs.declared.completion.Heard.TheVariants as participants
+use Rattle.ots_model.specs.declared.completion.Heard.TheVariants as phase_hears
 use Rattle.ots_model.specs.declared.completion.Stood.{Stood}
 use Rattle.ots_model.specs.declared.completion.Stood.TheVariants as answers
 use Rattle.ots_model.specs.declared.completion.Vote.TheVariants.{VoteCommit}
 use Rattle.ots_model.specs.declared.tree.Heard.{Heard}
-use Rattle.ots_model.specs.declared.tree.Outcome.{Outcome}
-use Rattle.ots_model.specs.declared.tree.Outcome.TheVariants as outcomes
+use Rattle.ots_model.specs.Numbered.{Outcome}
+use Rattle.ots_model.specs.declared.completion.Outcome.TheVariants as outcomes
 use Rattle.ots_model.specs.declared.tree.Reason.{Reason}
 use Rattle.two_phase.specs.Course as course
 use Rattle.two_phase.specs.Course.{Course}
@@ -151,15 +151,15 @@ all_false test (p ∷ ps) h = (one (test p) (list_any test ps) h, all_false test
 
 let_go : (o : Option ParticipantHeard) → option_map_or lets_go o false ≡ true → HasForgotten o
 let_go None h = absurd (cc h)
-let_go (Some participants.Done) h = inl refl
-let_go (Some participants.NoObject) h = inr refl
-let_go (Some (participants.Voted vote)) h = absurd (cc h)
-let_go (Some (participants.Heuristic d)) h = absurd (cc h)
-let_go (Some participants.RolledBack) h = absurd (cc h)
-let_go (Some participants.NotPrepared) h = absurd (cc h)
-let_go (Some participants.Other) h = absurd (cc h)
-let_go (Some participants.Lost) h = absurd (cc h)
-let_go (Some participants.Starved) h = absurd (cc h)
+let_go (Some phase_hears.Done) h = inl refl
+let_go (Some phase_hears.NoObject) h = inr refl
+let_go (Some (phase_hears.Voted vote)) h = absurd (cc h)
+let_go (Some (phase_hears.Heuristic d)) h = absurd (cc h)
+let_go (Some phase_hears.RolledBack) h = absurd (cc h)
+let_go (Some phase_hears.NotPrepared) h = absurd (cc h)
+let_go (Some phase_hears.Other) h = absurd (cc h)
+let_go (Some phase_hears.Lost) h = absurd (cc h)
+let_go (Some phase_hears.Starved) h = absurd (cc h)
 
 -- one that is owed no forget, and has raised a heuristic exception, has let go of it
 forgotten : (p : Party) → is_owed asks.Forgetting p ≡ false → option_map_or is_heuristic p.told false ≡ true → HasForgotten p.forgot
@@ -173,27 +173,27 @@ forgotten p owed raised = let_go p.forgot (go (option_map_or is_heuristic p.ball
 
 completed_by : (p : Party) (o : Option ParticipantHeard) → p.told ≡ o → option_map_or completes o false ≡ true → is_owed asks.Forgetting p ≡ false → HasCompleted p
 completed_by p None e h owed = absurd (cc h)
-completed_by p (Some participants.Done) e h owed = inl e
-completed_by p (Some participants.NoObject) e h owed = inr (inl e)
-completed_by p (Some (participants.Heuristic d)) e h owed = inr (inr (d, e, forgotten p owed (rw e refl)))
-completed_by p (Some (participants.Voted vote)) e h owed = absurd (cc h)
-completed_by p (Some participants.RolledBack) e h owed = absurd (cc h)
-completed_by p (Some participants.NotPrepared) e h owed = absurd (cc h)
-completed_by p (Some participants.Other) e h owed = absurd (cc h)
-completed_by p (Some participants.Lost) e h owed = absurd (cc h)
-completed_by p (Some participants.Starved) e h owed = absurd (cc h)
+completed_by p (Some phase_hears.Done) e h owed = inl e
+completed_by p (Some phase_hears.NoObject) e h owed = inr (inl e)
+completed_by p (Some (phase_hears.Heuristic d)) e h owed = inr (inr (d, e, forgotten p owed (rw e refl)))
+completed_by p (Some (phase_hears.Voted vote)) e h owed = absurd (cc h)
+completed_by p (Some phase_hears.RolledBack) e h owed = absurd (cc h)
+completed_by p (Some phase_hears.NotPrepared) e h owed = absurd (cc h)
+completed_by p (Some phase_hears.Other) e h owed = absurd (cc h)
+completed_by p (Some phase_hears.Lost) e h owed = absurd (cc h)
+completed_by p (Some phase_hears.Starved) e h owed = absurd (cc h)
 
 through_is : (told done : Bool) → told ≡ true → (not told || done) ≡ true → done ≡ true
 through_is true done e h = h
 through_is false done e h = absurd (cc e)
 
-told_commit : (fixed : Outcome) (p : Party) → (fixed ≡ outcomes.Unknown → ⊥) → p.ballot ≡ Some (participants.Voted VoteCommit) → is_told false fixed p ≡ true
+told_commit : (fixed : Outcome) (p : Party) → (fixed ≡ outcomes.Unknown → ⊥) → p.ballot ≡ Some (phase_hears.Voted VoteCommit) → is_told false fixed p ≡ true
 told_commit (outcomes.Commit basis) p n e = rw e refl
 told_commit (outcomes.Rollback reason) p n e = rw e refl
 told_commit outcomes.Unknown p n e = absurd (n refl)
 
 has_completed_all : (alone : Bool) (fixed : Outcome) (p : Party) → alone ≡ false → (fixed ≡ outcomes.Unknown → ⊥) → is_through alone fixed p ≡ true → is_owed asks.Forgetting p ≡ false
-    → p.ballot ≡ Some (participants.Voted VoteCommit) → HasCompleted p
+    → p.ballot ≡ Some (phase_hears.Voted VoteCommit) → HasCompleted p
 has_completed_all alone fixed p a n through owed e =
     completed_by p p.told refl (through_is (is_told false fixed p) (has_completed p) (told_commit fixed p n e) (rw a at through)) owed
 
@@ -211,7 +211,7 @@ settled_all law c a h = go (course.outcome c) refl (both_left (reports.all_compl
     go : (o : Option Outcome) → course.outcome c ≡ o → (elim o as (λ x. Bool) [ Some fixed ↦ reports.all_through (course.decides_alone c) fixed c.parties | None ↦ false ]) ≡ true → CompletesAll (UnderWay c)
     go None e x = absurd (cc x)
     go (Some fixed) e x =
-        all_both (λ (p : Party). is_through (course.decides_alone c) fixed p ≡ true) (λ (p : Party). is_owed asks.Forgetting p ≡ false) (λ (p : Party). p.ballot ≡ Some (participants.Voted VoteCommit) → HasCompleted p)
+        all_both (λ (p : Party). is_through (course.decides_alone c) fixed p ≡ true) (λ (p : Party). is_owed asks.Forgetting p ≡ false) (λ (p : Party). p.ballot ≡ Some (phase_hears.Voted VoteCommit) → HasCompleted p)
         (λ p t w. has_completed_all (course.decides_alone c) fixed p a (λ u. known law c a (rw u at e)) t w) c.parties (all_true (is_through (course.decides_alone c) fixed) c.parties x) owed
 
 -- ---- the Done is wanted

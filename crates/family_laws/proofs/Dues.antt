@@ -8,6 +8,7 @@ use Rattle.ots_model.specs.declared.completion.CallNumber.{CallNumber}
 use Rattle.ots_model.specs.declared.completion.Stood.{Stood}
 use Rattle.ots_model.specs.declared.completion.Stood.TheVariants as answers
 use Rattle.ots_model.specs.declared.tree.Heard.{Heard}
+use Rattle.ots_model.specs.declared.completion.Heard.TheVariants as phase_hears
 use Rattle.ots_model.specs.declared.tree.Heard.TheVariants as hears
 use Rattle.recovery_coord.specs.Held.{is_held}
 use Rattle.recovery_coord.specs.Limits.{retold_slot}
@@ -64,30 +65,30 @@ of_filter test (x ∷ xs) y c = go (test x) c (of_filter test xs y)
 
 -- ---- a due that ends
 
-ended_by : (d : Due) (h : Heard) → due_after d h ≡ due.Nothing → (d ≡ due.Nothing) ⊎ ((h ≡ hears.Done) ⊎ (h ≡ hears.NoObject))
+ended_by : (d : Due) (h : Heard) → due_after d h ≡ due.Nothing → (d ≡ due.Nothing) ⊎ ((h ≡ hears.Phase phase_hears.Done) ⊎ (h ≡ hears.Phase phase_hears.NoObject))
 ended_by due.Nothing h e = inl refl
-ended_by due.Commit hears.Done e = inr (inl refl)
-ended_by due.Commit hears.NoObject e = inr (inr refl)
-ended_by due.Commit (hears.Voted vote) e = absurd (cc e)
-ended_by due.Commit (hears.Heuristic d) e = absurd (cc e)
-ended_by due.Commit hears.RolledBack e = absurd (cc e)
-ended_by due.Commit hears.NotPrepared e = absurd (cc e)
+ended_by due.Commit (hears.Phase phase_hears.Done) e = inr (inl refl)
+ended_by due.Commit (hears.Phase phase_hears.NoObject) e = inr (inr refl)
+ended_by due.Commit (hears.Phase (phase_hears.Voted vote)) e = absurd (cc e)
+ended_by due.Commit (hears.Phase (phase_hears.Heuristic d)) e = absurd (cc e)
+ended_by due.Commit (hears.Phase phase_hears.RolledBack) e = absurd (cc e)
+ended_by due.Commit (hears.Phase phase_hears.NotPrepared) e = absurd (cc e)
 ended_by due.Commit (hears.Told status) e = absurd (cc e)
 ended_by due.Commit (hears.Enlisted reference) e = absurd (cc e)
-ended_by due.Commit hears.Other e = absurd (cc e)
-ended_by due.Commit hears.Lost e = absurd (cc e)
-ended_by due.Commit hears.Starved e = absurd (cc e)
-ended_by due.Forget hears.Done e = inr (inl refl)
-ended_by due.Forget hears.NoObject e = inr (inr refl)
-ended_by due.Forget (hears.Voted vote) e = absurd (cc e)
-ended_by due.Forget (hears.Heuristic d) e = absurd (cc e)
-ended_by due.Forget hears.RolledBack e = absurd (cc e)
-ended_by due.Forget hears.NotPrepared e = absurd (cc e)
+ended_by due.Commit (hears.Phase phase_hears.Other) e = absurd (cc e)
+ended_by due.Commit (hears.Phase phase_hears.Lost) e = absurd (cc e)
+ended_by due.Commit (hears.Phase phase_hears.Starved) e = absurd (cc e)
+ended_by due.Forget (hears.Phase phase_hears.Done) e = inr (inl refl)
+ended_by due.Forget (hears.Phase phase_hears.NoObject) e = inr (inr refl)
+ended_by due.Forget (hears.Phase (phase_hears.Voted vote)) e = absurd (cc e)
+ended_by due.Forget (hears.Phase (phase_hears.Heuristic d)) e = absurd (cc e)
+ended_by due.Forget (hears.Phase phase_hears.RolledBack) e = absurd (cc e)
+ended_by due.Forget (hears.Phase phase_hears.NotPrepared) e = absurd (cc e)
 ended_by due.Forget (hears.Told status) e = absurd (cc e)
 ended_by due.Forget (hears.Enlisted reference) e = absurd (cc e)
-ended_by due.Forget hears.Other e = absurd (cc e)
-ended_by due.Forget hears.Lost e = absurd (cc e)
-ended_by due.Forget hears.Starved e = absurd (cc e)
+ended_by due.Forget (hears.Phase phase_hears.Other) e = absurd (cc e)
+ended_by due.Forget (hears.Phase phase_hears.Lost) e = absurd (cc e)
+ended_by due.Forget (hears.Phase phase_hears.Starved) e = absurd (cc e)
 
 pub was_itself : (records : List Held) (h : Held) (p : Party) → Contains records h → Contains h.parties p → p.due ≡ due.Nothing → WasDone records h.place p
 was_itself records h p c d e = record { held = h; there = c; same_place = refl; party = p; among = d; number = refl; reference = refl; done = e }
@@ -100,7 +101,7 @@ heard_one lives number heard e is again records r c at p d done = by_number (f.x
     f : IsFrom (party_after number.serial heard) r.parties p
     f = of_map (party_after number.serial heard) r.parties p d
 
-    settle : (f.x.index == number.serial) ≡ true → record f.x { due = due_after f.x.due heard } ≡ p → (f.x.due ≡ due.Nothing) ⊎ ((heard ≡ hears.Done) ⊎ (heard ≡ hears.NoObject)) → WasDone records r.place p ⊎ IsAnsweredBy lives e r.place p
+    settle : (f.x.index == number.serial) ≡ true → record f.x { due = due_after f.x.due heard } ≡ p → (f.x.due ≡ due.Nothing) ⊎ ((heard ≡ hears.Phase phase_hears.Done) ⊎ (heard ≡ hears.Phase phase_hears.NoObject)) → WasDone records r.place p ⊎ IsAnsweredBy lives e r.place p
     settle t j (inl n) = inl (record {
       held = r;
       there = c;

@@ -3,14 +3,15 @@ use Rattle.std.proofs.Common.{◌≡◌, ◌≢◌, ◌⊎◌, ◌==◌, inl, in
 use Rattle.std.specs.List.{AllByRecursion, slice_get}
 use Rattle.std.proofs.lemmas.Option.{slice_get_within}
 use Rattle.ots_model.specs.declared.completion.Heard.{Heard as ParticipantHeard}
-use Rattle.ots_model.specs.declared.completion.Heard.TheVariants as participants
+use Rattle.ots_model.specs.declared.completion.Heard.TheVariants as phase_hears
 use Rattle.ots_model.specs.declared.completion.Vote.TheVariants.{VoteCommit, VoteRollback, VoteReadOnly}
-use Rattle.ots_model.specs.declared.tree.Outcome.{Outcome}
-use Rattle.ots_model.specs.declared.tree.Outcome.TheVariants as outcomes
+use Rattle.ots_model.specs.Numbered.{Outcome}
+use Rattle.ots_model.specs.declared.completion.Outcome.TheVariants as outcomes
 use Rattle.ots_model.specs.declared.tree.Outward.{Outward}
 use Rattle.ots_model.specs.declared.tree.Reason.{Reason}
 use Rattle.ots_model.specs.declared.tree.Reason.TheVariants as reasons
 use Rattle.ots_model.specs.declared.tree.Word.{Word}
+use Rattle.ots_model.specs.declared.completion.Word.TheVariants as phase_words
 use Rattle.ots_model.specs.declared.tree.Word.TheVariants as words
 use Rattle.txn_tree.specs.declared.row.Row.{Row}
 use Rattle.resource_votes.specs.Ballots.{Ballots}
@@ -153,17 +154,17 @@ taken false a h = absurd (cc a)
 
 hears_unasked : (alone : Bool) (b : Option ParticipantHeard) → alone ≡ true → hears_rollback alone b ≡ true → b ≡ None
 hears_unasked alone None a h = refl
-hears_unasked alone (Some (participants.Voted VoteCommit)) a h = absurd (taken alone a h)
-hears_unasked alone (Some (participants.Voted VoteRollback)) a h = absurd (cc h)
-hears_unasked alone (Some (participants.Voted VoteReadOnly)) a h = absurd (cc h)
-hears_unasked alone (Some participants.Done) a h = absurd (taken alone a h)
-hears_unasked alone (Some (participants.Heuristic d)) a h = absurd (taken alone a h)
-hears_unasked alone (Some participants.RolledBack) a h = absurd (taken alone a h)
-hears_unasked alone (Some participants.NotPrepared) a h = absurd (taken alone a h)
-hears_unasked alone (Some participants.NoObject) a h = absurd (taken alone a h)
-hears_unasked alone (Some participants.Other) a h = absurd (taken alone a h)
-hears_unasked alone (Some participants.Lost) a h = absurd (taken alone a h)
-hears_unasked alone (Some participants.Starved) a h = absurd (taken alone a h)
+hears_unasked alone (Some (phase_hears.Voted VoteCommit)) a h = absurd (taken alone a h)
+hears_unasked alone (Some (phase_hears.Voted VoteRollback)) a h = absurd (cc h)
+hears_unasked alone (Some (phase_hears.Voted VoteReadOnly)) a h = absurd (cc h)
+hears_unasked alone (Some phase_hears.Done) a h = absurd (taken alone a h)
+hears_unasked alone (Some (phase_hears.Heuristic d)) a h = absurd (taken alone a h)
+hears_unasked alone (Some phase_hears.RolledBack) a h = absurd (taken alone a h)
+hears_unasked alone (Some phase_hears.NotPrepared) a h = absurd (taken alone a h)
+hears_unasked alone (Some phase_hears.NoObject) a h = absurd (taken alone a h)
+hears_unasked alone (Some phase_hears.Other) a h = absurd (taken alone a h)
+hears_unasked alone (Some phase_hears.Lost) a h = absurd (taken alone a h)
+hears_unasked alone (Some phase_hears.Starved) a h = absurd (taken alone a h)
 
 no_rollback : (o : Option Outcome) → o ≡ None → IsRollback o → ⊥
 no_rollback None e h = h
@@ -232,11 +233,11 @@ rests_before law c some rs w o h next word number reference =
     let on : (x : Word) → o.word ≡ x → RestsOn x g.place g.party c = λ x e. subst (λ (y : Word). RestsOn y g.place g.party c) (sym word ∙ e) g.rests in
     let to : GoesToParticipant some o = goes_to c some o h g.place g.party g.there n t in
     record {
-      back = λ e. let b = on words.Rollback e in goes_back c some rs o h g.place g.party g.there n t b.fixed b.hears;
+      back = λ e. let b = on (words.Phase phase_words.Rollback) e in goes_back c some rs o h g.place g.party g.there n t b.fixed b.hears;
       asks = record {
-        prepare = λ e. (to, (on words.Prepare e).0.undecided);
-        alone = λ e. (to, (on words.CommitOnePhase e).0.undecided, (on words.CommitOnePhase e).1);
-        commit = λ e. (to, (on words.Commit e).fixed, any_there (HasVote o.registration VoteCommit) c.parties g.place g.party g.there (sym n, (on words.Commit e).voted));
+        prepare = λ e. (to, (on (words.Phase phase_words.Prepare) e).0.undecided);
+        alone = λ e. (to, (on (words.Phase phase_words.CommitOnePhase) e).0.undecided, (on (words.Phase phase_words.CommitOnePhase) e).1);
+        commit = λ e. (to, (on (words.Phase phase_words.Commit) e).fixed, any_there (HasVote o.registration VoteCommit) c.parties g.place g.party g.there (sym n, (on (words.Phase phase_words.Commit) e).voted));
       };
     }
 

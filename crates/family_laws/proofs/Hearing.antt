@@ -7,12 +7,12 @@ use Rattle.ots_model.specs.Heard.{of_participant}
 use Rattle.ots_model.specs.declared.completion.CallNumber.{CallNumber}
 use Rattle.ots_model.specs.declared.completion.Doubted.{Doubted}
 use Rattle.ots_model.specs.declared.completion.Heard.{Heard as ParticipantHeard}
-use Rattle.ots_model.specs.declared.completion.Heard.TheVariants as participants
+use Rattle.ots_model.specs.declared.completion.Heard.TheVariants as phase_hears
 use Rattle.ots_model.specs.declared.completion.Stood.{Stood}
 use Rattle.ots_model.specs.declared.completion.Stood.TheVariants as answers
 use Rattle.ots_model.specs.declared.tree.Heard.{Heard}
-use Rattle.ots_model.specs.declared.tree.Outcome.{Outcome}
-use Rattle.ots_model.specs.declared.tree.Outcome.TheVariants as outcomes
+use Rattle.ots_model.specs.Numbered.{Outcome}
+use Rattle.ots_model.specs.declared.completion.Outcome.TheVariants as outcomes
 use Rattle.txn_tree.specs.Calls.{marked}
 use Rattle.txn_tree.specs.Calls as tree
 use Rattle.txn_tree.specs.Rows.{parent, is_live, is_live_branch}
@@ -277,28 +277,28 @@ completion_reread stage rs some (UnderWay c) found h = record {
 -- ---- what is told of votes and of the journal has nothing of rows
 
 votes_turn : (early : Bool) (rs : List Row) (heard : ParticipantHeard) (o : Option ℕ) → EndInTurn early (vote_effects heard o) rs
-votes_turn early rs (participants.Voted vote) (Some g) = tt
-votes_turn early rs (participants.Voted vote) None = tt
-votes_turn early rs participants.Done o = tt
-votes_turn early rs (participants.Heuristic d) o = tt
-votes_turn early rs participants.RolledBack o = tt
-votes_turn early rs participants.NotPrepared o = tt
-votes_turn early rs participants.NoObject o = tt
-votes_turn early rs participants.Other o = tt
-votes_turn early rs participants.Lost o = tt
-votes_turn early rs participants.Starved o = tt
+votes_turn early rs (phase_hears.Voted vote) (Some g) = tt
+votes_turn early rs (phase_hears.Voted vote) None = tt
+votes_turn early rs phase_hears.Done o = tt
+votes_turn early rs (phase_hears.Heuristic d) o = tt
+votes_turn early rs phase_hears.RolledBack o = tt
+votes_turn early rs phase_hears.NotPrepared o = tt
+votes_turn early rs phase_hears.NoObject o = tt
+votes_turn early rs phase_hears.Other o = tt
+votes_turn early rs phase_hears.Lost o = tt
+votes_turn early rs phase_hears.Starved o = tt
 
 pub votes_rows : (rs : List Row) (heard : ParticipantHeard) (o : Option ℕ) → rs ≡ rows_told (vote_effects heard o) rs
-votes_rows rs (participants.Voted vote) (Some g) = refl
-votes_rows rs (participants.Voted vote) None = refl
-votes_rows rs participants.Done o = refl
-votes_rows rs (participants.Heuristic d) o = refl
-votes_rows rs participants.RolledBack o = refl
-votes_rows rs participants.NotPrepared o = refl
-votes_rows rs participants.NoObject o = refl
-votes_rows rs participants.Other o = refl
-votes_rows rs participants.Lost o = refl
-votes_rows rs participants.Starved o = refl
+votes_rows rs (phase_hears.Voted vote) (Some g) = refl
+votes_rows rs (phase_hears.Voted vote) None = refl
+votes_rows rs phase_hears.Done o = refl
+votes_rows rs (phase_hears.Heuristic d) o = refl
+votes_rows rs phase_hears.RolledBack o = refl
+votes_rows rs phase_hears.NotPrepared o = refl
+votes_rows rs phase_hears.NoObject o = refl
+votes_rows rs phase_hears.Other o = refl
+votes_rows rs phase_hears.Lost o = refl
+votes_rows rs phase_hears.Starved o = refl
 
 told_participant_calm : (n : CallNumber) (heard : Heard) (f : Family) → IsSoundFamily f → Calm f (told_participant n heard f)
 unfolding told_participant

@@ -4,7 +4,7 @@ use Rattle.std.proofs.lemmas.List.Elements.{Contains-append_cases, Contains-appe
 use Rattle.std.specs.List.{AllByRecursion, filter_map}
 use Rattle.ots_model.specs.Heard.{of_participant}
 use Rattle.ots_model.specs.declared.completion.CallNumber.{CallNumber}
-use Rattle.ots_model.specs.declared.completion.Heard.TheVariants as participants
+use Rattle.ots_model.specs.declared.completion.Heard.TheVariants as phase_hears
 use Rattle.ots_model.specs.declared.completion.Stood.{Stood}
 use Rattle.ots_model.specs.declared.completion.Stood.TheVariants as answers
 use Rattle.ots_model.specs.declared.completion.Vote.{Vote}
@@ -114,7 +114,7 @@ goes_on_at_plain None f = only_plain f
 pub record IsAnswering (f : Family) (n : CallNumber) (h : Heard) (stood : Option Stood) (m : Moved) : Type 0 where
   pub told : IsTold f.key f.serial f.rows f.completion m
   pub votes : (g : ℕ) (vote : Vote) → Contains m.effects (effects.Voted g vote)
-      → (of_participant h ≡ participants.Voted vote) × (stages.voter f.completion ≡ Some g) × IsVoted m.family.completion g vote
+      → (of_participant h ≡ phase_hears.Voted vote) × (stages.voter f.completion ≡ Some g) × IsVoted m.family.completion g vote
   pub waited : (g : ℕ) (vote : Vote) → IsSoundFamily f → Contains m.effects (effects.Voted g vote) → waiting_for f n ≡ Some 0
   pub before : (g : ℕ) (vote : Vote) → stages.decides_alone m.family.completion ≡ false → IsVoted m.family.completion g vote
       → IsVoted f.completion g vote ⊎ Contains m.effects (effects.Voted g vote)
@@ -434,18 +434,18 @@ families_tell_outcomes law f e stood there = go (family_step f e stood) (step_is
     go : (s : Stepped) → IsStep f e stood s → filter_map decided_in s.effects ≡ filter_map decided_in (fixed_now (stages.outcome f.completion) (stages.outcome s.family.completion))
     go s h = rw (h.effects_are, h.completion) (h.acted.outcomes law there).1
 
-heard_vote : (h : Heard) (vote : Vote) → of_participant h ≡ participants.Voted vote → h ≡ hears_words.Voted vote
-heard_vote hears_words.Done vote e = absurd (cc e)
-heard_vote (hears_words.Voted v) vote e = cc e
-heard_vote (hears_words.Heuristic d) vote e = absurd (cc e)
-heard_vote hears_words.RolledBack vote e = absurd (cc e)
-heard_vote hears_words.NotPrepared vote e = absurd (cc e)
-heard_vote hears_words.NoObject vote e = absurd (cc e)
+heard_vote : (h : Heard) (vote : Vote) → of_participant h ≡ phase_hears.Voted vote → h ≡ hears_words.Phase (phase_hears.Voted vote)
+heard_vote (hears_words.Phase phase_hears.Done) vote e = absurd (cc e)
+heard_vote (hears_words.Phase (phase_hears.Voted v)) vote e = cc e
+heard_vote (hears_words.Phase (phase_hears.Heuristic d)) vote e = absurd (cc e)
+heard_vote (hears_words.Phase phase_hears.RolledBack) vote e = absurd (cc e)
+heard_vote (hears_words.Phase phase_hears.NotPrepared) vote e = absurd (cc e)
+heard_vote (hears_words.Phase phase_hears.NoObject) vote e = absurd (cc e)
 heard_vote (hears_words.Told status) vote e = absurd (cc e)
 heard_vote (hears_words.Enlisted reference) vote e = absurd (cc e)
-heard_vote hears_words.Other vote e = absurd (cc e)
-heard_vote hears_words.Lost vote e = absurd (cc e)
-heard_vote hears_words.Starved vote e = absurd (cc e)
+heard_vote (hears_words.Phase phase_hears.Other) vote e = absurd (cc e)
+heard_vote (hears_words.Phase phase_hears.Lost) vote e = absurd (cc e)
+heard_vote (hears_words.Phase phase_hears.Starved) vote e = absurd (cc e)
 
 vote_told : (f : Family) (e : Event) (stood : Option Stood) (g : ℕ) (vote : Vote) → IsSoundFamily f → (s : Stepped) → IsStep f e stood s → Contains s.effects (effects.Voted g vote) → IsHeardVote f s.family e.act g vote
 vote_told f e stood g vote sound s h c = go h.acted.rest

@@ -4,7 +4,7 @@ use Rattle.std.specs.List.{AllByRecursion, filter_map}
 use Rattle.std.specs.Prelude.{slice_set}
 use Rattle.std.proofs.lemmas.List.{get_or-set_other}
 use Rattle.std.specs.Option.{option_map_or}
-use Rattle.ots_model.specs.declared.tree.Outcome.{Outcome}
+use Rattle.ots_model.specs.Numbered.{Outcome}
 use Rattle.txn_tree.specs.Rows.{IsTree, IsParent, parent, is_live_branch}
 use Rattle.txn_tree.specs.Calls.{ended, live_under}
 use Rattle.txn_tree.specs.declared.row.Row.{Row}

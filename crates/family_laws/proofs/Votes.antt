@@ -11,7 +11,7 @@ use Rattle.ots_model.specs.Heard.{of_participant}
 use Rattle.ots_model.specs.declared.completion.CallNumber.{CallNumber}
 use Rattle.ots_model.specs.declared.completion.Doubted.{Doubted}
 use Rattle.ots_model.specs.declared.completion.Heard.{Heard as ParticipantHeard}
-use Rattle.ots_model.specs.declared.completion.Heard.TheVariants as participants
+use Rattle.ots_model.specs.declared.completion.Heard.TheVariants as phase_hears
 use Rattle.ots_model.specs.declared.completion.Stood.{Stood}
 use Rattle.ots_model.specs.declared.completion.Stood.TheVariants as answers
 use Rattle.ots_model.specs.declared.completion.Vote.{Vote}
@@ -198,10 +198,10 @@ pub heard_there : (k : Course) (e : Errand) (p : Party) (heard : ParticipantHear
 heard_there k e p heard i = placed k e heard (Some p) i
 
 -- its vote counts from then on
-vote_counted : (k : Course) (g : ℕ) (vote : Vote) → course.voter k ≡ Some g → IsVoted (UnderWay (course.after_answer k.number (participants.Voted vote) k)) g vote
+vote_counted : (k : Course) (g : ℕ) (vote : Vote) → course.voter k ≡ Some g → IsVoted (UnderWay (course.after_answer k.number (phase_hears.Voted vote) k)) g vote
 vote_counted k g vote h =
     let a : IsAsked k g = asked_by k g k.out refl h in
-    let heard : ParticipantHeard = participants.Voted vote in
+    let heard : ParticipantHeard = phase_hears.Voted vote in
     subst (λ (d : Course). Any (HasVote g vote) d.parties) (sym (after_out k a.errand heard a.out))
     (subst (λ (ps : List Party). Any (HasVote g vote) ps) (sym (heard_there k a.errand a.party heard a.there ∙ ap (λ (s : Asked). slice_set k.parties a.errand.place (course.heard_at s heard a.party)) a.stage))
     (any-set (HasVote g vote) k.parties a.errand.place (record a.party { ballot = Some heard }) (slice_get_within k.parties a.errand.place a.party a.there) (a.number, refl)))
@@ -228,7 +228,7 @@ any_set_cases {A = A} P xs i y h = go xs i h.0 h.1 h.2 h.3 h.4
     go (z ∷ xs) (suc i) (suc k) x l e p = later z xs (go xs i k x (omega (arith, l)) e p)
 
 abbrev IsHeardNow : Course → ParticipantHeard → ℕ → Vote → Type 0
-IsHeardNow k heard g vote = (heard ≡ participants.Voted vote) × (course.voter k ≡ Some g)
+IsHeardNow k heard g vote = (heard ≡ phase_hears.Voted vote) × (course.voter k ≡ Some g)
 
 voter_is : (k : Course) (e : Errand) (p : Party) → k.out ≡ Some e → e.stage ≡ asks.Asking → course.decides_alone k ≡ false → slice_get k.parties e.place ≡ Some p → course.voter k ≡ Some p.index
 voter_is k e p o s a i = rw o (rw (s, a, i) refl)
@@ -288,7 +288,7 @@ other_no_vote effects.Done h = absurd h
 -- the votes that are told were heard, and count from then on; and a vote that counts then counted before, or is told
 pub record IsHeard (s : Standing) (heard : ParticipantHeard) (m : Moved) : Type 0 where
   pub votes : (g : ℕ) (vote : Vote) → Contains m.effects (effects.Voted g vote)
-      → (heard ≡ participants.Voted vote) × (stages.voter s ≡ Some g) × IsVoted m.family.completion g vote
+      → (heard ≡ phase_hears.Voted vote) × (stages.voter s ≡ Some g) × IsVoted m.family.completion g vote
   pub before : (g : ℕ) (vote : Vote) → stages.decides_alone m.family.completion ≡ false → IsVoted m.family.completion g vote
       → IsVoted s g vote ⊎ Contains m.effects (effects.Voted g vote)
   pub no_done : AllByRecursion IsNoDone m.effects
@@ -314,48 +314,48 @@ plainly f heard m h = record { told = h.told; hears = plain_heard f heard m h }
 
 -- a vote that is told
 record IsVoteOf (heard : ParticipantHeard) (o : Option ℕ) (g : ℕ) (vote : Vote) : Type 0 where
-  is : heard ≡ participants.Voted vote
+  is : heard ≡ phase_hears.Voted vote
   by : o ≡ Some g
 
 vote_among : (heard : ParticipantHeard) (o : Option ℕ) (g : ℕ) (vote : Vote) → Contains (vote_effects heard o) (effects.Voted g vote) → IsVoteOf heard o g vote
-vote_among (participants.Voted v) (Some p) g vote h = one h.0 h.1 h.2
+vote_among (phase_hears.Voted v) (Some p) g vote h = one h.0 h.1 h.2
   where
-    one : (k : ℕ) → k < 1 → get_or (effects.Voted p v ∷ []) k (effects.Voted g vote) ≡ effects.Voted g vote → IsVoteOf (participants.Voted v) (Some p) g vote
+    one : (k : ℕ) → k < 1 → get_or (effects.Voted p v ∷ []) k (effects.Voted g vote) ≡ effects.Voted g vote → IsVoteOf (phase_hears.Voted v) (Some p) g vote
     one zero l e = record { is = cc e; by = cc e }
     one (suc k) l e = absurd (omega (arith, l))
-vote_among (participants.Voted v) None g vote h = let l = h.1 in absurd (omega (arith, l))
-vote_among participants.Done o g vote h = let l = h.1 in absurd (omega (arith, l))
-vote_among (participants.Heuristic d) o g vote h = let l = h.1 in absurd (omega (arith, l))
-vote_among participants.RolledBack o g vote h = let l = h.1 in absurd (omega (arith, l))
-vote_among participants.NotPrepared o g vote h = let l = h.1 in absurd (omega (arith, l))
-vote_among participants.NoObject o g vote h = let l = h.1 in absurd (omega (arith, l))
-vote_among participants.Other o g vote h = let l = h.1 in absurd (omega (arith, l))
-vote_among participants.Lost o g vote h = let l = h.1 in absurd (omega (arith, l))
-vote_among participants.Starved o g vote h = let l = h.1 in absurd (omega (arith, l))
+vote_among (phase_hears.Voted v) None g vote h = let l = h.1 in absurd (omega (arith, l))
+vote_among phase_hears.Done o g vote h = let l = h.1 in absurd (omega (arith, l))
+vote_among (phase_hears.Heuristic d) o g vote h = let l = h.1 in absurd (omega (arith, l))
+vote_among phase_hears.RolledBack o g vote h = let l = h.1 in absurd (omega (arith, l))
+vote_among phase_hears.NotPrepared o g vote h = let l = h.1 in absurd (omega (arith, l))
+vote_among phase_hears.NoObject o g vote h = let l = h.1 in absurd (omega (arith, l))
+vote_among phase_hears.Other o g vote h = let l = h.1 in absurd (omega (arith, l))
+vote_among phase_hears.Lost o g vote h = let l = h.1 in absurd (omega (arith, l))
+vote_among phase_hears.Starved o g vote h = let l = h.1 in absurd (omega (arith, l))
 
 votes_new : (s : Standing) (heard : ParticipantHeard) (o : Option ℕ) → filter_map decided_in (vote_effects heard o) ≡ []
-votes_new s (participants.Voted v) (Some p) = refl
-votes_new s (participants.Voted v) None = refl
-votes_new s participants.Done o = refl
-votes_new s (participants.Heuristic d) o = refl
-votes_new s participants.RolledBack o = refl
-votes_new s participants.NotPrepared o = refl
-votes_new s participants.NoObject o = refl
-votes_new s participants.Other o = refl
-votes_new s participants.Lost o = refl
-votes_new s participants.Starved o = refl
+votes_new s (phase_hears.Voted v) (Some p) = refl
+votes_new s (phase_hears.Voted v) None = refl
+votes_new s phase_hears.Done o = refl
+votes_new s (phase_hears.Heuristic d) o = refl
+votes_new s phase_hears.RolledBack o = refl
+votes_new s phase_hears.NotPrepared o = refl
+votes_new s phase_hears.NoObject o = refl
+votes_new s phase_hears.Other o = refl
+votes_new s phase_hears.Lost o = refl
+votes_new s phase_hears.Starved o = refl
 
 votes_no_done : (heard : ParticipantHeard) (o : Option ℕ) → AllByRecursion IsNoDone (vote_effects heard o)
-votes_no_done (participants.Voted v) (Some p) = (tt, tt)
-votes_no_done (participants.Voted v) None = tt
-votes_no_done participants.Done o = tt
-votes_no_done (participants.Heuristic d) o = tt
-votes_no_done participants.RolledBack o = tt
-votes_no_done participants.NotPrepared o = tt
-votes_no_done participants.NoObject o = tt
-votes_no_done participants.Other o = tt
-votes_no_done participants.Lost o = tt
-votes_no_done participants.Starved o = tt
+votes_no_done (phase_hears.Voted v) (Some p) = (tt, tt)
+votes_no_done (phase_hears.Voted v) None = tt
+votes_no_done phase_hears.Done o = tt
+votes_no_done (phase_hears.Heuristic d) o = tt
+votes_no_done phase_hears.RolledBack o = tt
+votes_no_done phase_hears.NotPrepared o = tt
+votes_no_done phase_hears.NoObject o = tt
+votes_no_done phase_hears.Other o = tt
+votes_no_done phase_hears.Lost o = tt
+votes_no_done phase_hears.Starved o = tt
 
 shows_votes : (heard : ParticipantHeard) (f : Family) → Told f (shows (vote_effects heard (stages.voter f.completion)) f)
 shows_votes heard f = record {
@@ -378,7 +378,7 @@ counted_now : (f : Family) (n : CallNumber) (s : Standing) (heard : ParticipantH
 counted_now f n (Waiting room) heard g vote h = absurd (cc h.by)
 counted_now f n (UnderWay k) heard g vote h = rw h.is (vote_counted k g vote h.by)
 
-voted_now : (heard : ParticipantHeard) (o : Option ℕ) (g : ℕ) (vote : Vote) → heard ≡ participants.Voted vote → o ≡ Some g → Contains (vote_effects heard o) (effects.Voted g vote)
+voted_now : (heard : ParticipantHeard) (o : Option ℕ) (g : ℕ) (vote : Vote) → heard ≡ phase_hears.Voted vote → o ≡ Some g → Contains (vote_effects heard o) (effects.Voted g vote)
 voted_now heard o g vote e i = rw (e, i) (has_at (effects.Voted g vote ∷ []) 0 (effects.Voted g vote) refl)
 
 parties_set : (xs : List Party) (k : ℕ) (y : Party) → length (slice_set xs k y) ≡ length xs
@@ -441,7 +441,7 @@ told_participant_hears n h f =
 
     sort : (g : ℕ) (vote : Vote) → Contains (vote_effects (of_participant h) (stages.voter f.completion)) (effects.Voted g vote)
         ⊎ Contains (fixed_now (stages.outcome f.completion) (stages.outcome (hearing f n (of_participant h)))) (effects.Voted g vote)
-        → (of_participant h ≡ participants.Voted vote) × (stages.voter f.completion ≡ Some g) × IsVoted (hearing f n (of_participant h)) g vote
+        → (of_participant h ≡ phase_hears.Voted vote) × (stages.voter f.completion ≡ Some g) × IsVoted (hearing f n (of_participant h)) g vote
     sort g vote (inl c) =
         let v = vote_among (of_participant h) (stages.voter f.completion) g vote c in
         (v.is, v.by, counted_now f n f.completion (of_participant h) g vote v)

@@ -8,8 +8,9 @@ use Rattle.ots_model.specs.declared.completion.Heard.TheVariants.{Voted}
 use Rattle.ots_model.specs.declared.completion.Stood.{Stood}
 use Rattle.ots_model.specs.declared.completion.Vote.TheVariants.{VoteCommit}
 use Rattle.ots_model.specs.declared.tree.Heard.{Heard}
+use Rattle.ots_model.specs.declared.completion.Heard.TheVariants as phase_hears
 use Rattle.ots_model.specs.declared.tree.Heard.TheVariants as hears
-use Rattle.ots_model.specs.declared.tree.Outcome.TheVariants.{Commit}
+use Rattle.ots_model.specs.declared.completion.Outcome.TheVariants.{Commit}
 use Rattle.two_phase.specs.Parties.{has_completed}
 use Rattle.two_phase.specs.Stages as stages
 use Rattle.two_phase.specs.Stages.{Standing, Waiting, Going as UnderWay}
@@ -48,7 +49,7 @@ pub record IsAnsweredBy (lives : ℕ) (e : Event) (place : ℕ) (p : Party) : Ty
   pub same_life : number.life ≡ lives
   pub of_record : number.generation ≡ place
   pub of_party : number.serial ≡ p.index
-  pub done : (heard ≡ hears.Done) ⊎ (heard ≡ hears.NoObject)
+  pub done : (heard ≡ hears.Phase phase_hears.Done) ⊎ (heard ≡ hears.Phase phase_hears.NoObject)
 
 -- a finished family is through with a registration: where it is committed, each participant of this number that has voted commit
 -- has completed

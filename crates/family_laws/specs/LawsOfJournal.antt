@@ -6,12 +6,12 @@ use Rattle.ots_model.specs.declared.completion.CallNumber.{CallNumber}
 use Rattle.ots_model.specs.declared.completion.Disposition.{Disposition}
 use Rattle.ots_model.specs.declared.completion.Ground.TheVariants.{Record}
 use Rattle.ots_model.specs.declared.completion.Heard.{Heard as Participant}
-use Rattle.ots_model.specs.declared.completion.Heard.TheVariants as participants_heard
+use Rattle.ots_model.specs.declared.completion.Heard.TheVariants as phase_hears
 use Rattle.ots_model.specs.declared.completion.Stood.{Stood}
 use Rattle.ots_model.specs.declared.completion.Stood.TheVariants as answers
 use Rattle.ots_model.specs.declared.completion.Vote.TheVariants.{VoteCommit}
 use Rattle.ots_model.specs.declared.tree.Heard.{Heard}
-use Rattle.ots_model.specs.declared.tree.Outcome.TheVariants as outcomes
+use Rattle.ots_model.specs.declared.completion.Outcome.TheVariants as outcomes
 use Rattle.two_phase.specs.Stages as stages
 use Rattle.two_phase.specs.Stages.{Standing, Waiting, Going as UnderWay}
 use Rattle.two_phase.specs.declared.party.Party.{Party}
@@ -42,18 +42,18 @@ FamiliesAppendOwn = (f : Family) (e : Event) (item : JournalRecord) → IsSoundF
 
 -- an answer to forget that lets go of a heuristic outcome
 abbrev pub HasForgotten : Option Participant → Type 0
-HasForgotten forgot = (forgot ≡ Some participants_heard.Done) ⊎ (forgot ≡ Some participants_heard.NoObject)
+HasForgotten forgot = (forgot ≡ Some phase_hears.Done) ⊎ (forgot ≡ Some phase_hears.NoObject)
 
 -- A participant has completed: by a plain answer, or nobody knows of it any more, or by a heuristic outcome that it was told to
 -- forget.
 abbrev pub HasCompleted : Party → Type 0
-HasCompleted p = (p.told ≡ Some participants_heard.Done) ⊎ (p.told ≡ Some participants_heard.NoObject)
-    ⊎ ((d : Disposition) × (p.told ≡ Some (participants_heard.Heuristic d)) × HasForgotten p.forgot)
+HasCompleted p = (p.told ≡ Some phase_hears.Done) ⊎ (p.told ≡ Some phase_hears.NoObject)
+    ⊎ ((d : Disposition) × (p.told ≡ Some (phase_hears.Heuristic d)) × HasForgotten p.forgot)
 
 -- each one that has voted commit
 abbrev pub CompletesAll : Standing → Type 0
 CompletesAll (Waiting room) = ⊥
-CompletesAll (UnderWay c) = AllByRecursion (λ (p : Party). p.ballot ≡ Some (participants_heard.Voted VoteCommit) → HasCompleted p) c.parties
+CompletesAll (UnderWay c) = AllByRecursion (λ (p : Party). p.ballot ≡ Some (phase_hears.Voted VoteCommit) → HasCompleted p) c.parties
 
 -- A Done is wanted of the family's own record, once all have completed; and it is told exactly where it was wanted and stands.
 pub record FamiliesCloseLast : Type 0 where

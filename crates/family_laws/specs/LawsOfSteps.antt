@@ -6,9 +6,10 @@ use Rattle.ior_refs.specs.declared.key.ObjectKey.{ObjectKey}
 use Rattle.ots_model.specs.declared.completion.Ground.TheVariants.{Record}
 use Rattle.ots_model.specs.declared.completion.Stood.{Stood}
 use Rattle.ots_model.specs.declared.completion.Vote.TheVariants.{VoteCommit}
-use Rattle.ots_model.specs.declared.tree.Outcome.{Outcome}
-use Rattle.ots_model.specs.declared.tree.Outcome.TheVariants as outcomes
+use Rattle.ots_model.specs.Numbered.{Outcome}
+use Rattle.ots_model.specs.declared.completion.Outcome.TheVariants as outcomes
 use Rattle.ots_model.specs.declared.tree.Outward.{Outward}
+use Rattle.ots_model.specs.declared.completion.Word.TheVariants as phase_words
 use Rattle.ots_model.specs.declared.tree.Word.TheVariants as words
 use Rattle.resource_votes.specs.Ballots.{Ballots, participants}
 use Rattle.resource_votes.specs.declared.registration.Registration.{Registration}
@@ -92,13 +93,13 @@ pub record GoesToParticipant (some : Ballots) (o : Outward) : Type 0 where
 -- where the outcome is open, one is asked, or decides alone; commit goes out where it is commit by a record, to one that voted
 -- commit
 pub record AsksRightly (s : Standing) (some : Ballots) (o : Outward) : Type 0 where
-  pub prepare : o.word ≡ words.Prepare → GoesToParticipant some o × (stages.outcome s ≡ None)
-  pub alone : o.word ≡ words.CommitOnePhase → GoesToParticipant some o × (stages.outcome s ≡ None) × (stages.decides_alone s ≡ true)
-  pub commit : o.word ≡ words.Commit → GoesToParticipant some o × (stages.outcome s ≡ Some (outcomes.Commit Record)) × IsVoted s o.registration VoteCommit
+  pub prepare : o.word ≡ words.Phase phase_words.Prepare → GoesToParticipant some o × (stages.outcome s ≡ None)
+  pub alone : o.word ≡ words.Phase phase_words.CommitOnePhase → GoesToParticipant some o × (stages.outcome s ≡ None) × (stages.decides_alone s ≡ true)
+  pub commit : o.word ≡ words.Phase phase_words.Commit → GoesToParticipant some o × (stages.outcome s ≡ Some (outcomes.Commit Record)) × IsVoted s o.registration VoteCommit
 
 -- what each word of a family rests on
 pub record Rests (s : Standing) (some : Ballots) (rs : List Row) (o : Outward) : Type 0 where
-  pub back : o.word ≡ words.Rollback → GoesBack s some rs o
+  pub back : o.word ≡ words.Phase phase_words.Rollback → GoesBack s some rs o
   pub asks : AsksRightly s some o
 
 abbrev pub WordsRest : Family → List Outward → Type 0

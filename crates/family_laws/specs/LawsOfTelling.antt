@@ -7,12 +7,12 @@ use Rattle.ior_refs.specs.declared.key.ObjectKey.{ObjectKey}
 use Rattle.ots_model.specs.Heard.{of_participant}
 use Rattle.ots_model.specs.declared.completion.CallNumber.{CallNumber}
 use Rattle.ots_model.specs.declared.completion.Heard.{Heard}
-use Rattle.ots_model.specs.declared.completion.Heard.TheVariants as participants_heard
+use Rattle.ots_model.specs.declared.completion.Heard.TheVariants as phase_hears
 use Rattle.ots_model.specs.declared.completion.Stood.{Stood}
 use Rattle.ots_model.specs.declared.completion.Vote.{Vote}
 use Rattle.ots_model.specs.declared.tree.Heard.{Heard as TreeHeard}
 use Rattle.ots_model.specs.declared.tree.Heard.TheVariants as hears_words
-use Rattle.ots_model.specs.declared.tree.Outcome.{Outcome}
+use Rattle.ots_model.specs.Numbered.{Outcome}
 use Rattle.ots_model.specs.declared.tree.Outward.{Outward}
 use Rattle.txn_tree.specs.Calls.{created, ended, marked}
 use Rattle.txn_tree.specs.declared.row.Row.{Row}
@@ -75,7 +75,7 @@ FamiliesTellOutcomes = (f : Family) (e : Event) (stood : Option Stood) → IsThe
 
 -- a participant of this number has this vote
 abbrev pub HasVote : ℕ → Vote → Party → Type 0
-HasVote g vote p = (p.index ≡ g) × (p.ballot ≡ Some (participants_heard.Voted vote))
+HasVote g vote p = (p.index ≡ g) × (p.ballot ≡ Some (phase_hears.Voted vote))
 
 abbrev pub IsVoted : Standing → ℕ → Vote → Type 0
 IsVoted (Waiting room) g vote = ⊥
@@ -84,7 +84,7 @@ IsVoted (UnderWay c) g vote = Any (HasVote g vote) c.parties
 -- a vote is heard by the answer to the word that asked that participant, and counts from then on
 pub record IsHeardVote (f later : Family) (act : Act) (g : ℕ) (vote : Vote) : Type 0 where
   pub number : CallNumber
-  pub answer : act ≡ acts.Answer number (hears_words.Voted vote)
+  pub answer : act ≡ acts.Answer number (hears_words.Phase (phase_hears.Voted vote))
   pub waited : waiting_for f number ≡ Some 0
   pub asked : stages.voter f.completion ≡ Some g
   pub counted : IsVoted later.completion g vote

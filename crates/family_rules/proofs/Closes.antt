@@ -1,7 +1,7 @@
 -- The rules by which the top-level transaction ends, by their cases.
 use Rattle.std.proofs.Common.{◌≡◌, ◌∙◌, refl, ap, sym, ℕ, Bool, true, false, not, List, [], ◌++◌, Option, Some, None, is_some, if◌then◌else◌}
 use Rattle.std.proofs.lemmas.List.{append-nil}
-use Rattle.ots_model.specs.declared.tree.Outcome.{Outcome}
+use Rattle.ots_model.specs.Numbered.{Outcome}
 use Rattle.ots_model.specs.declared.tree.Outward.{Outward}
 use Rattle.ots_model.specs.declared.tree.Reason.TheVariants as reasons
 use Rattle.resource_votes.specs.declared.registration.Registration.{Registration}

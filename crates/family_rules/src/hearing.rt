@@ -17,7 +17,7 @@ use crate::draft::Draft;
 use crate::state::{State, TOP};
 use coordinator::{Column, Effect, Leg};
 use ots_model::tree::{Heard, Reason};
-use ots_model::{CallNumber, Doubted, Stood};
+use ots_model::{CallNumber, Doubted, PhaseHeard, Stood};
 
 impl State {
     /// The answer to the word of a call that is out: it is out no more.
@@ -297,7 +297,7 @@ fn found_at(stood: Option<Stood>) -> Option<u32>
 fn is_plain(heard: &Heard) -> bool
     ensures { result ≡ hearing.is_plain heard.now }
 {
-    matches!(heard, Heard::Done)
+    matches!(heard, Heard::Phase(PhaseHeard::Done))
 }
 
 /// Why a synchronization that didn't answer plainly rolls the transaction back.
@@ -305,7 +305,7 @@ fn reason_of(called: u32, heard: &Heard) -> Reason
     ensures { result ≡ hearing.reason_of called heard.now }
 {
     match heard {
-        Heard::Starved => Reason::SyncStarved(called),
+        Heard::Phase(PhaseHeard::Starved) => Reason::SyncStarved(called),
         _ => Reason::SyncLost(called),
     }
 }
@@ -326,7 +326,7 @@ fn vote_effect(heard: &Heard, voter: Option<u32>) -> Option<Effect>
 {
     let voter = voter?;
     match heard {
-        Heard::Voted(vote) => Some(Effect::Voted(voter, *vote)),
+        Heard::Phase(PhaseHeard::Voted(vote)) => Some(Effect::Voted(voter, *vote)),
         _ => None,
     }
 }

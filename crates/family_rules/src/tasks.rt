@@ -20,8 +20,8 @@ use crate::call::{Call, Reply, Seat, Task};
 use crate::draft::Draft;
 use crate::state::State;
 use coordinator::{Effect, Ending, Leg};
-use ots_model::CallNumber;
 use ots_model::tree::{Parent, Word};
+use ots_model::{CallNumber, PhaseWord};
 use resource_votes::{Votes, Walk};
 use std::collections::VecDeque;
 use std::mem;
@@ -404,6 +404,6 @@ fn word_of(ending: Ending) -> Word
     match ending {
         Ending::TellsRollback => Word::RollbackSub,
         Ending::TellsCommit(above) => Word::CommitSub(Parent::Branch(above)),
-        Ending::RollsBackUpdates => Word::Rollback,
+        Ending::RollsBackUpdates => Word::Phase(PhaseWord::Rollback),
     }
 }

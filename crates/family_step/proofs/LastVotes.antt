@@ -4,6 +4,7 @@ use Rattle.ots_model.specs.Heard.{of_participant}
 use Rattle.ots_model.specs.declared.completion.CallNumber.{CallNumber}
 use Rattle.ots_model.specs.declared.completion.Heard.{Heard as ParticipantHeard}
 use Rattle.ots_model.specs.declared.tree.Heard.{Heard}
+use Rattle.ots_model.specs.declared.completion.Heard.TheVariants as phase_hears
 use Rattle.ots_model.specs.declared.tree.Heard.TheVariants as hears
 use Rattle.ots_model.specs.declared.tree.Reason.{Reason}
 use Rattle.two_phase.specs.Course as course
@@ -52,7 +53,7 @@ answered_wants last (UnderWay c) f n h = λ wants. by_now (course.wants_decision
 
 -- one that begins with a rollback wants none
 is_lost : (called : ℕ) (h : Heard) → course.is_outside (reason_of called h) ≡ true
-is_lost called hears.Starved = refl
+is_lost called (hears.Phase phase_hears.Starved) = refl
 is_lost called _ = refl
 
 none_wanted : (x n s a b : Bool) → n ≡ false → (x && n && s && a && b) ≡ false

@@ -203,8 +203,8 @@ fn go_so_far(
     Ok(())
 }
 
-/// The octets behind so many of a message are taken back, and a walk goes over those in front of them anew. So a stream pays
-/// for its first refusal, and no Fragment for a copy of the walk.
+/// The octets behind so many of a message are taken back, and a walk goes over those in front of them anew. So a refusal
+/// pays, or want of memory at the end, and no Fragment for a copy of the walk.
 fn take_back(walk: &mut Walk, header: Header, content: &mut Buffer, before: usize)
     requires content { length content.old.octets ≤ size_limit }
     requires first { is_fragment header.kind ≡ false }

@@ -2,6 +2,7 @@ ghost use Rattle.std.specs.Prelude.{◌<◌, ◌≤◌, ◌^◌};
 
 use crate::records::{decision, prepared};
 use decision_journal::{CellsEnd, Journal, JournalFault, JournalRecord, Standing};
+use ots_model::PhaseHeard;
 use ots_model::tree::Heard;
 use ots_outside::{Back, Disk, DiskRefusal, FileDisk};
 use recovery_coord::{Outbox, Recovered};
@@ -154,7 +155,7 @@ fn redrive(recovered: &mut Recovered, out: &mut Outbox) -> io::Result<()> {
 
 fn answer_next(recovered: &mut Recovered, out: &mut Outbox) {
     if let Some(word) = out.take() {
-        recovered.heard(&word.number, &Heard::Done);
+        recovered.heard(&word.number, &Heard::Phase(PhaseHeard::Done));
     }
 }
 

@@ -15,7 +15,7 @@ use crate::end_calls::{
 use crate::records::{low_octet, number};
 use ior_refs::ObjectKey;
 use ots_model::tree::Heard;
-use ots_model::{CallNumber, Decision, Disposition, RefBytes, Status};
+use ots_model::{CallNumber, Decision, Disposition, PhaseHeard, RefBytes, Status};
 use recovery_coord::Outbox;
 use resource_end::EndFault;
 use std::alloc::Global;
@@ -233,10 +233,14 @@ fn answer_to(end: &mut MemEnd, key: &ObjectKey, word: &str) -> Result<Heard, End
 
 fn tell_heard(heard: &Heard, told: &mut Vec<u8>) -> io::Result<()> {
     match heard {
-        Heard::Voted(vote) => write!(told, "{vote:?}"),
-        Heard::Heuristic(disposition) => write!(told, "{}", heuristic_word(*disposition)),
-        Heard::RolledBack => write!(told, "rolled back"),
-        Heard::NotPrepared => write!(told, "not prepared"),
+        Heard::Phase(PhaseHeard::Voted(vote)) => write!(told, "{vote:?}"),
+        Heard::Phase(PhaseHeard::Heuristic(disposition)) => write!(
+            told,
+            "{}",
+            heuristic_word(*disposition)
+        ),
+        Heard::Phase(PhaseHeard::RolledBack) => write!(told, "rolled back"),
+        Heard::Phase(PhaseHeard::NotPrepared) => write!(told, "not prepared"),
         _ => write!(told, "ok"),
     }
 }
@@ -269,8 +273,8 @@ fn heard_of(word: &str) -> Heard {
     match word {
         "committed" => Heard::Told(Status::Committed),
         "preparing" => Heard::Told(Status::Preparing),
-        "nobody" => Heard::NoObject,
-        _ => Heard::Lost,
+        "nobody" => Heard::Phase(PhaseHeard::NoObject),
+        _ => Heard::Phase(PhaseHeard::Lost),
     }
 }
 

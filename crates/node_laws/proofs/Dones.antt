@@ -161,13 +161,13 @@ gone_called n k e stood place at _ _ _ (by_nothing w none) order wants j s c dec
 -- ---- it stays so
 
 -- what stands behind a call stood before, or was appended
-stood_or_new : (n : Node) (k : ObjectKey) (e : Event) (stood : Option Stood) (w : Option Wanted) (later : Node) (some : List Outward) → Called n k e stood w later some
+pub stood_or_new : (n : Node) (k : ObjectKey) (e : Event) (stood : Option Stood) (w : Option Wanted) (later : Node) (some : List Outward) → Called n k e stood w later some
     → (s : Standing) → Contains later.found.standing s → Contains n.found.standing s ⊎ IsNew w stood s
 stood_or_new n k e stood _ _ _ (by_step f there) s c = journaled_new (wanted f e) stood n.found s c
 stood_or_new n k e stood _ _ _ (by_answer number heard) s c = journaled_new (done_wanted number heard n) stood n.found s c
 stood_or_new n k e stood _ _ _ (by_nothing w none) s c = inl c
 
-made_found : (now seconds : ℕ) (n : Node) → (creates now seconds n).node.found ≡ n.found
+pub made_found : (now seconds : ℕ) (n : Node) → (creates now seconds n).node.found ≡ n.found
 unfolding creates makes
 made_found now seconds n = by_slot (free_slot n)
   where
@@ -182,7 +182,7 @@ made_found now seconds n = by_slot (free_slot n)
     by_slot None = refl
     by_slot (Some slot) = by_number slot (nat_lt n.generation generation_limit)
 
-ticked_found : (now : ℕ) (n : Node) → (ticks now n).node.found ≡ n.found
+pub ticked_found : (now : ℕ) (n : Node) → (ticks now n).node.found ≡ n.found
 unfolding ticks
 ticked_found now n = refl
 

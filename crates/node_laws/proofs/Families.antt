@@ -1,18 +1,20 @@
 -- What a step keeps of a family that is decided: its outcome, its record, and its participants, each of them named and told.
-use Rattle.std.proofs.Common.{◌≡◌, ◌≢◌, ◌⊎◌, ◌&&◌, inl, inr, ℕ, List, [], ◌∷◌, map, filter, not, Bool, true, false, if◌then◌else◌, Option, Some, None, Contains, refl, ap, sym, subst, ◌∙◌}
+use Rattle.std.proofs.Common.{◌≡◌, ◌≢◌, ◌⊎◌, ◌&&◌, inl, inr, ℕ, List, [], ◌∷◌, map, filter, cond, not, Bool, true, false, if◌then◌else◌, Option, Some, None, Contains, refl, ap, sym, subst, ◌∙◌}
 use Rattle.std.specs.List.{AllByRecursion}
+use Rattle.std.specs.Option.{option_map_or}
 use Rattle.ots_model.specs.declared.completion.Ground.TheVariants.{Record}
-use Rattle.ots_model.specs.declared.completion.Heard.TheVariants as hears_words
+use Rattle.ots_model.specs.declared.completion.Heard.{Heard}
+use Rattle.ots_model.specs.declared.completion.Heard.TheVariants as phase_hears
 use Rattle.ots_model.specs.declared.completion.Stood.{Stood}
 use Rattle.ots_model.specs.declared.completion.Vote.TheVariants.{VoteCommit}
-use Rattle.ots_model.specs.declared.tree.Outcome.{Outcome}
-use Rattle.ots_model.specs.declared.tree.Outcome.TheVariants.{Commit}
+use Rattle.ots_model.specs.Numbered.{Outcome}
+use Rattle.ots_model.specs.declared.completion.Outcome.TheVariants.{Commit}
 use Rattle.two_phase.specs.Course as course
 use Rattle.two_phase.specs.Course.{Course}
 use Rattle.two_phase.specs.LawsOfAnswers.{WordsWaitForAnswers}
 use Rattle.two_phase.specs.LawsOfOutcomes.{IsRecorded, OutcomesHaveCauses}
 use Rattle.two_phase.specs.LawsOfReached.{IsReached, TreeOutcomeStays}
-use Rattle.two_phase.specs.Parties.{has_voted_commit}
+use Rattle.two_phase.specs.Parties.{has_voted_commit, is_commit_vote}
 use Rattle.two_phase.specs.Reports as reports
 use Rattle.two_phase.specs.Stages as stages
 use Rattle.two_phase.specs.Stages.{Standing as Completion, Waiting, Going as UnderWay}
@@ -34,7 +36,7 @@ use Rattle.coordinator.specs.Step.{family_step, quiet, hears, wanted, Appends}
 use Rattle.family_laws.specs.LawsOfJournal.{AppendsOwn, CompletesAll, FamiliesAppendOwn, FamiliesCloseLast, HasCompleted}
 use Rattle.family_laws.specs.LawsOfTelling.{FamiliesNumberWords}
 use Rattle.family_laws.specs.Sound.{IsSoundFamily}
-use Rattle.node_laws.specs.Rules.{HasToldAll, NamesAll, NamesVoters, named_as}
+use Rattle.node_laws.specs.Rules.{HasToldAll, NamesVoters, NamesVotersOf, named_as}
 use Rattle.node_laws.proofs.Courses.{AreLater, Follows, follows_itself, follows_step, follows_further}
 use Rattle.node_laws.proofs.Lists.{all_each, all_on, inner, into_filter, into_map}
 use Rattle.node_laws.proofs.Sending.{ClosesNow, HasParties, IsSame, done_settled, step_parties, step_sends}
@@ -106,17 +108,27 @@ tick_goes law now f there = go (has_room f.entries (tick_at now))
 
 -- ---- whom its record names
 
-names_later : (some : List Registration) (ps qs : List Party) → AreLater ps qs → NamesVoters some ps → NamesVoters some qs
-names_later some [] [] h k = tt
-names_later some [] (q ∷ qs) h k = absurd h
-names_later some (p ∷ ps) [] h k = absurd h
-names_later some (p ∷ ps) (q ∷ qs) h k = (
-  (λ voted. subst (λ (i : ℕ). Contains some (named_as i q.to)) (sym h.0.index) (subst (λ (to : List ℕ). Contains some (named_as p.index to)) (sym h.0.to) (k.0 (sym h.0.ballot ∙ voted)))),
-  names_later some ps qs h.1 k.1,
-)
+-- those that have voted are the same later
+voters_later : (ps qs : List Party) → AreLater ps qs → map recorded (filter has_voted_commit ps) ≡ map recorded (filter has_voted_commit qs)
+voters_later [] [] h = refl
+voters_later [] (q ∷ qs) h = absurd h
+voters_later (p ∷ ps) [] h = absurd h
+voters_later (p ∷ ps) (q ∷ qs) h =
+    go (has_voted_commit p) (has_voted_commit q) (ap (λ (b : Option Heard). option_map_or is_commit_vote b false) (sym h.0.ballot)) (voters_later ps qs h.1)
+  where
+    same : named_as p.index p.to ≡ named_as q.index q.to
+    same = ap (λ (i : ℕ). named_as i p.to) (sym h.0.index) ∙ ap (λ (to : List ℕ). named_as q.index to) (sym h.0.to)
 
-names_on : (r : JournalRecord) (c d : Course) → AreLater c.parties d.parties → NamesAll r (UnderWay c) → NamesAll r (UnderWay d)
-names_on (Decision l slot generation by asked some) c d h k = names_later some c.parties d.parties h k
+    go : (a b : Bool) → a ≡ b → map recorded (filter has_voted_commit ps) ≡ map recorded (filter has_voted_commit qs)
+        → map recorded (cond a (p ∷ filter has_voted_commit ps) (filter has_voted_commit ps)) ≡ map recorded (cond b (q ∷ filter has_voted_commit qs) (filter has_voted_commit qs))
+    go true true i rest =
+        ap (λ (r : Registration). r ∷ map recorded (filter has_voted_commit ps)) same ∙ ap (λ (rs : List Registration). named_as q.index q.to ∷ rs) rest
+    go false false i rest = rest
+    go true false i rest = absurd (cc i)
+    go false true i rest = absurd (cc i)
+
+names_on : (r : JournalRecord) (c d : Course) → AreLater c.parties d.parties → NamesVotersOf r (UnderWay c) → NamesVotersOf r (UnderWay d)
+names_on (Decision l slot generation by asked some) c d h k = k ∙ voters_later c.parties d.parties h
 names_on (Life l) c d h k = absurd k
 names_on (Done some) c d h k = absurd k
 names_on (Prepared l slot generation recovery some) c d h k = absurd k
@@ -126,51 +138,55 @@ names_on (CellsOnePhase l number puts) c d h k = absurd k
 
 -- one that is committed by a record stays decided by it, and named in it
 pub still_named : Facts → (f g : Family) (s : Standing) → Goes f g → IsThere f.completion → stages.outcome f.completion ≡ Some (Commit Record)
-    → (stages.record_place f.completion ≡ Some s.place → NamesAll s.item f.completion) → stages.record_place g.completion ≡ Some s.place → NamesAll s.item g.completion
+    → (stages.record_place f.completion ≡ Some s.place → NamesVotersOf s.item f.completion) → stages.record_place g.completion ≡ Some s.place → NamesVotersOf s.item g.completion
 still_named law f g s goes there fixed was at = go f.completion refl there fixed was
   where
-    go : (o : Completion) → f.completion ≡ o → IsThere o → stages.outcome o ≡ Some (Commit Record) → (stages.record_place o ≡ Some s.place → NamesAll s.item o) → NamesAll s.item g.completion
+    go : (o : Completion) → f.completion ≡ o → IsThere o → stages.outcome o ≡ Some (Commit Record) → (stages.record_place o ≡ Some s.place → NamesVotersOf s.item o) → NamesVotersOf s.item g.completion
     go (Waiting room) i there fixed was = absurd (cc fixed)
     go (UnderWay c) i there fixed was =
         let behind : IsRecorded c = law.causes c (Commit Record) there fixed in
         let x = goes.ahead c (Commit Record) i fixed in
         let place : stages.record_place g.completion ≡ Some behind.place = ap (λ (t : Completion). stages.record_place t) x.is ∙ x.follows.place behind.place behind.stands in
         let same : behind.place ≡ s.place = inner (sym place ∙ at) in
-        subst (λ (t : Completion). NamesAll s.item t) (sym x.is)
+        subst (λ (t : Completion). NamesVotersOf s.item t) (sym x.is)
         (names_on s.item c x.d x.follows.parties (was (behind.stands ∙ ap (λ (p : ℕ). Some p) same)))
 
--- ---- a decision that is appended names each that has voted
+-- ---- a decision that is appended names those that have voted, and nobody else
 
-voted_is : (p : Party) → p.ballot ≡ Some (hears_words.Voted VoteCommit) → has_voted_commit p ≡ true
+voted_is : (p : Party) → p.ballot ≡ Some (phase_hears.Voted VoteCommit) → has_voted_commit p ≡ true
 voted_is p e = rw e refl
 
-names_each : (ps : List Party) → NamesVoters (map recorded (filter has_voted_commit ps)) ps
-names_each ps = all_each (λ (p : Party). p.ballot ≡ Some (hears_words.Voted VoteCommit) → Contains (map recorded (filter has_voted_commit ps)) (named_as p.index p.to)) ps
-    (λ p c voted. into_map recorded (filter has_voted_commit ps) p (into_filter has_voted_commit ps p c (voted_is p voted)))
+-- so each of them
+pub voters_named : (some : List Registration) (ps : List Party) → NamesVoters some ps
+    → AllByRecursion (λ (p : Party). p.ballot ≡ Some (phase_hears.Voted VoteCommit) → Contains some (named_as p.index p.to)) ps
+voters_named some ps names =
+    all_each (λ (p : Party). p.ballot ≡ Some (phase_hears.Voted VoteCommit) → Contains some (named_as p.index p.to)) ps
+    (λ p c voted. subst (λ (rs : List Registration). Contains rs (named_as p.index p.to)) (sym names)
+    (into_map recorded (filter has_voted_commit ps) p (into_filter has_voted_commit ps p c (voted_is p voted))))
 
-record_names : (h : Family) (g : Family) → IsAgreed h.completion → HasParties h.completion g.completion → NamesAll (decision_record h) g.completion
+record_names : (h : Family) (g : Family) → IsAgreed h.completion → HasParties h.completion g.completion → NamesVotersOf (decision_record h) g.completion
 unfolding decision_record
 record_names h g agreed same = go h.completion refl agreed same
   where
     go : (o : Completion) → h.completion ≡ o → IsAgreed o → HasParties o g.completion
-        → NamesAll (Decision h.key.life h.key.slot h.key.generation (commit_key h) (stages.asked h.completion) (named h.completion)) g.completion
+        → NamesVotersOf (Decision h.key.life h.key.slot h.key.generation (commit_key h) (stages.asked h.completion) (named h.completion)) g.completion
     go (Waiting room) i agreed same = absurd agreed
     go (UnderWay c) i agreed same =
         let x = same c refl in
-        subst (λ (t : Completion). NamesAll (Decision h.key.life h.key.slot h.key.generation (commit_key h) (stages.asked h.completion) (named h.completion)) t) (sym x.1)
-        (subst (λ (t : Completion). NamesVoters (named t) x.0.parties) (sym i) (subst (λ (ps : List Party). NamesVoters (map recorded (filter has_voted_commit c.parties)) ps) (sym x.2) (names_each c.parties)))
+        subst (λ (t : Completion). NamesVotersOf (Decision h.key.life h.key.slot h.key.generation (commit_key h) (stages.asked h.completion) (named h.completion)) t) (sym x.1)
+        (subst (λ (t : Completion). NamesVoters (named t) x.0.parties) (sym i) (subst (λ (ps : List Party). NamesVoters (map recorded (filter has_voted_commit c.parties)) ps) (sym x.2) refl))
 
-pub newly_named : Facts → (f : Family) (e : Event) (stood : Option Stood) (item : JournalRecord) → IsSoundFamily f → wanted f e ≡ Some (Appends item)
-    → NamesAll item (family_step f e stood).family.completion
+pub newly_named : FamiliesAppendOwn → (f : Family) (e : Event) (stood : Option Stood) (item : JournalRecord) → IsSoundFamily f → wanted f e ≡ Some (Appends item)
+    → NamesVotersOf item (family_step f e stood).family.completion
 newly_named law f e stood item sound w =
-    let a : AppendsOwn f e item = law.append f e item sound w in
-    subst (λ (r : JournalRecord). NamesAll r (family_step f e stood).family.completion) (sym a.is_record)
+    let a : AppendsOwn f e item = law f e item sound w in
+    subst (λ (r : JournalRecord). NamesVotersOf r (family_step f e stood).family.completion) (sym a.is_record)
     (record_names (hears a.number a.heard f).family (family_step f e stood).family a.agreed (step_parties f e stood (Appends item) a.number a.heard w a.answer))
 
 -- ---- each was told
 
 abbrev WasTold : Party → Type 0
-WasTold p = p.ballot ≡ Some (hears_words.Voted VoteCommit) → p.told ≢ None
+WasTold p = p.ballot ≡ Some (phase_hears.Voted VoteCommit) → p.told ≢ None
 
 told_later : (ps qs : List Party) → AreLater ps qs → AllByRecursion WasTold ps → AllByRecursion WasTold qs
 told_later [] [] h k = tt
@@ -214,7 +230,7 @@ closed_told (UnderWay c) t same all settled =
     let x = same c refl in
     let fixed = settled_fixed c settled in
     subst HasToldAll (sym x.1)
-    (told_out c x.0 (fixed.0, fixed.1, all_on (λ (p : Party). p.ballot ≡ Some (hears_words.Voted VoteCommit) → HasCompleted p) WasTold (λ p h voted. completed_told p (h voted)) c.parties all))
+    (told_out c x.0 (fixed.0, fixed.1, all_on (λ (p : Party). p.ballot ≡ Some (phase_hears.Voted VoteCommit) → HasCompleted p) WasTold (λ p h voted. completed_told p (h voted)) c.parties all))
 
 -- once the Done was asked for
 pub step_told : Facts → (f : Family) (e : Event) (stood : Option Stood) → IsSoundFamily f → (f.closed ≢ None → HasToldAll f.completion) → (family_step f e stood).family.closed ≢ None

@@ -11,3 +11,4 @@ mod Rests
 mod Undecided
 mod Numbered
 mod Dones
+mod Voters

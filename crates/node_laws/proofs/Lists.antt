@@ -60,6 +60,18 @@ of_filter {A = A} test (x ∷ xs) y c = go (test x) c (of_filter test xs y)
     go true d r = first d.0 d.1 d.2 r
     go false d r = behind_one x xs y (r d)
 
+pub passes_filter : {A : Type 0} (test : A → Bool) (xs : List A) (y : A) → Contains (filter test xs) y → test y ≡ true
+passes_filter test [] y c = let l = c.1 in absurd (omega (arith, l))
+passes_filter {A = A} test (x ∷ xs) y c = go (test x) refl c (passes_filter test xs y)
+  where
+    first : test x ≡ true → (k : ℕ) → k < suc (length (filter test xs)) → get_or (x ∷ filter test xs) k y ≡ y → (Contains (filter test xs) y → test y ≡ true) → test y ≡ true
+    first i zero l e r = subst (λ (z : A). test z ≡ true) e i
+    first i (suc k) l e r = r (k, omega (arith, l), e)
+
+    go : (t : Bool) → test x ≡ t → Contains (cond t (x ∷ filter test xs) (filter test xs)) y → (Contains (filter test xs) y → test y ≡ true) → test y ≡ true
+    go true i d r = first i d.0 d.1 d.2 r
+    go false i d r = r d
+
 pub into_filter : {A : Type 0} (test : A → Bool) (xs : List A) (y : A) → Contains xs y → test y ≡ true → Contains (filter test xs) y
 into_filter {A = A} test xs y c t = go xs c.0 c.1 c.2
   where

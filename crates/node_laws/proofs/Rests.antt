@@ -1,16 +1,18 @@
--- Each commit word rests on a decision that stands: one that a family hands out by its own, and one that is told again by its record.
+-- Each commit word that a family hands out rests on its own decision, which stands; and each word that is told again on that of its record.
 use Rattle.std.proofs.Common.{◌≡◌, ◌≢◌, ◌&&◌, inl, inr, ℕ, ◌+◌, ◌<◌, zero, suc, List, [], ◌∷◌, length, Bool, true, false, if◌then◌else◌, Option, Some, None, is_some, is_none, Contains, refl, ap, sym, subst, ◌∙◌, arith}
 use Rattle.std.specs.Prelude.{slice_set}
 use Rattle.std.specs.List.{AllByRecursion, filter_map, cons_option, list_all}
 use Rattle.std.proofs.lemmas.Option.{slice_get_within, get_or_from_slice_get}
 use Rattle.ior_refs.specs.declared.key.ObjectKey.{ObjectKey}
 use Rattle.ots_model.specs.declared.completion.CallNumber.{CallNumber}
+use Rattle.ots_model.specs.declared.completion.Receipt.{Receipt}
 use Rattle.ots_model.specs.declared.completion.Stood.{Stood}
 use Rattle.ots_model.specs.declared.completion.Heard.TheVariants.{Voted}
 use Rattle.ots_model.specs.declared.completion.Vote.TheVariants.{VoteCommit}
 use Rattle.ots_model.specs.declared.service.RetryKey.{RetryKey}
 use Rattle.ots_model.specs.declared.tree.Outward.{Outward}
 use Rattle.ots_model.specs.declared.tree.Word.{Word}
+use Rattle.ots_model.specs.declared.completion.Word.TheVariants as phase_words
 use Rattle.ots_model.specs.declared.tree.Word.TheVariants as words
 use Rattle.txn_tree.specs.Rows.{is_live_branch}
 use Rattle.txn_tree.specs.declared.row.Row.{Row}
@@ -44,8 +46,9 @@ use Rattle.family_laws.specs.LawsOfTelling.{AreNumberedFrom, FamiliesNumberWords
 use Rattle.family_laws.specs.OwnDecisions.{HasDecision}
 use Rattle.family_laws.specs.Sound.{IsSoundFamily}
 use Rattle.family_laws.specs.SoundNode.{IsDecisionOf}
-use Rattle.node_laws.specs.Commits.{CommitRests, CommitsRest, RestsOnOwn, RestsOnRetold}
-use Rattle.node_laws.specs.Rules.{HasToldAll, IsOfRecord, IsToldOf, KeepsRules, NamesAll, NodesKeepRules, named_as}
+use Rattle.node_laws.specs.Commits.{CommitRests, CommitsRest, GoesByDecision, IsOfStanding, RestsOnOwn}
+use Rattle.node_laws.specs.Rules.{HasToldAll, IsOfRecord, IsToldOf, KeepsRules, NamesVoters, NamesVotersOf, NodesKeepRules, named_as}
+use Rattle.node_laws.proofs.Families.{voters_named}
 use Rattle.node_laws.proofs.Lists.{all_at, all_each, all_joined, behind_one, inner}
 use Rattle.node_laws.proofs.Rules.{now_there}
 use Rattle.node_laws.proofs.Sending.{CommitCalls, HasCall, step_sends}
@@ -74,7 +77,7 @@ keyed_all key serial (o ∷ some) h = (
 
 -- ---- a commit word is one of the completion
 
-of_completion : (s : Completion) (o : Outward) → o.word ≡ words.Commit → GoesOut s o → IsOfCompletion s o
+of_completion : (s : Completion) (o : Outward) → o.word ≡ words.Phase phase_words.Commit → GoesOut s o → IsOfCompletion s o
 of_completion s o commit (inl x) = x
 of_completion s o commit (inr (sub, none)) = absurd (subst IsOfSubtransaction commit sub)
 
@@ -87,13 +90,13 @@ record IsCommitted (c : Course) (o : Outward) : Type 0 where
   may : MayBeTold party c
   placed : o.receipt ≡ Some (record { place = may.place; registration = party.index })
 
-receipt_is : (w : Word) (place : Option ℕ) (index p : ℕ) → w ≡ words.Commit → place ≡ Some p → course.receipt_of w place index ≡ Some (record { place = p; registration = index })
+receipt_is : (w : Word) (place : Option ℕ) (index p : ℕ) → w ≡ words.Phase phase_words.Commit → place ≡ Some p → course.receipt_of w place index ≡ Some (record { place = p; registration = index })
 receipt_is w place index p e i = rw (e, i) refl
 
-committed : TreeWordsGoRightly → (s : Completion) (o : Outward) → o.word ≡ words.Commit → (x : IsOfCompletion s o) → IsCommitted x.before o
+committed : TreeWordsGoRightly → (s : Completion) (o : Outward) → o.word ≡ words.Phase phase_words.Commit → (x : IsOfCompletion s o) → IsCommitted x.before o
 committed law s o commit x =
     let r : GoesRightly x.word x.before = law x.before x.word x.next in
-    let word_is : x.word.word ≡ words.Commit = sym x.same_word ∙ commit in
+    let word_is : x.word.word ≡ (words.Phase phase_words.Commit) = sym x.same_word ∙ commit in
     let may : MayBeTold r.party x.before = subst (λ (w : Word). RestsOn w r.place r.party x.before) word_is r.rests in
     record {
       party = r.party;
@@ -154,9 +157,9 @@ going g sound (c, cs, is) = go cs is
 -- ---- the decision that stands
 
 names_it : (r : JournalRecord) (g : Family) (standing : List Standing) (place : ℕ) (o : Outward) (c : Course) → (x : IsCommitted c o) → place ≡ x.may.place → IsKeyed g.key o → IsDecisionOf g r
-    → Contains standing (record { place = place; item = r }) → NamesAll r (UnderWay (course.after_next c)) → RestsOnOwn standing o
+    → Contains standing (record { place = place; item = r }) → NamesVotersOf r (UnderWay (course.after_next c)) → RestsOnOwn standing o
 names_it (Decision l slot generation by asked named) g standing place o c x at key own there names = record {
-  rests = record {
+  decision = record {
     place = place;
     of_life = l;
     slot = slot;
@@ -165,11 +168,11 @@ names_it (Decision l slot generation by asked named) g standing place o c x at k
     asked = asked;
     named = named;
     stands = there;
-    receipt = x.placed ∙ ap (λ (p : ℕ). Some (record { place = p; registration = x.party.index })) (sym at)
-        ∙ ap (λ (i : ℕ). Some (record { place = place; registration = i })) (sym x.registration);
     names = subst (λ (i : ℕ). Contains named (named_as i o.to)) (sym x.registration) (subst (λ (to : List ℕ). Contains named (named_as x.party.index to)) (sym x.reference)
-        (all_at (IsNamedIn named) c.parties x.party (subst (λ (ps : List Participant). AllByRecursion (IsNamedIn named) ps) (next_parties c) names) x.there x.may.voted));
+        (all_at (IsNamedIn named) c.parties x.party (voters_named named c.parties (subst (λ (ps : List Participant). NamesVoters named ps) (next_parties c) names)) x.there x.may.voted));
   };
+  receipt = x.placed ∙ ap (λ (p : ℕ). Some (record { place = p; registration = x.party.index })) (sym at)
+      ∙ ap (λ (i : ℕ). Some (record { place = place; registration = i })) (sym x.registration);
   same_life = sym own.0 ∙ key.same_life;
   same_slot = sym own.1 ∙ key.same_slot;
   same_number = sym own.2 ∙ key.same_number;
@@ -189,14 +192,14 @@ pub record Laws : Type 0 where
 
 -- one commit word of a family that a node has after the step which hands it out
 rests_one : Laws → (edge : ℕ) (n : Node) (slot : ℕ) (g : Family) (o : Outward) → KeepsRules edge n → family_in n.families slot ≡ Some g → IsSoundFamily g → IsKeyed g.key o
-    → GoesOut g.completion o → CommitCalls g o → o.word ≡ words.Commit → RestsOnOwn n.found.standing o
+    → GoesOut g.completion o → CommitCalls g o → o.word ≡ words.Phase phase_words.Commit → RestsOnOwn n.found.standing o
 rests_one law edge n slot g o h there sound key out calls commit =
     let x : IsOfCompletion g.completion o = of_completion g.completion o commit out in
     let y : IsCommitted x.before o = committed law.tree g.completion o commit x in
     let at : stages.record_place g.completion ≡ Some y.may.place = ap (λ (s : Completion). stages.record_place s) x.now ∙ next_place x.before ∙ y.may.stands in
     let d : HasDecision n g y.may.place = h.decisions.unclosed slot y.may.place g there (record { decided = at; unasked = unasked x y g.closed refl; going = going g sound (calls commit) }) in
-    let names : NamesAll d.stood.item g.completion = h.named slot g d.stood there d.there (at ∙ ap (λ (p : ℕ). Some p) (sym d.at)) in
-    names_it d.stood.item g n.found.standing d.stood.place o x.before y d.at key d.own d.there (subst (λ (s : Completion). NamesAll d.stood.item s) x.now names)
+    let names : NamesVotersOf d.stood.item g.completion = h.named slot g d.stood there d.there (at ∙ ap (λ (p : ℕ). Some p) (sym d.at)) in
+    names_it d.stood.item g n.found.standing d.stood.place o x.before y d.at key d.own d.there (subst (λ (s : Completion). NamesVotersOf d.stood.item s) x.now names)
   where
     unasked : (x : IsOfCompletion g.completion o) → IsCommitted x.before o → (c : Option Stood) → g.closed ≡ c → g.closed ≡ None
     unasked x y None e = e
@@ -205,17 +208,17 @@ rests_one law edge n slot g o h there sound key out calls commit =
 
 -- those of a step
 step_rests : Laws → (edge : ℕ) (n : Node) (slot : ℕ) (f : Family) (e : Event) (stood : Option Stood) → KeepsRules edge n → IsSoundFamily f
-    → family_in n.families slot ≡ Some (family_step f e stood).family → AllByRecursion (CommitRests RestsOnOwn n.found.standing) (family_step f e stood).words
+    → family_in n.families slot ≡ Some (family_step f e stood).family → AllByRecursion (CommitRests n.found.standing) (family_step f e stood).words
 step_rests law edge n slot f e stood h sound there =
     let g : Family = (family_step f e stood).family in
     let some : List Outward = (family_step f e stood).words in
-    all_each (CommitRests RestsOnOwn n.found.standing) some (λ o c commit.
+    all_each (CommitRests n.found.standing) some (λ o c commit.
     rests_one law edge n slot g o h there (law.sound.steps f e stood sound)
     (subst (λ (k : ObjectKey). IsKeyed k o) (sym (law.words.key f e stood)) (all_at (IsKeyed f.key) some o (keyed_all f.key f.serial some (law.words.numbers f e stood)) c))
     (all_at (GoesOut g.completion) some o (law.rightly f e stood).words c) (all_at (CommitCalls g) some o (step_sends f e stood).called c) commit)
 
 called_rest : Laws → (edge more : ℕ) (n : Node) (k : ObjectKey) (e : Event) (stood : Option Stood) (w : Option Wanted) (later : Node) (some : List Outward) → Called n k e stood w later some
-    → KeepsRules edge n → KeepsRules more later → AllByRecursion (CommitRests RestsOnOwn later.found.standing) some
+    → KeepsRules edge n → KeepsRules more later → AllByRecursion (CommitRests later.found.standing) some
 called_rest law edge more n k e stood _ _ _ (by_step f there) h r =
     step_rests law more (steps_to n f e stood (family_step f e stood)).node k.slot f e stood r (h.decisions.sound.families k.slot f there).1
     (now_there law.words edge n h.decisions f e stood k.slot there)
@@ -244,19 +247,19 @@ happened_all Q now (o ∷ fs) each = by o (λ f i. each 0 f i) (happened_all Q n
     by (Some f) one rest = put (happens_to now f) (λ h e. loud f (one f refl) (is_silent (tick_at now) f) h e) rest
 
 tick_rests : Laws → (edge now : ℕ) (n : Node) (slot : ℕ) (f : Family) → KeepsRules edge n → IsSoundFamily f → family_in n.families slot ≡ Some (tick_of now f).family
-    → AllByRecursion (CommitRests RestsOnOwn n.found.standing) (tick_of now f).words
+    → AllByRecursion (CommitRests n.found.standing) (tick_of now f).words
 tick_rests law edge now n slot f h sound there = go (has_room f.entries (tick_at now)) there
   where
     go : (t : Bool) → family_in n.families slot ≡ Some (if t then family_step f (tick_at now) None else quiet said.Plain f).family
-        → AllByRecursion (CommitRests RestsOnOwn n.found.standing) (if t then family_step f (tick_at now) None else quiet said.Plain f).words
+        → AllByRecursion (CommitRests n.found.standing) (if t then family_step f (tick_at now) None else quiet said.Plain f).words
     go true i = step_rests law edge n slot f (tick_at now) None h sound i
     go false i = tt
 
 ticked_rest : Laws → (edge now : ℕ) (n : Node) → KeepsRules edge n → KeepsRules edge (ticks now n).node
-    → AllByRecursion (λ (h : Happening). AllByRecursion (CommitRests RestsOnOwn n.found.standing) h.words) (ticks now n).happened
+    → AllByRecursion (λ (h : Happening). AllByRecursion (CommitRests n.found.standing) h.words) (ticks now n).happened
 unfolding ticks
 ticked_rest law edge now n h r =
-    happened_all (λ (x : Happening). AllByRecursion (CommitRests RestsOnOwn n.found.standing) x.words) now n.families (λ slot f i.
+    happened_all (λ (x : Happening). AllByRecursion (CommitRests n.found.standing) x.words) now n.families (λ slot f i.
     tick_rests law edge now (tells_again (passes_time now n)) slot f r (h.decisions.sound.families slot f i).1
     (family_ticked now n.families slot ∙ ap (λ (o : Option Family). ticked now o) i))
 
@@ -281,27 +284,38 @@ words_all P lives (x ∷ xs) each =
     all_joined P (telling.words_of lives x) (telling.words lives xs) (each x (zero, omega arith, refl)) (words_all P lives xs (λ h c. each h (behind_one x xs h c)))
 
 -- one of a decision
-retold_one : (standing : List Standing) (lives place l slot generation : ℕ) (by : Option RetryKey) (asked decided : Bool) (named : List Registration) (p : Party) → Contains standing (record { place = place; item = Decision l slot generation by asked named })
-    → Contains named (named_as p.index p.to) → (d : Due) (o : Outward) → telling.word_by lives place decided p d ≡ Some o → o.word ≡ words.Commit → RestsOnRetold standing o
-retold_one standing lives place l slot generation by asked decided named p there names due.Commit o e commit =
-    subst (λ (x : Outward). RestsOnRetold standing x) (inner e) (record {
-      rests = record {
-        place = place;
-        of_life = l;
-        slot = slot;
-        generation = generation;
-        by = by;
-        asked = asked;
-        named = named;
-        stands = there;
+module _ (standing : List Standing) (lives place l slot generation : ℕ) (by : Option RetryKey) (asked : Bool) (named : List Registration)
+    (there : Contains standing (record { place = place; item = Decision l slot generation by asked named })) (p : Party) (names : Contains named (named_as p.index p.to)) where
+  abbrev decision_of : (w : Word) (receipt : Option Receipt) → GoesByDecision standing (telling.outward lives place p w receipt)
+  decision_of w receipt = record {
+    place = place;
+    of_life = l;
+    slot = slot;
+    generation = generation;
+    by = by;
+    asked = asked;
+    named = named;
+    stands = there;
+    names = names;
+  }
+
+  retold_one : (decided : Bool) (d : Due) (o : Outward) → telling.word_by lives place decided p d ≡ Some o → IsOfStanding lives standing o
+  retold_one decided due.Commit o e =
+      subst (λ (x : Outward). IsOfStanding lives standing x) (inner e) (record {
+        decision = decision_of (words.Phase phase_words.Commit) (Some (record { place = place; registration = p.index }));
+        number = refl;
+        word = inl refl;
         receipt = refl;
-        names = names;
-      };
-      same_place = refl;
-    })
-retold_one standing lives place l slot generation by asked true named p there names due.Forget o e commit = absurd (cc (ap (λ (x : Outward). x.word) (inner e) ∙ commit))
-retold_one standing lives place l slot generation by asked false named p there names due.Forget o e commit = absurd (cc e)
-retold_one standing lives place l slot generation by asked decided named p there names due.Nothing o e commit = absurd (cc e)
+      })
+  retold_one true due.Forget o e =
+      subst (λ (x : Outward). IsOfStanding lives standing x) (inner e) (record {
+        decision = decision_of words.Forget None;
+        number = refl;
+        word = inr refl;
+        receipt = refl;
+      })
+  retold_one false due.Forget o e = absurd (cc e)
+  retold_one decided due.Nothing o e = absurd (cc e)
 
 silent_one : (lives place : ℕ) (decided : Bool) (p : Party) (d : Due) (o : Outward) → d ≡ due.Nothing → telling.word_by lives place decided p d ≡ Some o → ⊥
 silent_one lives place decided p due.Nothing o n e = absurd (cc e)
@@ -309,24 +323,24 @@ silent_one lives place decided p due.Commit o n e = absurd (cc n)
 silent_one lives place decided p due.Forget o n e = absurd (cc n)
 
 retold_of : (standing : List Standing) (lives : ℕ) (h : Held) (r : JournalRecord) → Contains standing (record { place = h.place; item = r }) → IsToldOf r h
-    → AllByRecursion (CommitRests RestsOnRetold standing) (telling.words_of lives h)
+    → AllByRecursion (IsOfStanding lives standing) (telling.words_of lives h)
 retold_of standing lives h (Decision l slot generation by asked named) there told =
-    told_all (CommitRests RestsOnRetold standing) lives h.place (is_decided h.kind) h.parties
-    (λ p c o e commit. retold_one standing lives h.place l slot generation by asked (is_decided h.kind) named p there (all_at (λ (q : Party). Contains named (named_as q.index q.to)) h.parties p told c) p.due o e commit)
+    told_all (IsOfStanding lives standing) lives h.place (is_decided h.kind) h.parties
+    (λ p c o e. retold_one standing lives h.place l slot generation by asked named there p (all_at (λ (q : Party). Contains named (named_as q.index q.to)) h.parties p told c) (is_decided h.kind) p.due o e)
 retold_of standing lives h (Prepared l slot generation recovery named) there told =
-    told_all (CommitRests RestsOnRetold standing) lives h.place (is_decided h.kind) h.parties
-    (λ p c o e commit. absurd (silent_one lives h.place (is_decided h.kind) p p.due o (all_at (λ (q : Party). q.due ≡ due.Nothing) h.parties p told.1 c) e))
+    told_all (IsOfStanding lives standing) lives h.place (is_decided h.kind) h.parties
+    (λ p c o e. absurd (silent_one lives h.place (is_decided h.kind) p p.due o (all_at (λ (q : Party). q.due ≡ due.Nothing) h.parties p told.1 c) e))
 retold_of standing lives h (Life l) there told = absurd told
 retold_of standing lives h (Done named) there told = absurd told
 retold_of standing lives h (CellsPrepared l number recovery puts) there told = absurd told
 retold_of standing lives h (CellsOutcome named end) there told = absurd told
 retold_of standing lives h (CellsOnePhase l number puts) there told = absurd told
 
-retold_rest : (edge now : ℕ) (n : Node) → KeepsRules edge (ticks now n).node → AllByRecursion (CommitRests RestsOnRetold n.found.standing) (ticks now n).words
+retold_rest : (edge now : ℕ) (n : Node) → KeepsRules edge (ticks now n).node → AllByRecursion (IsOfStanding (life n) n.found.standing) (ticks now n).words
 unfolding ticks
 retold_rest edge now n r =
     let later : Node = tells_again (passes_time now n) in
-    words_all (CommitRests RestsOnRetold n.found.standing) (life later) later.recovered (λ h c.
+    words_all (IsOfStanding (life n) n.found.standing) (life later) later.recovered (λ h c.
     let x : IsOfRecord n.found.standing h = r.held h c in
     retold_of n.found.standing (life later) h x.stood.item
     (subst (λ (p : ℕ). Contains n.found.standing (record { place = p; item = x.stood.item })) x.same_place x.there) x.told)

@@ -7,7 +7,7 @@ use Rattle.ots_model.specs.declared.completion.CallNumber.{CallNumber}
 use Rattle.ots_model.specs.declared.completion.Ground.TheVariants.{Record}
 use Rattle.ots_model.specs.declared.completion.Stood.{Stood}
 use Rattle.ots_model.specs.declared.tree.Heard.{Heard}
-use Rattle.ots_model.specs.declared.tree.Outcome.TheVariants.{Commit}
+use Rattle.ots_model.specs.declared.completion.Outcome.TheVariants.{Commit}
 use Rattle.ots_model.specs.declared.tree.Outward.{Outward}
 use Rattle.two_phase.specs.Stages as stages
 use Rattle.decision_journal.specs.Journal.{Found, found_in, nothing_found, first_gate, with_record, with_records}
@@ -32,7 +32,7 @@ use Rattle.family_laws.specs.LawsOfTelling.{FamiliesNumberWords}
 use Rattle.family_laws.specs.OwnDecisions.{AppendsBetween, FindsOwn, KeepsDecisions, NodesKeepDecisions}
 use Rattle.family_laws.specs.Sound.{IsSoundFamily}
 use Rattle.family_laws.specs.SoundNode.{AreBefore, IsDecisionOf}
-use Rattle.node_laws.specs.Rules.{AreOfPast, GoesOn, IsOfGiven, IsOfPast, IsOfRecord, KeepsRules, HasToldAll, NamesAll, NodesKeepRules}
+use Rattle.node_laws.specs.Rules.{AreOfPast, GoesOn, IsOfGiven, IsOfPast, IsOfRecord, KeepsRules, HasToldAll, NamesVotersOf, NodesKeepRules}
 use Rattle.node_laws.specs.Rules.GoesOn.{still as still_there, made, called, ticked as passes, loaded as begins}
 use Rattle.node_laws.proofs.Families.{Facts, Goes, newly_named, step_goes, step_told, still_named, tick_goes, tick_told}
 use Rattle.node_laws.proofs.Held.{all_over_of, all_retold_of, heard_of, loaded_of, over_of, stands_as}
@@ -132,7 +132,7 @@ record HasRules (n : Node) : Type 0 where
   committed : (slot : ℕ) (f : Family) (s : Standing) → family_in n.families slot ≡ Some f → Contains n.found.standing s
       → IsDecisionOf f s.item → stages.outcome f.completion ≡ Some (Commit Record)
   named : (slot : ℕ) (f : Family) (s : Standing) → family_in n.families slot ≡ Some f → Contains n.found.standing s
-      → stages.record_place f.completion ≡ Some s.place → NamesAll s.item f.completion
+      → stages.record_place f.completion ≡ Some s.place → NamesVotersOf s.item f.completion
   through : (slot : ℕ) (f : Family) → family_in n.families slot ≡ Some f → f.closed ≢ None → HasToldAll f.completion
   held : (h : Held) → Contains n.recovered h → IsOfRecord n.found.standing h
 
@@ -174,7 +174,7 @@ module _ (edge slot : ℕ) (n : Node) (deadline : Option ℕ) (h : KeepsRules ed
       commits other f s c own i (inr apart) = h.committed other f s (before_it other f apart i) c own
 
       names : (other : ℕ) (f : Family) (s : Standing) → Contains n.found.standing s → stages.record_place f.completion ≡ Some s.place
-          → family_in (with_new make slot n).families other ≡ Some f → (other ≡ slot) ⊎ (other ≢ slot) → NamesAll s.item f.completion
+          → family_in (with_new make slot n).families other ≡ Some f → (other ≡ slot) ⊎ (other ≢ slot) → NamesVotersOf s.item f.completion
       names other f s c at i (inl same) = absurd (none (subst (λ (x : Family). stages.record_place x.completion ≡ Some s.place) (sym (it other f same i)) at))
       names other f s c at i (inr apart) = h.named other f s (before_it other f apart i) c at
 
@@ -336,8 +336,8 @@ module _ (law : Facts) (edge more : ℕ) (n : Node) (h : KeepsRules edge n) wher
       commits : stages.outcome g.completion ≡ Some (Commit Record)
       commits = subst (λ (o : Option Stood). stages.outcome (family_step f e o).family.completion ≡ Some (Commit Record)) (sym new.stands) (own.decides new.place)
 
-      named_now : NamesAll s.item g.completion
-      named_now = subst (λ (t : Standing). NamesAll t.item g.completion) (sym new.is) (newly_named law f e stood new.item sound new.wanted)
+      named_now : NamesVotersOf s.item g.completion
+      named_now = subst (λ (t : Standing). NamesVotersOf t.item g.completion) (sym new.is) (newly_named law.append f e stood new.item sound new.wanted)
 
     old_there : (s : Standing) → Contains later.found.standing s → s.place < edge → Contains n.found.standing s
     old_there s c low = go (journaled_new (wanted f e) stood n.found s c)
@@ -377,17 +377,17 @@ module _ (law : Facts) (edge more : ℕ) (n : Node) (h : KeepsRules edge n) wher
               absurd (apart (sym (h.decisions.sound.families other x (not_here other x apart i)).0.own_slot ∙ alike.same_slot ∙ own_slot))
 
       named_so : (other : ℕ) (x : Family) (s : Standing) → family_in later.families other ≡ Some x → Contains later.found.standing s → stages.record_place x.completion ≡ Some s.place
-          → NamesAll s.item x.completion
+          → NamesVotersOf s.item x.completion
       named_so other x s i c at = by (same_or_not other slot) (journaled_new (wanted f e) stood n.found s c)
         where
-          by : (other ≡ slot) ⊎ (other ≢ slot) → Contains n.found.standing s ⊎ IsNew (wanted f e) stood s → NamesAll s.item x.completion
+          by : (other ≡ slot) ⊎ (other ≢ slot) → Contains n.found.standing s ⊎ IsNew (wanted f e) stood s → NamesVotersOf s.item x.completion
           by (inl same) (inl old) =
               let is = here other x same i in
               let at_g : stages.record_place g.completion ≡ Some s.place = subst (λ (y : Family). stages.record_place y.completion ≡ Some s.place) (sym is) at in
               let of_f = own_kept g f (sym goes.key) s.item (own_now s c at_g) in
-              subst (λ (y : Family). NamesAll s.item y.completion) is
+              subst (λ (y : Family). NamesVotersOf s.item y.completion) is
               (still_named law f g s goes sound.completion.there (h.committed slot f s there old of_f) (h.named slot f s there old) at_g)
-          by (inl same) (inr new) = subst (λ (y : Family). NamesAll s.item y.completion) (here other x same i) (named_now s new)
+          by (inl same) (inr new) = subst (λ (y : Family). NamesVotersOf s.item y.completion) (here other x same i) (named_now s new)
           by (inr apart) (inl old) = h.named other x s (not_here other x apart i) old at
           by (inr apart) (inr new) =
               let b = behind s new in

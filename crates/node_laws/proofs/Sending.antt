@@ -10,10 +10,11 @@ use Rattle.ots_model.specs.declared.completion.Receipt.{Receipt}
 use Rattle.ots_model.specs.declared.completion.Stood.{Stood}
 use Rattle.ots_model.specs.declared.completion.Stood.TheVariants as answers
 use Rattle.ots_model.specs.declared.tree.Heard.{Heard}
-use Rattle.ots_model.specs.declared.tree.Outcome.{Outcome}
+use Rattle.ots_model.specs.Numbered.{Outcome}
 use Rattle.ots_model.specs.declared.tree.Outward.{Outward}
 use Rattle.ots_model.specs.declared.tree.Reason.{Reason}
 use Rattle.ots_model.specs.declared.tree.Reason.TheVariants as reasons
+use Rattle.ots_model.specs.declared.completion.Word.TheVariants as phase_words
 use Rattle.ots_model.specs.declared.tree.Word.TheVariants as words
 use Rattle.resource_votes.specs.Ballots.{Ballots, adopted}
 use Rattle.resource_votes.specs.declared.registration.Registration.{Registration}
@@ -57,7 +58,7 @@ abbrev pub HasCall : Family → Type 0
 HasCall g = (c : Call) × (cs : List (Option Call)) × (g.calls ≡ slice_set cs 0 (Some c))
 
 abbrev pub CommitCalls : Family → Outward → Type 0
-CommitCalls g o = o.word ≡ words.Commit → HasCall g
+CommitCalls g o = o.word ≡ words.Phase phase_words.Commit → HasCall g
 
 -- a completion is the same, but for the word that is out
 abbrev pub IsSame : Standing → Standing → Type 0
@@ -113,7 +114,7 @@ only_sends f g closed same = sends_of f (only g) (only_calm f g closed same)
 
 -- ---- a call goes on
 
-sends_other : (b : ℕ) (c : Call) (n : Notice) (r : Option Receipt) (f : Family) → (n.word ≡ words.Commit → ⊥) → Sends f (sends b c n r f)
+sends_other : (b : ℕ) (c : Call) (n : Notice) (r : Option Receipt) (f : Family) → (n.word ≡ words.Phase phase_words.Commit → ⊥) → Sends f (sends b c n r f)
 unfolding sends
 sends_other b c n r f other = record { closed = refl; kept = same_itself f.completion; called = (λ e. absurd (other e), tt) }
 
@@ -179,7 +180,7 @@ before_sends called c f = either f (is_marked f 0) _ _
     (chained f (gives_up reasons.Marked c f) (decides c) (begins_calm (rolling_back (asked_of c.aim) reasons.Marked f) f) (decides_sends c (gives_up reasons.Marked c f).family))
     (calls_next_sends (next_synchronization f called) called c f)
 
-not_commit : (e : Ending) → word_of e ≡ words.Commit → ⊥
+not_commit : (e : Ending) → word_of e ≡ words.Phase phase_words.Commit → ⊥
 not_commit TellsRollback e = absurd (cc e)
 not_commit (TellsCommit above) e = absurd (cc e)
 not_commit RollsBackUpdates e = absurd (cc e)

@@ -7,9 +7,10 @@ use Rattle.ior_refs.specs.declared.key.ObjectKey.{ObjectKey}
 use Rattle.ots_model.specs.declared.completion.Ground.TheVariants.{Record}
 use Rattle.ots_model.specs.declared.completion.Stood.{Stood}
 use Rattle.ots_model.specs.declared.completion.Stood.TheVariants as answers
-use Rattle.ots_model.specs.declared.tree.Outcome.{Outcome}
-use Rattle.ots_model.specs.declared.tree.Outcome.TheVariants as outcomes
+use Rattle.ots_model.specs.Numbered.{Outcome}
+use Rattle.ots_model.specs.declared.completion.Outcome.TheVariants as outcomes
 use Rattle.ots_model.specs.declared.tree.Outward.{Outward}
+use Rattle.ots_model.specs.declared.completion.Word.TheVariants as phase_words
 use Rattle.ots_model.specs.declared.tree.Word.TheVariants as words
 use Rattle.resource_votes.specs.Ballots.{participants}
 use Rattle.resource_votes.specs.declared.registration.Registration.{Registration}
@@ -332,7 +333,7 @@ never_decided law edge slot n f r there back = record {
 
 -- a rollback word of a family that a node has after the step which hands it out
 rests_one : Laws → (edge : ℕ) (n : Node) (slot : ℕ) (g : Family) (o : Outward) → KeepsRules edge n → family_in n.families slot ≡ Some g → g.key.slot ≡ slot → IsKeyed g.key o
-    → Rests g.completion g.ballots g.rows o → o.word ≡ words.Rollback → IsOfUndecided edge n o
+    → Rests g.completion g.ballots g.rows o → o.word ≡ words.Phase phase_words.Rollback → IsOfUndecided edge n o
 rests_one law edge n slot g o r there own key rest back =
     let b : GoesBack g.completion g.ballots g.rows o = rest.back back in
     record {

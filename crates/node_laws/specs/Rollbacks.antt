@@ -5,6 +5,7 @@ use Rattle.std.specs.List.{AllByRecursion}
 use Rattle.ior_refs.specs.declared.key.ObjectKey.{ObjectKey}
 use Rattle.ots_model.specs.declared.completion.Stood.{Stood}
 use Rattle.ots_model.specs.declared.tree.Outward.{Outward}
+use Rattle.ots_model.specs.declared.completion.Word.TheVariants as phase_words
 use Rattle.ots_model.specs.declared.tree.Word.TheVariants as words
 use Rattle.resource_votes.specs.declared.registration.Registration.{Registration}
 use Rattle.two_phase.specs.Stages as stages
@@ -44,7 +45,7 @@ pub record IsOfUndecided (edge : ℕ) (n : Node) (o : Outward) : Type 0 where
   pub rests : IsCutOff family.rows r.branch ⊎ IsNeverDecided edge n family
 
 abbrev pub RollbackRests : ℕ → Node → Outward → Type 0
-RollbackRests edge n o = o.word ≡ words.Rollback → IsOfUndecided edge n o
+RollbackRests edge n o = o.word ≡ words.Phase phase_words.Rollback → IsOfUndecided edge n o
 
 -- at a node that keeps its rules a family that is rolled back is never decided, and each rollback word rests on that, unless it
 -- goes to one that is cut off

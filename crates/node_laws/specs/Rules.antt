@@ -1,16 +1,17 @@
 -- What a node keeps beside its own decisions: which families and which records the decisions that stand are of, whom they name, and
 -- what is told again of them (Transaction Service, the operations of interfaces Resource and RecoveryCoordinator; that a decision is
 -- recorded, and told again without its family, is our profile).
-use Rattle.std.specs.Prelude.{◌≡◌, ◌≢◌, ◌⊎◌, ℕ, ◌<◌, ◌≤◌, false, List, Option, Some, None, Contains}
+use Rattle.std.specs.Prelude.{◌≡◌, ◌≢◌, ◌⊎◌, ℕ, ◌<◌, ◌≤◌, false, List, map, filter, Option, Some, None, Contains}
 use Rattle.std.specs.List.{AllByRecursion}
 use Rattle.ior_refs.specs.declared.key.ObjectKey.{ObjectKey}
 use Rattle.ots_model.specs.declared.completion.Ground.TheVariants.{Record}
 use Rattle.ots_model.specs.declared.completion.Heard.TheVariants.{Voted}
 use Rattle.ots_model.specs.declared.completion.Stood.{Stood}
 use Rattle.ots_model.specs.declared.completion.Vote.TheVariants.{VoteCommit}
-use Rattle.ots_model.specs.declared.tree.Outcome.{Outcome}
-use Rattle.ots_model.specs.declared.tree.Outcome.TheVariants.{Commit}
+use Rattle.ots_model.specs.Numbered.{Outcome}
+use Rattle.ots_model.specs.declared.completion.Outcome.TheVariants.{Commit}
 use Rattle.two_phase.specs.Course as course
+use Rattle.two_phase.specs.Parties.{has_voted_commit}
 use Rattle.two_phase.specs.Stages as stages
 use Rattle.two_phase.specs.Stages.{Standing as Completion, Waiting, Going as UnderWay}
 use Rattle.two_phase.specs.declared.party.Party.{Party as Participant}
@@ -25,6 +26,7 @@ use Rattle.recovery_coord.specs.declared.held.Held.{Held}
 use Rattle.recovery_coord.specs.declared.held.Party.{Party}
 use Rattle.coordinator.specs.declared.event.Event.{Event}
 use Rattle.coordinator.specs.Family.{Family}
+use Rattle.coordinator.specs.Hearing.{recorded}
 use Rattle.coordinator.specs.Node.{Node, family_in, life, load}
 use Rattle.coordinator.specs.NodeCalls.{applies, call_wants, family_for}
 use Rattle.coordinator.specs.NodeSlots.{creates}
@@ -46,14 +48,14 @@ IsOfGiven n _ = Unit {0}
 abbrev pub named_as : ℕ → List ℕ → Registration
 named_as index to = record { index = index; reference = to }
 
--- a decision names each of these that has voted commit
+-- a decision names those of these that have voted commit, each by its number and its reference, in their order, and nobody else
 abbrev pub NamesVoters : List Registration → List Participant → Type 0
-NamesVoters named parties = AllByRecursion
-    (λ (p : Participant). p.ballot ≡ Some (Voted VoteCommit) → Contains named (named_as p.index p.to)) parties
+NamesVoters named parties = named ≡ map recorded (filter has_voted_commit parties)
 
-abbrev pub NamesAll : JournalRecord → Completion → Type 0
-NamesAll (Decision of_life slot generation by asked named) (UnderWay c) = NamesVoters named c.parties
-NamesAll _ _ = ⊥
+-- a record is a decision that names so the participants of a completion
+abbrev pub NamesVotersOf : JournalRecord → Completion → Type 0
+NamesVotersOf (Decision of_life slot generation by asked named) (UnderWay c) = NamesVoters named c.parties
+NamesVotersOf _ _ = ⊥
 
 -- the outcome is fixed, and each participant that has voted commit has answered the word that told it
 abbrev pub HasToldAll : Completion → Type 0
@@ -83,9 +85,9 @@ pub record KeepsRules (edge : ℕ) (n : Node) : Type 0 where
   -- where the family of such a decision is there, it is committed by a record
   pub committed : (slot : ℕ) (f : Family) (s : Standing) → family_in n.families slot ≡ Some f → Contains n.found.standing s
       → IsDecisionOf f s.item → stages.outcome f.completion ≡ Some (Commit Record)
-  -- the record by which a family is decided names each participant that has voted commit
+  -- the record by which a family is decided names exactly those of its participants that have voted commit
   pub named : (slot : ℕ) (f : Family) (s : Standing) → family_in n.families slot ≡ Some f → Contains n.found.standing s
-      → stages.record_place f.completion ≡ Some s.place → NamesAll s.item f.completion
+      → stages.record_place f.completion ≡ Some s.place → NamesVotersOf s.item f.completion
   -- once a family has asked for its Done, each of these has answered the word that told it the outcome
   pub through : (slot : ℕ) (f : Family) → family_in n.families slot ≡ Some f → f.closed ≢ None → HasToldAll f.completion
   -- what is told again is told of a record that stands

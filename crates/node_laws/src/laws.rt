@@ -5,8 +5,12 @@ ghost use Rattle.node_laws.specs.Lives.{LivesRiseOverCrashes};
 ghost use Rattle.node_laws.specs.Numbers.{NumbersAreOnce};
 ghost use Rattle.node_laws.specs.Rollbacks.{RollbacksAreUndecided};
 ghost use Rattle.node_laws.specs.Rules.{NodesKeepRules};
+ghost use Rattle.node_laws.specs.Voters.{DecisionsNameVoters};
 
-use coordinator::{families_step_rightly, family_outcomes_stay, lives_rise, nodes_keep_numbers};
+use coordinator::{
+    families_step_rightly, family_outcomes_stay, lives_rise, nodes_keep_numbers,
+    records_name_voters,
+};
 use decision_journal::{appends_are_safe, journals_grow, octets_stand_for_one_list};
 use family_laws::{
     families_append_own, families_close_last, families_number_words, families_stay_sound,
@@ -54,7 +58,9 @@ pub fn nodes_keep_rules()
 }
 
 /// At such a node each commit word that a family hands out rests on a decision of that family, which stands, is the word's receipt,
-/// and names the registration and the reference that the word goes to; and so does each one that is told again.
+/// and names the registration and the reference that the word goes to. Each word that is told again belongs to a decision that
+/// stands, which names the registration and the reference that it goes to; its number is the one that is kept for both, and a
+/// commit word has that record as its receipt.
 pub fn commits_rest()
     ensures { CommitsRest }
 {
@@ -63,6 +69,21 @@ pub fn commits_rest()
     families_stay_sound();
     families_step_rightly();
     tree_words_go_rightly();
+}
+
+/// At such a node the decision that a call asks the journal for is the draft of the family that the call came to. Where it stands,
+/// it names exactly the registrations that have voted commit, by their numbers and their references; and so does each record by
+/// which a family is decided, as long as both are there. Whatever the node does then, and wherever it crashes, nothing else comes to
+/// stand at its place, and nobody else is told again for it.
+pub fn decisions_name_voters()
+    ensures { DecisionsNameVoters }
+{
+    nodes_keep_rules();
+    commits_rest();
+    families_append_own();
+    families_number_words();
+    families_stay_sound();
+    records_name_voters();
 }
 
 /// At such a node no decision stands of a family that is rolled back, and none is ever asked for. A rollback word rests on that, or it

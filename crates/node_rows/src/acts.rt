@@ -12,7 +12,7 @@ use crate::commands::number;
 use coordinator::Act;
 use ior_refs::ObjectKey;
 use ots_model::tree::{Heard, Word};
-use ots_model::{Disposition, RefBytes, Status, Vote};
+use ots_model::{Disposition, PhaseHeard, PhaseWord, RefBytes, Status, Vote};
 use std::alloc::Global;
 use std::io;
 use std::io::ErrorKind;
@@ -134,39 +134,40 @@ fn question(name: &str) -> Option<Act> {
 /// A word of a superior.
 fn word_of(name: &str) -> Word {
     match name {
-        "prepare" => Word::Prepare,
-        "commit" => Word::Commit,
-        "commit_one_phase" => Word::CommitOnePhase,
-        "rollback" => Word::Rollback,
+        "prepare" => Word::Phase(PhaseWord::Prepare),
+        "commit" => Word::Phase(PhaseWord::Commit),
+        "commit_one_phase" => Word::Phase(PhaseWord::CommitOnePhase),
+        "rollback" => Word::Phase(PhaseWord::Rollback),
         _ => Word::Forget,
     }
 }
 
 /// What is heard of a word: `ok`, `votes_commit`, `votes_rollback`, `votes_read_only`, a heuristic exception
 /// `committed`, `rolled_back`, `mixed`, `hazard`, or `undone` (TRANSACTION_ROLLEDBACK), `not_prepared`, `nobody`
-/// (OBJECT_NOT_EXIST), `told`, `lost`, `starved`, or any other answer.
-pub fn heard_of(name: &str) -> Heard {
+/// (OBJECT_NOT_EXIST), `told` (a status), `enlisted` (a reference), `lost`, `starved`, or any other answer.
+pub fn heard_of(alloc: Global, name: &str) -> Heard {
     match name {
-        "ok" => Heard::Done,
-        "undone" => Heard::RolledBack,
-        "not_prepared" => Heard::NotPrepared,
-        "nobody" => Heard::NoObject,
+        "ok" => Heard::Phase(PhaseHeard::Done),
+        "undone" => Heard::Phase(PhaseHeard::RolledBack),
+        "not_prepared" => Heard::Phase(PhaseHeard::NotPrepared),
+        "nobody" => Heard::Phase(PhaseHeard::NoObject),
         "told" => Heard::Told(Status::Active),
-        "lost" => Heard::Lost,
-        "starved" => Heard::Starved,
+        "enlisted" => Heard::Enlisted(RefBytes::from_vec(Vec::new(alloc))),
+        "lost" => Heard::Phase(PhaseHeard::Lost),
+        "starved" => Heard::Phase(PhaseHeard::Starved),
         _ => vote_or_exception(name),
     }
 }
 
 fn vote_or_exception(name: &str) -> Heard {
     match name {
-        "votes_commit" => Heard::Voted(Vote::VoteCommit),
-        "votes_rollback" => Heard::Voted(Vote::VoteRollback),
-        "votes_read_only" => Heard::Voted(Vote::VoteReadOnly),
-        "committed" => Heard::Heuristic(Disposition::Committed),
-        "rolled_back" => Heard::Heuristic(Disposition::RolledBack),
-        "mixed" => Heard::Heuristic(Disposition::Mixed),
-        "hazard" => Heard::Heuristic(Disposition::Unknown),
-        _ => Heard::Other,
+        "votes_commit" => Heard::Phase(PhaseHeard::Voted(Vote::VoteCommit)),
+        "votes_rollback" => Heard::Phase(PhaseHeard::Voted(Vote::VoteRollback)),
+        "votes_read_only" => Heard::Phase(PhaseHeard::Voted(Vote::VoteReadOnly)),
+        "committed" => Heard::Phase(PhaseHeard::Heuristic(Disposition::Committed)),
+        "rolled_back" => Heard::Phase(PhaseHeard::Heuristic(Disposition::RolledBack)),
+        "mixed" => Heard::Phase(PhaseHeard::Heuristic(Disposition::Mixed)),
+        "hazard" => Heard::Phase(PhaseHeard::Heuristic(Disposition::Unknown)),
+        _ => Heard::Phase(PhaseHeard::Other),
     }
 }

@@ -97,7 +97,7 @@ fn carry_out(
         ["key", kind, key @ ..] => set_key(client, kind, key),
         ["tick"] => tell_ticking(node, client, told),
         ["records"] => tell_records(node, told),
-        ["answer", serial, heard] => answer(node, client, number(serial)?, heard, told),
+        ["answer", serial, heard] => answer(alloc, node, client, number(serial)?, heard, told),
         [word, rest] => carry_out_with(alloc, node, client, word, rest, told),
         words => apply(node, client, act_of(alloc, words)?, told),
     }
@@ -115,7 +115,7 @@ fn carry_out_with(
     match word {
         "branch" | "at" | "retry" | "service" => set(client, word, number(rest)?),
         "create" => begin(node, client, number(rest)?, told),
-        "hear" => hear(node, client, rest, told),
+        "hear" => hear(alloc, node, client, rest, told),
         _ => apply(node, client, act_of(alloc, &[word, rest])?, told),
     }
 }
@@ -132,6 +132,7 @@ fn set(client: &mut Client, word: &str, number: u32) -> io::Result<()> {
 
 /// The word of the family with this number is answered.
 fn answer(
+    alloc: Global,
     node: &mut MemNode,
     client: &mut Client,
     serial: u32,
@@ -144,7 +145,7 @@ fn answer(
         generation: client.key.generation,
         serial,
     };
-    apply(node, client, Act::Answer(of, heard_of(heard)), told)
+    apply(node, client, Act::Answer(of, heard_of(alloc, heard)), told)
 }
 
 /// The key of a call.
@@ -210,13 +211,14 @@ fn tell_ticked(answer: Result<Happenings, NodeFault>, told: &mut Vec<u8>) -> io:
 
 /// The word that has waited longest is answered.
 fn hear(
+    alloc: Global,
     node: &mut MemNode,
     client: &mut Client,
     heard: &str,
     told: &mut Vec<u8>,
 ) -> io::Result<()> {
     match client.waiting.pop_front() {
-        Some(of) => apply(node, client, Act::Answer(of, heard_of(heard)), told),
+        Some(of) => apply(node, client, Act::Answer(of, heard_of(alloc, heard)), told),
         None => tell_none(told),
     }
 }

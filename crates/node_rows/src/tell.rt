@@ -5,8 +5,8 @@ use crate::node_calls::{MemNode, held, life, standing};
 use coordinator::{Effect, Finished, Said, StepAnswer};
 use decision_journal::Standing;
 use ior_refs::ObjectKey;
-use ots_model::CallNumber;
 use ots_model::tree::{Outward, Parent, Word};
+use ots_model::{CallNumber, PhaseWord};
 use recovery_coord::Held;
 use service_node::{Happening, Happenings};
 use std::io;
@@ -119,10 +119,10 @@ fn tell_name(word: &Word, told: &mut Vec<u8>) -> io::Result<()> {
 /// The name of a word that has nothing behind it.
 fn word_name(word: &Word) -> &'static str {
     match word {
-        Word::Prepare => "prepare",
-        Word::Commit => "commit",
-        Word::CommitOnePhase => "commit_one_phase",
-        Word::Rollback => "rollback",
+        Word::Phase(PhaseWord::Prepare) => "prepare",
+        Word::Phase(PhaseWord::Commit) => "commit",
+        Word::Phase(PhaseWord::CommitOnePhase) => "commit_one_phase",
+        Word::Phase(PhaseWord::Rollback) => "rollback",
         Word::Forget => "forget",
         Word::BeforeCompletion => "before_completion",
         Word::RollbackSub => "rollback_subtransaction",

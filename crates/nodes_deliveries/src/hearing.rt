@@ -11,8 +11,8 @@ use coordinator::{Act, Event, Said};
 use nodes_clients::carry;
 use nodes_parts::family_key;
 use nodes_state::State;
-use ots_model::Disposition;
 use ots_model::tree::Heard;
+use ots_model::{Disposition, PhaseHeard};
 use ots_world::WorldFault;
 
 /// What the caller of a participant hears in an answer.
@@ -21,17 +21,17 @@ pub fn heard_in(said: &Said) -> Heard
     ensures { result ≡ deliveries.heard_in said.now }
 {
     match said {
-        Said::Plain => Heard::Done,
+        Said::Plain => Heard::Phase(PhaseHeard::Done),
         Said::State(status) => Heard::Told(*status),
-        Said::Voted(vote) => Heard::Voted(*vote),
-        Said::TransactionRolledBack => Heard::RolledBack,
-        Said::HeuristicMixed => Heard::Heuristic(Disposition::Mixed),
-        Said::HeuristicHazard => Heard::Heuristic(Disposition::Unknown),
-        Said::HeuristicRollback => Heard::Heuristic(Disposition::RolledBack),
-        Said::HeuristicCommit => Heard::Heuristic(Disposition::Committed),
-        Said::NotPrepared => Heard::NotPrepared,
-        Said::ObjectNotExist => Heard::NoObject,
-        _ => Heard::Other,
+        Said::Voted(vote) => Heard::Phase(PhaseHeard::Voted(*vote)),
+        Said::TransactionRolledBack => Heard::Phase(PhaseHeard::RolledBack),
+        Said::HeuristicMixed => Heard::Phase(PhaseHeard::Heuristic(Disposition::Mixed)),
+        Said::HeuristicHazard => Heard::Phase(PhaseHeard::Heuristic(Disposition::Unknown)),
+        Said::HeuristicRollback => Heard::Phase(PhaseHeard::Heuristic(Disposition::RolledBack)),
+        Said::HeuristicCommit => Heard::Phase(PhaseHeard::Heuristic(Disposition::Committed)),
+        Said::NotPrepared => Heard::Phase(PhaseHeard::NotPrepared),
+        Said::ObjectNotExist => Heard::Phase(PhaseHeard::NoObject),
+        _ => Heard::Phase(PhaseHeard::Other),
     }
 }
 

@@ -1,24 +1,20 @@
-ghost use Rattle.std.specs.Prelude.{◌≡◌, ◌++◌, true, OnOk, OnErr};
+ghost use Rattle.std.specs.Prelude.{◌≡◌, true};
 ghost use Rattle.nodes_world.specs.Told.{answer_part, flag_word, status_word};
-ghost use Rattle.ots_model.specs.Piece.{Fixed, word_of};
-ghost use Rattle.ots_model.specs.Words.{vote_word};
+ghost use Rattle.ots_model.specs.Piece.{Fixed};
+ghost use Rattle.ots_model.specs.Pieces.{part_of};
 ghost use Rattle.nodes_lines.specs.Words.{has_word};
 
-use crate::piece::write_number;
 use coordinator::Said;
-use ots_model::{Status, Vote};
-use std::alloc::AllocError;
+use ots_model::{Piece, Status};
 
-/// Writes what a line shows of an answer at the end: what is given, or the exception by its bare name. Want of memory leaves what
-/// stood there.
-pub fn write_answer(lines: &mut Vec<u8>, answer: &Said) -> Result<(), AllocError>
-    ensures ok { OnOk result (lines.new.items ≡ lines.old.items ++ word_of (answer_part answer.now)) }
-    ensures err { OnErr result (lines.new.items ≡ lines.old.items) }
+/// The word of a line that shows an answer: what is given, or the exception by its bare name.
+pub fn answer_piece(answer: &Said) -> Piece<'_>
+    ensures { part_of result ≡ answer_part answer.now }
 {
     match answer {
-        Said::Number(number) => write_number(lines, u64::from(*number)),
-        Said::Name(name) => lines.extend_from_slice(name.bytes()),
-        other => lines.extend_from_slice(answer_word(other)),
+        Said::Number(number) => Piece::Number(u64::from(*number)),
+        Said::Name(name) => Piece::Text(name.bytes()),
+        other => Piece::Text(answer_word(other)),
     }
 }
 
@@ -30,7 +26,7 @@ fn answer_word(answer: &Said) -> &'static [u8]
     match answer {
         Said::Flag(yes) => flag_word(*yes),
         Said::State(status) => status_word(*status),
-        Said::Voted(vote) => vote_word(*vote),
+        Said::Voted(vote) => vote.text(),
         Said::Later => b"later",
         Said::TransactionRolledBack => b"TRANSACTION_ROLLEDBACK",
         Said::HeuristicMixed => b"HeuristicMixed",
@@ -76,15 +72,5 @@ fn status_word(status: Status) -> &'static [u8]
         Status::Preparing => b"Preparing",
         Status::Committing => b"Committing",
         Status::RollingBack => b"RollingBack",
-    }
-}
-
-fn vote_word(vote: Vote) -> &'static [u8]
-    ensures { result.now ≡ vote_word vote }
-{
-    match vote {
-        Vote::VoteCommit => b"VoteCommit",
-        Vote::VoteRollback => b"VoteRollback",
-        Vote::VoteReadOnly => b"VoteReadOnly",
     }
 }

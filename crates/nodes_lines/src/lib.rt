@@ -9,6 +9,5 @@ pub use told::{
 pub use words::operation_of;
 
 mod answer;
-mod piece;
 mod told;
 mod words;

@@ -2,11 +2,11 @@ ghost use Rattle.std.specs.Prelude.{◌≡◌, codes};
 ghost use Rattle.nodes_world.specs.Told as told;
 ghost use Rattle.nodes_lines.specs.Telling.{IsTold};
 
-use crate::piece::Piece::{Answer, Named, Number, Text};
-use crate::piece::write_line;
+use crate::answer::answer_piece;
 use coordinator::Said;
+use ots_model::Piece::{Named, Number, Text};
 use ots_model::tree::Word;
-use ots_model::{Line, Name, Word as PhaseWord};
+use ots_model::{Line, Name, write_line};
 use std::alloc::{AllocError, Global};
 
 /// Tells a line of `ots_model`, one that agreement may speak of.
@@ -68,7 +68,10 @@ pub fn tell_called(
 pub fn tell_answered(lines: &mut Vec<u8>, message: u64, answer: &Said) -> Result<(), AllocError>
     ensures { IsTold result (told.Answered message answer.now) lines.old.items lines.new.items }
 {
-    write_line(lines, &[Text(b"ans"), Number(message), Answer(answer)])
+    write_line(
+        lines,
+        &[Text(b"ans"), Number(message), answer_piece(answer)],
+    )
 }
 
 /// A word goes out to a registration.
@@ -81,10 +84,14 @@ pub fn tell_sent(
     ensures { IsTold result (told.sent message word registration) lines.old.items lines.new.items }
 {
     match word {
-        Word::Prepare => tell_asked(lines, message, PhaseWord::Prepare, registration),
-        Word::Commit => tell_asked(lines, message, PhaseWord::Commit, registration),
-        Word::CommitOnePhase => tell_asked(lines, message, PhaseWord::CommitOnePhase, registration),
-        Word::Rollback => tell_asked(lines, message, PhaseWord::Rollback, registration),
+        Word::Phase(word) => tell_known(
+            lines,
+            Line::Send {
+                message,
+                word,
+                registration,
+            },
+        ),
         Word::Forget => tell_other(lines, message, b"forget", registration),
         Word::BeforeCompletion => tell_other(lines, message, b"before_completion", registration),
         Word::AfterCompletion(_) => tell_other(lines, message, b"after_completion", registration),
@@ -93,25 +100,6 @@ pub fn tell_sent(
         Word::ReplayCompletion => tell_other(lines, message, b"replay_completion", registration),
         Word::RegisterResource => tell_other(lines, message, b"register_resource", registration),
     }
-}
-
-/// A word of the two phases goes out.
-fn tell_asked(
-    lines: &mut Vec<u8>,
-    message: u32,
-    word: PhaseWord,
-    registration: Name,
-) -> Result<(), AllocError>
-    ensures { IsTold result (told.Known (Line.Send message word registration)) lines.old.items lines.new.items }
-{
-    tell_known(
-        lines,
-        Line::Send {
-            message,
-            word,
-            registration,
-        },
-    )
 }
 
 /// Another word goes out.
@@ -142,7 +130,7 @@ pub fn tell_back(
     ensures { IsTold result (told.Back message request answer.now) lines.old.items lines.new.items }
 {
     let (number, of) = (Number(u64::from(message)), Number(u64::from(request)));
-    write_line(lines, &[Text(b"back"), number, of, Answer(answer)])
+    write_line(lines, &[Text(b"back"), number, of, answer_piece(answer)])
 }
 
 /// A message has come to a receiver that is down.
@@ -220,7 +208,7 @@ pub fn tell_refused<'a>(
 ) -> Result<(), AllocError>
     ensures { IsTold result (told.Refused word.now answer.now) lines.old.items lines.new.items }
 {
-    write_line(lines, &[Text(b"no"), Text(word), Answer(answer)])
+    write_line(lines, &[Text(b"no"), Text(word), answer_piece(answer)])
 }
 
 /// The octets of a journal.

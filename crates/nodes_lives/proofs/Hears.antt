@@ -4,9 +4,9 @@ use Rattle.std.specs.List.{AllByRecursion}
 use Rattle.ots_model.specs.Heard.{of_participant}
 use Rattle.ots_model.specs.declared.completion.CallNumber.{CallNumber}
 use Rattle.ots_model.specs.declared.completion.Heard.{Heard as ParticipantHeard}
-use Rattle.ots_model.specs.declared.completion.Heard.TheVariants as participants
+use Rattle.ots_model.specs.declared.completion.Heard.TheVariants as phase_hears
 use Rattle.ots_model.specs.declared.tree.Heard.{Heard}
-use Rattle.ots_model.specs.declared.tree.Outcome.{Outcome}
+use Rattle.ots_model.specs.Numbered.{Outcome}
 use Rattle.txn_tree.specs.Rows.{parent}
 use Rattle.two_phase.specs.Stages as stages
 use Rattle.two_phase.specs.Stages.{Standing as Completion}
@@ -85,28 +85,28 @@ quiet_before b called c h f =
     (quiet_completes (begun g.completion (rolling_back (asked_of c.aim) (reason_of called h) g)) _)
 
 vote_undone : (x : ParticipantHeard) (o : Option ℕ) → No is_done (vote_effects x o)
-vote_undone (participants.Voted vote) (Some registration) = (refl, tt)
-vote_undone (participants.Voted vote) None = tt
-vote_undone participants.Done o = tt
-vote_undone (participants.Heuristic d) o = tt
-vote_undone participants.RolledBack o = tt
-vote_undone participants.NotPrepared o = tt
-vote_undone participants.NoObject o = tt
-vote_undone participants.Other o = tt
-vote_undone participants.Lost o = tt
-vote_undone participants.Starved o = tt
+vote_undone (phase_hears.Voted vote) (Some registration) = (refl, tt)
+vote_undone (phase_hears.Voted vote) None = tt
+vote_undone phase_hears.Done o = tt
+vote_undone (phase_hears.Heuristic d) o = tt
+vote_undone phase_hears.RolledBack o = tt
+vote_undone phase_hears.NotPrepared o = tt
+vote_undone phase_hears.NoObject o = tt
+vote_undone phase_hears.Other o = tt
+vote_undone phase_hears.Lost o = tt
+vote_undone phase_hears.Starved o = tt
 
 vote_undecided : (x : ParticipantHeard) (o : Option ℕ) → No is_decided (vote_effects x o)
-vote_undecided (participants.Voted vote) (Some registration) = (refl, tt)
-vote_undecided (participants.Voted vote) None = tt
-vote_undecided participants.Done o = tt
-vote_undecided (participants.Heuristic d) o = tt
-vote_undecided participants.RolledBack o = tt
-vote_undecided participants.NotPrepared o = tt
-vote_undecided participants.NoObject o = tt
-vote_undecided participants.Other o = tt
-vote_undecided participants.Lost o = tt
-vote_undecided participants.Starved o = tt
+vote_undecided (phase_hears.Voted vote) (Some registration) = (refl, tt)
+vote_undecided (phase_hears.Voted vote) None = tt
+vote_undecided phase_hears.Done o = tt
+vote_undecided (phase_hears.Heuristic d) o = tt
+vote_undecided phase_hears.RolledBack o = tt
+vote_undecided phase_hears.NotPrepared o = tt
+vote_undecided phase_hears.NoObject o = tt
+vote_undecided phase_hears.Other o = tt
+vote_undecided phase_hears.Lost o = tt
+vote_undecided phase_hears.Starved o = tt
 
 quiet_participant : (n : CallNumber) (h : Heard) (f : Family) → IsQuiet (told_participant n h f)
 unfolding told_participant

@@ -5,8 +5,8 @@ use Rattle.ots_model.specs.declared.completion.Ground.TheVariants.{Nobody, Recor
 use Rattle.ots_model.specs.declared.completion.Heard.{Heard as ParticipantHeard}
 use Rattle.ots_model.specs.declared.completion.Stood.{Stood}
 use Rattle.ots_model.specs.declared.completion.Stood.TheVariants as answers
-use Rattle.ots_model.specs.declared.tree.Outcome.{Outcome}
-use Rattle.ots_model.specs.declared.tree.Outcome.TheVariants as outcomes
+use Rattle.ots_model.specs.Numbered.{Outcome}
+use Rattle.ots_model.specs.declared.completion.Outcome.TheVariants as outcomes
 use Rattle.ots_model.specs.declared.tree.Reason.{Reason}
 use Rattle.two_phase.specs.Course as course
 use Rattle.two_phase.specs.Course.{Course}

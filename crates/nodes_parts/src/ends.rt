@@ -10,7 +10,7 @@ use coordinator::Said;
 use decision_journal::Put;
 use ior_refs::ObjectKey;
 use ots_model::tree::{Heard, Word};
-use ots_model::{Disposition, ResourceState};
+use ots_model::{Disposition, PhaseHeard, PhaseWord, ResourceState};
 use resource_end::{EndFault, State, Word as ToldWord};
 use std::alloc::{AllocError, Global};
 use std::marker::Model;
@@ -203,15 +203,15 @@ pub fn closed_by(state: State) -> Option<Said>
     }
 }
 
-/// The words of the two phases, as a resource's table has them.
+/// The words that a resource's table has.
 pub fn told_word(word: Word) -> Option<ToldWord>
     ensures { result ≡ ends.told_word word }
 {
     match word {
-        Word::Prepare => Some(ToldWord::Prepare),
-        Word::Commit => Some(ToldWord::Commit),
-        Word::CommitOnePhase => Some(ToldWord::CommitOnePhase),
-        Word::Rollback => Some(ToldWord::Rollback),
+        Word::Phase(PhaseWord::Prepare) => Some(ToldWord::Prepare),
+        Word::Phase(PhaseWord::Commit) => Some(ToldWord::Commit),
+        Word::Phase(PhaseWord::CommitOnePhase) => Some(ToldWord::CommitOnePhase),
+        Word::Phase(PhaseWord::Rollback) => Some(ToldWord::Rollback),
         Word::Forget => Some(ToldWord::Forget),
         _ => None,
     }
@@ -234,12 +234,14 @@ pub fn answer_of_row(said: &Result<Heard, EndFault>) -> Option<Said>
     ensures { result ≡ ends.answer_of_row said.now }
 {
     match said {
-        Ok(Heard::Done) => Some(Said::Plain),
-        Ok(Heard::Voted(vote)) => Some(Said::Voted(*vote)),
-        Ok(Heard::Heuristic(disposition)) => Some(heuristic(*disposition)),
-        Ok(Heard::RolledBack) => Some(Said::TransactionRolledBack),
-        Ok(Heard::NotPrepared) => Some(Said::NotPrepared),
-        Ok(Heard::NoObject) | Err(EndFault::ObjectNotExist) => Some(Said::ObjectNotExist),
+        Ok(Heard::Phase(PhaseHeard::Done)) => Some(Said::Plain),
+        Ok(Heard::Phase(PhaseHeard::Voted(vote))) => Some(Said::Voted(*vote)),
+        Ok(Heard::Phase(PhaseHeard::Heuristic(disposition))) => Some(heuristic(*disposition)),
+        Ok(Heard::Phase(PhaseHeard::RolledBack)) => Some(Said::TransactionRolledBack),
+        Ok(Heard::Phase(PhaseHeard::NotPrepared)) => Some(Said::NotPrepared),
+        Ok(Heard::Phase(PhaseHeard::NoObject)) | Err(EndFault::ObjectNotExist) => Some(
+            Said::ObjectNotExist,
+        ),
         _ => None,
     }
 }

@@ -2,9 +2,9 @@
 use Rattle.std.specs.Prelude.{ℕ, true, false, List, codes}
 use Rattle.ots_model.specs.declared.completion.Ground.TheVariants.{Record}
 use Rattle.ots_model.specs.declared.completion.Outcome.TheVariants as outcomes
-use Rattle.ots_model.specs.declared.completion.Reason.TheVariants as reasons
+use Rattle.ots_model.specs.declared.completion.Reason.TheVariants as phase_reasons
 use Rattle.ots_model.specs.declared.completion.Vote.TheVariants.{VoteCommit, VoteRollback}
-use Rattle.ots_model.specs.declared.completion.Word.TheVariants as words
+use Rattle.ots_model.specs.declared.completion.Word.TheVariants as phase_words
 use Rattle.ots_model.specs.declared.line.Line.TheVariants as lines
 use Rattle.ots_model.specs.declared.line.ResourceState.TheVariants as states
 use Rattle.ots_model.specs.declared.service.Status.TheVariants as status
@@ -65,13 +65,13 @@ abbrev pub subdone_rolled_back : List ℕ → Told
 subdone_rolled_back transaction = Known (lines.SubDone transaction false)
 
 abbrev pub send_prepare : ℕ → List ℕ → Told
-send_prepare message resource = Known (lines.Send message words.Prepare resource)
+send_prepare message resource = Known (lines.Send message phase_words.Prepare resource)
 
 abbrev pub send_commit : ℕ → List ℕ → Told
-send_commit message resource = Known (lines.Send message words.Commit resource)
+send_commit message resource = Known (lines.Send message phase_words.Commit resource)
 
 abbrev pub send_rollback : ℕ → List ℕ → Told
-send_rollback message resource = Known (lines.Send message words.Rollback resource)
+send_rollback message resource = Known (lines.Send message phase_words.Rollback resource)
 
 abbrev pub recv : ℕ → Told
 recv message = Known (lines.Recv message)
@@ -104,7 +104,8 @@ abbrev pub decide_commit : List ℕ → Told
 decide_commit transaction = Known (lines.Decide transaction (outcomes.Commit Record))
 
 abbrev pub decide_rollback : List ℕ → List ℕ → Told
-decide_rollback transaction resource = Known (lines.Decide transaction (outcomes.Rollback (reasons.Vote resource)))
+decide_rollback transaction resource =
+    Known (lines.Decide transaction (outcomes.Rollback (phase_reasons.Vote resource)))
 
 abbrev pub done : List ℕ → Told
 done transaction = Known (lines.Done transaction)

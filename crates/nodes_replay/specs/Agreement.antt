@@ -3,7 +3,8 @@
 use Rattle.std.specs.Prelude.{◌≡◌, ℕ, ◌+◌, List, [], ◌++◌, take, slice_get, Some, Result, Ok, Err}
 use Rattle.ots_model.specs.Safe.{AreSafe}
 use Rattle.ots_model.specs.declared.tree.Outward.{Outward}
-use Rattle.ots_model.specs.declared.tree.Word.TheVariants.{Commit}
+use Rattle.ots_model.specs.declared.completion.Word.TheVariants.{Commit}
+use Rattle.ots_model.specs.declared.tree.Word.TheVariants.{Phase}
 use Rattle.ots_world.specs.declared.fault.WorldFault.{WorldFault}
 use Rattle.ots_world.specs.declared.script.ScriptEvent.{ScriptEvent}
 use Rattle.ior_refs.specs.declared.key.ObjectKey.{ObjectKey}
@@ -90,7 +91,7 @@ StandsComplete (Err fault) = Unit {0}
 -- each resource that has answered commit has stored its updates
 abbrev pub CommitsAreKept : Standing → Type 0
 CommitsAreKept (Ok w) =
-    (nth place reply : ℕ) (o : Outward) (m : Message) (answer : Said) (r : NamedKey) → IsWord w nth place o → o.word ≡ Commit
+    (nth place reply : ℕ) (o : Outward) (m : Message) (answer : Said) (r : NamedKey) → IsWord w nth place o → o.word ≡ Phase Commit
     → slice_get w.messages reply ≡ Some m → m.content ≡ Reply (nth + 1) answer → referred w o.to ≡ Some r
     → IsAt (λ (s : State). s ≡ Applied) w r.key
 CommitsAreKept (Err fault) = Unit {0}

@@ -13,8 +13,8 @@ use nodes_lines::{
     tell_answered, tell_doubted, tell_known, tell_marked, tell_rolled_back, tell_rolled_back_by,
 };
 use nodes_parts::Directory;
-use ots_model::tree::{Outcome, Reason};
-use ots_model::{Line, Name, Outcome as KnownOutcome, Reason as KnownReason};
+use ots_model::tree::Reason;
+use ots_model::{Line, Name, Outcome, PhaseReason};
 use std::alloc::AllocError;
 
 /// Tells what happened, in order.
@@ -93,7 +93,7 @@ fn tell_outcome(
     lines: &mut Vec<u8>,
     names: &Directory,
     cast: Cast<'_>,
-    outcome: Outcome,
+    outcome: Outcome<Reason>,
     transaction: Name,
 ) -> Result<(), AllocError>
     ensures { (w : World) (c : happenings.Cast) → AreNamesOf names.now w → StandsFor cast.entry c w
@@ -101,16 +101,16 @@ fn tell_outcome(
         lines.old.items lines.new.items result }
 {
     match outcome {
-        Outcome::Commit(ground) => tell_decided(lines, transaction, KnownOutcome::Commit(ground)),
+        Outcome::Commit(ground) => tell_decided(lines, transaction, Outcome::Commit(ground)),
         Outcome::Rollback(reason) => tell_rollback(lines, names, cast, transaction, reason),
-        Outcome::Unknown => tell_decided(lines, transaction, KnownOutcome::Unknown),
+        Outcome::Unknown => tell_decided(lines, transaction, Outcome::Unknown),
     }
 }
 
 fn tell_decided(
     lines: &mut Vec<u8>,
     transaction: Name,
-    outcome: KnownOutcome<Name>,
+    outcome: Outcome<PhaseReason<Name>>,
 ) -> Result<(), AllocError>
     ensures { TellsOne (told.Known (Line.Decide transaction outcome) ∷ []) lines.old.items lines.new.items result }
 {
@@ -154,66 +154,83 @@ fn tell_rollback(
             b"SyncStarved",
             cast.synchronized(names, number),
         ),
-        Reason::Vote(number) => {
+        Reason::Phase(reason) => tell_phase_reason(lines, names, cast, transaction, reason),
+    }
+}
+
+/// A transaction is rolled back by the votes or by the journal.
+fn tell_phase_reason(
+    lines: &mut Vec<u8>,
+    names: &Directory,
+    cast: Cast<'_>,
+    transaction: Name,
+    reason: PhaseReason,
+) -> Result<(), AllocError>
+    ensures { (w : World) (c : happenings.Cast) → AreNamesOf names.now w → StandsFor cast.entry c w
+        → TellsOne (happenings.rollback_lines w c transaction (Reason.Phase reason))
+        lines.old.items lines.new.items result }
+{
+    match reason {
+        PhaseReason::Vote(number) => {
             tell_reason(lines, transaction, by_vote(cast.registered(names, number)))
         }
-        Reason::PrepareLost(number) => {
+        PhaseReason::PrepareLost(number) => {
             tell_reason(lines, transaction, by_loss(cast.registered(names, number)))
         }
-        Reason::PrepareStarved(number) => {
+        PhaseReason::PrepareStarved(number) => {
             tell_reason(lines, transaction, by_want(cast.registered(names, number)))
         }
-        Reason::PrepareFault(number) => {
+        PhaseReason::PrepareFault(number) => {
             tell_reason(lines, transaction, by_fault(cast.registered(names, number)))
         }
-        Reason::JournalFull(used, need) => tell_decided(
+        PhaseReason::JournalFull(used, need) => tell_decided(
             lines,
             transaction,
-            KnownOutcome::Rollback(KnownReason::JournalFull(used, need)),
+            Outcome::Rollback(PhaseReason::JournalFull(used, need)),
         ),
     }
 }
 
 /// The vote of a registration as a reason, where that has a name.
-fn by_vote(registration: Option<Name>) -> Option<KnownReason<Name>>
-    ensures { result ≡ option_map (λ name. KnownReason.Vote name) registration }
+fn by_vote(registration: Option<Name>) -> Option<PhaseReason<Name>>
+    ensures { result ≡ option_map (λ name. PhaseReason.Vote name) registration }
 {
-    Some(KnownReason::Vote(registration?))
+    Some(PhaseReason::Vote(registration?))
 }
 
 /// The same of the loss of its prepare.
-fn by_loss(registration: Option<Name>) -> Option<KnownReason<Name>>
-    ensures { result ≡ option_map (λ name. KnownReason.PrepareLost name) registration }
+fn by_loss(registration: Option<Name>) -> Option<PhaseReason<Name>>
+    ensures { result ≡ option_map (λ name. PhaseReason.PrepareLost name) registration }
 {
-    Some(KnownReason::PrepareLost(registration?))
+    Some(PhaseReason::PrepareLost(registration?))
 }
 
 /// The same of want of memory at its prepare.
-fn by_want(registration: Option<Name>) -> Option<KnownReason<Name>>
-    ensures { result ≡ option_map (λ name. KnownReason.PrepareStarved name) registration }
+fn by_want(registration: Option<Name>) -> Option<PhaseReason<Name>>
+    ensures { result ≡ option_map (λ name. PhaseReason.PrepareStarved name) registration }
 {
-    Some(KnownReason::PrepareStarved(registration?))
+    Some(PhaseReason::PrepareStarved(registration?))
 }
 
 /// The same of a prepare that is answered otherwise.
-fn by_fault(registration: Option<Name>) -> Option<KnownReason<Name>>
-    ensures { result ≡ option_map (λ name. KnownReason.PrepareFault name) registration }
+fn by_fault(registration: Option<Name>) -> Option<PhaseReason<Name>>
+    ensures { result ≡ option_map (λ name. PhaseReason.PrepareFault name) registration }
 {
-    Some(KnownReason::PrepareFault(registration?))
+    Some(PhaseReason::PrepareFault(registration?))
 }
 
-/// The same for a reason that flat transactions have too, where it names what has a name.
+/// The same for a reason of the votes, where it names what has a name.
 fn tell_reason(
     lines: &mut Vec<u8>,
     transaction: Name,
-    reason: Option<KnownReason<Name>>,
+    reason: Option<PhaseReason<Name>>,
 ) -> Result<(), AllocError>
     ensures { TellsOne
-        (option_to_list (option_map (λ r. told.Known (Line.Decide transaction (KnownOutcome.Rollback r))) reason))
+        (option_to_list (option_map (λ r. told.Known (Line.Decide transaction (Outcome.Rollback r))) reason))
         lines.old.items lines.new.items result }
 {
     match reason {
-        Some(reason) => tell_decided(lines, transaction, KnownOutcome::Rollback(reason)),
+        Some(reason) => tell_decided(lines, transaction, Outcome::Rollback(reason)),
         None => Ok(()),
     }
 }

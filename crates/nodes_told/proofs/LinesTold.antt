@@ -10,13 +10,12 @@ use Rattle.ots_model.specs.declared.completion.Ground.{Ground}
 use Rattle.ots_model.specs.declared.completion.Ground.TheVariants.{Record}
 use Rattle.ots_model.specs.declared.completion.Vote.{Vote}
 use Rattle.ots_model.specs.declared.completion.Word.{Word as Phase}
-use Rattle.ots_model.specs.declared.completion.Word.TheVariants as phases
+use Rattle.ots_model.specs.declared.completion.Word.TheVariants as phase_words
 use Rattle.ots_model.specs.declared.line.ResourceState.{ResourceState}
-use Rattle.ots_model.specs.declared.completion.Outcome.TheVariants as known_outcomes
-use Rattle.ots_model.specs.declared.completion.Reason.TheVariants as known_reasons
+use Rattle.ots_model.specs.declared.completion.Reason.TheVariants as phase_reasons
 use Rattle.ots_model.specs.declared.line.Line.TheVariants as lines
-use Rattle.ots_model.specs.declared.tree.Outcome.{Outcome}
-use Rattle.ots_model.specs.declared.tree.Outcome.TheVariants as outcomes
+use Rattle.ots_model.specs.Numbered.{Outcome}
+use Rattle.ots_model.specs.declared.completion.Outcome.TheVariants as outcomes
 use Rattle.ots_model.specs.declared.tree.Reason.{Reason}
 use Rattle.ots_model.specs.declared.tree.Reason.TheVariants as reasons
 use Rattle.ots_model.specs.declared.tree.Word.{Word}
@@ -144,7 +143,7 @@ pub state_told : (g : List ℕ) (s : ResourceState) → IsName g → IsTold (Kno
 unfolding words_of HasWords parts
 state_told g s is = record { names = (tt, (is, (tt, tt))); words = tt }
 
-pub recorded_told : (t : List ℕ) → IsName t → IsTold (Known (lines.Decide t (known_outcomes.Commit Record)))
+pub recorded_told : (t : List ℕ) → IsName t → IsTold (Known (lines.Decide t (outcomes.Commit Record)))
 unfolding words_of HasWords parts
 recorded_told t is = record { names = (tt, (is, (tt, (tt, tt)))); words = tt }
 
@@ -190,10 +189,10 @@ unfolding words_of HasWords
 beside_told message word g one is = record { names = (tt, (tt, (tt, (is, tt)))); words = one }
 
 pub sent_told : (message : ℕ) (word : Word) (g : List ℕ) → IsName g → IsTold (sent message word g)
-sent_told message words.Prepare g is = send_told message phases.Prepare g is
-sent_told message words.Commit g is = send_told message phases.Commit g is
-sent_told message words.CommitOnePhase g is = send_told message phases.CommitOnePhase g is
-sent_told message words.Rollback g is = send_told message phases.Rollback g is
+sent_told message (words.Phase phase_words.Prepare) g is = send_told message phase_words.Prepare g is
+sent_told message (words.Phase phase_words.Commit) g is = send_told message phase_words.Commit g is
+sent_told message (words.Phase phase_words.CommitOnePhase) g is = send_told message phase_words.CommitOnePhase g is
+sent_told message (words.Phase phase_words.Rollback) g is = send_told message phase_words.Rollback g is
 sent_told message words.Forget g is = beside_told message (codes "forget") g (inl refl) is
 sent_told message words.BeforeCompletion g is = beside_told message (codes "before_completion") g (inr (inl refl)) is
 sent_told message (words.AfterCompletion s) g is = beside_told message (codes "after_completion") g (inr (inr (inl refl))) is
@@ -216,31 +215,31 @@ by_told : (t reason : List ℕ) → IsOneOf reasons_by reason → IsName t → (
 unfolding words_of HasWords
 by_told t reason one is s other = record { names = (tt, (is, (tt, (tt, (other, tt))))); words = one }
 
-vote_told : (t g : List ℕ) → IsName t → IsName g → IsTold (Known (lines.Decide t (known_outcomes.Rollback (known_reasons.Vote g))))
+vote_told : (t g : List ℕ) → IsName t → IsName g → IsTold (Known (lines.Decide t (outcomes.Rollback (phase_reasons.Vote g))))
 unfolding words_of HasWords parts
 vote_told t g is other = record { names = (tt, (is, (tt, (tt, (other, tt))))); words = tt }
 
-lost_told : (t g : List ℕ) → IsName t → IsName g → IsTold (Known (lines.Decide t (known_outcomes.Rollback (known_reasons.PrepareLost g))))
+lost_told : (t g : List ℕ) → IsName t → IsName g → IsTold (Known (lines.Decide t (outcomes.Rollback (phase_reasons.PrepareLost g))))
 unfolding words_of HasWords parts
 lost_told t g is other = record { names = (tt, (is, (tt, (tt, (other, tt))))); words = tt }
 
-starved_told : (t g : List ℕ) → IsName t → IsName g → IsTold (Known (lines.Decide t (known_outcomes.Rollback (known_reasons.PrepareStarved g))))
+starved_told : (t g : List ℕ) → IsName t → IsName g → IsTold (Known (lines.Decide t (outcomes.Rollback (phase_reasons.PrepareStarved g))))
 unfolding words_of HasWords parts
 starved_told t g is other = record { names = (tt, (is, (tt, (tt, (other, tt))))); words = tt }
 
-fault_told : (t g : List ℕ) → IsName t → IsName g → IsTold (Known (lines.Decide t (known_outcomes.Rollback (known_reasons.PrepareFault g))))
+fault_told : (t g : List ℕ) → IsName t → IsName g → IsTold (Known (lines.Decide t (outcomes.Rollback (phase_reasons.PrepareFault g))))
 unfolding words_of HasWords parts
 fault_told t g is other = record { names = (tt, (is, (tt, (tt, (other, tt))))); words = tt }
 
-full_told : (t : List ℕ) (used need : ℕ) → IsName t → IsTold (Known (lines.Decide t (known_outcomes.Rollback (known_reasons.JournalFull used need))))
+full_told : (t : List ℕ) (used need : ℕ) → IsName t → IsTold (Known (lines.Decide t (outcomes.Rollback (phase_reasons.JournalFull used need))))
 unfolding words_of HasWords parts
 full_told t used need is = record { names = (tt, (is, (tt, (tt, (tt, (tt, tt)))))); words = tt }
 
-commit_told : (t : List ℕ) (basis : Ground) → IsName t → IsTold (Known (lines.Decide t (known_outcomes.Commit basis)))
+commit_told : (t : List ℕ) (basis : Ground) → IsName t → IsTold (Known (lines.Decide t (outcomes.Commit basis)))
 unfolding words_of HasWords parts
 commit_told t basis is = record { names = (tt, (is, (tt, (tt, tt)))); words = tt }
 
-unknown_told : (t : List ℕ) → IsName t → IsTold (Known (lines.Decide t known_outcomes.Unknown))
+unknown_told : (t : List ℕ) → IsName t → IsTold (Known (lines.Decide t outcomes.Unknown))
 unfolding words_of HasWords parts
 unknown_told t is = record { names = (tt, (is, (tt, tt))); words = tt }
 
@@ -272,15 +271,15 @@ module _ (w : World) (reads : WorldReads w) (c : Cast) where
   rollback_told t reasons.Asked is = bare_told t (codes "Asked") (inl refl) is
   rollback_told t reasons.Marked is = bare_told t (codes "Marked") (inr (inl refl)) is
   rollback_told t reasons.Timeout is = bare_told t (codes "Timeout") (inr (inr (inl refl))) is
-  rollback_told t (reasons.Vote g) is = naming_told _ (registered w c g) (λ object named. vote_told t object is named) (registered_named g)
-  rollback_told t (reasons.PrepareLost g) is = naming_told _ (registered w c g) (λ object named. lost_told t object is named) (registered_named g)
-  rollback_told t (reasons.PrepareStarved g) is = naming_told _ (registered w c g) (λ object named. starved_told t object is named) (registered_named g)
-  rollback_told t (reasons.PrepareFault g) is = naming_told _ (registered w c g) (λ object named. fault_told t object is named) (registered_named g)
+  rollback_told t (reasons.Phase (phase_reasons.Vote g)) is = naming_told _ (registered w c g) (λ object named. vote_told t object is named) (registered_named g)
+  rollback_told t (reasons.Phase (phase_reasons.PrepareLost g)) is = naming_told _ (registered w c g) (λ object named. lost_told t object is named) (registered_named g)
+  rollback_told t (reasons.Phase (phase_reasons.PrepareStarved g)) is = naming_told _ (registered w c g) (λ object named. starved_told t object is named) (registered_named g)
+  rollback_told t (reasons.Phase (phase_reasons.PrepareFault g)) is = naming_told _ (registered w c g) (λ object named. fault_told t object is named) (registered_named g)
   rollback_told t (reasons.SyncLost s) is =
       naming_told (RolledBackBy t (codes "SyncLost")) (synchronized w c s) (by_told t (codes "SyncLost") (inl refl) is) (numbered_named w c.synchronizations s reads)
   rollback_told t (reasons.SyncStarved s) is =
       naming_told (RolledBackBy t (codes "SyncStarved")) (synchronized w c s) (by_told t (codes "SyncStarved") (inr (inl refl)) is) (numbered_named w c.synchronizations s reads)
-  rollback_told t (reasons.JournalFull used need) is = (full_told t used need is, tt)
+  rollback_told t (reasons.Phase (phase_reasons.JournalFull used need)) is = (full_told t used need is, tt)
   rollback_told t reasons.NotStored is = bare_told t (codes "NotStored") (inr (inr (inr (inl refl)))) is
   rollback_told t reasons.Superior is = bare_told t (codes "Superior") (inr (inr (inr (inr (inl refl))))) is
   rollback_told t reasons.NotEnlisted is = bare_told t (codes "NotEnlisted") (inr (inr (inr (inr (inr (inl refl)))))) is

@@ -9,6 +9,7 @@ use Rattle.ots_model.specs.declared.completion.Stood.{Stood}
 use Rattle.ots_model.specs.declared.service.RetryKey.{RetryKey}
 use Rattle.ots_model.specs.declared.tree.Heard.{Heard}
 use Rattle.ots_model.specs.declared.tree.Word.{Word}
+use Rattle.ots_model.specs.declared.completion.Word.TheVariants as phase_words
 use Rattle.ots_model.specs.declared.tree.Word.TheVariants as words
 use Rattle.decision_journal.specs.declared.record.JournalRecord.{JournalRecord}
 use Rattle.recovery_coord.specs.Limits.{recovery_kind}
@@ -113,8 +114,8 @@ recovery_reads r resource (Some p) = if_said (bytes_eq p.to resource) (said.Stat
 recovery_reads r resource None = tt
 
 word_reads : (word : Word) → IsAnswer (word_said word)
-word_reads words.Prepare = tt
-word_reads words.Rollback = tt
+word_reads (words.Phase phase_words.Prepare) = tt
+word_reads (words.Phase phase_words.Rollback) = tt
 word_reads _ = tt
 
 resource_reads : (kind : Kind) (word : Word) → IfSo IsAnswer (resource_says kind word)

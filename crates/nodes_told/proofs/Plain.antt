@@ -1,9 +1,9 @@
 -- Plain words: they hold no space and no line feed, and a text of them is parted at those.
-use Rattle.std.proofs.Common.{◌≡◌, ◌≢◌, ℕ, ◌<◌, Bool, true, false, List, [], ◌∷◌, ◌++◌, length, refl, sym, ap, ◌∙◌, append_assoc, arith, leb-true}
+use Rattle.std.proofs.Common.{◌≡◌, ◌≢◌, ℕ, ◌<◌, ◌≤◌, Bool, true, false, List, [], ◌∷◌, ◌++◌, length, take, refl, sym, ap, subst, ◌∙◌, append_assoc, arith, leb-true}
 use Rattle.std.specs.Prelude.{◌&&◌, ◌||◌, nat_eq, nat_lt, nat_le}
 use Rattle.std.specs.List.{join_with_byte, slice_split, list_all, flat_map, All, AllByRecursion}
-use Rattle.std.proofs.lemmas.List.{append_cancel_left}
-use Rattle.std.proofs.lemmas.List.Elements.{All-from_recursion, All-append, All-cons, All-weaker}
+use Rattle.std.proofs.lemmas.List.{append_cancel_left, length-append, take-append-le}
+use Rattle.std.proofs.lemmas.List.Elements.{All-from_recursion, All-append, All-cons, All-take, All-weaker}
 use Rattle.std.proofs.lemmas.List.Splits.{slice_split_none, slice_split_at, length-slice_split}
 use borrow.Author.Tests.{ltb-true}
 use Rattle.ots_model.specs.LineLaws.{HasNoLineFeed}
@@ -126,6 +126,17 @@ first_row : (a : List (List ℕ)) (rest : List ℕ) → CanBeLine a → rows (li
 first_row a rest ia =
     ap (λ (octets : List ℕ). rows octets) (append_assoc (body a) (10 ∷ []) rest)
     ∙ slice_split_at (is_octet 10) (body a) 10 rest (on_one_line a ia.plain) refl
+
+octet_of_none : (b : ℕ) → is_octet 10 b ≡ false → b ≢ 10
+octet_of_none b h = grind (arith)
+
+-- a part of a line, less than the whole, has no line feed
+pub part_has_none : (words : List (List ℕ)) (n : ℕ) → CanBeLine words → n < length (line words) → HasNoLineFeed (take n (line words))
+part_has_none words n is low =
+    let within : n ≤ length (body words) = omega (arith, low, length-append (body words) (10 ∷ [])) in
+    subst (λ (octets : List ℕ). HasNoLineFeed octets) (sym (take-append-le n (body words) (10 ∷ []) within))
+    (All-weaker (λ o. is_octet 10 o ≡ false) (λ b. b ≢ 10) octet_of_none (take n (body words))
+    (All-take (λ o. is_octet 10 o ≡ false) n (body words) (on_one_line words is.plain)))
 
 -- two texts that are alike begin with the same line
 pub first_lines : (a b : List (List ℕ)) (rest end : List ℕ) → CanBeLine a → CanBeLine b → line a ++ rest ≡ line b ++ end

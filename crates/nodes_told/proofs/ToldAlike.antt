@@ -7,8 +7,8 @@ use Rattle.ots_model.specs.Line.{parts, spelling}
 use Rattle.ots_model.specs.LineLaws.{DifferentLinesDiffer, IsLine}
 use Rattle.ots_model.specs.Piece.{Part, Fixed, Named, Number, IsNumber, IsWell, word_of}
 use Rattle.ots_model.specs.declared.completion.Outcome.TheVariants as outcomes
-use Rattle.ots_model.specs.declared.completion.Reason.TheVariants as reasons
-use Rattle.ots_model.specs.declared.completion.Word.TheVariants as phases
+use Rattle.ots_model.specs.declared.completion.Reason.TheVariants as phase_reasons
+use Rattle.ots_model.specs.declared.completion.Word.TheVariants as phase_words
 use Rattle.ots_model.specs.declared.line.Line.{Line}
 use Rattle.ots_model.specs.declared.line.Line.TheVariants as lines
 use Rattle.nodes_world.specs.Told.{Told, Known, Sent, RolledBack, RolledBackBy, known_in, words_of}
@@ -50,16 +50,16 @@ is_known some = not (is_among other_firsts (word some 0)) && (not (is_beside som
 
 line_known : (line : Line) → is_known (map word_of (parts line)) ≡ true
 unfolding parts is_known
-line_known (lines.Send message phases.Prepare g) = refl
-line_known (lines.Send message phases.Commit g) = refl
-line_known (lines.Send message phases.CommitOnePhase g) = refl
-line_known (lines.Send message phases.Rollback g) = refl
+line_known (lines.Send message phase_words.Prepare g) = refl
+line_known (lines.Send message phase_words.Commit g) = refl
+line_known (lines.Send message phase_words.CommitOnePhase g) = refl
+line_known (lines.Send message phase_words.Rollback g) = refl
 line_known (lines.Decide t (outcomes.Commit basis)) = refl
-line_known (lines.Decide t (outcomes.Rollback (reasons.Vote g))) = refl
-line_known (lines.Decide t (outcomes.Rollback (reasons.PrepareLost g))) = refl
-line_known (lines.Decide t (outcomes.Rollback (reasons.PrepareStarved g))) = refl
-line_known (lines.Decide t (outcomes.Rollback (reasons.PrepareFault g))) = refl
-line_known (lines.Decide t (outcomes.Rollback (reasons.JournalFull used need))) = refl
+line_known (lines.Decide t (outcomes.Rollback (phase_reasons.Vote g))) = refl
+line_known (lines.Decide t (outcomes.Rollback (phase_reasons.PrepareLost g))) = refl
+line_known (lines.Decide t (outcomes.Rollback (phase_reasons.PrepareStarved g))) = refl
+line_known (lines.Decide t (outcomes.Rollback (phase_reasons.PrepareFault g))) = refl
+line_known (lines.Decide t (outcomes.Rollback (phase_reasons.JournalFull used need))) = refl
 line_known (lines.Decide t outcomes.Unknown) = refl
 line_known _ = refl
 
@@ -93,23 +93,23 @@ counted (lines.Send n v g) y is e =
 counted (lines.Recv n) (lines.Recv m) is e = (tt, (subst IsNumber (sym (same_number n m is.1.0 cc)) is.1.0, tt))
 counted (lines.Recv n) y is e =
     let no : true ≡ false = ap (λ (some : List (List ℕ)). bytes_eq (word some 0) (codes "recv")) e in absurd (cc no)
-counted (lines.Decide t (outcomes.Rollback (reasons.JournalFull used need))) (lines.Decide s (outcomes.Rollback (reasons.JournalFull other more))) is e =
+counted (lines.Decide t (outcomes.Rollback (phase_reasons.JournalFull used need))) (lines.Decide s (outcomes.Rollback (phase_reasons.JournalFull other more))) is e =
     let first : IsNumber used = subst IsNumber (sym (same_number used other is.1.1.1.1.0 cc)) is.1.1.1.1.0 in
     let last : IsNumber need = subst IsNumber (sym (same_number need more is.1.1.1.1.1.0 cc)) is.1.1.1.1.1.0 in
     (tt, (tt, (tt, (tt, (first, (last, tt))))))
-counted (lines.Decide t (outcomes.Rollback (reasons.JournalFull used need))) (lines.Decide s (outcomes.Commit basis)) is e =
+counted (lines.Decide t (outcomes.Rollback (phase_reasons.JournalFull used need))) (lines.Decide s (outcomes.Commit basis)) is e =
     let no : true ≡ false = ap is_journal_full e in absurd (cc no)
-counted (lines.Decide t (outcomes.Rollback (reasons.JournalFull used need))) (lines.Decide s (outcomes.Rollback (reasons.Vote g))) is e =
+counted (lines.Decide t (outcomes.Rollback (phase_reasons.JournalFull used need))) (lines.Decide s (outcomes.Rollback (phase_reasons.Vote g))) is e =
     let no : true ≡ false = ap is_journal_full e in absurd (cc no)
-counted (lines.Decide t (outcomes.Rollback (reasons.JournalFull used need))) (lines.Decide s (outcomes.Rollback (reasons.PrepareLost g))) is e =
+counted (lines.Decide t (outcomes.Rollback (phase_reasons.JournalFull used need))) (lines.Decide s (outcomes.Rollback (phase_reasons.PrepareLost g))) is e =
     let no : true ≡ false = ap is_journal_full e in absurd (cc no)
-counted (lines.Decide t (outcomes.Rollback (reasons.JournalFull used need))) (lines.Decide s (outcomes.Rollback (reasons.PrepareStarved g))) is e =
+counted (lines.Decide t (outcomes.Rollback (phase_reasons.JournalFull used need))) (lines.Decide s (outcomes.Rollback (phase_reasons.PrepareStarved g))) is e =
     let no : true ≡ false = ap is_journal_full e in absurd (cc no)
-counted (lines.Decide t (outcomes.Rollback (reasons.JournalFull used need))) (lines.Decide s (outcomes.Rollback (reasons.PrepareFault g))) is e =
+counted (lines.Decide t (outcomes.Rollback (phase_reasons.JournalFull used need))) (lines.Decide s (outcomes.Rollback (phase_reasons.PrepareFault g))) is e =
     let no : true ≡ false = ap is_journal_full e in absurd (cc no)
-counted (lines.Decide t (outcomes.Rollback (reasons.JournalFull used need))) (lines.Decide s outcomes.Unknown) is e =
+counted (lines.Decide t (outcomes.Rollback (phase_reasons.JournalFull used need))) (lines.Decide s outcomes.Unknown) is e =
     let no : true ≡ false = ap is_journal_full e in absurd (cc no)
-counted (lines.Decide t (outcomes.Rollback (reasons.JournalFull used need))) y is e =
+counted (lines.Decide t (outcomes.Rollback (phase_reasons.JournalFull used need))) y is e =
     let no : true ≡ false = ap is_journal_full e in absurd (cc no)
 counted (lines.Decide t (outcomes.Commit basis)) y is e = (tt, (tt, (tt, (tt, tt))))
 counted (lines.Decide t (outcomes.Rollback reason)) y is e = (tt, (tt, (tt, (tt, (tt, tt)))))

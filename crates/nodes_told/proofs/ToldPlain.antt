@@ -8,14 +8,14 @@ use Rattle.ots_model.specs.Piece.{Part, Fixed, Named, Number, word_of}
 use Rattle.ots_model.specs.Words.{vote_word, told_word, state_word, decision_word, ground_word, ending_word}
 use Rattle.ots_model.specs.declared.completion.Ground.{Ground}
 use Rattle.ots_model.specs.declared.completion.Ground.TheVariants as grounds
-use Rattle.ots_model.specs.declared.completion.Outcome.{Outcome}
+use Rattle.ots_model.specs.Numbered.{LineOutcome as Outcome}
 use Rattle.ots_model.specs.declared.completion.Outcome.TheVariants as outcomes
 use Rattle.ots_model.specs.declared.completion.Reason.{Reason}
-use Rattle.ots_model.specs.declared.completion.Reason.TheVariants as reasons
+use Rattle.ots_model.specs.declared.completion.Reason.TheVariants as phase_reasons
 use Rattle.ots_model.specs.declared.completion.Vote.{Vote}
 use Rattle.ots_model.specs.declared.completion.Vote.TheVariants as votes
 use Rattle.ots_model.specs.declared.completion.Word.{Word}
-use Rattle.ots_model.specs.declared.completion.Word.TheVariants as phases
+use Rattle.ots_model.specs.declared.completion.Word.TheVariants as phase_words
 use Rattle.ots_model.specs.declared.line.Decision.{Decision}
 use Rattle.ots_model.specs.declared.line.Decision.TheVariants as decisions
 use Rattle.ots_model.specs.declared.line.Line.{Line}
@@ -57,7 +57,7 @@ vote_plain votes.VoteCommit = refl
 vote_plain _ = refl
 
 word_plain : (v : Word) → is_plain (told_word v) ≡ true
-word_plain phases.Prepare = refl
+word_plain phase_words.Prepare = refl
 word_plain _ = refl
 
 state_plain : (v : ResourceState) → is_plain (state_word v) ≡ true
@@ -77,10 +77,10 @@ ending_plain true = refl
 ending_plain _ = refl
 
 reason_plain : (reason : Reason (List ℕ)) → are_plain (reason_parts reason) ≡ true
-reason_plain (reasons.Vote g) = refl
+reason_plain (phase_reasons.Vote g) = refl
 reason_plain _ = refl
 
-outcome_plain : (outcome : Outcome (List ℕ)) → are_plain (outcome_parts outcome) ≡ true
+outcome_plain : (outcome : Outcome) → are_plain (outcome_parts outcome) ≡ true
 outcome_plain (outcomes.Commit basis) = simp ground_plain
 outcome_plain (outcomes.Rollback reason) = reason_plain reason
 outcome_plain outcomes.Unknown = refl

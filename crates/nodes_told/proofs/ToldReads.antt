@@ -5,8 +5,8 @@ use Rattle.ots_model.specs.LineLaws.{DifferentLinesDiffer, HasNoLineFeed}
 use Rattle.ots_model.specs.Safe.{AreSafe}
 use Rattle.ots_model.specs.declared.line.Line.{Line}
 use Rattle.nodes_world.specs.Told.{Told, known, known_in, spelled, text}
-use Rattle.nodes_told.specs.Reading.{HasNumbers, IsTold, ReadLinesAreSafe, ToldLinesAlike, ToldReadsBack, told_words}
-use Rattle.nodes_told.proofs.Plain.{CanBeLine, first_lines, lines, no_line, words_read}
+use Rattle.nodes_told.specs.Reading.{HasNumbers, IsTold, PartsHaveNoFeed, ReadLinesAreSafe, ToldLinesAlike, ToldReadsBack, told_words}
+use Rattle.nodes_told.proofs.Plain.{CanBeLine, first_lines, lines, no_line, part_has_none, words_read}
 use Rattle.nodes_told.proofs.ToldAlike.{same_known}
 use Rattle.nodes_told.proofs.ToldPlain.{can_be_line}
 
@@ -23,6 +23,11 @@ can_be (a ∷ some) is = (can_be_line a is.0, can_be some is.1)
 cons_append : (o : Option Line) (some more : List Line) → cons_option o (some ++ more) ≡ cons_option o some ++ more
 cons_append (Some line) some more = refl
 cons_append None some more = refl
+
+-- a part of a told line, less than the whole, has no line feed
+pub part_without_feed : PartsHaveNoFeed
+unfolding spelled
+part_without_feed line n is low = part_has_none (told_words line) n (can_be_line line is) low
 
 -- a front of safe lines is safe
 front_safe : (all some more : List Line) → all ≡ some ++ more → AreSafe all → AreSafe some

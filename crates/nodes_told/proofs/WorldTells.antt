@@ -6,7 +6,7 @@ use Rattle.std.specs.Option.{option_map}
 use Rattle.ior_refs.specs.declared.key.ObjectKey.{ObjectKey}
 use Rattle.ots_model.specs.Name.{IsName}
 use Rattle.ots_model.specs.declared.completion.Ground.TheVariants.{Record}
-use Rattle.ots_model.specs.declared.completion.Outcome.TheVariants as known_outcomes
+use Rattle.ots_model.specs.declared.completion.Outcome.TheVariants as outcomes
 use Rattle.ots_model.specs.declared.line.Line.TheVariants as lines
 use Rattle.ots_model.specs.declared.line.ResourceState.{ResourceState}
 use Rattle.ots_model.specs.declared.tree.Outward.{Outward}
@@ -27,6 +27,7 @@ use Rattle.resource_end.specs.declared.state.Word.{Word as EndWord}
 use Rattle.ots_model.specs.declared.completion.Disposition.{Disposition}
 use Rattle.ots_model.specs.declared.completion.Disposition.TheVariants as dispositions
 use Rattle.ots_model.specs.declared.tree.Heard.{Heard}
+use Rattle.ots_model.specs.declared.completion.Heard.TheVariants as phase_hears
 use Rattle.ots_model.specs.declared.tree.Heard.TheVariants as hears
 use Rattle.coordinator.specs.Family.{Family}
 use Rattle.coordinator.specs.History.{is_later}
@@ -300,8 +301,8 @@ heuristic_reads dispositions.Committed = tt
 heuristic_reads _ = tt
 
 heard_reads : (h : Heard) → IfSo IsAnswer (answer_heard h)
-heard_reads (hears.Heuristic d) = heuristic_reads d
-heard_reads hears.Done = tt
+heard_reads (hears.Phase (phase_hears.Heuristic d)) = heuristic_reads d
+heard_reads (hears.Phase phase_hears.Done) = tt
 heard_reads _ = tt
 
 fault_reads : (fault : EndFault) → IfSo IsAnswer (answer_fault fault)
@@ -566,7 +567,7 @@ standing_told : (w : World) (service : ℕ) (r : Held) → WorldReads w → AllT
 standing_told w service r reads = by (is_decided r.kind)
   where
     by : (t : Bool)
-        → AllTold (if t then naming (λ (name : List ℕ). Known (lines.Decide name (known_outcomes.Commit Record))) (transaction_name w (key_of_record service r)) else [])
+        → AllTold (if t then naming (λ (name : List ℕ). Known (lines.Decide name (outcomes.Commit Record))) (transaction_name w (key_of_record service r)) else [])
     by true = naming_told _ (transaction_name w (key_of_record service r)) recorded_told (transaction_named w (key_of_record service r) reads)
     by false = tt
 

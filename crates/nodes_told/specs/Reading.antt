@@ -1,6 +1,6 @@
 -- What a text of told lines tells: which words each line has, and which of the lines of ots_model are among them (our
 -- profile).
-use Rattle.std.specs.Prelude.{◌≡◌, ◌≢◌, ℕ, ◌⊎◌, List, [], ◌∷◌, ◌++◌, codes, map, Some}
+use Rattle.std.specs.Prelude.{◌≡◌, ◌≢◌, ℕ, ◌<◌, ◌⊎◌, List, [], ◌∷◌, ◌++◌, codes, length, map, take, Some}
 use Rattle.std.specs.List.{AllByRecursion}
 use Rattle.ots_model.specs.LineLaws.{HasNoLineFeed}
 use Rattle.ots_model.specs.Name.{IsName}
@@ -100,6 +100,10 @@ pub record SaySame (a b : Told) : Type 0 where
 
 abbrev pub ToldLinesAlike : Type 0
 ToldLinesAlike = (a b : Told) → IsTold a → IsTold b → HasNumbers b → spelled a ≡ spelled b → SaySame a b
+
+-- a part of a line, less than the whole, has no line feed
+abbrev pub PartsHaveNoFeed : Type 0
+PartsHaveNoFeed = (line : Told) (n : ℕ) → IsTold line → n < length (spelled line) → HasNoLineFeed (take n (spelled line))
 
 -- two texts of lines that are alike have the same words in each line, the same lines of ots_model, and the same octets
 -- behind the last of them. The numbers of the lines of one of them can be any.

@@ -1,6 +1,7 @@
 -- Whose object has answered commit: it has stored its updates.
 use Rattle.std.proofs.Common.{◌≡◌, ℕ, ◌+◌, List, subst}
 use Rattle.ots_model.specs.declared.tree.Outward.{Outward}
+use Rattle.ots_model.specs.declared.completion.Word.TheVariants as phase_words
 use Rattle.ots_model.specs.declared.tree.Word.TheVariants as words
 use Rattle.coordinator.specs.declared.said.Said.{Said}
 use Rattle.nodes_world.specs.declared.message.Content.{Content}
@@ -21,7 +22,7 @@ pub record HasAnsweredCommit (w : World) (to : List ℕ) : Type 0 where
   pub answer : Said
   pub sent : IsWord w nth place word
   pub own : word.to ≡ to
-  pub commit : word.word ≡ words.Commit
+  pub commit : word.word ≡ words.Phase phase_words.Commit
   pub replied : HasContent w reply (contents.Reply (nth + 1) answer)
 
 -- what was sent stays, so it has done so for good
@@ -40,7 +41,7 @@ answered_on w v on to is = record {
 }
 
 -- the word that told it the outcome was commit
-pub replied_commit : (w : World) (to : List ℕ) (is : IsReplied w to) → is.word.word ≡ words.Commit → HasAnsweredCommit w to
+pub replied_commit : (w : World) (to : List ℕ) (is : IsReplied w to) → is.word.word ≡ words.Phase phase_words.Commit → HasAnsweredCommit w to
 replied_commit w to is commit = record {
   nth = is.nth;
   place = is.place;

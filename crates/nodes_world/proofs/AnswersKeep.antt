@@ -6,12 +6,12 @@ use Rattle.std.specs.Option.{option_and_then, option_map}
 use Rattle.ots_model.specs.Heard.{of_participant}
 use Rattle.ots_model.specs.declared.completion.CallNumber.{CallNumber}
 use Rattle.ots_model.specs.declared.completion.Heard.{Heard as ParticipantHeard}
-use Rattle.ots_model.specs.declared.completion.Heard.TheVariants as participants
+use Rattle.ots_model.specs.declared.completion.Heard.TheVariants as phase_hears
 use Rattle.ots_model.specs.declared.completion.Stood.{Stood}
 use Rattle.ots_model.specs.declared.completion.Ground.TheVariants.{Nobody}
 use Rattle.ots_model.specs.declared.tree.Heard.{Heard}
-use Rattle.ots_model.specs.declared.tree.Outcome.{Outcome}
-use Rattle.ots_model.specs.declared.tree.Outcome.TheVariants as outcomes
+use Rattle.ots_model.specs.Numbered.{Outcome}
+use Rattle.ots_model.specs.declared.completion.Outcome.TheVariants as outcomes
 use Rattle.ots_model.specs.declared.tree.Outward.{Outward}
 use Rattle.ots_model.specs.declared.tree.Reason.{Reason}
 use Rattle.resource_votes.specs.declared.registration.Registration.{Registration}
@@ -276,15 +276,15 @@ no_voter (Waiting room) not_asked = refl
 no_voter (UnderWay k) not_asked = errand_votes k k.out not_asked
 
 pub no_effects : (h : ParticipantHeard) → vote_effects h None ≡ []
-no_effects participants.Done = refl
-no_effects (participants.Voted vote) = refl
-no_effects (participants.Heuristic d) = refl
-no_effects participants.RolledBack = refl
-no_effects participants.NotPrepared = refl
-no_effects participants.NoObject = refl
-no_effects participants.Other = refl
-no_effects participants.Lost = refl
-no_effects participants.Starved = refl
+no_effects phase_hears.Done = refl
+no_effects (phase_hears.Voted vote) = refl
+no_effects (phase_hears.Heuristic d) = refl
+no_effects phase_hears.RolledBack = refl
+no_effects phase_hears.NotPrepared = refl
+no_effects phase_hears.NoObject = refl
+no_effects phase_hears.Other = refl
+no_effects phase_hears.Lost = refl
+no_effects phase_hears.Starved = refl
 
 -- ---- an answer is heard
 

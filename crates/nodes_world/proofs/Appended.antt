@@ -9,15 +9,14 @@ use Rattle.std.proofs.lemmas.List.Folds.{list_any-append}
 use Rattle.ior_refs.specs.declared.key.ObjectKey.{ObjectKey}
 use Rattle.ots_model.specs.Safe.{Stands, HasConsented, IsSent, TakesPart}
 use Rattle.ots_model.specs.declared.completion.Ground.TheVariants.{Record}
-use Rattle.ots_model.specs.declared.completion.Outcome.{Outcome as ToldOutcome}
-use Rattle.ots_model.specs.declared.completion.Outcome.TheVariants as told_outcomes
+use Rattle.ots_model.specs.Numbered.{LineOutcome}
 use Rattle.ots_model.specs.declared.completion.Vote.{Vote}
-use Rattle.ots_model.specs.declared.completion.Word.TheVariants as phases
+use Rattle.ots_model.specs.declared.completion.Word.TheVariants as phase_words
 use Rattle.ots_model.specs.declared.line.Line.{Line}
 use Rattle.ots_model.specs.declared.line.Line.TheVariants as lines
 use Rattle.ots_model.specs.declared.service.RetryKey.{RetryKey}
-use Rattle.ots_model.specs.declared.tree.Outcome.{Outcome}
-use Rattle.ots_model.specs.declared.tree.Outcome.TheVariants as outcomes
+use Rattle.ots_model.specs.Numbered.{Outcome}
+use Rattle.ots_model.specs.declared.completion.Outcome.TheVariants as outcomes
 use Rattle.ots_model.specs.declared.tree.Outward.{Outward}
 use Rattle.ots_outside.specs.Disk.{DiskState}
 use Rattle.two_phase.specs.Stages as stages
@@ -139,9 +138,9 @@ module _ (grow : JournalsGrow) (read : RecordsAreRead) (w : World) (place : ℕ)
 
   -- the line of the decision stands where the node is up
   module _ (then : Option Node) (some : List Told) (told_so : AllByRecursion (IsOne is_recorded_line) some)
-      (only : (name : List ℕ) → Stands (lines.Decide name (told_outcomes.Commit Record)) (known (told ++ some))
-      → Stands (lines.Decide name (told_outcomes.Commit Record)) (known told) ⊎ (name ≡ old.name))
-      (goes : (then ≡ None) ⊎ ((then ≡ Some m) × KeepsDecisions (journal_end rs_then) m × Stands (lines.Decide old.name (told_outcomes.Commit Record)) (known (told ++ some)))) where
+      (only : (name : List ℕ) → Stands (lines.Decide name (outcomes.Commit Record)) (known (told ++ some))
+      → Stands (lines.Decide name (outcomes.Commit Record)) (known told) ⊎ (name ≡ old.name))
+      (goes : (then ≡ None) ⊎ ((then ≡ Some m) × KeepsDecisions (journal_end rs_then) m × Stands (lines.Decide old.name (outcomes.Commit Record)) (known (told ++ some)))) where
     abbrev left : Seat
     left = record s { disk = disk; stop = stop; server = OfNode then }
 
@@ -164,12 +163,12 @@ module _ (grow : JournalsGrow) (read : RecordsAreRead) (w : World) (place : ℕ)
     record IsUpThen (c : Node) : Type 0 where
       same : m ≡ c
       keeps : KeepsDecisions (journal_end rs_then) m
-      line : Stands (lines.Decide old.name (told_outcomes.Commit Record)) (known more)
+      line : Stands (lines.Decide old.name (outcomes.Commit Record)) (known more)
 
     up_then : (c : Node) → OfNode then ≡ OfNode (Some c) → IsUpThen c
     up_then c is = by_goes goes
       where
-        by_goes : (then ≡ None) ⊎ ((then ≡ Some m) × KeepsDecisions (journal_end rs_then) m × Stands (lines.Decide old.name (told_outcomes.Commit Record)) (known more)) → IsUpThen c
+        by_goes : (then ≡ None) ⊎ ((then ≡ Some m) × KeepsDecisions (journal_end rs_then) m × Stands (lines.Decide old.name (outcomes.Commit Record)) (known more)) → IsUpThen c
         by_goes (inl down) = absurd (no_node (sym down ∙ of_server is))
         by_goes (inr (node, keeps, line)) = record { same = inner (sym node ∙ of_server is); keeps = keeps; line = line }
 
@@ -356,7 +355,7 @@ module _ (grow : JournalsGrow) (read : RecordsAreRead) (w : World) (place : ℕ)
 
     -- one that is there then is that one, and its decision is told; or it was there, and is another one
     families_then : (of : ObjectKey) (h : Family) → family_at v of ≡ Some h
-        → ((h ≡ g) × Stands (lines.Decide old.name (told_outcomes.Commit Record)) (known more)) ⊎ ((family_at w of ≡ Some h) × (IsTrue (is_of h.key f) → ⊥))
+        → ((h ≡ g) × Stands (lines.Decide old.name (outcomes.Commit Record)) (known more)) ⊎ ((family_at w of ≡ Some h) × (IsTrue (is_of h.key f) → ⊥))
     families_then of h is = by_place (seated v of h is)
       where
         not_here : place_of of ≢ place → IsSeated v of h → (family_at w of ≡ Some h) × (IsTrue (is_of h.key f) → ⊥)
@@ -376,7 +375,7 @@ module _ (grow : JournalsGrow) (read : RecordsAreRead) (w : World) (place : ℕ)
         )
 
         here : place_of of ≡ place → IsSeated v of h
-            → ((h ≡ g) × Stands (lines.Decide old.name (told_outcomes.Commit Record)) (known more)) ⊎ ((family_at w of ≡ Some h) × (IsTrue (is_of h.key f) → ⊥))
+            → ((h ≡ g) × Stands (lines.Decide old.name (outcomes.Commit Record)) (known more)) ⊎ ((family_at w of ≡ Some h) × (IsTrue (is_of h.key f) → ⊥))
         here this at =
             let is_left : left ≡ at.seat = inner (sym (ap (slice_get v.seats) this ∙ get_set w.seats place s left there) ∙ at.there) in
             let node = up_then at.node (ap (λ (x : Seat). x.server) is_left ∙ at.up) in
@@ -392,14 +391,14 @@ module _ (grow : JournalsGrow) (read : RecordsAreRead) (w : World) (place : ℕ)
             ]
 
         by_place : IsSeated v of h
-            → ((h ≡ g) × Stands (lines.Decide old.name (told_outcomes.Commit Record)) (known more)) ⊎ ((family_at w of ≡ Some h) × (IsTrue (is_of h.key f) → ⊥))
+            → ((h ≡ g) × Stands (lines.Decide old.name (outcomes.Commit Record)) (known more)) ⊎ ((family_at w of ≡ Some h) × (IsTrue (is_of h.key f) → ⊥))
         by_place at = elim (same_or_not (place_of of) place) [
           | inl this ↦ here this at
           | inr other ↦ inr (not_here other at)
         ]
 
     -- that one
-    module _ (line : Stands (lines.Decide old.name (told_outcomes.Commit Record)) (known more)) where
+    module _ (line : Stands (lines.Decide old.name (outcomes.Commit Record)) (known more)) where
       outcome_told : (o : Option Outcome) → o ≡ Some (outcomes.Commit Record) → OutcomeIsTold o old.name (lines_of more)
       outcome_told o is = subst (λ (x : Option Outcome). OutcomeIsTold x old.name (lines_of more)) (sym is) (among_turned _ _ line)
 
@@ -434,7 +433,7 @@ module _ (grow : JournalsGrow) (read : RecordsAreRead) (w : World) (place : ℕ)
             ∙ or_none (has_record w (place_of h.key) (is_decision_of h.key))
       ]
 
-      line_was : Stands (lines.Decide theirs.name (told_outcomes.Commit Record)) (lines_of more) → Stands (lines.Decide theirs.name (told_outcomes.Commit Record)) (lines_of told)
+      line_was : Stands (lines.Decide theirs.name (outcomes.Commit Record)) (lines_of more) → Stands (lines.Decide theirs.name (outcomes.Commit Record)) (lines_of told)
       line_was x = elim (only theirs.name (among_back _ _ x)) [
         | inl was ↦ among_turned _ _ was
         | inr this ↦
@@ -674,7 +673,7 @@ module _ (grow : JournalsGrow) (read : RecordsAreRead) (w : World) (place : ℕ)
     -- ---- words of the second phase
 
     -- one that takes part in it wasn't told to commit alone
-    not_one_phase : (name : List ℕ) → IsSent phases.CommitOnePhase name (known told) → TakesPart name old.name (known told) → ⊥
+    not_one_phase : (name : List ℕ) → IsSent phase_words.CommitOnePhase name (known told) → TakesPart name old.name (known told) → ⊥
     not_one_phase name sent part =
         let turned = part_among (known told) (lines_of told) name old.name (among_turned (known told)) part in
         let at = branch_joined w told k key f found turned.0 turned.2 in
@@ -683,7 +682,7 @@ module _ (grow : JournalsGrow) (read : RecordsAreRead) (w : World) (place : ℕ)
         no : false ≡ true → ⊥
         no e = cc
 
-    alone_on : (name : List ℕ) → IsSent phases.CommitOnePhase name (known told) → IsAlone w told name → IsAlone v more name
+    alone_on : (name : List ℕ) → IsSent phase_words.CommitOnePhase name (known told) → IsAlone w told name → IsAlone v more name
     alone_on name sent was =
         let turned = part_among (known told) (lines_of told) name was.family (among_turned (known told)) was.participant in
         let first = family_key w told k was.family (of_family (lines_of told) was.family turned.0 (joined_of (lines_of told) was.family turned.0 turned.2)) in
@@ -703,7 +702,7 @@ module _ (grow : JournalsGrow) (read : RecordsAreRead) (w : World) (place : ℕ)
         }
 
     one_phase_then : OnePhaseIsAlone v more
-    one_phase_then name sent = let before : IsSent phases.CommitOnePhase name (known told) = (sent.0, tells.back _ refl sent.1) in alone_on name before (k.one_phase name before)
+    one_phase_then name sent = let before : IsSent phase_words.CommitOnePhase name (known told) = (sent.0, tells.back _ refl sent.1) in alone_on name before (k.one_phase name before)
 
     over_on : (t top : List ℕ) (of : ObjectKey) → IsTransaction w top of → of.index ≡ 0 → IsClosed w told of top ⊎ IsCutOff (known told) t
         → IsClosed v more of top ⊎ IsCutOff (known more) t
@@ -741,10 +740,10 @@ module _ (grow : JournalsGrow) (read : RecordsAreRead) (w : World) (place : ℕ)
 
     -- ---- transactions, nodes and ends
 
-    decided_named : (name : List ℕ) (outcome : ToldOutcome (List ℕ)) (b : Bool) → is_recorded outcome ≡ b → Stands (lines.Decide name outcome) (known more) → IsNamed v name
+    decided_named : (name : List ℕ) (outcome : LineOutcome) (b : Bool) → is_recorded outcome ≡ b → Stands (lines.Decide name outcome) (known more) → IsNamed v name
     decided_named name outcome true is x =
-        elim (only name (subst (λ (y : ToldOutcome (List ℕ)). Stands (lines.Decide name y) (known more)) (recorded_is outcome is) x)) [
-          | inl was ↦ k.transactions.decided name (told_outcomes.Commit Record) was
+        elim (only name (subst (λ (y : LineOutcome). Stands (lines.Decide name y) (known more)) (recorded_is outcome is) x)) [
+          | inl was ↦ k.transactions.decided name (outcomes.Commit Record) was
           | inr this ↦ (f.key, ap (thing w) this ∙ old.of_name)
         ]
     decided_named name outcome false is x = k.transactions.decided name outcome (tells.back (lines.Decide name outcome) is x)

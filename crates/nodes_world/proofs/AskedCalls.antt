@@ -5,8 +5,9 @@ use Rattle.ots_model.specs.declared.completion.CallNumber.{CallNumber}
 use Rattle.ots_model.specs.declared.completion.Stood.{Stood}
 use Rattle.ots_model.specs.declared.completion.Vote.{Vote}
 use Rattle.ots_model.specs.declared.tree.Heard.{Heard}
+use Rattle.ots_model.specs.declared.completion.Heard.TheVariants as phase_hears
 use Rattle.ots_model.specs.declared.tree.Heard.TheVariants as hears_words
-use Rattle.ots_model.specs.declared.tree.Outcome.{Outcome}
+use Rattle.ots_model.specs.Numbered.{Outcome}
 use Rattle.ots_model.specs.declared.tree.Outward.{Outward}
 use Rattle.two_phase.specs.Course as course
 use Rattle.two_phase.specs.Course.{Course}
@@ -198,7 +199,7 @@ module _ (f : Family) (o : Outward) (answer : Said) (now : ℕ) (waits : waiting
       quiet_step : Stepped
       quiet_step = record { family = f; said = said.Plain; words = []; finished = []; effects = [] }
 
-  no_vote_in : (number : CallNumber) (vote : Vote) → acts.Answer o.number (heard_in said.Plain) ≡ acts.Answer number (hears_words.Voted vote) → ⊥
+  no_vote_in : (number : CallNumber) (vote : Vote) → acts.Answer o.number (heard_in said.Plain) ≡ acts.Answer number (hears_words.Phase (phase_hears.Voted vote)) → ⊥
   unfolding heard_in
   no_vote_in number vote is = cc
 

@@ -6,11 +6,11 @@ use Rattle.std.specs.Option.{option_and_then, option_map}
 use Rattle.ots_model.specs.Heard.{of_participant}
 use Rattle.ots_model.specs.declared.completion.CallNumber.{CallNumber}
 use Rattle.ots_model.specs.declared.completion.Heard.{Heard as ParticipantHeard}
-use Rattle.ots_model.specs.declared.completion.Heard.TheVariants as participants
+use Rattle.ots_model.specs.declared.completion.Heard.TheVariants as phase_hears
 use Rattle.ots_model.specs.declared.completion.Stood.{Stood}
 use Rattle.ots_model.specs.declared.completion.Vote.{Vote}
 use Rattle.ots_model.specs.declared.tree.Heard.{Heard}
-use Rattle.ots_model.specs.declared.tree.Outcome.TheVariants as outcomes
+use Rattle.ots_model.specs.declared.completion.Outcome.TheVariants as outcomes
 use Rattle.ots_model.specs.declared.tree.Outward.{Outward}
 use Rattle.resource_votes.specs.declared.registration.Registration.{Registration}
 use Rattle.txn_tree.specs.declared.row.Row.{Row}
@@ -70,10 +70,10 @@ any_set_cases P ps i q any = go ps i any.0 any.1 any.2 any.3 any.4
 
 -- a vote that counts then counted before, or is that one
 abbrev CountsBy : Course → (p : Party) → ParticipantHeard → ℕ → Vote → Type 0
-CountsBy k p h number vote = IsVoted (UnderWay k) number vote ⊎ ((p.index ≡ number) × (h ≡ participants.Voted vote))
+CountsBy k p h number vote = IsVoted (UnderWay k) number vote ⊎ ((p.index ≡ number) × (h ≡ phase_hears.Voted vote))
 
 module _ (completions : CompletionLaws) (k : Course) (asked : IsAskedOf k) (n : CallNumber) (h : ParticipantHeard) (number : ℕ) (vote : Vote) where
-  own_vote : HasVote number vote (answered_party k asked n h) → (asked.party.index ≡ number) × (h ≡ participants.Voted vote)
+  own_vote : HasVote number vote (answered_party k asked n h) → (asked.party.index ≡ number) × (h ≡ phase_hears.Voted vote)
   own_vote had = (
     sym (ap (λ (r : Round). (course.heard_at r h asked.party).index) asked.round) ∙ had.0,
     inner (sym (ap (λ (r : Round). (course.heard_at r h asked.party).ballot) asked.round) ∙ had.1),
@@ -144,13 +144,13 @@ party_registered (x ∷ ps) (r ∷ rs) (suc i) p numbers references at =
 -- ---- the family hears it
 
 votes_rows : (h : ParticipantHeard) (o : Option ℕ) (rs : List Row) → rows_told (vote_effects h o) rs ≡ rs
-votes_rows (participants.Voted vote) (Some number) rs = refl
-votes_rows (participants.Voted vote) None rs = refl
+votes_rows (phase_hears.Voted vote) (Some number) rs = refl
+votes_rows (phase_hears.Voted vote) None rs = refl
 votes_rows _ o rs = refl
 
 module _ (completions : CompletionLaws) (f : Family) (o : Outward) (answer : Said) (now : ℕ) (c : Call) (waits : waiting_for f o.number ≡ Some 0) (at : call_at f 0 ≡ Some c)
     (decides : c.leg ≡ Deciding) (there : IsThere f.completion) (asks : is_asking f.completion ≡ true) (vote : Vote)
-    (votes : of_participant (heard_in answer) ≡ participants.Voted vote) (stood : Option Stood)
+    (votes : of_participant (heard_in answer) ≡ phase_hears.Voted vote) (stood : Option Stood)
     (settled : Rule (hears o.number (heard_in answer) f).family (settles stood (hears o.number (heard_in answer) f).family)) where
   abbrev n : CallNumber
   n = o.number
@@ -253,7 +253,7 @@ module _ (completions : CompletionLaws) (f : Family) (o : Outward) (answer : Sai
     effect_there : Contains (vote_effects (of_participant h) (stages.voter f.completion)) told_one
     effect_there =
         subst (λ (x : ParticipantHeard). Contains (vote_effects x (stages.voter f.completion)) told_one) (sym votes)
-        (subst (λ (x : Option ℕ). Contains (vote_effects (participants.Voted vote) x) told_one) (sym voter) (0, omega arith, refl))
+        (subst (λ (x : Option ℕ). Contains (vote_effects (phase_hears.Voted vote) x) told_one) (sym voter) (0, omega arith, refl))
 
     participant_tells : Contains (told_participant n h waiting).effects told_one
     unfolding told_participant
@@ -321,5 +321,5 @@ module _ (completions : CompletionLaws) (f : Family) (o : Outward) (answer : Sai
             decides = λ asking is. absurd (no (sym is ∙ alone));
           }
         where
-          same_vote : {x y : Vote} → participants.Voted x ≡ participants.Voted y → x ≡ y
+          same_vote : {x y : Vote} → phase_hears.Voted x ≡ phase_hears.Voted y → x ≡ y
           same_vote e = cc

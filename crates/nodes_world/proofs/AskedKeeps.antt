@@ -4,12 +4,12 @@ use Rattle.std.specs.List.{list_all, list_any}
 use Rattle.ots_model.specs.Heard.{of_participant}
 use Rattle.ots_model.specs.declared.completion.CallNumber.{CallNumber}
 use Rattle.ots_model.specs.declared.completion.Heard.{Heard as ParticipantHeard}
-use Rattle.ots_model.specs.declared.completion.Heard.TheVariants as participants
+use Rattle.ots_model.specs.declared.completion.Heard.TheVariants as phase_hears
 use Rattle.ots_model.specs.declared.completion.Stood.{Stood}
 use Rattle.ots_model.specs.declared.completion.Vote.{Vote}
 use Rattle.ots_model.specs.declared.tree.Heard.{Heard}
-use Rattle.ots_model.specs.declared.tree.Outcome.{Outcome}
-use Rattle.ots_model.specs.declared.tree.Outcome.TheVariants as outcomes
+use Rattle.ots_model.specs.Numbered.{Outcome}
+use Rattle.ots_model.specs.declared.completion.Outcome.TheVariants as outcomes
 use Rattle.ots_model.specs.declared.tree.Reason.{Reason}
 use Rattle.ots_model.specs.declared.tree.Reason.TheVariants as reasons
 use Rattle.resource_votes.specs.declared.registration.Registration.{Registration}
@@ -47,7 +47,7 @@ use Rattle.nodes_world.proofs.RulesKeep.{ArePartiesOf, IsKept, IsPlainReason, Is
 
 -- it is no vote
 abbrev pub IsNoVote : ParticipantHeard → Type 0
-IsNoVote h = (vote : Vote) → h ≡ participants.Voted vote → ⊥
+IsNoVote h = (vote : Vote) → h ≡ phase_hears.Voted vote → ⊥
 
 -- an answer is a vote, or is heard as none
 pub vote_or_not : (answer : Said) → ((vote : Vote) × (answer ≡ said.Voted vote)) ⊎ IsNoVote (of_participant (heard_in answer))
@@ -56,11 +56,11 @@ vote_or_not (said.Voted vote) = inl (vote, refl)
 vote_or_not _ = inr (λ vote is. cc)
 
 not_consents : (h : ParticipantHeard) (p : Party) → IsNoVote h → has_consented (record p { ballot = Some h }) ≡ false
-not_consents (participants.Voted vote) p none = absurd (none vote refl)
+not_consents (phase_hears.Voted vote) p none = absurd (none vote refl)
 not_consents _ p none = refl
 
 tells_nothing : (h : ParticipantHeard) (o : Option ℕ) → IsNoVote h → vote_effects h o ≡ []
-tells_nothing (participants.Voted vote) o none = absurd (none vote refl)
+tells_nothing (phase_hears.Voted vote) o none = absurd (none vote refl)
 tells_nothing _ o none = refl
 
 set_not : (ps : List Party) (i : ℕ) (p q : Party) → slice_get ps i ≡ Some p → has_consented q ≡ false → list_all has_consented (slice_set ps i q) ≡ false

@@ -2,7 +2,7 @@
 use Rattle.std.proofs.Common.{◌≡◌, ℕ, Bool, true, false, if◌then◌else◌, Any, Option, Some, None, sym, ap, subst, ◌∙◌}
 use Rattle.ots_model.specs.declared.completion.CallNumber.{CallNumber}
 use Rattle.ots_model.specs.declared.completion.Heard.{Heard as ParticipantHeard}
-use Rattle.ots_model.specs.declared.completion.Heard.TheVariants as participants
+use Rattle.ots_model.specs.declared.completion.Heard.TheVariants as phase_hears
 use Rattle.ots_model.specs.declared.completion.Vote.{Vote}
 use Rattle.two_phase.specs.Course as course
 use Rattle.two_phase.specs.Course.{Course}
@@ -22,7 +22,7 @@ module _ (completions : CompletionLaws) (c : Course) (asked : IsAskedOf c) (n : 
   not_voted : HasVote g vote asked.party → HasVote g vote (course.heard_at asked.errand.stage h asked.party)
   not_voted had = absurd (no (sym asked.unheard ∙ had.1))
     where
-      no : None ≡ Some (participants.Voted vote) → ⊥
+      no : None ≡ Some (phase_hears.Voted vote) → ⊥
       no e = cc
 
   kept_by : IsVoted (UnderWay c) g vote → (t : Bool) → IsVoted (UnderWay (if t then course.answered h c asked.errand else c)) g vote
@@ -41,7 +41,7 @@ module _ (completions : CompletionLaws) (c : Course) (asked : IsAskedOf c) (n : 
   votes_last voted = by_errand voted _ c.out asked.out
 
   -- it gives none
-  module _ (none : h ≡ participants.Voted vote → ⊥) where
+  module _ (none : h ≡ phase_hears.Voted vote → ⊥) where
     gives_none : HasVote g vote (course.heard_at asked.errand.stage h asked.party) → HasVote g vote asked.party
     gives_none had = absurd (none (inner (sym (ap (λ (r : Round). (course.heard_at r h asked.party).ballot) asked.round) ∙ had.1)))
       where
@@ -67,6 +67,6 @@ votes_stay completions (Waiting room) there asks n h g vote voted = voted
 votes_stay completions (UnderWay c) there asks n h g vote voted = votes_last completions c (asked_of completions c there asks) n h g vote voted
 
 pub no_vote_comes : CompletionLaws → (s : Standing) → IsThere s → is_asking s ≡ true → (n : CallNumber) (h : ParticipantHeard) (g : ℕ) (vote : Vote)
-    → (h ≡ participants.Voted vote → ⊥) → IsVoted (stages.after_answer n h s) g vote → IsVoted s g vote
+    → (h ≡ phase_hears.Voted vote → ⊥) → IsVoted (stages.after_answer n h s) g vote → IsVoted s g vote
 no_vote_comes completions (Waiting room) there asks n h g vote none voted = voted
 no_vote_comes completions (UnderWay c) there asks n h g vote none voted = no_other_vote completions c (asked_of completions c there asks) n h g vote none voted

@@ -6,6 +6,7 @@ use Rattle.std.proofs.lemmas.List.Quantifiers.{position-Some}
 use Rattle.std.specs.Option.{option_and_then, option_map, option_map_or}
 use Rattle.ots_model.specs.declared.completion.CallNumber.{CallNumber}
 use Rattle.ots_model.specs.declared.tree.Outward.{Outward}
+use Rattle.ots_model.specs.declared.completion.Word.TheVariants as phase_words
 use Rattle.ots_model.specs.declared.tree.Word.TheVariants as words
 use Rattle.two_phase.specs.Course as course
 use Rattle.two_phase.specs.Course.{Course}
@@ -79,18 +80,18 @@ asked_word f o c numbered waits at decides k going asked =
 
 -- one that is to decide alone was not asked to prepare
 pub not_alone : (f : Family) (o : Outward) (c : Call) → IsNumberedBy f o → waiting_for f o.number ≡ Some 0 → call_at f 0 ≡ Some c → c.leg ≡ Deciding
-    → (k : Course) → f.completion ≡ UnderWay k → IsAskedOf k → o.word ≡ words.Prepare → course.decides_alone k ≡ false
+    → (k : Course) → f.completion ≡ UnderWay k → IsAskedOf k → o.word ≡ words.Phase phase_words.Prepare → course.decides_alone k ≡ false
 not_alone f o c numbered waits at decides k going asked prepare = by (course.decides_alone k) refl
   where
     by : (t : Bool) → course.decides_alone k ≡ t → t ≡ false
     by true alone = absurd (no (sym (ap course.first_word alone) ∙ ap (λ (n : Notice). n.word) (asked_word f o c numbered waits at decides k going asked) ∙ prepare))
       where
-        no : words.CommitOnePhase ≡ words.Prepare → ⊥
+        no : (words.Phase phase_words.CommitOnePhase) ≡ words.Phase phase_words.Prepare → ⊥
         no e = cc
     by false alone = refl
 
 pub vote_not_alone : CompletionLaws → (f : Family) (o : Outward) (c : Call) → IsNumberedBy f o → waiting_for f o.number ≡ Some 0 → call_at f 0 ≡ Some c → c.leg ≡ Deciding
-    → IsThere f.completion → is_asking f.completion ≡ true → o.word ≡ words.Prepare → stages.decides_alone f.completion ≡ false
+    → IsThere f.completion → is_asking f.completion ≡ true → o.word ≡ words.Phase phase_words.Prepare → stages.decides_alone f.completion ≡ false
 vote_not_alone completions f o c numbered waits at decides there asks prepare = by f.completion refl there asks
   where
     by : (s : Standing) → f.completion ≡ s → IsThere s → is_asking s ≡ true → stages.decides_alone s ≡ false

@@ -3,7 +3,7 @@ use Rattle.std.proofs.Common.{◌≡◌, ◌⊎◌, inl, inr, ℕ, List, Some, r
 use Rattle.ots_model.specs.Safe.{IsSent, IsToldCommit}
 use Rattle.ots_model.specs.SafeByLine.{AllowedIsSafe, CanApply, CanUndo}
 use Rattle.ots_model.specs.declared.completion.Word.{Word as Phase}
-use Rattle.ots_model.specs.declared.completion.Word.TheVariants as phases
+use Rattle.ots_model.specs.declared.completion.Word.TheVariants as phase_words
 use Rattle.ots_model.specs.declared.tree.Outward.{Outward}
 use Rattle.ots_model.specs.declared.tree.Word.{Word}
 use Rattle.ots_model.specs.declared.tree.Word.TheVariants as words
@@ -47,20 +47,20 @@ undoes_by _ _ is = absurd cc
 
 -- a word of a resource's table is one of the two phases, but for forget
 abbrev pub end_word : Phase → EndWord
-end_word phases.Prepare = tolds.Prepare
-end_word phases.Commit = tolds.Commit
-end_word phases.CommitOnePhase = tolds.CommitOnePhase
-end_word phases.Rollback = tolds.Rollback
+end_word phase_words.Prepare = tolds.Prepare
+end_word phase_words.Commit = tolds.Commit
+end_word phase_words.CommitOnePhase = tolds.CommitOnePhase
+end_word phase_words.Rollback = tolds.Rollback
 
 some_word : {a b : EndWord} → Some a ≡ Some b → a ≡ b
 some_word is = cc
 
 pub told_phase : (word : Word) (phase : Phase) → told_word word ≡ Some (end_word phase) → phase_of word ≡ Some phase
-told_phase words.Prepare phases.Prepare is = refl
-told_phase words.Commit phases.Commit is = refl
-told_phase words.CommitOnePhase phases.CommitOnePhase is = refl
-told_phase words.Rollback phases.Rollback is = refl
-told_phase words.Forget phases.Prepare is = absurd cc
+told_phase (words.Phase phase_words.Prepare) phase_words.Prepare is = refl
+told_phase (words.Phase phase_words.Commit) phase_words.Commit is = refl
+told_phase (words.Phase phase_words.CommitOnePhase) phase_words.CommitOnePhase is = refl
+told_phase (words.Phase phase_words.Rollback) phase_words.Rollback is = refl
+told_phase words.Forget phase_words.Prepare is = absurd cc
 told_phase _ _ is = absurd cc
 
 module _ (w : World) (told : List Told) (k : Known w told) (is_safe : AllowedIsSafe) where
@@ -76,8 +76,8 @@ module _ (w : World) (told : List Told) (k : Known w told) (is_safe : AllowedIsS
         inner e = cc
 
     told_commit_word : ((word ≡ tolds.Commit) ⊎ (word ≡ tolds.CommitOnePhase)) → IsToldCommit x.name (lines_of told)
-    told_commit_word (inl is) = inl (told_as phases.Commit is)
-    told_commit_word (inr is) = inr (told_as phases.CommitOnePhase is)
+    told_commit_word (inl is) = inl (told_as phase_words.Commit is)
+    told_commit_word (inr is) = inr (told_as phase_words.CommitOnePhase is)
 
     -- it may store them where a commit word came
     pub can_apply : (row word r.state).next ≡ Some states.Applied → CanApply x.name (lines_of told)
@@ -92,8 +92,8 @@ module _ (w : World) (told : List Told) (k : Known w told) (is_safe : AllowedIsS
           told = inl commit;
         }
 
-    committed_not_refused : IsSent phases.Commit x.name (lines_of told) → ((word ≡ tolds.Rollback) ⊎ (r.state ≡ states.Refused)) → ⊥
-    committed_not_refused commit (inl is) = one_way w told k is_safe x.name (inl commit) (told_as phases.Rollback is)
+    committed_not_refused : IsSent phase_words.Commit x.name (lines_of told) → ((word ≡ tolds.Rollback) ⊎ (r.state ≡ states.Refused)) → ⊥
+    committed_not_refused commit (inl is) = one_way w told k is_safe x.name (inl commit) (told_as phase_words.Rollback is)
     committed_not_refused commit (inr is) =
         let at = resource_of w told k o.to x refers in
         let same : at.0.state ≡ r.state = ap (λ (q : FlatResource). q.state) (same_resource at.0 at.1) in

@@ -8,15 +8,14 @@ use Rattle.ior_refs.specs.declared.key.ObjectKey.{ObjectKey}
 use Rattle.ots_model.specs.Safe.{Stands, IsOf, IsRegistered, TakesPart}
 use Rattle.ots_model.specs.SafeByLine.{CanTell}
 use Rattle.ots_model.specs.declared.completion.Ground.TheVariants.{Record}
-use Rattle.ots_model.specs.declared.completion.Outcome.TheVariants as told_outcomes
 use Rattle.ots_model.specs.declared.completion.Vote.TheVariants.{VoteCommit}
 use Rattle.ots_model.specs.declared.completion.Word.{Word as Phase}
-use Rattle.ots_model.specs.declared.completion.Word.TheVariants as phases
+use Rattle.ots_model.specs.declared.completion.Word.TheVariants as phase_words
 use Rattle.ots_model.specs.declared.line.Line.{Line}
 use Rattle.ots_model.specs.declared.line.Line.TheVariants as lines
 use Rattle.ots_model.specs.declared.service.RetryKey.{RetryKey}
-use Rattle.ots_model.specs.declared.tree.Outcome.{Outcome}
-use Rattle.ots_model.specs.declared.tree.Outcome.TheVariants as outcomes
+use Rattle.ots_model.specs.Numbered.{Outcome}
+use Rattle.ots_model.specs.declared.completion.Outcome.TheVariants as outcomes
 use Rattle.ots_model.specs.declared.tree.Outward.{Outward}
 use Rattle.ots_model.specs.declared.tree.Reason.{Reason}
 use Rattle.ots_model.specs.declared.tree.Word.TheVariants as words
@@ -173,17 +172,17 @@ named_at w place key to d is =
 
 -- ---- small facts
 
-outcome_open : (s : Option Outcome) (name : List ℕ) (h : List Line) → s ≡ None → OutcomeIsTold s name h → Stands (lines.Decide name (told_outcomes.Commit Record)) h → ⊥
+outcome_open : (s : Option Outcome) (name : List ℕ) (h : List Line) → s ≡ None → OutcomeIsTold s name h → Stands (lines.Decide name (outcomes.Commit Record)) h → ⊥
 outcome_open None name h is told = told
 outcome_open (Some fixed) name h is told = absurd cc
 
 outcome_commits : (s : Option Outcome) (name : List ℕ) (h : List Line) → s ≡ Some (outcomes.Commit Record) → OutcomeIsTold s name h
-    → Stands (lines.Decide name (told_outcomes.Commit Record)) h
+    → Stands (lines.Decide name (outcomes.Commit Record)) h
 outcome_commits None name h is told = absurd cc
 outcome_commits (Some (outcomes.Commit basis)) name h is told =
-    subst (λ g. Stands (lines.Decide name (told_outcomes.Commit g)) h) (inner is) told
+    subst (λ g. Stands (lines.Decide name (outcomes.Commit g)) h) (inner is) told
   where
-    inner : {a b : _} → Some (outcomes.Commit a) ≡ Some (outcomes.Commit b) → a ≡ b
+    inner : {a b : _} → ◌≡◌ {A = Option Outcome} (Some (outcomes.Commit a)) (Some (outcomes.Commit b)) → a ≡ b
     inner e = cc
 outcome_commits (Some (outcomes.Rollback reason)) name h is told = absurd cc
 outcome_commits (Some outcomes.Unknown) name h is told = absurd cc
@@ -388,7 +387,7 @@ module _ (w : World) (told : List Told) (k : Known w told) (key : ObjectKey) (f 
       omega (arith, within, slots, is)
 
   module _ (o : Outward) (x : NamedKey) (refers : referred w o.to ≡ Some x) (rests : Rests f.completion f.ballots f.rows o) where
-    commit_recorded : o.word ≡ words.Commit → IsTrue (has_record w (place_of f.key) (names_object o.to))
+    commit_recorded : o.word ≡ words.Phase phase_words.Commit → IsTrue (has_record w (place_of f.key) (names_object o.to))
     commit_recorded word =
         let at = rests.asks.commit word in
         let g = at.0 in
@@ -397,7 +396,7 @@ module _ (w : World) (told : List Told) (k : Known w told) (key : ObjectKey) (f 
         subst (λ (to : List ℕ). IsTrue (has_record w (place_of f.key) (names_object to))) g.reference
         (record_names g.r x g.there entered (ap (referred w) g.reference ∙ refers) at.1 (subst (λ (y : ℕ). IsVoted f.completion y VoteCommit) (sym g.number) at.2))
 
-    commit_allowed : o.word ≡ words.Commit → CanTell phases.Commit x.name (lines_of told)
+    commit_allowed : o.word ≡ words.Phase phase_words.Commit → CanTell phase_words.Commit x.name (lines_of told)
     commit_allowed word =
         let known_family = k.families key f there in
         let at = rests.asks.commit word in
@@ -414,10 +413,10 @@ module _ (w : World) (told : List Told) (k : Known w told) (key : ObjectKey) (f 
         (outcome_commits (stages.outcome f.completion) known_family.name (lines_of told) at.1 known_family.outcome)
 
     word_allowed : (phase : Phase) → o.word ≡ word_of phase → CanTell phase x.name (lines_of told)
-    word_allowed phases.Prepare word = can_prepare w told k key f there o x (rests.asks.prepare word).0 refers
-    word_allowed phases.Commit word = commit_allowed word
-    word_allowed phases.CommitOnePhase word = let at = rests.asks.alone word in can_go_alone w told k key f there o x at.0 at.1 refers
-    word_allowed phases.Rollback word = can_roll_back w told k key f there o x (rests.back word) refers
+    word_allowed phase_words.Prepare word = can_prepare w told k key f there o x (rests.asks.prepare word).0 refers
+    word_allowed phase_words.Commit word = commit_allowed word
+    word_allowed phase_words.CommitOnePhase word = let at = rests.asks.alone word in can_go_alone w told k key f there o x at.0 at.1 refers
+    word_allowed phase_words.Rollback word = can_roll_back w told k key f there o x (rests.back word) refers
 
     -- a family that has one to whom it goes is this one
     goes_to_own : GoesToParticipant f.ballots o → (t : List ℕ) (b : ℕ) (other : ObjectKey) (g : Family) → IsRegistered x.name t (lines_of told)

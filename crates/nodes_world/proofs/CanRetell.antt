@@ -7,12 +7,11 @@ use Rattle.ior_refs.specs.declared.key.ObjectKey.{ObjectKey}
 use Rattle.ots_model.specs.Safe.{Stands, IsRegistered}
 use Rattle.ots_model.specs.SafeByLine.{CanTell}
 use Rattle.ots_model.specs.declared.completion.Ground.TheVariants.{Record}
-use Rattle.ots_model.specs.declared.completion.Outcome.TheVariants as told_outcomes
 use Rattle.ots_model.specs.declared.completion.Word.{Word as Phase}
-use Rattle.ots_model.specs.declared.completion.Word.TheVariants as phases
+use Rattle.ots_model.specs.declared.completion.Word.TheVariants as phase_words
 use Rattle.ots_model.specs.declared.line.Line.TheVariants as lines
 use Rattle.ots_model.specs.declared.service.RetryKey.{RetryKey}
-use Rattle.ots_model.specs.declared.tree.Outcome.TheVariants as outcomes
+use Rattle.ots_model.specs.declared.completion.Outcome.TheVariants as outcomes
 use Rattle.ots_model.specs.declared.tree.Outward.{Outward}
 use Rattle.ots_model.specs.declared.tree.Word.{Word}
 use Rattle.ots_model.specs.declared.tree.Word.TheVariants as words
@@ -45,19 +44,19 @@ same_records e = cc
 
 -- it is commit, or none of the two phases
 abbrev pub IsRetold : Word → Type 0
-IsRetold word = (word ≡ words.Commit) ⊎ (phase_of word ≡ None)
+IsRetold word = (word ≡ words.Phase phase_words.Commit) ⊎ (phase_of word ≡ None)
 
-only_commit : (word : Word) (phase : Phase) → IsRetold word → phase_of word ≡ Some phase → phase ≡ phases.Commit
+only_commit : (word : Word) (phase : Phase) → IsRetold word → phase_of word ≡ Some phase → phase ≡ phase_words.Commit
 only_commit word phase (inl is) some = inner (sym some ∙ ap phase_of is)
   where
-    inner : Some phase ≡ Some phases.Commit → phase ≡ phases.Commit
+    inner : Some phase ≡ Some phase_words.Commit → phase ≡ phase_words.Commit
     inner e = cc
 only_commit word phase (inr none) some = absurd (no (sym none ∙ some))
   where
     no : None ≡ Some phase → ⊥
     no e = absurd cc
 
-no_other : (word : Word) (phase : Phase) → IsRetold word → (phase ≡ phases.Commit → ⊥) → word ≡ word_of phase → phase_of (word_of phase) ≡ Some phase → ⊥
+no_other : (word : Word) (phase : Phase) → IsRetold word → (phase ≡ phase_words.Commit → ⊥) → word ≡ word_of phase → phase_of (word_of phase) ≡ Some phase → ⊥
 no_other word phase again other is has = other (only_commit word phase again (ap phase_of is ∙ has))
 
 own_three : (a b c : ℕ) → IsTrue (a == a && b == b && c == c)
@@ -70,7 +69,7 @@ module _ (w : World) (told : List Told) (k : Known w told) (place : ℕ) (rs : L
     (retry : Option RetryKey) (asked : Bool) (regs : List Named) (among : Contains rs (Decision life slot generation retry asked regs)) (o : Outward)
     (named : IsTrue (list_any (is_registration_of o.to) regs)) (again : IsRetold o.word) (family : List ℕ)
     (of_name : IsTransaction w family (recorded_key place life slot generation))
-    (line : Stands (lines.Decide family (told_outcomes.Commit Record)) (lines_of told)) where
+    (line : Stands (lines.Decide family (outcomes.Commit Record)) (lines_of told)) where
   rests : RestsOnVotes w told (recorded_key place life slot generation) regs
   rests = k.records place life slot generation retry asked regs rs held among
 
@@ -139,7 +138,7 @@ module _ (w : World) (told : List Told) (k : Known w told) (place : ℕ) (rs : L
     recorded = λ is. subst (λ (p : Option (List JournalRecord)). IsTrue (option_map_or (λ (some : List JournalRecord). list_any (names_object o.to) some) p false)) (sym held)
         (any_of (names_object o.to) rs _ among named);
     commits = λ is t b key f registered at branch. commits_there t b key f registered at branch;
-    asks = λ is. absurd (no_other o.word phases.CommitOnePhase again (λ e. absurd cc) is refl);
-    alone = λ is. absurd (no_other o.word phases.CommitOnePhase again (λ e. absurd cc) is refl);
-    back = λ is. absurd (no_other o.word phases.Rollback again (λ e. absurd cc) is refl);
+    asks = λ is. absurd (no_other o.word phase_words.CommitOnePhase again (λ e. absurd cc) is refl);
+    alone = λ is. absurd (no_other o.word phase_words.CommitOnePhase again (λ e. absurd cc) is refl);
+    back = λ is. absurd (no_other o.word phase_words.Rollback again (λ e. absurd cc) is refl);
   }

@@ -5,12 +5,11 @@ use Rattle.ots_model.specs.Safe as safe
 use Rattle.ots_model.specs.Safe.{Stands, IsToldCommit, IsToldRollback, HasConsented, TakesPart}
 use Rattle.ots_model.specs.SafeByLine.{IsCommittedBy, IsTold, CanCommit, CanCommitAlone, CanRollBack}
 use Rattle.ots_model.specs.declared.completion.Ground.TheVariants.{Record}
-use Rattle.ots_model.specs.declared.completion.Outcome.TheVariants as told_outcomes
 use Rattle.ots_model.specs.declared.completion.Vote.TheVariants.{VoteCommit}
 use Rattle.ots_model.specs.declared.line.Line.TheVariants as lines
 use Rattle.ots_model.specs.declared.line.ResourceState.TheVariants as shown
-use Rattle.ots_model.specs.declared.tree.Outcome.{Outcome}
-use Rattle.ots_model.specs.declared.tree.Outcome.TheVariants as outcomes
+use Rattle.ots_model.specs.Numbered.{Outcome}
+use Rattle.ots_model.specs.declared.completion.Outcome.TheVariants as outcomes
 use Rattle.ots_model.specs.declared.tree.Outward.{Outward}
 use Rattle.resource_votes.specs.Ballots.{participants}
 use Rattle.resource_votes.specs.declared.registration.Registration.{Registration}
@@ -62,7 +61,7 @@ module _ (w : World) (told : List Told) (k : Known w told) where
   -- commit may be told to one that a decision names, once a line tells the decision
   pub can_commit : (place : ℕ) (to : List ℕ) (x : NamedKey) (d : IsDecisionAt w place to) (family : List ℕ) → referred w to ≡ Some x
       → IsTransaction w family (recorded_key place d.decision.life d.decision.slot d.decision.generation)
-      → Stands (lines.Decide family (told_outcomes.Commit Record)) (lines_of told) → CanCommit x.name (lines_of told)
+      → Stands (lines.Decide family (outcomes.Commit Record)) (lines_of told) → CanCommit x.name (lines_of told)
   can_commit place to x d family refers of_name decided =
       let rests = rests_of w told k place to d in
       let voter = (rests.voters to x refers).0 d.decision.named in

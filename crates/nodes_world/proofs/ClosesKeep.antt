@@ -7,7 +7,7 @@ use Rattle.ots_model.specs.declared.completion.CallNumber.{CallNumber}
 use Rattle.ots_model.specs.declared.completion.Stood.{Stood}
 use Rattle.ots_model.specs.declared.completion.Stood.TheVariants as answers
 use Rattle.ots_model.specs.declared.tree.Heard.{Heard}
-use Rattle.ots_model.specs.declared.tree.Outcome.{Outcome}
+use Rattle.ots_model.specs.Numbered.{Outcome}
 use Rattle.ots_model.specs.declared.tree.Outward.{Outward}
 use Rattle.txn_tree.specs.Rows.{parent}
 use Rattle.two_phase.specs.Stages.{Standing}

@@ -11,12 +11,12 @@ use Rattle.ots_model.specs.Safe.{Stands, TakesPart}
 use Rattle.ots_model.specs.declared.completion.CallNumber.{CallNumber}
 use Rattle.ots_model.specs.declared.completion.Ground.TheVariants.{Record}
 use Rattle.ots_model.specs.declared.completion.Heard.{Heard as ParticipantHeard}
-use Rattle.ots_model.specs.declared.completion.Heard.TheVariants as participants_heard
+use Rattle.ots_model.specs.declared.completion.Heard.TheVariants as phase_hears
 use Rattle.ots_model.specs.declared.completion.Vote.TheVariants.{VoteCommit}
-use Rattle.ots_model.specs.declared.completion.Word.TheVariants as phases
+use Rattle.ots_model.specs.declared.completion.Word.TheVariants as phase_words
 use Rattle.ots_model.specs.declared.line.Line.TheVariants as lines
 use Rattle.ots_model.specs.declared.tree.Heard.{Heard}
-use Rattle.ots_model.specs.declared.tree.Outcome.TheVariants as outcomes
+use Rattle.ots_model.specs.declared.completion.Outcome.TheVariants as outcomes
 use Rattle.ots_model.specs.declared.tree.Outward.{Outward}
 use Rattle.ots_model.specs.declared.tree.Word.TheVariants as words
 use Rattle.resource_end.specs.declared.state.State.{State}
@@ -349,9 +349,9 @@ module _ (completions : CompletionLaws) (close : FamiliesCloseLast) (rightly : F
       sym as_before.3 ∙ sym registered.reference ∙ ap (λ (x : Registration). x.to) one
 
   has_told : (q : Party) → HasCompleted q → (y : ParticipantHeard) × (q.told ≡ Some y)
-  has_told q (inl plain) = (participants_heard.Done, plain)
-  has_told q (inr (inl gone)) = (participants_heard.NoObject, gone)
-  has_told q (inr (inr (disposition, is, forgot))) = (participants_heard.Heuristic disposition, is)
+  has_told q (inl plain) = (phase_hears.Done, plain)
+  has_told q (inr (inl gone)) = (phase_hears.NoObject, gone)
+  has_told q (inr (inr (disposition, is, forgot))) = (phase_hears.Heuristic disposition, is)
 
   -- one that has voted commit has replied
   voter_replied : (r : Registration) → Contains f.ballots.registrations r → IsVoted h.completion r.index VoteCommit → IsReplied w r.to
@@ -361,7 +361,7 @@ module _ (completions : CompletionLaws) (close : FamiliesCloseLast) (rightly : F
       by (Waiting room) is voted = absurd voted
       by (UnderWay d) is (i, q, less, at, (number, ballot)) =
           let all : CompletesAll (UnderWay d) = subst CompletesAll is complete in
-          let completed = each_of (λ (p : Party). p.ballot ≡ Some (participants_heard.Voted VoteCommit) → HasCompleted p) d.parties all q (i, less, at) ballot in
+          let completed = each_of (λ (p : Party). p.ballot ≡ Some (phase_hears.Voted VoteCommit) → HasCompleted p) d.parties all q (i, less, at) ballot in
           let told_it = has_told q completed in
           let own = reference f.completion refl d (subst (SameParties f.completion) is same_ones) q (i, less, at) r listed number in
           subst (IsReplied w) own (replied_then q.to told_it.0 d is (i, q, less, at, (told_it.1, refl)))
@@ -380,10 +380,10 @@ module _ (completions : CompletionLaws) (close : FamiliesCloseLast) (rightly : F
             let rule = hears_keeps o.number (heard_in answer) b f waits (nobody_hears f b nobody known_f.sound (known_f.legs b)) (tidy_of w told_so k f.key f found) in
             voter_replied r listed (rule.kept.voted r.index VoteCommit ((known_f.votes r.index VoteCommit r x listed refl refers).1 line))
 
-        by : (is.word.word ≡ words.Commit) ⊎ (is.word.word ≡ words.Rollback) → HasAnsweredCommit w r.to
+        by : (is.word.word ≡ words.Phase phase_words.Commit) ⊎ (is.word.word ≡ words.Phase phase_words.Rollback) → HasAnsweredCommit w r.to
         by (inl commit) = replied_commit w r.to is commit
         by (inr rolled) =
-            let sent = sent_of w told_so k is.place is.word phases.Rollback x (is.nth, is.sent) (ap phase_of rolled) (ap (referred w) is.own ∙ refers) in
+            let sent = sent_of w told_so k is.place is.word phase_words.Rollback x (is.nth, is.sent) (ap phase_of rolled) (ap (referred w) is.own ∙ refers) in
             absurd (subst IsBack commits (part_back w told_so k f.key f found r x among refers sent))
 
   -- each one that a decision of the family names has

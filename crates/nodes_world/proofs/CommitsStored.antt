@@ -4,7 +4,7 @@ use Rattle.std.specs.Option.{option_and_then}
 use Rattle.std.proofs.lemmas.Bool.Decides.{nat_tests}
 use Rattle.ior_refs.specs.declared.key.ObjectKey.{ObjectKey}
 use Rattle.ots_model.specs.Safe.{IsSent}
-use Rattle.ots_model.specs.declared.completion.Word.TheVariants as phases
+use Rattle.ots_model.specs.declared.completion.Word.TheVariants as phase_words
 use Rattle.ots_model.specs.declared.line.Line.{Line}
 use Rattle.ots_model.specs.declared.tree.Outward.{Outward}
 use Rattle.ots_model.specs.declared.tree.Word.{Word}
@@ -72,7 +72,7 @@ stored_by w request x r h states.ChoseCommit there is voted not_dropped = absurd
 stored_by w request x r h states.ChoseRollback there is voted not_dropped = absurd voted
 stored_by w request x r h states.Forgotten there is voted not_dropped = absurd voted
 
-pub stored : (w : World) (told : List Told) → Known w told → (nth place : ℕ) (o : Outward) (x : NamedKey) → IsWord w nth place o → o.word ≡ words.Commit
+pub stored : (w : World) (told : List Told) → Known w told → (nth place : ℕ) (o : Outward) (x : NamedKey) → IsWord w nth place o → o.word ≡ words.Phase phase_words.Commit
     → referred w o.to ≡ Some x → IsStored (obeys (nth + 1) o w).world x.key
 unfolding obeys
 stored w told k nth place o x word commit refers =
@@ -85,8 +85,8 @@ stored w told k nth place o x word commit refers =
     at : (r : FlatResource) × (resource_at w x.key ≡ Some r) × ResourceIsKnown w (lines_of told) x.name r
     at = resource_of w told k o.to x refers
 
-    sent : IsSent phases.Commit x.name (lines_of told)
-    sent = sent_of w told k place o phases.Commit x (nth, word) (ap phase_of commit) refers
+    sent : IsSent phase_words.Commit x.name (lines_of told)
+    sent = sent_of w told k place o phase_words.Commit x (nth, word) (ap phase_of commit) refers
 
     voted : HasVotedCommit at.0.state x.name (lines_of told)
     voted = voter_stands w told k x.name at.0 at.2 (told_commit w told k x.name sent).2

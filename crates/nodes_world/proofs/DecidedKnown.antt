@@ -8,15 +8,15 @@ use Rattle.std.proofs.lemmas.List.{length-append}
 use Rattle.ior_refs.specs.declared.key.ObjectKey.{ObjectKey}
 use Rattle.ots_model.specs.Safe.{Stands}
 use Rattle.ots_model.specs.declared.completion.Ground.TheVariants.{Record}
-use Rattle.ots_model.specs.declared.completion.Outcome.TheVariants as told_outcomes
 use Rattle.ots_model.specs.declared.completion.Stood.{Stood}
 use Rattle.ots_model.specs.declared.completion.Stood.TheVariants as answers
 use Rattle.ots_model.specs.declared.completion.Vote.{Vote}
 use Rattle.ots_model.specs.declared.line.Line.{Line}
 use Rattle.ots_model.specs.declared.line.Line.TheVariants as lines
 use Rattle.ots_model.specs.declared.service.RetryKey.{RetryKey}
-use Rattle.ots_model.specs.declared.tree.Outcome.TheVariants as outcomes
+use Rattle.ots_model.specs.declared.completion.Outcome.TheVariants as outcomes
 use Rattle.ots_model.specs.declared.tree.Outward.{Outward}
+use Rattle.ots_model.specs.declared.completion.Word.TheVariants as phase_words
 use Rattle.ots_model.specs.declared.tree.Word.TheVariants as words
 use Rattle.ots_outside.specs.Disk.{DiskState, at_first}
 use Rattle.two_phase.specs.Stages as stages
@@ -92,7 +92,7 @@ module _ (laws : FamilyLaws) (journals : JournalLaws) (nodes : NodesKeepDecision
     (of : family_of (family_key place o.number) n ≡ Some f) (room : has_room f.entries (answer_event o answer now) ≡ true) (waits : waiting_for f o.number ≡ Some 0)
     (at : call_at f 0 ≡ Some c) (decides : c.leg ≡ Deciding) (asking : is_asking f.completion ≡ true) (wants : wanted f (answer_event o answer now) ≡ Some (Appends item))
     (wants_now : stages.wants_decision (hears o.number (heard_in answer) f).family.completion ≡ true) (item_is : decision_record (hears o.number (heard_in answer) f).family ≡ item)
-    (can : CanAsk (Some (Appends item)) n.found) (told : List Told) (k : Known w told) (numbered : IsNumberedBy f o) (prepare : o.word ≡ words.Prepare) where
+    (can : CanAsk (Some (Appends item)) n.found) (told : List Told) (k : Known w told) (numbered : IsNumberedBy f o) (prepare : o.word ≡ words.Phase phase_words.Prepare) where
   abbrev key : ObjectKey
   key = family_key place o.number
 
@@ -214,11 +214,11 @@ module _ (laws : FamilyLaws) (journals : JournalLaws) (nodes : NodesKeepDecision
     -- the decision is appended, and the node is up with it, or down
     appended : (disk : DiskState) → IsInOrder (service_at place) disk (rs ++ decision ∷ []) → (stop : Option Stop) (at_record : ℕ) (up_then : Option Node) (some : List Told)
         → AllByRecursion (IsOne append.is_recorded_line) some
-        → ((name : List ℕ) → Stands (lines.Decide name (told_outcomes.Commit Record)) (known (told_1 ++ some))
-        → Stands (lines.Decide name (told_outcomes.Commit Record)) (known told_1) ⊎ (name ≡ old_1.name))
+        → ((name : List ℕ) → Stands (lines.Decide name (outcomes.Commit Record)) (known (told_1 ++ some))
+        → Stands (lines.Decide name (outcomes.Commit Record)) (known told_1) ⊎ (name ≡ old_1.name))
         → (up_then ≡ None) ⊎ ((up_then ≡ Some (with_family (record f1 { completion = stands at_record }) (record n1 { found = found_in (rs ++ decision ∷ []) })))
         × KeepsDecisions (journal_end (rs ++ decision ∷ [])) (with_family (record f1 { completion = stands at_record }) (record n1 { found = found_in (rs ++ decision ∷ []) }))
-        × Stands (lines.Decide old_1.name (told_outcomes.Commit Record)) (known (told_1 ++ some)))
+        × Stands (lines.Decide old_1.name (outcomes.Commit Record)) (known (told_1 ++ some)))
         → Known (with_seat place (record s1 { disk = disk; stop = stop; server = OfNode up_then }) w1) (told_1 ++ some)
     appended disk order_then stop at_record up_then some bare only goes =
         append.appended_known journals.grow journals.read w1 place s1 n1 told_1 there_1 refl known_1 key f1 found_1 comes.at_place slotted_1
@@ -255,7 +255,7 @@ module _ (laws : FamilyLaws) (journals : JournalLaws) (nodes : NodesKeepDecision
     down_decided left =
         appended (cast_of f) same_cast (at_first image) (subst (λ (x : JournalRecord). IsInOrder (service_at place) (at_first image) (rs ++ x ∷ [])) (crash.asked ∙ record_is) left)
         None 0 None (tell.Down s.name ∷ []) (tt, tt)
-        (λ name stands_line. inl (subst (Stands (lines.Decide name (told_outcomes.Commit Record))) (unknown_same told_down (tell.Down s.name) refl) stands_line))
+        (λ name stands_line. inl (subst (Stands (lines.Decide name (outcomes.Commit Record))) (unknown_same told_down (tell.Down s.name) refl) stands_line))
         (inl refl)
 
     down_known : Known (with_seat place down w1) (told_down ++ tell.Down s.name ∷ [])
@@ -393,7 +393,7 @@ module _ (laws : FamilyLaws) (journals : JournalLaws) (nodes : NodesKeepDecision
     own_name = ((known_1 cast cast_is).families key f1 found_1).name
 
     abbrev line : Line
-    line = lines.Decide own_name (told_outcomes.Commit Record)
+    line = lines.Decide own_name (outcomes.Commit Record)
 
     abbrev told_2 : List Told
     told_2 = told_then ++ tell.Known line ∷ []
@@ -401,15 +401,15 @@ module _ (laws : FamilyLaws) (journals : JournalLaws) (nodes : NodesKeepDecision
     line_there : Stands line (known told_2)
     line_there = among_back _ _ (subst (Stands line) (sym (newest_phase told_then line)) (inl refl))
 
-    only_line : (name : List ℕ) → Stands (lines.Decide name (told_outcomes.Commit Record)) (known told_2)
-        → Stands (lines.Decide name (told_outcomes.Commit Record)) (known told_then) ⊎ (name ≡ own_name)
+    only_line : (name : List ℕ) → Stands (lines.Decide name (outcomes.Commit Record)) (known told_2)
+        → Stands (lines.Decide name (outcomes.Commit Record)) (known told_then) ⊎ (name ≡ own_name)
     only_line name x =
-        elim (last_cases (known told_then) (lines.Decide name (told_outcomes.Commit Record)) line (subst (Stands (lines.Decide name (told_outcomes.Commit Record))) (known_phase told_then line) x)) [
+        elim (last_cases (known told_then) (lines.Decide name (outcomes.Commit Record)) line (subst (Stands (lines.Decide name (outcomes.Commit Record))) (known_phase told_then line) x)) [
           | inl was ↦ inl was
           | inr same ↦ inr (sym (name_of same))
         ]
       where
-        name_of : {a b : List ℕ} → lines.Decide a (told_outcomes.Commit Record) ≡ lines.Decide b (told_outcomes.Commit Record) → a ≡ b
+        name_of : {a b : List ℕ} → lines.Decide a (outcomes.Commit Record) ≡ lines.Decide b (outcomes.Commit Record) → a ≡ b
         name_of is = cc
 
     abbrev left : Seat

@@ -4,13 +4,13 @@ use Rattle.ots_model.specs.Heard.{of_participant}
 use Rattle.ots_model.specs.declared.completion.CallNumber.{CallNumber}
 use Rattle.ots_model.specs.declared.completion.Ground.TheVariants.{Record}
 use Rattle.ots_model.specs.declared.completion.Heard.{Heard as ParticipantHeard}
-use Rattle.ots_model.specs.declared.completion.Heard.TheVariants as participants
+use Rattle.ots_model.specs.declared.completion.Heard.TheVariants as phase_hears
 use Rattle.ots_model.specs.declared.completion.Stood.{Stood}
 use Rattle.ots_model.specs.declared.completion.Stood.TheVariants as answers
 use Rattle.ots_model.specs.declared.completion.Vote.{Vote}
 use Rattle.ots_model.specs.declared.tree.Heard.{Heard}
-use Rattle.ots_model.specs.declared.tree.Outcome.{Outcome}
-use Rattle.ots_model.specs.declared.tree.Outcome.TheVariants as outcomes
+use Rattle.ots_model.specs.Numbered.{Outcome}
+use Rattle.ots_model.specs.declared.completion.Outcome.TheVariants as outcomes
 use Rattle.ots_model.specs.declared.tree.Outward.{Outward}
 use Rattle.two_phase.specs.Stages as stages
 use Rattle.two_phase.specs.Stages.{Standing as Completion}
@@ -74,7 +74,7 @@ happened f some = record { family = f; words = []; finished = []; effects = some
 module _ (completions : CompletionLaws) (f : Family) (n : CallNumber) (h : Heard) (c : Call) (waits : waiting_for f n ≡ Some 0) (at : call_at f 0 ≡ Some c)
     (decides : c.leg ≡ Deciding) (there : IsThere f.completion) (asks : is_asking f.completion ≡ true)
     (wants : stages.wants_decision (keep.later completions f n h c waits at decides there asks) ≡ true) (number : ℕ) (voter : stages.voter f.completion ≡ Some number) (vote : Vote)
-    (votes : of_participant h ≡ participants.Voted vote) (later_there : IsThere (keep.later completions f n h c waits at decides there asks)) where
+    (votes : of_participant h ≡ phase_hears.Voted vote) (later_there : IsThere (keep.later completions f n h c waits at decides there asks)) where
   abbrev later : Completion
   later = keep.later completions f n h c waits at decides there asks
 
@@ -92,7 +92,7 @@ module _ (completions : CompletionLaws) (f : Family) (n : CallNumber) (h : Heard
   unfolding told_participant completes_as
   heard_moved = heard_as f n h c waits at decides (λ (x : Moved). x ≡ happened (record (heard_by f c) { completion = later }) (told_one ∷ []))
       (ap (λ (x : ParticipantHeard). happened (record (heard_by f c) { completion = later }) (vote_effects x (stages.voter f.completion) ++ fixed_now (stages.outcome f.completion) (stages.outcome later))) votes
-      ∙ ap (λ (x : Option ℕ). happened (record (heard_by f c) { completion = later }) (vote_effects (participants.Voted vote) x ++ fixed_now (stages.outcome f.completion) (stages.outcome later))) voter
+      ∙ ap (λ (x : Option ℕ). happened (record (heard_by f c) { completion = later }) (vote_effects (phase_hears.Voted vote) x ++ fixed_now (stages.outcome f.completion) (stages.outcome later))) voter
       ∙ ap (λ (xs : List Effect). happened (record (heard_by f c) { completion = later }) (told_one ∷ xs)) nothing_fixed_now)
 
   -- ---- the record stands
@@ -136,7 +136,7 @@ module _ (completions : CompletionLaws) (f : Family) (n : CallNumber) (h : Heard
     still_waits = waits
 
     no_vote : vote_effects (of_participant h) (stages.voter stands) ≡ []
-    no_vote = ap (λ (x : ParticipantHeard). vote_effects x (stages.voter stands)) votes ∙ ap (vote_effects (participants.Voted vote)) (no_voter stands (not_asking stands out))
+    no_vote = ap (λ (x : ParticipantHeard). vote_effects x (stages.voter stands)) votes ∙ ap (vote_effects (phase_hears.Voted vote)) (no_voter stands (not_asking stands out))
 
     none_fixed : (o : Option Outcome) → fixed_now o o ≡ []
     none_fixed (Some x) = refl

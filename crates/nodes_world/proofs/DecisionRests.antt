@@ -8,7 +8,7 @@ use Rattle.std.proofs.lemmas.Slice.Eq.{bytes_eq-Decides}
 use Rattle.ior_refs.specs.declared.key.ObjectKey.{ObjectKey}
 use Rattle.ots_model.specs.Safe.{Stands, HasConsented, TakesPart}
 use Rattle.ots_model.specs.declared.completion.Heard.{Heard}
-use Rattle.ots_model.specs.declared.completion.Heard.TheVariants as hears
+use Rattle.ots_model.specs.declared.completion.Heard.TheVariants as phase_hears
 use Rattle.ots_model.specs.declared.completion.Vote.{Vote}
 use Rattle.ots_model.specs.declared.completion.Vote.TheVariants.{VoteCommit, VoteReadOnly, VoteRollback}
 use Rattle.ots_model.specs.declared.line.Line.TheVariants as lines
@@ -39,25 +39,25 @@ use Rattle.nodes_world.proofs.SoundNodes.{all_of}
 -- ---- votes
 
 abbrev IsConsent : Option Heard → Type 0
-IsConsent b = (b ≡ Some (hears.Voted VoteCommit)) ⊎ (b ≡ Some (hears.Voted VoteReadOnly))
+IsConsent b = (b ≡ Some (phase_hears.Voted VoteCommit)) ⊎ (b ≡ Some (phase_hears.Voted VoteReadOnly))
 
 consent_is : (p : Party) (b : Option Heard) → p.ballot ≡ b → has_consented p ≡ true → IsConsent b
 consent_is p b is consents = by b (sym (ap (λ (x : Option Heard). has_consented (record p { ballot = x })) is) ∙ consents)
   where
     by : (b : Option Heard) → has_consented (record p { ballot = b }) ≡ true → IsConsent b
-    by (Some (hears.Voted VoteCommit)) so = inl refl
-    by (Some (hears.Voted VoteReadOnly)) so = inr refl
-    by (Some (hears.Voted VoteRollback)) so = absurd cc
+    by (Some (phase_hears.Voted VoteCommit)) so = inl refl
+    by (Some (phase_hears.Voted VoteReadOnly)) so = inr refl
+    by (Some (phase_hears.Voted VoteRollback)) so = absurd cc
     by (Some _) so = absurd cc
     by None so = absurd cc
 
-commit_is : (p : Party) (b : Option Heard) → p.ballot ≡ b → has_voted_commit p ≡ true → b ≡ Some (hears.Voted VoteCommit)
+commit_is : (p : Party) (b : Option Heard) → p.ballot ≡ b → has_voted_commit p ≡ true → b ≡ Some (phase_hears.Voted VoteCommit)
 commit_is p b is commits = by b (sym (ap (λ (x : Option Heard). has_voted_commit (record p { ballot = x })) is) ∙ commits)
   where
-    by : (b : Option Heard) → has_voted_commit (record p { ballot = b }) ≡ true → b ≡ Some (hears.Voted VoteCommit)
-    by (Some (hears.Voted VoteCommit)) so = refl
-    by (Some (hears.Voted VoteReadOnly)) so = absurd cc
-    by (Some (hears.Voted VoteRollback)) so = absurd cc
+    by : (b : Option Heard) → has_voted_commit (record p { ballot = b }) ≡ true → b ≡ Some (phase_hears.Voted VoteCommit)
+    by (Some (phase_hears.Voted VoteCommit)) so = refl
+    by (Some (phase_hears.Voted VoteReadOnly)) so = absurd cc
+    by (Some (phase_hears.Voted VoteRollback)) so = absurd cc
     by (Some _) so = absurd cc
     by None so = absurd cc
 
@@ -170,7 +170,7 @@ module _ (w : World) (told : List Told) (k : Known w told) (key : ObjectKey) (f 
 
   -- what a participant has voted is told
   vote_told : (r : Registration) (x : NamedKey) (p : Party) (vote : Vote) → Contains some r → referred w r.to ≡ Some x → Contains c.parties p → p.index ≡ r.index
-      → p.ballot ≡ Some (hears.Voted vote) → Stands (lines.Voted x.name vote) (known told)
+      → p.ballot ≡ Some (phase_hears.Voted vote) → Stands (lines.Voted x.name vote) (known told)
   vote_told r x p vote among leads there index ballot =
       among_back (known told) _ ((old.votes r.index vote r x (registered r among) refl leads).0
       (subst (λ (s : _). IsVoted s r.index vote) (sym going) (there.0, p, there.1, there.2, (index, ballot))))

@@ -300,7 +300,7 @@ module _ (grow : JournalsGrow) (read : RecordsAreRead) (w : World) (place : ℕ)
     tells = tells_on is_bare told some (each_bare some dones);
     allowed = allowed_on told some (each_bare some dones);
     decided = λ name key named stands. inl (tells.back _ refl stands);
-    outcomes = λ name key f at named stands. among_turned _ _ (tells.back _ refl (among_back _ _ stands));
+    commits = λ name key f at named stands. among_turned _ _ (tells.back _ refl (among_back _ _ stands));
     named = λ name stands. inl (tells.back _ refl stands);
     transaction_on = λ name key is. is;
     transaction_back = λ name key is. is;

@@ -24,7 +24,6 @@ use Rattle.recovery_coord.specs.Held.{are_done, is_complete, is_decided, is_noth
 use Rattle.recovery_coord.specs.Hearing.{completed, due_after, held_after, party_after, record_after}
 use Rattle.recovery_coord.specs.Laws.{CompletesOnce, registrations_of}
 use Rattle.recovery_coord.specs.Limits.{retold_slot}
-use Rattle.recovery_coord.specs.declared.held.Due.TheVariants as due
 use Rattle.recovery_coord.specs.declared.held.Held.{Held}
 use Rattle.recovery_coord.specs.declared.held.Party.{Party}
 use Rattle.coordinator.specs.Family.{Family, waiting_for}

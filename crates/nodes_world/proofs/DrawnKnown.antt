@@ -109,7 +109,7 @@ module _ (w : World) (place : ℕ) (s : Seat) (e : FlatEnd) (told : List Told) (
     allowed = λ a. a;
     decided = λ name key is stands. inl stands;
     named = λ name stands. inl stands;
-    outcomes = λ name key f at is stands. stands;
+    commits = λ name key f at is stands. stands;
     transaction_on = λ name key is. is;
     transaction_back = λ name key is. is;
     resource_on = λ name key is. is;

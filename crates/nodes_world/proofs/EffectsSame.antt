@@ -2,9 +2,10 @@
 use Rattle.std.proofs.Common.{◌≡◌, ℕ, ◌==◌, List, [], ◌∷◌, ◌++◌, find, Option, Some, None, refl, ap, ap₂, ◌∙◌}
 use Rattle.std.specs.Option.{option_and_then, option_map}
 use Rattle.ior_refs.specs.declared.key.ObjectKey.{ObjectKey}
-use Rattle.ots_model.specs.declared.tree.Outcome.{Outcome}
-use Rattle.ots_model.specs.declared.tree.Outcome.TheVariants as outcomes
+use Rattle.ots_model.specs.Numbered.{Outcome}
+use Rattle.ots_model.specs.declared.completion.Outcome.TheVariants as outcomes
 use Rattle.ots_model.specs.declared.tree.Reason.{Reason}
+use Rattle.ots_model.specs.declared.completion.Reason.TheVariants as phase_reasons
 use Rattle.ots_model.specs.declared.tree.Reason.TheVariants as reasons
 use Rattle.resource_votes.specs.declared.registration.Registration.{Registration}
 use Rattle.coordinator.specs.declared.effect.Effect.{Effect}
@@ -38,13 +39,13 @@ module _ (w v : World) (names : v.names ≡ w.names) (refers : (to : List ℕ) �
     rollback_same reasons.Asked name = refl
     rollback_same reasons.Marked name = refl
     rollback_same reasons.Timeout name = refl
-    rollback_same (reasons.Vote g) name = naming_same _ c.registrations g
-    rollback_same (reasons.PrepareLost g) name = naming_same _ c.registrations g
-    rollback_same (reasons.PrepareStarved g) name = naming_same _ c.registrations g
-    rollback_same (reasons.PrepareFault g) name = naming_same _ c.registrations g
+    rollback_same (reasons.Phase (phase_reasons.Vote g)) name = naming_same _ c.registrations g
+    rollback_same (reasons.Phase (phase_reasons.PrepareLost g)) name = naming_same _ c.registrations g
+    rollback_same (reasons.Phase (phase_reasons.PrepareStarved g)) name = naming_same _ c.registrations g
+    rollback_same (reasons.Phase (phase_reasons.PrepareFault g)) name = naming_same _ c.registrations g
     rollback_same (reasons.SyncLost s) name = naming_same _ c.synchronizations s
     rollback_same (reasons.SyncStarved s) name = naming_same _ c.synchronizations s
-    rollback_same (reasons.JournalFull used need) name = refl
+    rollback_same (reasons.Phase (phase_reasons.JournalFull used need)) name = refl
     rollback_same reasons.NotStored name = refl
     rollback_same reasons.Superior name = refl
     rollback_same reasons.NotEnlisted name = refl

@@ -4,15 +4,14 @@ use Rattle.std.specs.List.{AllByRecursion}
 use Rattle.std.proofs.lemmas.List.Elements.{Contains-append_cases, Contains-append_left, Contains-append_right}
 use Rattle.ots_model.specs.Safe.{Stands}
 use Rattle.ots_model.specs.declared.completion.Ground.{Ground}
-use Rattle.ots_model.specs.declared.completion.Outcome.{Outcome as ToldOutcome}
-use Rattle.ots_model.specs.declared.completion.Outcome.TheVariants as told_outcomes
+use Rattle.ots_model.specs.Numbered.{LineOutcome}
 use Rattle.ots_model.specs.declared.completion.Reason.{Reason as ToldReason}
 use Rattle.ots_model.specs.declared.completion.Vote.{Vote}
-use Rattle.ots_model.specs.declared.completion.Reason.TheVariants as told_reasons
+use Rattle.ots_model.specs.declared.completion.Reason.TheVariants as phase_reasons
 use Rattle.ots_model.specs.declared.line.Line.{Line}
 use Rattle.ots_model.specs.declared.line.Line.TheVariants as lines
-use Rattle.ots_model.specs.declared.tree.Outcome.{Outcome}
-use Rattle.ots_model.specs.declared.tree.Outcome.TheVariants as outcomes
+use Rattle.ots_model.specs.Numbered.{Outcome}
+use Rattle.ots_model.specs.declared.completion.Outcome.TheVariants as outcomes
 use Rattle.ots_model.specs.declared.tree.Reason.{Reason}
 use Rattle.ots_model.specs.declared.tree.Reason.TheVariants as reasons
 use Rattle.coordinator.specs.declared.effect.Effect.{Effect}
@@ -77,10 +76,10 @@ told_stands xs line c = go xs c.0 c.1 c.2
 
 -- ---- what each line says
 
-abbrev pub IsSaidAs : Outcome → ToldOutcome (List ℕ) → Type 0
-IsSaidAs (outcomes.Commit basis) told = told ≡ told_outcomes.Commit basis
-IsSaidAs (outcomes.Rollback reason) told = (said : ToldReason (List ℕ)) × (told ≡ told_outcomes.Rollback said)
-IsSaidAs outcomes.Unknown told = told ≡ told_outcomes.Unknown
+abbrev pub IsSaidAs : Outcome → LineOutcome → Type 0
+IsSaidAs (outcomes.Commit basis) told = told ≡ outcomes.Commit basis
+IsSaidAs (outcomes.Rollback reason) told = (said : ToldReason (List ℕ)) × (told ≡ outcomes.Rollback said)
+IsSaidAs outcomes.Unknown told = told ≡ outcomes.Unknown
 
 -- a line tells of this, by the name of whom it speaks
 abbrev pub Says : World → Cast → Effect → Told → Type 0
@@ -105,13 +104,13 @@ module _ (w : World) (c : Cast) where
   rollback_says reasons.Asked name is = ((reasons.Asked, refl, is), tt)
   rollback_says reasons.Marked name is = ((reasons.Marked, refl, is), tt)
   rollback_says reasons.Timeout name is = ((reasons.Timeout, refl, is), tt)
-  rollback_says (reasons.Vote g) name is = naming_says _ _ (registered w c g) (λ object named. (outcomes.Rollback (reasons.Vote g), refl, is, (_, refl)))
-  rollback_says (reasons.PrepareLost g) name is = naming_says _ _ (registered w c g) (λ object named. (outcomes.Rollback (reasons.PrepareLost g), refl, is, (_, refl)))
-  rollback_says (reasons.PrepareStarved g) name is = naming_says _ _ (registered w c g) (λ object named. (outcomes.Rollback (reasons.PrepareStarved g), refl, is, (_, refl)))
-  rollback_says (reasons.PrepareFault g) name is = naming_says _ _ (registered w c g) (λ object named. (outcomes.Rollback (reasons.PrepareFault g), refl, is, (_, refl)))
+  rollback_says (reasons.Phase (phase_reasons.Vote g)) name is = naming_says _ _ (registered w c g) (λ object named. (outcomes.Rollback (reasons.Phase (phase_reasons.Vote g)), refl, is, (_, refl)))
+  rollback_says (reasons.Phase (phase_reasons.PrepareLost g)) name is = naming_says _ _ (registered w c g) (λ object named. (outcomes.Rollback (reasons.Phase (phase_reasons.PrepareLost g)), refl, is, (_, refl)))
+  rollback_says (reasons.Phase (phase_reasons.PrepareStarved g)) name is = naming_says _ _ (registered w c g) (λ object named. (outcomes.Rollback (reasons.Phase (phase_reasons.PrepareStarved g)), refl, is, (_, refl)))
+  rollback_says (reasons.Phase (phase_reasons.PrepareFault g)) name is = naming_says _ _ (registered w c g) (λ object named. (outcomes.Rollback (reasons.Phase (phase_reasons.PrepareFault g)), refl, is, (_, refl)))
   rollback_says (reasons.SyncLost s) name is = naming_says _ _ (synchronized w c s) (λ object named. (reasons.SyncLost s, refl, is))
   rollback_says (reasons.SyncStarved s) name is = naming_says _ _ (synchronized w c s) (λ object named. (reasons.SyncStarved s, refl, is))
-  rollback_says (reasons.JournalFull used need) name is = ((outcomes.Rollback (reasons.JournalFull used need), refl, is, (_, refl)), tt)
+  rollback_says (reasons.Phase (phase_reasons.JournalFull used need)) name is = ((outcomes.Rollback (reasons.Phase (phase_reasons.JournalFull used need)), refl, is, (_, refl)), tt)
   rollback_says reasons.NotStored name is = ((reasons.NotStored, refl, is), tt)
   rollback_says reasons.Superior name is = ((reasons.Superior, refl, is), tt)
   rollback_says reasons.NotEnlisted name is = ((reasons.NotEnlisted, refl, is), tt)
@@ -176,12 +175,12 @@ module _ (w : World) (c : Cast) where
   end_told some b committed t among named = effect_among some _ _ among (named_told _ (branch_name w c b) t named)
 
   pub commit_told : (some : List Effect) (basis : Ground) (name : List ℕ) → Contains some (effects.Decided (outcomes.Commit basis)) → branch_name w c 0 ≡ Some name
-      → Contains (all_effect_lines w c some) (tell.Known (lines.Decide name (told_outcomes.Commit basis)))
+      → Contains (all_effect_lines w c some) (tell.Known (lines.Decide name (outcomes.Commit basis)))
   unfolding effect_lines
   commit_told some basis name among named = effect_among some _ _ among (by (branch_name w c 0) named)
     where
-      by : (o : Option (List ℕ)) → o ≡ Some name → Contains (decided_lines w c (outcomes.Commit basis) o) (tell.Known (lines.Decide name (told_outcomes.Commit basis)))
-      by (Some other) is = at_first _ _ [] (ap (λ (n : List ℕ). tell.Known (lines.Decide n (told_outcomes.Commit basis))) (inner is))
+      by : (o : Option (List ℕ)) → o ≡ Some name → Contains (decided_lines w c (outcomes.Commit basis) o) (tell.Known (lines.Decide name (outcomes.Commit basis)))
+      by (Some other) is = at_first _ _ [] (ap (λ (n : List ℕ). tell.Known (lines.Decide n (outcomes.Commit basis))) (inner is))
         where
           inner : {a b : List ℕ} → Some a ≡ Some b → a ≡ b
           inner e = cc
@@ -198,16 +197,16 @@ other_told name reason = agreed.IsRolledBack.by_other reason (at_first _ _ [] re
 
 -- whom a rollback's reason speaks of has a name, and is no synchronization
 abbrev pub IsNamedReason : World → Cast → Reason → Type 0
-IsNamedReason w c (reasons.Vote g) = IsTrue (is_some (registered w c g))
-IsNamedReason w c (reasons.PrepareLost g) = IsTrue (is_some (registered w c g))
-IsNamedReason w c (reasons.PrepareStarved g) = IsTrue (is_some (registered w c g))
-IsNamedReason w c (reasons.PrepareFault g) = IsTrue (is_some (registered w c g))
+IsNamedReason w c (reasons.Phase (phase_reasons.Vote g)) = IsTrue (is_some (registered w c g))
+IsNamedReason w c (reasons.Phase (phase_reasons.PrepareLost g)) = IsTrue (is_some (registered w c g))
+IsNamedReason w c (reasons.Phase (phase_reasons.PrepareStarved g)) = IsTrue (is_some (registered w c g))
+IsNamedReason w c (reasons.Phase (phase_reasons.PrepareFault g)) = IsTrue (is_some (registered w c g))
 IsNamedReason w c (reasons.SyncLost s) = ⊥
 IsNamedReason w c (reasons.SyncStarved s) = ⊥
 IsNamedReason w c _ = Unit {0}
 
 reason_named : (why : List ℕ → ToldReason (List ℕ)) (name : List ℕ) (o : Option (List ℕ)) → IsTrue (is_some o)
-    → IsRolledBack (naming (λ (object : List ℕ). tell.Known (lines.Decide name (told_outcomes.Rollback (why object)))) o) name
+    → IsRolledBack (naming (λ (object : List ℕ). tell.Known (lines.Decide name (outcomes.Rollback (why object)))) o) name
 reason_named why name (Some object) there = agreed.IsRolledBack.by_known (why object) (inl refl)
 reason_named why name None there = absurd cc
 
@@ -216,13 +215,13 @@ module _ (w : World) (c : Cast) where
   reason_told reasons.Asked name plain = other_told name _
   reason_told reasons.Marked name plain = other_told name _
   reason_told reasons.Timeout name plain = other_told name _
-  reason_told (reasons.Vote g) name there = reason_named told_reasons.Vote name (registered w c g) there
-  reason_told (reasons.PrepareLost g) name there = reason_named told_reasons.PrepareLost name (registered w c g) there
-  reason_told (reasons.PrepareStarved g) name there = reason_named told_reasons.PrepareStarved name (registered w c g) there
-  reason_told (reasons.PrepareFault g) name there = reason_named told_reasons.PrepareFault name (registered w c g) there
+  reason_told (reasons.Phase (phase_reasons.Vote g)) name there = reason_named phase_reasons.Vote name (registered w c g) there
+  reason_told (reasons.Phase (phase_reasons.PrepareLost g)) name there = reason_named phase_reasons.PrepareLost name (registered w c g) there
+  reason_told (reasons.Phase (phase_reasons.PrepareStarved g)) name there = reason_named phase_reasons.PrepareStarved name (registered w c g) there
+  reason_told (reasons.Phase (phase_reasons.PrepareFault g)) name there = reason_named phase_reasons.PrepareFault name (registered w c g) there
   reason_told (reasons.SyncLost s) name plain = absurd plain
   reason_told (reasons.SyncStarved s) name plain = absurd plain
-  reason_told (reasons.JournalFull used need) name plain = agreed.IsRolledBack.by_known (told_reasons.JournalFull used need) (inl refl)
+  reason_told (reasons.Phase (phase_reasons.JournalFull used need)) name plain = agreed.IsRolledBack.by_known (phase_reasons.JournalFull used need) (inl refl)
   reason_told reasons.NotStored name plain = other_told name _
   reason_told reasons.Superior name plain = other_told name _
   reason_told reasons.NotEnlisted name plain = other_told name _

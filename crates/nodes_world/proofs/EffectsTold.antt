@@ -10,9 +10,10 @@ use Rattle.ots_model.specs.Safe.{Stands}
 use Rattle.ots_model.specs.SafeByLine.{AreAllowed, IsAllowed}
 use Rattle.ots_model.specs.declared.line.Line.{Line}
 use Rattle.ots_model.specs.declared.line.Line.TheVariants as lines
-use Rattle.ots_model.specs.declared.tree.Outcome.{Outcome}
-use Rattle.ots_model.specs.declared.tree.Outcome.TheVariants as outcomes
+use Rattle.ots_model.specs.Numbered.{Outcome}
+use Rattle.ots_model.specs.declared.completion.Outcome.TheVariants as outcomes
 use Rattle.ots_model.specs.declared.tree.Reason.{Reason}
+use Rattle.ots_model.specs.declared.completion.Reason.TheVariants as phase_reasons
 use Rattle.ots_model.specs.declared.tree.Reason.TheVariants as reasons
 use Rattle.coordinator.specs.declared.effect.Effect.{Effect}
 use Rattle.coordinator.specs.declared.effect.Effect.TheVariants as effects
@@ -230,13 +231,13 @@ module _ (w : World) (told : List Told) (k : Known w told) where
     rollback_follow reasons.Asked name = (tt, tt)
     rollback_follow reasons.Marked name = (tt, tt)
     rollback_follow reasons.Timeout name = (tt, tt)
-    rollback_follow (reasons.Vote g) name = named_follow _ (λ object. (refl, tt)) (registered w c g)
-    rollback_follow (reasons.PrepareLost g) name = named_follow _ (λ object. (refl, tt)) (registered w c g)
-    rollback_follow (reasons.PrepareStarved g) name = named_follow _ (λ object. (refl, tt)) (registered w c g)
-    rollback_follow (reasons.PrepareFault g) name = named_follow _ (λ object. (refl, tt)) (registered w c g)
+    rollback_follow (reasons.Phase (phase_reasons.Vote g)) name = named_follow _ (λ object. (refl, tt)) (registered w c g)
+    rollback_follow (reasons.Phase (phase_reasons.PrepareLost g)) name = named_follow _ (λ object. (refl, tt)) (registered w c g)
+    rollback_follow (reasons.Phase (phase_reasons.PrepareStarved g)) name = named_follow _ (λ object. (refl, tt)) (registered w c g)
+    rollback_follow (reasons.Phase (phase_reasons.PrepareFault g)) name = named_follow _ (λ object. (refl, tt)) (registered w c g)
     rollback_follow (reasons.SyncLost s) name = named_follow _ (λ object. tt) (synchronized w c s)
     rollback_follow (reasons.SyncStarved s) name = named_follow _ (λ object. tt) (synchronized w c s)
-    rollback_follow (reasons.JournalFull used need) name = ((refl, tt), tt)
+    rollback_follow (reasons.Phase (phase_reasons.JournalFull used need)) name = ((refl, tt), tt)
     rollback_follow reasons.NotStored name = (tt, tt)
     rollback_follow reasons.Superior name = (tt, tt)
     rollback_follow reasons.NotEnlisted name = (tt, tt)

@@ -3,11 +3,11 @@ use Rattle.std.proofs.Common.{◌≡◌, inr, ℕ, ◌&&◌, Bool, true, false, 
 use Rattle.ots_model.specs.Heard.{of_participant}
 use Rattle.ots_model.specs.declared.completion.CallNumber.{CallNumber}
 use Rattle.ots_model.specs.declared.completion.Ground.TheVariants.{Record}
-use Rattle.ots_model.specs.declared.completion.Heard.TheVariants as participants_heard
+use Rattle.ots_model.specs.declared.completion.Heard.TheVariants as phase_hears
 use Rattle.ots_model.specs.declared.completion.Stood.{Stood}
 use Rattle.ots_model.specs.declared.completion.Stood.TheVariants as answers
 use Rattle.ots_model.specs.declared.completion.Vote.{Vote}
-use Rattle.ots_model.specs.declared.tree.Outcome.TheVariants as outcomes
+use Rattle.ots_model.specs.declared.completion.Outcome.TheVariants as outcomes
 use Rattle.ots_model.specs.declared.tree.Outward.{Outward}
 use Rattle.resource_votes.specs.declared.registration.Registration.{Registration}
 use Rattle.two_phase.specs.Course as course
@@ -119,7 +119,7 @@ module _ (completions : CompletionLaws) (used need : ℕ) where
 
 module _ (completions : CompletionLaws) (f : Family) (o : Outward) (answer : Said) (now : ℕ) (c : Call) (waits : waiting_for f o.number ≡ Some 0) (at : call_at f 0 ≡ Some c)
     (decides : c.leg ≡ Deciding) (there : IsThere f.completion) (asks : is_asking f.completion ≡ true) (vote : Vote)
-    (votes : of_participant (heard_in answer) ≡ participants_heard.Voted vote) (used need : ℕ)
+    (votes : of_participant (heard_in answer) ≡ phase_hears.Voted vote) (used need : ℕ)
     (wants : stages.wants_decision (hears o.number (heard_in answer) f).family.completion ≡ true) where
   abbrev g : Family
   g = (hears o.number (heard_in answer) f).family

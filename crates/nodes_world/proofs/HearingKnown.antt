@@ -5,6 +5,7 @@ use Rattle.std.specs.Option.{option_and_then, option_map}
 use Rattle.ior_refs.specs.declared.key.ObjectKey.{ObjectKey}
 use Rattle.ots_model.specs.declared.completion.Stood.{Stood}
 use Rattle.ots_model.specs.declared.completion.Stood.TheVariants as answers
+use Rattle.ots_model.specs.declared.completion.Word.TheVariants as phase_words
 use Rattle.ots_model.specs.declared.tree.Word.TheVariants as words
 use Rattle.ots_model.specs.declared.service.RetryKey.{RetryKey}
 use Rattle.ots_model.specs.declared.tree.Outward.{Outward}
@@ -17,7 +18,7 @@ use Rattle.ots_model.specs.declared.completion.Vote.{Vote}
 use Rattle.ots_model.specs.declared.tree.Heard.{Heard}
 use Rattle.ots_model.specs.declared.tree.Heard.TheVariants as hears_words
 use Rattle.ots_model.specs.Heard.{of_participant}
-use Rattle.ots_model.specs.declared.completion.Heard.TheVariants as participants
+use Rattle.ots_model.specs.declared.completion.Heard.TheVariants as phase_hears
 use Rattle.family_laws.specs.LawsOfTelling.{IsHeardVote}
 use Rattle.family_laws.specs.Sound.{IsSoundFamily}
 use Rattle.coordinator.specs.declared.event.Act.TheVariants as acts
@@ -263,10 +264,10 @@ module _ (laws : FamilyLaws) (journals : JournalLaws) (nodes : NodesKeepDecision
           neither false false is not_done = refl
 
           heard_so : (number : ℕ) (vote : Vote) → IsHeardVote f (family_step f e None).family e.act number vote
-              → of_participant (heard_in answer) ≡ participants.Voted vote
+              → of_participant (heard_in answer) ≡ phase_hears.Voted vote
           heard_so number vote heard = ap of_participant (same_heard heard.number vote heard.answer)
             where
-              same_heard : (x : CallNumber) (vote : Vote) → acts.Answer o.number (heard_in answer) ≡ acts.Answer x (hears_words.Voted vote) → heard_in answer ≡ hears_words.Voted vote
+              same_heard : (x : CallNumber) (vote : Vote) → acts.Answer o.number (heard_in answer) ≡ acts.Answer x (hears_words.Phase (phase_hears.Voted vote)) → heard_in answer ≡ hears_words.Phase (phase_hears.Voted vote)
               same_heard x vote is = cc
 
       -- one that is to decide alone answers no vote
@@ -277,7 +278,7 @@ module _ (laws : FamilyLaws) (journals : JournalLaws) (nodes : NodesKeepDecision
           k.words.serials place o f key (nth, word) found_here own.0 own.1 own.2 (ap (λ (x : ℕ). x - 1) (sym parts.0) ∙ own_place)
 
       -- what a step is then that hears a vote
-      prepared : (vote : Vote) → answer ≡ said.Voted vote → (told : List Told) → Known w told → o.word ≡ words.Prepare
+      prepared : (vote : Vote) → answer ≡ said.Voted vote → (told : List Told) → Known w told → o.word ≡ words.Phase phase_words.Prepare
       prepared vote votes told k = k.words.voters reply nth place back vote o replied (says ∙ ap (λ (x : Said). contents.Reply (nth + 1) x) votes) word
 
       voted_then : waiting_for f o.number ≡ Some 0 → is_asking f.completion ≡ true → (c : Call) → call_at f 0 ≡ Some c → c.leg ≡ Deciding

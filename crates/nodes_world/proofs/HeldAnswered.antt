@@ -4,6 +4,7 @@ use Rattle.std.specs.List.{AllByRecursion, Any}
 use Rattle.ots_model.specs.declared.completion.CallNumber.{CallNumber}
 use Rattle.ots_model.specs.declared.tree.Heard.{Heard}
 use Rattle.ots_model.specs.declared.tree.Outward.{Outward}
+use Rattle.ots_model.specs.declared.completion.Word.TheVariants as phase_words
 use Rattle.ots_model.specs.declared.tree.Word.TheVariants as words
 use Rattle.decision_journal.specs.Journal.{first_gate}
 use Rattle.decision_journal.specs.declared.journal.Standing.{Standing}
@@ -44,7 +45,7 @@ abbrev pub HeldAnswered : World → Type 0
 HeldAnswered w = (place : ℕ) (n : Node) → node_at w place ≡ Some n → AllByRecursion (AreDueOr (HasAnsweredCommit w)) n.recovered
 
 abbrev pub RetoldAnswered : World → Type 0
-RetoldAnswered w = (nth place : ℕ) (o : Outward) → IsWord w nth place o → o.number.slot ≡ retold_slot → (o.word ≡ words.Commit) ⊎ HasAnsweredCommit w o.to
+RetoldAnswered w = (nth place : ℕ) (o : Outward) → IsWord w nth place o → o.number.slot ≡ retold_slot → (o.word ≡ words.Phase phase_words.Commit) ⊎ HasAnsweredCommit w o.to
 
 -- ---- to whom a word was told again
 

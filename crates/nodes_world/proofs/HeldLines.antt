@@ -8,10 +8,10 @@ use Rattle.std.proofs.lemmas.List.Folds.{Any-from_list_any, list_any-from_Any}
 use Rattle.ior_refs.specs.declared.key.ObjectKey.{ObjectKey}
 use Rattle.ots_model.specs.Safe.{Stands}
 use Rattle.ots_model.specs.declared.completion.Ground.TheVariants.{Record}
-use Rattle.ots_model.specs.declared.completion.Outcome.TheVariants as told_outcomes
+use Rattle.ots_model.specs.declared.completion.Outcome.TheVariants as outcomes
 use Rattle.ots_model.specs.declared.line.Line.TheVariants as lines
 use Rattle.ots_model.specs.declared.service.RetryKey.{RetryKey}
-use Rattle.ots_model.specs.declared.tree.Outcome.{Outcome}
+use Rattle.ots_model.specs.Numbered.{Outcome}
 use Rattle.decision_journal.specs.Journal.{Found, first_gate, found_in}
 use Rattle.decision_journal.specs.Layout.{record_octets}
 use Rattle.decision_journal.specs.declared.journal.Standing.{Standing}
@@ -94,7 +94,7 @@ module _ (w : World) (told : List Told) (k : Known w told) where
   abbrev pub IsDecidedBy : ℕ → ℕ → ℕ → ℕ → Type 0
   IsDecidedBy place life slot generation =
       (name : List ℕ) × IsTransaction w name (recorded_key place life slot generation)
-      × Stands (lines.Decide name (told_outcomes.Commit Record)) (known told)
+      × Stands (lines.Decide name (outcomes.Commit Record)) (known told)
 
   -- that of a family that is there does
   there_told : (place life slot generation : ℕ) (retry : Option RetryKey) (asked : Bool) (regs : List Named) (rs : List JournalRecord) (f : Family)

@@ -167,7 +167,7 @@ module _ (w v : World) (told some : List Told) (alike : IsAlike w v) (plain : Al
     allowed = allowed_on told some (each_bare some plain);
     decided = λ name key named s. inl (plain_tells.back _ refl s);
     named = λ name s. inl (plain_tells.back _ refl s);
-    outcomes = λ name key f there named s. among_turned _ _ (plain_tells.back _ refl (among_back _ _ s));
+    commits = λ name key f there named s. among_turned _ _ (plain_tells.back _ refl (among_back _ _ s));
     transaction_on = λ name key is. things_same name ∙ is;
     transaction_back = λ name key is. sym (things_same name) ∙ is;
     resource_on = λ name key is. things_same name ∙ is;

@@ -3,7 +3,7 @@ use Rattle.std.proofs.Common.{◌≡◌, inl, inr, ℕ, zero, suc, ◌<◌, IsTr
 use Rattle.ior_refs.specs.declared.key.ObjectKey.{ObjectKey}
 use Rattle.ots_model.specs.Safe.{Stands, IsRegistered}
 use Rattle.ots_model.specs.declared.completion.Ground.TheVariants.{Record}
-use Rattle.ots_model.specs.declared.completion.Outcome.TheVariants as told_outcomes
+use Rattle.ots_model.specs.declared.completion.Outcome.TheVariants as outcomes
 use Rattle.ots_model.specs.declared.line.Line.{Line}
 use Rattle.ots_model.specs.declared.line.Line.TheVariants as lines
 use Rattle.resource_votes.specs.Lists.{list_at}
@@ -44,7 +44,7 @@ none_takes_part c r among = none_of r (subst (λ (x : List Registration). Contai
 module _ (w : World) (name node : List ℕ) (key : ObjectKey) (deadline : Option ℕ) (seats : List Seat) (told : List Told) (free : thing w name ≡ None)
     (k : Known w told) (top : key.index ≡ 0)
     (fresh : (other : List ℕ) (branch : ObjectKey) → IsTransaction w other branch → IsTrue (is_of branch (new_family key deadline)) → ⊥)
-    (undecided : Stands (lines.Decide name (told_outcomes.Commit Record)) (lines_of told) → ⊥) where
+    (undecided : Stands (lines.Decide name (outcomes.Commit Record)) (lines_of told) → ⊥) where
   abbrev own : Thing
   own = things.Transaction key
 
@@ -85,7 +85,7 @@ module _ (w : World) (name node : List ℕ) (key : ObjectKey) (deadline : Option
   no_registration g t is (end, inl e) = cc
   no_registration g t is (end, inr s) = let at = k.names.registered g t (end, s) in unnamed t (things.Transaction at.1) is at.3
 
-  no_decision : Stands (lines.Decide name (told_outcomes.Commit Record)) (line ∷ h) → ⊥
+  no_decision : Stands (lines.Decide name (outcomes.Commit Record)) (line ∷ h) → ⊥
   no_decision (inl e) = cc
   no_decision (inr s) = undecided s
 

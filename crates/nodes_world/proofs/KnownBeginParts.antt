@@ -7,12 +7,11 @@ use Rattle.std.proofs.lemmas.List.Folds.{Any-from_list_any}
 use Rattle.ior_refs.specs.declared.key.ObjectKey.{ObjectKey}
 use Rattle.ots_model.specs.Safe.{Stands, HasConsented, IsRegistered, TakesPart}
 use Rattle.ots_model.specs.declared.completion.Ground.TheVariants.{Record}
-use Rattle.ots_model.specs.declared.completion.Outcome.TheVariants as told_outcomes
 use Rattle.ots_model.specs.declared.line.Line.{Line}
 use Rattle.ots_model.specs.declared.line.Line.TheVariants as lines
 use Rattle.ots_model.specs.declared.service.RetryKey.{RetryKey}
-use Rattle.ots_model.specs.declared.tree.Outcome.{Outcome}
-use Rattle.ots_model.specs.declared.tree.Outcome.TheVariants as outcomes
+use Rattle.ots_model.specs.Numbered.{Outcome}
+use Rattle.ots_model.specs.declared.completion.Outcome.TheVariants as outcomes
 use Rattle.ots_model.specs.declared.tree.Outward.{Outward}
 use Rattle.two_phase.specs.Stages as stages
 use Rattle.decision_journal.specs.declared.record.JournalRecord.{JournalRecord}
@@ -168,9 +167,9 @@ module _ (w : World) (place : ℕ) (name : List ℕ) (deadline : Option ℕ) (sl
   unnamed : (t : List ℕ) (x : Thing) → thing w t ≡ Some x → t ≡ name → ⊥
   unnamed t x named is = not_free (thing w name) x (subst (λ (y : List ℕ). thing w y ≡ Some x) is named) free
 
-  undecided : Stands (lines.Decide name (told_outcomes.Commit Record)) (lines_of told) → ⊥
+  undecided : Stands (lines.Decide name (outcomes.Commit Record)) (lines_of told) → ⊥
   undecided stands =
-      let at = k.transactions.decided name (told_outcomes.Commit Record) (among_back (known told) _ stands) in
+      let at = k.transactions.decided name (outcomes.Commit Record) (among_back (known told) _ stands) in
       unnamed name (things.Transaction at.0) at.1 refl
 
   part_then : (g t : List ℕ) (x : Thing) → thing w t ≡ Some x → TakesPart g t (known later) → TakesPart g t (known told)
@@ -448,7 +447,7 @@ module _ (w : World) (place : ℕ) (name : List ℕ) (deadline : Option ℕ) (sl
   pub recorded_begun : DecisionsAreRecorded v later
   recorded_begun t other named top stands = elim (trans_cases t other named) [
     | inl was ↦ has_same (place_of other) (is_decision_of other) ∙ k.recorded t other was top (tells.back _ refl stands)
-    | inr new ↦ absurd (not_decided _ (subst (λ (x : List ℕ). Stands (lines.Decide x (told_outcomes.Commit Record)) (known told)) new.0 (tells.back _ refl stands)))
+    | inr new ↦ absurd (not_decided _ (subst (λ (x : List ℕ). Stands (lines.Decide x (outcomes.Commit Record)) (known told)) new.0 (tells.back _ refl stands)))
   ]
 
   pub one_outcome_begun : NoneIsBoth v later
@@ -456,7 +455,7 @@ module _ (w : World) (place : ℕ) (name : List ℕ) (deadline : Option ℕ) (sl
     where
       new_key : key ≡ other → IsDecided v later other t → t ≡ name → ⊥
       new_key same (inl stands) is =
-          not_decided _ (subst (λ (x : List ℕ). Stands (lines.Decide x (told_outcomes.Commit Record)) (known told)) is (tells.back _ refl stands))
+          not_decided _ (subst (λ (x : List ℕ). Stands (lines.Decide x (outcomes.Commit Record)) (known told)) is (tells.back _ refl stands))
       new_key same (inr has) is = unrecorded (subst (λ (x : ObjectKey). IsTrue (has_record v (place_of x) (is_decision_of x))) (sym same) has)
 
       by : IsTransaction w t other ⊎ ((t ≡ name) × (key ≡ other)) → IsDecided v later other t → IsClosed v later other t → ⊥

@@ -56,7 +56,7 @@ module _ (w : World) (told more : List Told) (to : ObjectKey) (act : Act) (few :
     allowed = allowed_on told more (one is_bare);
     decided = λ name key is stands. inl (plain.back _ refl stands);
     named = λ name stands. inl (plain.back _ refl stands);
-    outcomes = λ name key f there is stands. among_turned _ _ (plain.back _ refl (among_back _ _ stands));
+    commits = λ name key f there is stands. among_turned _ _ (plain.back _ refl (among_back _ _ stands));
     transaction_on = λ name key is. is;
     transaction_back = λ name key is. is;
     resource_on = λ name key is. is;

@@ -9,8 +9,8 @@ use Rattle.ots_model.specs.Safe.{Stands, IsRegistered, IsJoined, TakesPart}
 use Rattle.ots_model.specs.SafeByLine.{IsCommittedBy}
 use Rattle.ots_model.specs.declared.completion.Ground.TheVariants.{Record}
 use Rattle.ots_model.specs.declared.line.Line.TheVariants as lines
-use Rattle.ots_model.specs.declared.tree.Outcome.{Outcome}
-use Rattle.ots_model.specs.declared.tree.Outcome.TheVariants as outcomes
+use Rattle.ots_model.specs.Numbered.{Outcome}
+use Rattle.ots_model.specs.declared.completion.Outcome.TheVariants as outcomes
 use Rattle.ots_model.specs.declared.tree.Reason.{Reason}
 use Rattle.resource_votes.specs.Ballots.{participants}
 use Rattle.resource_votes.specs.declared.registration.Registration.{Registration}

@@ -8,6 +8,7 @@ use Rattle.ots_model.specs.declared.completion.Word.{Word as Phase}
 use Rattle.ots_model.specs.declared.line.Line.{Line}
 use Rattle.ots_model.specs.declared.line.Line.TheVariants as lines
 use Rattle.ots_model.specs.declared.tree.Word.{Word}
+use Rattle.ots_model.specs.declared.completion.Word.TheVariants as phase_words
 use Rattle.ots_model.specs.declared.tree.Word.TheVariants as words
 use Rattle.nodes_world.specs.Told as tell
 use Rattle.nodes_world.specs.Told.{Told, known, known_in, sent}
@@ -54,10 +55,10 @@ pub data IsOfWord : Told → Type 0 where
   by_other : (message : ℕ) (operation name : List ℕ) → IsOfWord (tell.Sent message operation name)
 
 pub sent_of_word : (message : ℕ) (word : Word) (name : List ℕ) → IsOfWord (sent message word name)
-sent_of_word message words.Prepare name = by_phase _ _ _
-sent_of_word message words.Commit name = by_phase _ _ _
-sent_of_word message words.CommitOnePhase name = by_phase _ _ _
-sent_of_word message words.Rollback name = by_phase _ _ _
+sent_of_word message (words.Phase phase_words.Prepare) name = by_phase _ _ _
+sent_of_word message (words.Phase phase_words.Commit) name = by_phase _ _ _
+sent_of_word message (words.Phase phase_words.CommitOnePhase) name = by_phase _ _ _
+sent_of_word message (words.Phase phase_words.Rollback) name = by_phase _ _ _
 sent_of_word message words.Forget name = by_other _ _ _
 sent_of_word message words.BeforeCompletion name = by_other _ _ _
 sent_of_word message (words.AfterCompletion s) name = by_other _ _ _

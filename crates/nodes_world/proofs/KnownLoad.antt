@@ -326,7 +326,7 @@ module _ (grow : JournalsGrow) (safe : LoadsAreSafe) (read : RecordsAreRead) (so
       | inl was ↦ inl was
       | inr new ↦ inr (has_decision name key new named)
     ];
-    outcomes = λ name key f at named stands. elim (decisions_told name (among_back _ _ stands)) [
+    commits = λ name key f at named stands. elim (decisions_told name (among_back _ _ stands)) [
       | inl was ↦ among_turned _ _ was
       | inr new ↦ absurd (other_place name key f at named new)
     ];

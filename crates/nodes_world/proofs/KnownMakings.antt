@@ -272,7 +272,7 @@ module _ (w : World) (name : List ℕ) (server : Server) (told more : List Told)
     allowed = allowed_on told more (each_bare more plain);
     decided = λ n key named stands. inl (plain_tells.back _ refl stands);
     named = λ n stands. inl (plain_tells.back _ refl stands);
-    outcomes = λ n key f there named stands. among_turned _ _ (plain_tells.back _ refl (among_back _ _ stands));
+    commits = λ n key f there named stands. among_turned _ _ (plain_tells.back _ refl (among_back _ _ stands));
     transaction_on = λ n key is. on n (things.Transaction key) is;
     transaction_back = λ n key is. back n (things.Transaction key) is (not_transaction key);
     resource_on = λ n key is. on n (things.Resource key) is;

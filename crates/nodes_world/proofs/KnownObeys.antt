@@ -8,7 +8,7 @@ use Rattle.ots_model.specs.Safe.{Stands, IsSent}
 use Rattle.ots_model.specs.SafeByLine.{AreAllowed, CanChange}
 use Rattle.ots_model.specs.declared.completion.Vote.{Vote}
 use Rattle.ots_model.specs.declared.completion.Vote.TheVariants.{VoteCommit, VoteReadOnly, VoteRollback}
-use Rattle.ots_model.specs.declared.completion.Word.TheVariants as phases
+use Rattle.ots_model.specs.declared.completion.Word.TheVariants as phase_words
 use Rattle.ots_model.specs.declared.line.Line.{Line}
 use Rattle.ots_model.specs.declared.line.Line.TheVariants as lines
 use Rattle.ots_model.specs.declared.line.ResourceState.{ResourceState}
@@ -119,14 +119,14 @@ pub record Replies (w v : World) (x : NamedKey) (r next : FlatResource) (reply :
 -- what a word and its answer make of what is known of a resource
 pub record Obeys (h : List Line) (name : List ℕ) (s n : State) (word : Word) (answer : Said) (shows : Option ResourceState) : Type 0 where
   pub commit : HasVotedCommit s name h → HasVotedCommit n name h
-  pub commit_now : word ≡ words.Prepare → answer ≡ said.Voted VoteCommit → HasVotedCommit n name h
+  pub commit_now : word ≡ words.Phase phase_words.Prepare → answer ≡ said.Voted VoteCommit → HasVotedCommit n name h
   pub read_only : s ≡ states.Forgotten → n ≡ states.Forgotten
-  pub read_only_now : word ≡ words.Prepare → answer ≡ said.Voted VoteReadOnly → n ≡ states.Forgotten
+  pub read_only_now : word ≡ words.Phase phase_words.Prepare → answer ≡ said.Voted VoteReadOnly → n ≡ states.Forgotten
   pub rollback : s ≡ states.Undone → n ≡ states.Undone
-  pub rollback_now : word ≡ words.Prepare → answer ≡ said.Voted VoteRollback → n ≡ states.Undone
-  pub none : (word ≡ words.Prepare → (vote : Vote) → answer ≡ said.Voted vote → ⊥) → HasNotVoted s name h → HasNotVoted n name h
+  pub rollback_now : word ≡ words.Phase phase_words.Prepare → answer ≡ said.Voted VoteRollback → n ≡ states.Undone
+  pub none : (word ≡ words.Phase phase_words.Prepare → (vote : Vote) → answer ≡ said.Voted vote → ⊥) → HasNotVoted s name h → HasNotVoted n name h
   pub follows : StatesFollow n name h
-  pub voter : (vote : Vote) → answer ≡ said.Voted vote → word ≡ words.Prepare
+  pub voter : (vote : Vote) → answer ≡ said.Voted vote → word ≡ words.Phase phase_words.Prepare
   pub applied_on : s ≡ states.Applied → n ≡ states.Applied
   pub applied_shown : shows ≡ Some shown.Applied → n ≡ states.Applied
   pub applied_now : n ≡ states.Applied → (s ≡ states.Applied) ⊎ (shows ≡ Some shown.Applied)
@@ -196,7 +196,7 @@ module _ (w v : World) (told : List Told) (k : Known w told) (nth place : ℕ) (
   reply_back : (reply request : ℕ) (m : Message) (other : Said) → slice_get v.messages reply ≡ Some m → m.content ≡ contents.Reply request other
       → (slice_get w.messages reply ≡ Some m)
       ⊎ ((request ≤ reply) × ((i p : ℕ) × (q : Outward) × IsWord w i p q × (request ≡ i + 1)) × ((i p : ℕ) (q : Outward) → request ≡ i + 1 → IsWord w i p q
-      → (referred w q.to ≡ Some x) × ((vote : Vote) → other ≡ said.Voted vote → q.word ≡ words.Prepare)))
+      → (referred w q.to ≡ Some x) × ((vote : Vote) → other ≡ said.Voted vote → q.word ≡ words.Phase phase_words.Prepare)))
   reply_back reply request m other at says =
       elim (message_cases reply m at) [
         | inl there ↦ inl there
@@ -221,7 +221,7 @@ module _ (w v : World) (told : List Told) (k : Known w told) (nth place : ℕ) (
   answered_on vote (i, from, reply, q, y, m, (one, at_one, asks), prepare, refers, named, at, says) =
       (i, from, reply, q, y, m, (one, message_on i one at_one, asks), prepare, c.refers q.to ∙ refers, named, message_on reply m at, says)
 
-  answered_back : (vote : Vote) → HasAnswered v x.name vote → HasAnswered w x.name vote ⊎ ((o.word ≡ words.Prepare) × (answer ≡ said.Voted vote))
+  answered_back : (vote : Vote) → HasAnswered v x.name vote → HasAnswered w x.name vote ⊎ ((o.word ≡ words.Phase phase_words.Prepare) × (answer ≡ said.Voted vote))
   answered_back vote (i, from, reply, q, y, m, word, prepare, refers, named, at, says) =
       elim (message_cases reply m at) [
         | inl there ↦ inl (i, from, reply, q, y, m, word_back i from q word, prepare, sym (c.refers q.to) ∙ refers, named, there, says)
@@ -232,7 +232,7 @@ module _ (w v : World) (told : List Told) (k : Known w told) (nth place : ℕ) (
       ]
 
   -- it has voted so before, or does so now
-  either_vote : {P : Type 0} (vote : Vote) → (HasAnswered w x.name vote → P) → (o.word ≡ words.Prepare → answer ≡ said.Voted vote → P) → HasAnswered v x.name vote → P
+  either_vote : {P : Type 0} (vote : Vote) → (HasAnswered w x.name vote → P) → (o.word ≡ words.Phase phase_words.Prepare → answer ≡ said.Voted vote → P) → HasAnswered v x.name vote → P
   either_vote vote before now a =
       elim (answered_back vote a) [
         | inl old ↦ before old
@@ -273,7 +273,7 @@ module _ (w v : World) (told : List Told) (k : Known w told) (nth place : ℕ) (
         follows = follows_kept next.state x.name _ _ on (λ undone commit. not_undone undone commit) b.follows;
       }
     where
-      new_vote : (vote : Vote) → o.word ≡ words.Prepare → answer ≡ said.Voted vote → HasAnswered v x.name vote
+      new_vote : (vote : Vote) → o.word ≡ words.Phase phase_words.Prepare → answer ≡ said.Voted vote → HasAnswered v x.name vote
       new_vote vote prepare is = (
         nth,
         place,
@@ -289,7 +289,7 @@ module _ (w v : World) (told : List Told) (k : Known w told) (nth place : ℕ) (
         ap (contents.Reply (nth + 1)) is,
       )
 
-      not_undone : next.state ≡ states.Undone → IsSent phases.Commit x.name (lines_of (told ++ obeyed_lines x.name shows number (nth + 1) answer)) → ⊥
+      not_undone : next.state ≡ states.Undone → IsSent phase_words.Commit x.name (lines_of (told ++ obeyed_lines x.name shows number (nth + 1) answer)) → ⊥
       not_undone undone (i, s) =
           (subst (λ (z : State). StatesFollow z x.name (lines_of told)) undone b.follows) (i, among_turned (known told) _ (tells.back _ refl (among_back _ _ s)))
 

@@ -119,7 +119,7 @@ module _ (w : World) (place : ℕ) (s : Seat) (n m : Node) (told : List Told) (t
     tells = subst (TellsOn is_bare told) (append-nil told) (tells_on is_bare told [] tt);
     allowed = λ all. all;
     decided = λ name key named stands. inl stands;
-    outcomes = λ name key f at named stands. stands;
+    commits = λ name key f at named stands. stands;
     named = λ name stands. inl stands;
     transaction_on = λ name key is. is;
     transaction_back = λ name key is. is;

@@ -7,12 +7,12 @@ use Rattle.ots_model.specs.SafeByLine.{AreAllowed, CanTell}
 use Rattle.ots_model.specs.declared.completion.Ground.TheVariants.{Record}
 use Rattle.ots_model.specs.declared.completion.Vote.{Vote}
 use Rattle.ots_model.specs.declared.completion.Word.{Word as Phase}
-use Rattle.ots_model.specs.declared.completion.Word.TheVariants as phases
+use Rattle.ots_model.specs.declared.completion.Word.TheVariants as phase_words
 use Rattle.ots_model.specs.declared.line.Line.{Line}
 use Rattle.ots_model.specs.declared.line.Line.TheVariants as lines
 use Rattle.ots_model.specs.declared.line.ResourceState.TheVariants as shown
-use Rattle.ots_model.specs.declared.tree.Outcome.{Outcome}
-use Rattle.ots_model.specs.declared.tree.Outcome.TheVariants as outcomes
+use Rattle.ots_model.specs.Numbered.{Outcome}
+use Rattle.ots_model.specs.declared.completion.Outcome.TheVariants as outcomes
 use Rattle.ots_model.specs.declared.tree.Outward.{Outward}
 use Rattle.ots_model.specs.declared.tree.Word.{Word}
 use Rattle.ots_model.specs.declared.tree.Word.TheVariants as words
@@ -62,13 +62,13 @@ pub record MayGo (w : World) (told : List Told) (place : ℕ) (o : Outward) : Ty
   pub serial : (f : Family) (key : ObjectKey) → family_at w key ≡ Some f → o.number.life ≡ f.key.life → o.number.slot ≡ f.key.slot
       → o.number.generation ≡ f.key.generation → place_of f.key ≡ place → IsNumberedBy f o
   -- what it says rests on the record, on the family where that is there, and on what is closed
-  pub recorded : o.word ≡ words.Commit → IsTrue (has_record w place (names_object o.to))
-  pub commits : o.word ≡ words.Commit → (t : List ℕ) (b : ℕ) (key : ObjectKey) (f : Family) → IsRegistered resource.name t (lines_of told)
+  pub recorded : o.word ≡ words.Phase phase_words.Commit → IsTrue (has_record w place (names_object o.to))
+  pub commits : o.word ≡ words.Phase phase_words.Commit → (t : List ℕ) (b : ℕ) (key : ObjectKey) (f : Family) → IsRegistered resource.name t (lines_of told)
       → family_at w key ≡ Some f → IsBranch w f t b → stages.outcome f.completion ≡ Some (outcomes.Commit Record)
-  pub asks : o.word ≡ words.CommitOnePhase → (t : List ℕ) (b : ℕ) (key : ObjectKey) (f : Family) → IsRegistered resource.name t (lines_of told)
+  pub asks : o.word ≡ words.Phase phase_words.CommitOnePhase → (t : List ℕ) (b : ℕ) (key : ObjectKey) (f : Family) → IsRegistered resource.name t (lines_of told)
       → family_at w key ≡ Some f → IsBranch w f t b → IsAsking f.completion × (stages.decides_alone f.completion ≡ true)
-  pub alone : o.word ≡ words.CommitOnePhase → IsAlone w told resource.name
-  pub back : o.word ≡ words.Rollback → MayBeRolledBack w told resource.name
+  pub alone : o.word ≡ words.Phase phase_words.CommitOnePhase → IsAlone w told resource.name
+  pub back : o.word ≡ words.Phase phase_words.Rollback → MayBeRolledBack w told resource.name
 
 -- the world and the lines then
 abbrev pub world_with : ℕ → Outward → World → World
@@ -99,10 +99,10 @@ by_other told number operation name line Q s = inl (subst (Stands line) (known_o
 word_line : (told : List Told) (number : ℕ) (word : Word) (name : List ℕ) (message : ℕ) (phase : Phase) (g : List ℕ)
     → Stands (lines.Send message phase g) (known (told ++ sent number word name ∷ []))
     → Stands (lines.Send message phase g) (known told) ⊎ ((phase_of word ≡ Some phase) × (name ≡ g) × (message ≡ number))
-word_line told number words.Prepare name message phase g s = by_phase told number phases.Prepare name message phase g s
-word_line told number words.Commit name message phase g s = by_phase told number phases.Commit name message phase g s
-word_line told number words.CommitOnePhase name message phase g s = by_phase told number phases.CommitOnePhase name message phase g s
-word_line told number words.Rollback name message phase g s = by_phase told number phases.Rollback name message phase g s
+word_line told number (words.Phase phase_words.Prepare) name message phase g s = by_phase told number phase_words.Prepare name message phase g s
+word_line told number (words.Phase phase_words.Commit) name message phase g s = by_phase told number phase_words.Commit name message phase g s
+word_line told number (words.Phase phase_words.CommitOnePhase) name message phase g s = by_phase told number phase_words.CommitOnePhase name message phase g s
+word_line told number (words.Phase phase_words.Rollback) name message phase g s = by_phase told number phase_words.Rollback name message phase g s
 word_line told number words.Forget name message phase g s = by_other told number _ name _ _ s
 word_line told number words.BeforeCompletion name message phase g s = by_other told number _ name _ _ s
 word_line told number (words.AfterCompletion status) name message phase g s = by_other told number _ name _ _ s
@@ -122,14 +122,14 @@ some_phase e = cc
 
 word_stands : (told : List Told) (number : ℕ) (word : Word) (name : List ℕ) (phase : Phase) → phase_of word ≡ Some phase
     → Stands (lines.Send number phase name) (lines_of (told ++ sent number word name ∷ []))
-word_stands told number words.Prepare name phase is =
-    subst (λ (p : Phase). Stands (lines.Send number p name) (lines_of (told ++ sent number words.Prepare name ∷ []))) (some_phase is) (newest_stands told number phases.Prepare name)
-word_stands told number words.Commit name phase is =
-    subst (λ (p : Phase). Stands (lines.Send number p name) (lines_of (told ++ sent number words.Commit name ∷ []))) (some_phase is) (newest_stands told number phases.Commit name)
-word_stands told number words.CommitOnePhase name phase is =
-    subst (λ (p : Phase). Stands (lines.Send number p name) (lines_of (told ++ sent number words.CommitOnePhase name ∷ []))) (some_phase is) (newest_stands told number phases.CommitOnePhase name)
-word_stands told number words.Rollback name phase is =
-    subst (λ (p : Phase). Stands (lines.Send number p name) (lines_of (told ++ sent number words.Rollback name ∷ []))) (some_phase is) (newest_stands told number phases.Rollback name)
+word_stands told number (words.Phase phase_words.Prepare) name phase is =
+    subst (λ (p : Phase). Stands (lines.Send number p name) (lines_of (told ++ sent number (words.Phase phase_words.Prepare) name ∷ []))) (some_phase is) (newest_stands told number phase_words.Prepare name)
+word_stands told number (words.Phase phase_words.Commit) name phase is =
+    subst (λ (p : Phase). Stands (lines.Send number p name) (lines_of (told ++ sent number (words.Phase phase_words.Commit) name ∷ []))) (some_phase is) (newest_stands told number phase_words.Commit name)
+word_stands told number (words.Phase phase_words.CommitOnePhase) name phase is =
+    subst (λ (p : Phase). Stands (lines.Send number p name) (lines_of (told ++ sent number (words.Phase phase_words.CommitOnePhase) name ∷ []))) (some_phase is) (newest_stands told number phase_words.CommitOnePhase name)
+word_stands told number (words.Phase phase_words.Rollback) name phase is =
+    subst (λ (p : Phase). Stands (lines.Send number p name) (lines_of (told ++ sent number (words.Phase phase_words.Rollback) name ∷ []))) (some_phase is) (newest_stands told number phase_words.Rollback name)
 word_stands told number _ name phase is = absurd cc
 
 allowed_phase : (told : List Told) (number : ℕ) (phase : Phase) (name : List ℕ) → CanTell phase name (lines_of told) → AreAllowed (lines_of told)
@@ -142,10 +142,10 @@ allowed_other told number operation name all = subst AreAllowed (sym (newest_oth
 
 word_allowed : (told : List Told) (number : ℕ) (word : Word) (name : List ℕ) → ((phase : Phase) → phase_of word ≡ Some phase → CanTell phase name (lines_of told))
     → AreAllowed (lines_of told) → AreAllowed (lines_of (told ++ sent number word name ∷ []))
-word_allowed told number words.Prepare name may all = allowed_phase told number phases.Prepare name (may phases.Prepare refl) all
-word_allowed told number words.Commit name may all = allowed_phase told number phases.Commit name (may phases.Commit refl) all
-word_allowed told number words.CommitOnePhase name may all = allowed_phase told number phases.CommitOnePhase name (may phases.CommitOnePhase refl) all
-word_allowed told number words.Rollback name may all = allowed_phase told number phases.Rollback name (may phases.Rollback refl) all
+word_allowed told number (words.Phase phase_words.Prepare) name may all = allowed_phase told number phase_words.Prepare name (may phase_words.Prepare refl) all
+word_allowed told number (words.Phase phase_words.Commit) name may all = allowed_phase told number phase_words.Commit name (may phase_words.Commit refl) all
+word_allowed told number (words.Phase phase_words.CommitOnePhase) name may all = allowed_phase told number phase_words.CommitOnePhase name (may phase_words.CommitOnePhase refl) all
+word_allowed told number (words.Phase phase_words.Rollback) name may all = allowed_phase told number phase_words.Rollback name (may phase_words.Rollback refl) all
 word_allowed told number words.Forget name may all = allowed_other told number _ name all
 word_allowed told number words.BeforeCompletion name may all = allowed_other told number _ name all
 word_allowed told number (words.AfterCompletion status) name may all = allowed_other told number _ name all
@@ -160,8 +160,8 @@ sent_among : (a b : List Line) (phase : Phase) (g : List ℕ) → AreAmong a b �
 sent_among a b phase g m (number, s) = (number, m _ s)
 
 commit_among : (a b : List Line) (g : List ℕ) → AreAmong a b → IsToldCommit g a → IsToldCommit g b
-commit_among a b g m (inl s) = inl (sent_among a b phases.Commit g m s)
-commit_among a b g m (inr s) = inr (sent_among a b phases.CommitOnePhase g m s)
+commit_among a b g m (inl s) = inl (sent_among a b phase_words.Commit g m s)
+commit_among a b g m (inr s) = inr (sent_among a b phase_words.CommitOnePhase g m s)
 
 pub voted_kept : (s : State) (name : List ℕ) (a b : List Line) → AreAmong a b → HasVotedCommit s name a → HasVotedCommit s name b
 voted_kept states.Fresh name a b m is = is
@@ -169,7 +169,7 @@ voted_kept states.Working name a b m is = is
 voted_kept states.Refused name a b m is = is
 voted_kept states.Prepared name a b m is = is
 voted_kept states.Applied name a b m is = commit_among a b name m is
-voted_kept states.Undone name a b m is = sent_among a b phases.Rollback name m is
+voted_kept states.Undone name a b m is = sent_among a b phase_words.Rollback name m is
 voted_kept states.ChoseCommit name a b m is = is
 voted_kept states.ChoseRollback name a b m is = is
 voted_kept states.Forgotten name a b m is = is
@@ -179,14 +179,14 @@ unvoted_kept states.Fresh name a b m is = is
 unvoted_kept states.Working name a b m is = is
 unvoted_kept states.Refused name a b m is = is
 unvoted_kept states.Prepared name a b m is = is
-unvoted_kept states.Applied name a b m is = sent_among a b phases.CommitOnePhase name m is
-unvoted_kept states.Undone name a b m (inl s) = inl (sent_among a b phases.Rollback name m s)
-unvoted_kept states.Undone name a b m (inr s) = inr (sent_among a b phases.CommitOnePhase name m s)
+unvoted_kept states.Applied name a b m is = sent_among a b phase_words.CommitOnePhase name m is
+unvoted_kept states.Undone name a b m (inl s) = inl (sent_among a b phase_words.Rollback name m s)
+unvoted_kept states.Undone name a b m (inr s) = inr (sent_among a b phase_words.CommitOnePhase name m s)
 unvoted_kept states.ChoseCommit name a b m is = is
 unvoted_kept states.ChoseRollback name a b m is = is
-unvoted_kept states.Forgotten name a b m is = sent_among a b phases.CommitOnePhase name m is
+unvoted_kept states.Forgotten name a b m is = sent_among a b phase_words.CommitOnePhase name m is
 
-pub follows_kept : (s : State) (name : List ℕ) (a b : List Line) → AreAmong a b → (s ≡ states.Undone → IsSent phases.Commit name b → ⊥) → StatesFollow s name a → StatesFollow s name b
+pub follows_kept : (s : State) (name : List ℕ) (a b : List Line) → AreAmong a b → (s ≡ states.Undone → IsSent phase_words.Commit name b → ⊥) → StatesFollow s name a → StatesFollow s name b
 follows_kept states.Fresh name a b m undone is = is
 follows_kept states.Working name a b m undone is = is
 follows_kept states.Refused name a b m undone is = is
@@ -398,7 +398,7 @@ module _ (w : World) (told : List Told) (k : Known w told) (place : ℕ) (o : Ou
           | inr here ↦ absurd (no_reply place request o answer one here.1 says)
         ];
     voters = λ reply nth p one vote q at says word.
-        old_answer (λ (i x : ℕ) (y : Outward). one.content ≡ contents.Reply (i + 1) (said.Voted vote) → y.word ≡ words.Prepare)
+        old_answer (λ (i x : ℕ) (y : Outward). one.content ≡ contents.Reply (i + 1) (said.Voted vote) → y.word ≡ words.Phase phase_words.Prepare)
         nth p reply q one (said.Voted vote) word at says
         (λ early there reads. k.words.voters reply nth p one vote q there says early) says;
     lives = λ p q rs sent held. by_sent (λ (x : ℕ) (y : Outward). (rs : List JournalRecord) → records_at w x ≡ Some rs → y.number.life ≤ (found_in rs).life)
@@ -440,7 +440,7 @@ module _ (w : World) (told : List Told) (k : Known w told) (place : ℕ) (o : Ou
   answered_back : (name : List ℕ) (vote : Vote) → HasAnswered (world_with place o w) name vote → HasAnswered w name vote
   unfolding referred
   answered_back name vote (nth, from, reply, q, r, one, word, prepare, refers, named, at, says) =
-      old_answer (λ (i x : ℕ) (y : Outward). y.word ≡ words.Prepare → referred w y.to ≡ Some r → one.content ≡ contents.Reply (i + 1) (said.Voted vote) → HasAnswered w name vote)
+      old_answer (λ (i x : ℕ) (y : Outward). y.word ≡ words.Phase phase_words.Prepare → referred w y.to ≡ Some r → one.content ≡ contents.Reply (i + 1) (said.Voted vote) → HasAnswered w name vote)
       nth from reply q one (said.Voted vote) word at says
       (λ early there prepares to reads. (nth, from, reply, q, r, one, early, prepares, to, named, there, reads)) prepare refers says
 
@@ -450,11 +450,11 @@ module _ (w : World) (told : List Told) (k : Known w told) (place : ℕ) (o : Ou
       (nth, from, reply, q, r, one, word_on nth from q word, prepare, refers, named, push_kept w.messages reply (new_message (contents.Request place o)) one at, says)
 
   not_undone_then : (name : List ℕ) (r : FlatResource) → ResourceIsKnown w (lines_of told) name r → r.state ≡ states.Undone
-      → IsSent phases.Commit name (lines_of (lines_with w o m.resource.name told)) → ⊥
+      → IsSent phase_words.Commit name (lines_of (lines_with w o m.resource.name told)) → ⊥
   not_undone_then name r old undone commit =
-      elim (sent_cases phases.Commit name commit) [
+      elim (sent_cases phase_words.Commit name commit) [
         | inl early ↦ (subst (λ (s : State). StatesFollow s name (lines_of told)) undone old.follows) early
-        | inr now ↦ (m.allowed phases.Commit now.0).not_undone (subst (λ (x : List ℕ). Stands (lines.State x shown.Undone) (lines_of told)) (sym now.1) (old.undone.1 undone))
+        | inr now ↦ (m.allowed phase_words.Commit now.0).not_undone (subst (λ (x : List ℕ). Stands (lines.State x shown.Undone) (lines_of told)) (sym now.1) (old.undone.1 undone))
       ]
 
   resource_after : (name : List ℕ) (r : FlatResource) → ResourceIsKnown w (lines_of told) name r
@@ -513,15 +513,15 @@ module _ (w : World) (told : List Told) (k : Known w told) (place : ℕ) (o : Ou
   unfolding node_at
   open_after = record {
     commit = λ g t b key f commit registered there branch.
-        elim (sent_cases phases.Commit g commit) [
+        elim (sent_cases phase_words.Commit g commit) [
           | inl early ↦ k.open_words.commit g t b key f early (registered_back _ _ g t back registered) there branch
-          | inr now ↦ m.commits (phase_only o.word phases.Commit now.0) t b key f
+          | inr now ↦ m.commits (phase_only o.word phase_words.Commit now.0) t b key f
               (subst (λ (x : List ℕ). IsRegistered x t (lines_of told)) (sym now.1) (registered_back _ _ g t back registered)) there branch
         ];
     one_phase = λ g t b key f commit registered there branch.
-        elim (sent_cases phases.CommitOnePhase g commit) [
+        elim (sent_cases phase_words.CommitOnePhase g commit) [
           | inl early ↦ k.open_words.one_phase g t b key f early (registered_back _ _ g t back registered) there branch
-          | inr now ↦ m.asks (phase_only o.word phases.CommitOnePhase now.0) t b key f
+          | inr now ↦ m.asks (phase_only o.word phase_words.CommitOnePhase now.0) t b key f
               (subst (λ (x : List ℕ). IsRegistered x t (lines_of told)) (sym now.1) (registered_back _ _ g t back registered)) there branch
         ];
   }
@@ -587,7 +587,7 @@ module _ (w : World) (told : List Told) (k : Known w told) (place : ℕ) (o : Ou
 
   commits_after : CommitsAreRecorded (world_with place o w)
   commits_after p q sent commit =
-      by_sent (λ (x : ℕ) (y : Outward). y.word ≡ words.Commit → IsTrue (has_record w x (names_object y.to))) (λ x y early says. k.commits x y early says) m.recorded p q sent commit
+      by_sent (λ (x : ℕ) (y : Outward). y.word ≡ words.Phase phase_words.Commit → IsTrue (has_record w x (names_object y.to))) (λ x y early says. k.commits x y early says) m.recorded p q sent commit
 
   alone_on : (name : List ℕ) → IsAlone w told name → IsAlone (world_with place o w) (lines_with w o m.resource.name told) name
   alone_on name old = record {
@@ -601,9 +601,9 @@ module _ (w : World) (told : List Told) (k : Known w told) (place : ℕ) (o : Ou
 
   one_phase_after : OnePhaseIsAlone (world_with place o w) (lines_with w o m.resource.name told)
   one_phase_after name (message, s) =
-      elim (word_line told (next_message w) o.word m.resource.name message phases.CommitOnePhase name s) [
+      elim (word_line told (next_message w) o.word m.resource.name message phase_words.CommitOnePhase name s) [
         | inl there ↦ alone_on name (k.one_phase name (message, there))
-        | inr here ↦ alone_on name (subst (IsAlone w told) here.1 (m.alone (phase_only o.word phases.CommitOnePhase here.0)))
+        | inr here ↦ alone_on name (subst (IsAlone w told) here.1 (m.alone (phase_only o.word phase_words.CommitOnePhase here.0)))
       ]
 
   over_on : (transaction top : List ℕ) (key : ObjectKey) → (IsClosed w told key top ⊎ IsCutOff (known told) transaction)
@@ -625,7 +625,7 @@ module _ (w : World) (told : List Told) (k : Known w told) (place : ℕ) (o : Ou
   rollbacks_after : RollbacksAreClosed (world_with place o w) (lines_with w o m.resource.name told)
   unfolding referred
   rollbacks_after p q r sent rollback refers =
-      by_sent (λ (x : ℕ) (y : Outward). y.word ≡ words.Rollback → referred w y.to ≡ Some r → MayBeRolledBack (world_with place o w) (lines_with w o m.resource.name told) r.name)
+      by_sent (λ (x : ℕ) (y : Outward). y.word ≡ words.Phase phase_words.Rollback → referred w y.to ≡ Some r → MayBeRolledBack (world_with place o w) (lines_with w o m.resource.name told) r.name)
       (λ x y early says to. may_be_on r.name (k.rollbacks x y r early says to))
       (λ says to. may_be_on r.name (subst (λ (z : NamedKey). MayBeRolledBack w told z.name) (same_named m.resource r (referred w o.to) m.refers to) (m.back says)))
       p q sent rollback refers

@@ -169,7 +169,7 @@ module _ (w : World) (place : ℕ) (s : Seat) (n : Node) (told : List Told) (the
     allowed = allowed_on told (tell.Down s.name ∷ []) (tt, tt);
     decided = λ name key named stands. inl (plain.back _ refl stands);
     named = λ name stands. inl (plain.back _ refl stands);
-    outcomes = λ name key f at named stands. among_turned _ _ (plain.back _ refl (among_back _ _ stands));
+    commits = λ name key f at named stands. among_turned _ _ (plain.back _ refl (among_back _ _ stands));
     transaction_on = λ name key is. is;
     transaction_back = λ name key is. is;
     resource_on = λ name key is. is;

@@ -1,11 +1,11 @@
 -- What goes on to be told when further lines tell of nothing that is under way.
-use Rattle.std.proofs.Common.{◌≡◌, ◌⊎◌, inl, inr, ℕ, Bool, true, false, List, [], ◌∷◌, ◌++◌, reverse, append_assoc, append-nil, Contains, refl, sym, ap, subst, ◌∙◌, true≢false}
+use Rattle.std.proofs.Common.{◌≡◌, ◌⊎◌, inl, inr, Bool, true, false, List, [], ◌∷◌, ◌++◌, reverse, append_assoc, append-nil, Contains, refl, sym, ap, subst, ◌∙◌, true≢false}
 use Rattle.std.specs.List.{AllByRecursion}
 use Rattle.std.proofs.lemmas.List.Elements.{Contains-append_left, Contains-push_cases, filter_map-append}
 use Rattle.ots_model.specs.Safe.{Stands}
 use Rattle.ots_model.specs.SafeByLine.{AreAllowed, IsAllowed}
 use Rattle.ots_model.specs.declared.completion.Ground.TheVariants as grounds
-use Rattle.ots_model.specs.declared.completion.Outcome.{Outcome}
+use Rattle.ots_model.specs.Numbered.{LineOutcome as Outcome}
 use Rattle.ots_model.specs.declared.completion.Outcome.TheVariants as outcomes
 use Rattle.ots_model.specs.declared.line.Line.{Line}
 use Rattle.ots_model.specs.declared.line.Line.TheVariants as lines
@@ -16,7 +16,7 @@ use Rattle.nodes_world.proofs.KnownFrames.{IsReason, known_phase, last_cases, ne
 
 -- ---- which lines these are
 
-abbrev pub is_recorded : Outcome (List ℕ) → Bool
+abbrev pub is_recorded : Outcome → Bool
 is_recorded (outcomes.Commit grounds.Record) = true
 is_recorded _ = false
 

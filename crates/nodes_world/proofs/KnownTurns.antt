@@ -7,12 +7,12 @@ use Rattle.ots_model.specs.Safe as safe
 use Rattle.ots_model.specs.Safe.{Stands, HasConsented, IsFamily, IsJoined, IsRegistered, IsSent, IsTop, TakesPart}
 use Rattle.ots_model.specs.SafeByLine.{AreAllowed}
 use Rattle.ots_model.specs.declared.completion.Vote.{Vote}
-use Rattle.ots_model.specs.declared.completion.Word.TheVariants as phases
+use Rattle.ots_model.specs.declared.completion.Word.TheVariants as phase_words
 use Rattle.ots_model.specs.declared.line.Line.{Line}
 use Rattle.ots_model.specs.declared.line.Line.TheVariants as lines
 use Rattle.ots_model.specs.declared.line.ResourceState.{ResourceState}
-use Rattle.ots_model.specs.declared.tree.Outcome.{Outcome}
-use Rattle.ots_model.specs.declared.tree.Outcome.TheVariants as outcomes
+use Rattle.ots_model.specs.Numbered.{Outcome}
+use Rattle.ots_model.specs.declared.completion.Outcome.TheVariants as outcomes
 use Rattle.ots_model.specs.declared.tree.Outward.{Outward}
 use Rattle.ots_model.specs.declared.tree.Word.TheVariants as words
 use Rattle.two_phase.specs.Stages as stages
@@ -74,7 +74,7 @@ pub record Turns (w v : World) (told later : List Told) (x : NamedKey) (r next :
       → (slice_get w.messages reply ≡ Some m)
       ⊎ ((request ≤ reply) × ((nth p : ℕ) × (q : Outward) × IsWord w nth p q × (request ≡ nth + 1))
       × ((nth p : ℕ) (q : Outward) → request ≡ nth + 1 → IsWord w nth p q
-      → (referred w q.to ≡ Some x) × ((vote : Vote) → answer ≡ said.Voted vote → q.word ≡ words.Prepare)))
+      → (referred w q.to ≡ Some x) × ((vote : Vote) → answer ≡ said.Voted vote → q.word ≡ words.Phase phase_words.Prepare)))
   pub counted : EndsHaveCounted w → EndsHaveCounted v
   pub many : length v.seats ≡ length w.seats
   pub known_next : ResourceIsKnown v (lines_of later) x.name next
@@ -299,7 +299,7 @@ module _ (w v : World) (told later : List Told) (k : Known w told) (x : NamedKey
     follows = follows_kept q.state name _ _ on (λ undone commit. not_undone name q old undone commit) old.follows;
   }
     where
-      not_undone : (name : List ℕ) (q : FlatResource) → ResourceIsKnown w (lines_of told) name q → q.state ≡ states.Undone → IsSent phases.Commit name (lines_of later) → ⊥
+      not_undone : (name : List ℕ) (q : FlatResource) → ResourceIsKnown w (lines_of told) name q → q.state ≡ states.Undone → IsSent phase_words.Commit name (lines_of later) → ⊥
       not_undone name q old undone (number, s) = (subst (λ (z : State). agreed.StatesFollow z name (lines_of told)) undone old.follows) (number, back _ refl s)
 
   resources_turned : ResourcesAreKnown v (lines_of later)

@@ -6,10 +6,10 @@ use Rattle.std.proofs.lemmas.List.Elements.{Contains-append_right}
 use Rattle.ior_refs.specs.declared.key.ObjectKey.{ObjectKey}
 use Rattle.ots_model.specs.Safe.{Stands, IsSent, IsToldRollback, TakesPart, IsJoined}
 use Rattle.ots_model.specs.declared.completion.Ground.TheVariants.{Record}
-use Rattle.ots_model.specs.declared.completion.Outcome.TheVariants as told_outcomes
+use Rattle.ots_model.specs.declared.completion.Outcome.TheVariants as outcomes
 use Rattle.ots_model.specs.declared.completion.Vote.TheVariants.{VoteCommit}
 use Rattle.ots_model.specs.declared.completion.Word.{Word as Phase}
-use Rattle.ots_model.specs.declared.completion.Word.TheVariants as phases
+use Rattle.ots_model.specs.declared.completion.Word.TheVariants as phase_words
 use Rattle.ots_model.specs.declared.line.Line.TheVariants as lines
 use Rattle.ots_model.specs.declared.service.RetryKey.{RetryKey}
 use Rattle.ots_model.specs.declared.tree.Outward.{Outward}
@@ -27,19 +27,19 @@ use Rattle.nodes_world.proofs.KnownLines.{among_back, among_turned, closed_cut_o
 -- ---- words and their phases
 
 abbrev pub word_of : Phase → Word
-word_of phases.Prepare = words.Prepare
-word_of phases.Commit = words.Commit
-word_of phases.CommitOnePhase = words.CommitOnePhase
-word_of phases.Rollback = words.Rollback
+word_of phase_words.Prepare = words.Phase phase_words.Prepare
+word_of phase_words.Commit = words.Phase phase_words.Commit
+word_of phase_words.CommitOnePhase = words.Phase phase_words.CommitOnePhase
+word_of phase_words.Rollback = words.Phase phase_words.Rollback
 
 some_phase : {a b : Phase} → Some a ≡ Some b → a ≡ b
 some_phase is = cc
 
 pub phase_only : (word : Word) (phase : Phase) → phase_of word ≡ Some phase → word ≡ word_of phase
-phase_only words.Prepare phase is = ap word_of (some_phase is)
-phase_only words.Commit phase is = ap word_of (some_phase is)
-phase_only words.CommitOnePhase phase is = ap word_of (some_phase is)
-phase_only words.Rollback phase is = ap word_of (some_phase is)
+phase_only (words.Phase phase_words.Prepare) phase is = ap word_of (some_phase is)
+phase_only (words.Phase phase_words.Commit) phase is = ap word_of (some_phase is)
+phase_only (words.Phase phase_words.CommitOnePhase) phase is = ap word_of (some_phase is)
+phase_only (words.Phase phase_words.Rollback) phase is = ap word_of (some_phase is)
 phase_only _ phase is = absurd cc
 
 -- ---- decisions on a disk
@@ -118,15 +118,15 @@ module _ (w : World) (told : List Told) (k : Known w told) where
 
   pub told_back : (g : List ℕ) → IsToldRollback g (lines_of told) → MayBeRolledBack w told g
   told_back g (number, s) =
-      let at = k.words.sent number phases.Rollback g s in
-      subst (MayBeRolledBack w told) at.8 (k.rollbacks at.1 at.2 at.3 (at.0, at.4) (phase_only at.2.word phases.Rollback at.6) at.7)
+      let at = k.words.sent number phase_words.Rollback g s in
+      subst (MayBeRolledBack w told) at.8 (k.rollbacks at.1 at.2 at.3 (at.0, at.4) (phase_only at.2.word phase_words.Rollback at.6) at.7)
 
   -- commit was told to one that takes part in the family of a decision, and has voted commit
-  pub told_commit : (g : List ℕ) → IsSent phases.Commit g (lines_of told)
+  pub told_commit : (g : List ℕ) → IsSent phase_words.Commit g (lines_of told)
       → (family : List ℕ) × TakesPart g family (known told) × Stands (lines.Voted g VoteCommit) (known told)
   told_commit g (number, s) =
-      let at = k.words.sent number phases.Commit g s in
-      let d = decision_at w at.1 at.2.to (k.commits at.1 at.2 (at.0, at.4) (phase_only at.2.word phases.Commit at.6)) in
+      let at = k.words.sent number phase_words.Commit g s in
+      let d = decision_at w at.1 at.2.to (k.commits at.1 at.2 (at.0, at.4) (phase_only at.2.word phase_words.Commit at.6)) in
       let rests = rests_of at.1 at.2.to d in
       let voter = (rests.voters at.2.to at.3 at.7).0 d.decision.named in
       subst (λ (name : List ℕ). (family : List ℕ) × TakesPart name family (known told) × Stands (lines.Voted name VoteCommit) (known told)) at.8
@@ -153,7 +153,7 @@ module _ (w : World) (told : List Told) (k : Known w told) where
 
   -- so it isn't decided, by any line
   pub decided_not_back : (g family : List ℕ) → TakesPart g family (lines_of told)
-      → Stands (lines.Decide family (told_outcomes.Commit Record)) (lines_of told) → IsToldRollback g (lines_of told) → ⊥
+      → Stands (lines.Decide family (outcomes.Commit Record)) (lines_of told) → IsToldRollback g (lines_of told) → ⊥
   decided_not_back g family part line back =
       let at = back_is_closed g family part back in
       k.one_outcome family at.0 at.1 at.2 (inl (among_back (known told) _ line)) at.3

@@ -9,13 +9,12 @@ use Rattle.ots_model.specs.Safe.{Stands, HasConsented, IsFamily, IsJoined, IsReg
 use Rattle.ots_model.specs.SafeByLine.{AreAllowed}
 use Rattle.ots_model.specs.declared.completion.Ground.TheVariants as grounds
 use Rattle.ots_model.specs.declared.completion.Ground.TheVariants.{Record}
-use Rattle.ots_model.specs.declared.completion.Outcome.{Outcome as ToldOutcome}
-use Rattle.ots_model.specs.declared.completion.Outcome.TheVariants as told_outcomes
+use Rattle.ots_model.specs.Numbered.{LineOutcome}
 use Rattle.ots_model.specs.declared.completion.Vote.{Vote}
 use Rattle.ots_model.specs.declared.line.Line.{Line}
 use Rattle.ots_model.specs.declared.line.Line.TheVariants as lines
-use Rattle.ots_model.specs.declared.tree.Outcome.{Outcome}
-use Rattle.ots_model.specs.declared.tree.Outcome.TheVariants as outcomes
+use Rattle.ots_model.specs.Numbered.{Outcome}
+use Rattle.ots_model.specs.declared.completion.Outcome.TheVariants as outcomes
 use Rattle.ots_model.specs.declared.tree.Outward.{Outward}
 use Rattle.two_phase.specs.Stages as stages
 use Rattle.decision_journal.specs.Journal.{first_gate, found_in}
@@ -76,23 +75,23 @@ unfolding node_at
 node_there w place s n there up = ap (λ (o : Option Seat). option_and_then (λ (x : Seat). node_in x.server) o) there ∙ ap node_in up
 
 -- a decision that is recorded is by a record
-pub recorded_is : (outcome : ToldOutcome (List ℕ)) → is_recorded outcome ≡ true → outcome ≡ told_outcomes.Commit Record
-recorded_is (told_outcomes.Commit grounds.Record) is = refl
-recorded_is (told_outcomes.Commit grounds.OnePhase) is = absurd cc
-recorded_is (told_outcomes.Commit grounds.Nobody) is = absurd cc
-recorded_is (told_outcomes.Rollback reason) is = absurd cc
-recorded_is told_outcomes.Unknown is = absurd cc
+pub recorded_is : (outcome : LineOutcome) → is_recorded outcome ≡ true → outcome ≡ outcomes.Commit Record
+recorded_is (outcomes.Commit grounds.Record) is = refl
+recorded_is (outcomes.Commit grounds.OnePhase) is = absurd cc
+recorded_is (outcomes.Commit grounds.Nobody) is = absurd cc
+recorded_is (outcomes.Rollback reason) is = absurd cc
+recorded_is outcomes.Unknown is = absurd cc
 
 -- what is the same of two worlds, and of the lines that they have told
 pub record Frame (w v : World) (told later : List Told) : Type 0 where
   pub tells : TellsOn is_bare told later
   pub allowed : AreAllowed (lines_of told) → AreAllowed (lines_of later)
   pub decided : (name : List ℕ) (key : ObjectKey) → IsTransaction w name key
-      → Stands (lines.Decide name (told_outcomes.Commit Record)) (known later) → IsDecided w told key name
-  pub outcomes : (name : List ℕ) (key : ObjectKey) (f : Family) → family_at v key ≡ Some f → IsTransaction w name f.key
-      → Stands (lines.Decide name (told_outcomes.Commit Record)) (lines_of later) → Stands (lines.Decide name (told_outcomes.Commit Record)) (lines_of told)
-  pub named : (name : List ℕ) → Stands (lines.Decide name (told_outcomes.Commit Record)) (known later)
-      → Stands (lines.Decide name (told_outcomes.Commit Record)) (known told) ⊎ IsNamed w name
+      → Stands (lines.Decide name (outcomes.Commit Record)) (known later) → IsDecided w told key name
+  pub commits : (name : List ℕ) (key : ObjectKey) (f : Family) → family_at v key ≡ Some f → IsTransaction w name f.key
+      → Stands (lines.Decide name (outcomes.Commit Record)) (lines_of later) → Stands (lines.Decide name (outcomes.Commit Record)) (lines_of told)
+  pub named : (name : List ℕ) → Stands (lines.Decide name (outcomes.Commit Record)) (known later)
+      → Stands (lines.Decide name (outcomes.Commit Record)) (known told) ⊎ IsNamed w name
   pub transaction_on : (name : List ℕ) (key : ObjectKey) → IsTransaction w name key → IsTransaction v name key
   pub transaction_back : (name : List ℕ) (key : ObjectKey) → IsTransaction v name key → IsTransaction w name key
   pub resource_on : (name : List ℕ) (key : ObjectKey) → thing w name ≡ Some (things.Resource key) → thing v name ≡ Some (things.Resource key)
@@ -308,7 +307,7 @@ module _ (w v : World) (told later : List Told) (f : Frame w v told later) (k : 
   listed_back g name b (c, r, object, among, is, refers, named) = (c, r, object, among, is, refers_back r.to object refers, named)
 
   outcome_then : (s : Option Outcome) (name : List ℕ)
-      → (Stands (lines.Decide name (told_outcomes.Commit Record)) (lines_of later) → Stands (lines.Decide name (told_outcomes.Commit Record)) (lines_of told))
+      → (Stands (lines.Decide name (outcomes.Commit Record)) (lines_of later) → Stands (lines.Decide name (outcomes.Commit Record)) (lines_of told))
       → OutcomeIsTold s name (lines_of told) → OutcomeIsTold s name (lines_of later)
   outcome_then None name same is = λ s. is (same s)
   outcome_then (Some (outcomes.Commit basis)) name same is = on _ is
@@ -351,7 +350,7 @@ module _ (w v : World) (told later : List Told) (f : Frame w v told later) (k : 
     votes = λ number vote r object among is refers.
         let was = old.votes number vote r object among is (refers_back r.to object refers) in
         (λ e. on _ (was.0 e), λ s. was.1 (back _ refl s));
-    outcome = outcome_then (stages.outcome g.completion) old.name (f.outcomes old.name key g there old.of_name) old.outcome;
+    outcome = outcome_then (stages.outcome g.completion) old.name (f.commits old.name key g there old.of_name) old.outcome;
     recorded =
         let same = f.has (place_of g.key) (is_decision_of g.key) (λ life. refl) (λ named. refl) in
         (λ has. old.recorded.0 (sym same ∙ has), λ e. same ∙ old.recorded.1 e);
@@ -512,11 +511,11 @@ module _ (w v : World) (told later : List Told) (f : Frame w v told later) (k : 
   named_on : (name : List ℕ) → IsNamed w name → IsNamed v name
   named_on name (key, named) = (key, f.transaction_on name key named)
 
-  outcome_named : (name : List ℕ) (outcome : ToldOutcome (List ℕ)) (b : Bool) → is_recorded outcome ≡ b → Stands (lines.Decide name outcome) (known later)
+  outcome_named : (name : List ℕ) (outcome : LineOutcome) (b : Bool) → is_recorded outcome ≡ b → Stands (lines.Decide name outcome) (known later)
       → IsNamed v name
   outcome_named name outcome true is s =
-      elim (f.named name (subst (λ (x : ToldOutcome (List ℕ)). Stands (lines.Decide name x) (known later)) (recorded_is outcome is) s)) [
-        | inl was ↦ named_on name (k.transactions.decided name (told_outcomes.Commit Record) was)
+      elim (f.named name (subst (λ (x : LineOutcome). Stands (lines.Decide name x) (known later)) (recorded_is outcome is) s)) [
+        | inl was ↦ named_on name (k.transactions.decided name (outcomes.Commit Record) was)
         | inr new ↦ named_on name new
       ]
   outcome_named name outcome false is s = named_on name (k.transactions.decided name outcome (f.tells.back (lines.Decide name outcome) is s))

@@ -8,11 +8,11 @@ use Rattle.std.proofs.lemmas.Slice.Eq.{bytes_eq-Decides}
 use Rattle.ots_model.specs.Safe.{Stands}
 use Rattle.ots_model.specs.declared.completion.Ground.TheVariants.{Record}
 use Rattle.ots_model.specs.declared.completion.Heard.{Heard}
-use Rattle.ots_model.specs.declared.completion.Heard.TheVariants as hears
+use Rattle.ots_model.specs.declared.completion.Heard.TheVariants as phase_hears
 use Rattle.ots_model.specs.declared.completion.Vote.TheVariants.{VoteCommit}
 use Rattle.ots_model.specs.declared.line.Line.TheVariants as lines
-use Rattle.ots_model.specs.declared.tree.Outcome.{Outcome}
-use Rattle.ots_model.specs.declared.tree.Outcome.TheVariants as outcomes
+use Rattle.ots_model.specs.Numbered.{Outcome}
+use Rattle.ots_model.specs.declared.completion.Outcome.TheVariants as outcomes
 use Rattle.resource_votes.specs.Ballots.{participants}
 use Rattle.two_phase.specs.Course as course
 use Rattle.two_phase.specs.Course.{Course}
@@ -90,7 +90,7 @@ not_owed (p ∷ ps) index none = by (is_owed rounds.Telling p) refl none (not_ow
     by false owed none more = (λ same. owed, more none)
 
 -- one that has voted commit and isn't owed it has been told
-told_unowed : (p : Party) → p.ballot ≡ Some (hears.Voted VoteCommit) → is_owed rounds.Telling p ≡ false → IsTrue (is_some p.told)
+told_unowed : (p : Party) → p.ballot ≡ Some (phase_hears.Voted VoteCommit) → is_owed rounds.Telling p ≡ false → IsTrue (is_some p.told)
 told_unowed p ballot free = by p.told (has_voted_commit p) (ap (λ (o : Option Heard). has_voted_commit (record p { ballot = o })) ballot) free
   where
     by : (o : Option Heard) (v : Bool) → v ≡ true → (v && not (option_map_or completes o false)) ≡ false → is_some o ≡ true
@@ -224,7 +224,7 @@ module _ (w : World) (told : List Told) (k : Known w told) (replied : ToldReplie
         same_number : q.index ≡ p.index
         same_number = voted.4.0
 
-        ballot : q.ballot ≡ Some (hears.Voted VoteCommit)
+        ballot : q.ballot ≡ Some (phase_hears.Voted VoteCommit)
         ballot = voted.4.1
 
         same_reference : q.to ≡ r.reference

@@ -7,7 +7,7 @@ use Rattle.std.proofs.lemmas.List.Elements.{Contains-append_right, Contains-appe
 use Rattle.ior_refs.specs.declared.key.ObjectKey.{ObjectKey}
 use Rattle.ots_model.specs.Safe.{Stands}
 use Rattle.ots_model.specs.declared.completion.Ground.TheVariants.{Record}
-use Rattle.ots_model.specs.declared.completion.Outcome.TheVariants as told_outcomes
+use Rattle.ots_model.specs.declared.completion.Outcome.TheVariants as outcomes
 use Rattle.ots_model.specs.declared.line.Line.{Line}
 use Rattle.ots_model.specs.declared.line.Line.TheVariants as lines
 use Rattle.recovery_coord.specs.Held.{is_decided}
@@ -33,20 +33,20 @@ use Rattle.nodes_world.proofs.KnownLines.{in_front}
 
 -- a decision that is recorded is told
 abbrev pub is_recorded_decision : Line → Bool
-is_recorded_decision (lines.Decide name (told_outcomes.Commit Record)) = true
+is_recorded_decision (lines.Decide name (outcomes.Commit Record)) = true
 is_recorded_decision _ = false
 
 pub all_both : {A : Type 0} (P : A → Type 0) (xs ys : List A) → AllByRecursion P xs → AllByRecursion P ys → AllByRecursion P (xs ++ ys)
 all_both P [] ys all also = also
 all_both P (x ∷ xs) ys (one, all) also = (one, all_both P xs ys all also)
 
-named_one : (flag : Line → Bool) → ((name : List ℕ) → flag (lines.Decide name (told_outcomes.Commit Record)) ≡ true) → (so : Bool) (name : Option (List ℕ))
-    → AllByRecursion (IsOne flag) (cond so (naming (λ (n : List ℕ). tell.Known (lines.Decide n (told_outcomes.Commit Record))) name) [])
+named_one : (flag : Line → Bool) → ((name : List ℕ) → flag (lines.Decide name (outcomes.Commit Record)) ≡ true) → (so : Bool) (name : Option (List ℕ))
+    → AllByRecursion (IsOne flag) (cond so (naming (λ (n : List ℕ). tell.Known (lines.Decide n (outcomes.Commit Record))) name) [])
 named_one flag is true (Some name) = (is name, tt)
 named_one flag is true None = tt
 named_one flag is false name = tt
 
-pub standing_one : (flag : Line → Bool) → ((name : List ℕ) → flag (lines.Decide name (told_outcomes.Commit Record)) ≡ true) → (w : World) (service : ℕ) (some : List Held)
+pub standing_one : (flag : Line → Bool) → ((name : List ℕ) → flag (lines.Decide name (outcomes.Commit Record)) ≡ true) → (w : World) (service : ℕ) (some : List Held)
     → AllByRecursion (IsOne flag) (flat_map (standing_lines w service) some)
 standing_one flag is w service [] = tt
 standing_one flag is w service (r ∷ others) =
@@ -71,22 +71,22 @@ stands_both (x ∷ xs) ys line (inr s) = elim (stands_both xs ys line s) [
 ]
 
 told_named : (so : Bool) (o : Option (List ℕ)) (name : List ℕ)
-    → Stands (lines.Decide name (told_outcomes.Commit Record)) (known (cond so (naming (λ (n : List ℕ). tell.Known (lines.Decide n (told_outcomes.Commit Record))) o) []))
+    → Stands (lines.Decide name (outcomes.Commit Record)) (known (cond so (naming (λ (n : List ℕ). tell.Known (lines.Decide n (outcomes.Commit Record))) o) []))
     → (so ≡ true) × (o ≡ Some name)
 told_named true (Some n) name (inl e) = (refl, ap (λ (x : List ℕ). Some x) (name_of e))
   where
-    name_of : lines.Decide n (told_outcomes.Commit Record) ≡ lines.Decide name (told_outcomes.Commit Record) → n ≡ name
+    name_of : lines.Decide n (outcomes.Commit Record) ≡ lines.Decide name (outcomes.Commit Record) → n ≡ name
     name_of e = cc
 told_named true (Some n) name (inr s) = absurd s
 told_named true None name s = absurd s
 told_named false o name s = absurd s
 
 pub standing_told : (w : World) (service : ℕ) (some : List Held) (name : List ℕ)
-    → Stands (lines.Decide name (told_outcomes.Commit Record)) (known (flat_map (standing_lines w service) some)) → IsTold w service some name
+    → Stands (lines.Decide name (outcomes.Commit Record)) (known (flat_map (standing_lines w service) some)) → IsTold w service some name
 standing_told w service [] name s = absurd s
 standing_told w service (r ∷ others) name s =
     elim (stands_both (known (standing_lines w service r)) (known (flat_map (standing_lines w service) others)) _
-    (subst (Stands (lines.Decide name (told_outcomes.Commit Record))) (known_more (standing_lines w service r) (flat_map (standing_lines w service) others)) s)) [
+    (subst (Stands (lines.Decide name (outcomes.Commit Record))) (known_more (standing_lines w service r) (flat_map (standing_lines w service) others)) s)) [
       | inl here ↦ let so = told_named (is_decided r.kind) (transaction_name w (key_of_record service r)) name here in
           record { held = r; among = (0, omega arith, refl); decided = so.0; named = so.1 }
       | inr there ↦ let at = standing_told w service others name there in
@@ -221,22 +221,22 @@ stands_behind (x ∷ xs) ys line s = inr (stands_behind xs ys line s)
 -- the line of a decision that stands is told
 pub told_standing : (w : World) (service : ℕ) (some : List Held) (h : Held) (name : List ℕ) → Contains some h → is_decided h.kind ≡ true
     → transaction_name w (key_of_record service h) ≡ Some name
-    → Stands (lines.Decide name (told_outcomes.Commit Record)) (known (flat_map (standing_lines w service) some))
+    → Stands (lines.Decide name (outcomes.Commit Record)) (known (flat_map (standing_lines w service) some))
 told_standing w service [] h name (i, less, is) decided named = absurd (omega (arith, less))
 told_standing w service (r ∷ others) h name among decided named =
-    subst (Stands (lines.Decide name (told_outcomes.Commit Record))) (sym (known_more (standing_lines w service r) (flat_map (standing_lines w service) others)))
+    subst (Stands (lines.Decide name (outcomes.Commit Record))) (sym (known_more (standing_lines w service r) (flat_map (standing_lines w service) others)))
     (elim (Contains-append_cases (r ∷ []) others h among) [
       | inl first ↦ in_front (known (standing_lines w service r)) (known (flat_map (standing_lines w service) others)) _
-          (subst (λ (x : Held). Stands (lines.Decide name (told_outcomes.Commit Record)) (known (standing_lines w service x))) (sym (one_of r h first))
+          (subst (λ (x : Held). Stands (lines.Decide name (outcomes.Commit Record)) (known (standing_lines w service x))) (sym (one_of r h first))
           (own_line h decided named))
       | inr later ↦ stands_behind (known (standing_lines w service r)) (known (flat_map (standing_lines w service) others)) _
           (told_standing w service others h name later decided named)
     ])
   where
     own_line : (h : Held) → is_decided h.kind ≡ true → transaction_name w (key_of_record service h) ≡ Some name
-        → Stands (lines.Decide name (told_outcomes.Commit Record)) (known (standing_lines w service h))
+        → Stands (lines.Decide name (outcomes.Commit Record)) (known (standing_lines w service h))
     own_line h decided named =
-        subst (λ (o : Option (List ℕ)). Stands (lines.Decide name (told_outcomes.Commit Record))
-        (known (cond (is_decided h.kind) (naming (λ (n : List ℕ). tell.Known (lines.Decide n (told_outcomes.Commit Record))) o) []))) (sym named)
-        (subst (λ (b : Bool). Stands (lines.Decide name (told_outcomes.Commit Record))
-        (known (cond b (naming (λ (n : List ℕ). tell.Known (lines.Decide n (told_outcomes.Commit Record))) (Some name)) []))) (sym decided) (inl refl))
+        subst (λ (o : Option (List ℕ)). Stands (lines.Decide name (outcomes.Commit Record))
+        (known (cond (is_decided h.kind) (naming (λ (n : List ℕ). tell.Known (lines.Decide n (outcomes.Commit Record))) o) []))) (sym named)
+        (subst (λ (b : Bool). Stands (lines.Decide name (outcomes.Commit Record))
+        (known (cond b (naming (λ (n : List ℕ). tell.Known (lines.Decide n (outcomes.Commit Record))) (Some name)) []))) (sym decided) (inl refl))

@@ -9,7 +9,8 @@ use Rattle.ior_refs.specs.declared.key.ObjectKey.{ObjectKey}
 use Rattle.ots_model.specs.Heard.{of_participant}
 use Rattle.ots_model.specs.declared.completion.Ground.TheVariants.{Record}
 use Rattle.ots_model.specs.declared.completion.Stood.{Stood}
-use Rattle.ots_model.specs.declared.tree.Outcome.TheVariants as outcomes
+use Rattle.ots_model.specs.Numbered.{Outcome}
+use Rattle.ots_model.specs.declared.completion.Outcome.TheVariants as outcomes
 use Rattle.ots_model.specs.declared.tree.Outward.{Outward}
 use Rattle.two_phase.specs.Course as course
 use Rattle.two_phase.specs.Course.{Course}
@@ -272,7 +273,7 @@ module _ (rightly : FamiliesStepRightly) (numbers : FamiliesNumberWords) (w : Wo
           ∙ ap (λ (o : Option (List JournalRecord)). option_map_or (λ (xs : List JournalRecord). list_any (is_decision_of g.key) xs) o false) held
           ∙ list_any-from_Any (is_decision_of g.key) rs (among.0, item, among.1, among.2, decides)))
         where
-          no : None ≡ Some (outcomes.Commit Record) → ⊥
+          no : ◌≡◌ {A = Option Outcome} None (Some (outcomes.Commit Record)) → ⊥
           no e = cc
 
       came : CameFrom w place slot g → HasParty g.completion r.index r.reference

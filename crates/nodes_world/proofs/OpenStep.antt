@@ -6,14 +6,15 @@ use Rattle.ots_model.specs.Heard.{of_participant}
 use Rattle.ots_model.specs.declared.completion.CallNumber.{CallNumber}
 use Rattle.ots_model.specs.declared.completion.Ground.TheVariants.{Record}
 use Rattle.ots_model.specs.declared.completion.Heard.{Heard as ParticipantHeard}
-use Rattle.ots_model.specs.declared.completion.Heard.TheVariants as participants_heard
+use Rattle.ots_model.specs.declared.completion.Heard.TheVariants as phase_hears
 use Rattle.ots_model.specs.declared.completion.Stood.{Stood}
 use Rattle.ots_model.specs.declared.completion.Stood.TheVariants as answers
 use Rattle.ots_model.specs.declared.completion.Vote.{Vote}
 use Rattle.ots_model.specs.declared.tree.Heard.{Heard}
-use Rattle.ots_model.specs.declared.tree.Outcome.{Outcome}
-use Rattle.ots_model.specs.declared.tree.Outcome.TheVariants as outcomes
+use Rattle.ots_model.specs.Numbered.{Outcome}
+use Rattle.ots_model.specs.declared.completion.Outcome.TheVariants as outcomes
 use Rattle.ots_model.specs.declared.tree.Outward.{Outward}
+use Rattle.ots_model.specs.declared.completion.Word.TheVariants as phase_words
 use Rattle.ots_model.specs.declared.tree.Word.TheVariants as words
 use Rattle.resource_votes.specs.Ballots.{participants}
 use Rattle.two_phase.specs.LawsOfReached.IsReached.{goes_on}
@@ -85,7 +86,7 @@ there_then m x (UnderWay k) there = goes_on k _ there (by_answer k m x)
 
 -- a vote that counts then counted before, or is that of the one that is asked
 votes_by : CompletionLaws → (m : CallNumber) (x : ParticipantHeard) (s : Completion) → IsThere s → is_asking s ≡ true → stages.decides_alone s ≡ false → (number : ℕ) (vote : Vote)
-    → IsVoted (stages.after_answer m x s) number vote → IsVoted s number vote ⊎ ((stages.voter s ≡ Some number) × (x ≡ participants_heard.Voted vote))
+    → IsVoted (stages.after_answer m x s) number vote → IsVoted s number vote ⊎ ((stages.voter s ≡ Some number) × (x ≡ phase_hears.Voted vote))
 votes_by completions m x (Waiting room) there asks alone number vote voted = inl voted
 votes_by completions m x (UnderWay k) there asks alone number vote voted = elim (counts_by completions k (asked_of completions k there asks) m x number vote voted) [
   | inl before ↦ inl before
@@ -102,7 +103,7 @@ none_some e = cc
 module _ (laws : FamilyLaws) (w : World) (nth place reply now : ℕ) (o : Outward) (back : Message) (answer : Said) (f : Family) (c : Call) (vote : Vote)
     (word : IsWord w nth place o) (replied : slice_get w.messages reply ≡ Some back) (says : back.content ≡ contents.Reply (nth + 1) answer)
     (votes : answer ≡ said.Voted vote) (sound : IsSoundFamily f) (tidy : IsTidy f) (numbered : IsNumberedBy f o) (waits : waiting_for f o.number ≡ Some 0)
-    (at : call_at f 0 ≡ Some c) (decides : c.leg ≡ Deciding) (asks : is_asking f.completion ≡ true) (prepare : o.word ≡ words.Prepare)
+    (at : call_at f 0 ≡ Some c) (decides : c.leg ≡ Deciding) (asks : is_asking f.completion ≡ true) (prepare : o.word ≡ words.Phase phase_words.Prepare)
     (wants : stages.wants_decision (hears o.number (heard_in answer) f).family.completion ≡ true) (ready : AreReady f.serial f.calls) where
   abbrev n : CallNumber
   n = o.number
@@ -134,7 +135,7 @@ module _ (laws : FamilyLaws) (w : World) (nth place reply now : ℕ) (o : Outwar
   pub asked : IsAskedAs f o
   asked = asked_as laws.completions f o c numbered waits at decides alone f.completion refl there asks sound.completion.parties
 
-  pub heard_so : of_participant h ≡ participants_heard.Voted vote
+  pub heard_so : of_participant h ≡ phase_hears.Voted vote
   heard_so = vote_heard answer vote votes
 
   -- the family once the journal has answered
@@ -198,7 +199,7 @@ module _ (laws : FamilyLaws) (w : World) (nth place reply now : ℕ) (o : Outwar
       inner : {x y : ℕ} → Some x ≡ Some y → x ≡ y
       inner e = cc
 
-      same_vote : {x y : Vote} → participants_heard.Voted x ≡ participants_heard.Voted y → x ≡ y
+      same_vote : {x y : Vote} → phase_hears.Voted x ≡ phase_hears.Voted y → x ≡ y
       same_vote e = cc
 
       no : true ≡ false → ⊥

@@ -2,7 +2,7 @@
 use Rattle.std.proofs.Common.{inl, inr, ℕ, List}
 use Rattle.ots_model.specs.Safe.{IsSent, IsToldCommit}
 use Rattle.ots_model.specs.declared.completion.Word.{Word}
-use Rattle.ots_model.specs.declared.completion.Word.TheVariants as phases
+use Rattle.ots_model.specs.declared.completion.Word.TheVariants as phase_words
 use Rattle.resource_end.specs.declared.state.State.{State}
 use Rattle.resource_end.specs.declared.state.State.TheVariants as states
 use Rattle.nodes_world.specs.Told.{Told, known}
@@ -21,8 +21,8 @@ sent_newest : (told : List Told) (word : Word) (name : List ℕ) → IsSent word
 sent_newest told word name (number, s) = (number, among_turned (known told) _ s)
 
 commit_in_order : (told : List Told) (name : List ℕ) → IsToldCommit name (lines_of told) → IsToldCommit name (known told)
-commit_in_order told name (inl s) = inl (sent_in_order told phases.Commit name s)
-commit_in_order told name (inr s) = inr (sent_in_order told phases.CommitOnePhase name s)
+commit_in_order told name (inl s) = inl (sent_in_order told phase_words.Commit name s)
+commit_in_order told name (inr s) = inr (sent_in_order told phase_words.CommitOnePhase name s)
 
 follows_in_order : (told : List Told) (s : State) (name : List ℕ) → StatesFollow s name (lines_of told) → StatesFollow s name (known told)
 follows_in_order told states.Fresh name is = is
@@ -30,7 +30,7 @@ follows_in_order told states.Working name is = is
 follows_in_order told states.Refused name is = is
 follows_in_order told states.Prepared name is = is
 follows_in_order told states.Applied name is = commit_in_order told name is
-follows_in_order told states.Undone name is = λ sent. is (sent_newest told phases.Commit name sent)
+follows_in_order told states.Undone name is = λ sent. is (sent_newest told phase_words.Commit name sent)
 follows_in_order told states.ChoseCommit name is = is
 follows_in_order told states.ChoseRollback name is = is
 follows_in_order told states.Forgotten name is = is

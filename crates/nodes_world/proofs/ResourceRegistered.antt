@@ -13,12 +13,12 @@ use Rattle.ots_model.specs.SafeByLine.{AreAllowed, CanRegister}
 use Rattle.ots_model.specs.declared.completion.Ground.TheVariants.{Record}
 use Rattle.ots_model.specs.declared.completion.Vote.{Vote}
 use Rattle.ots_model.specs.declared.completion.Word.{Word as Phase}
-use Rattle.ots_model.specs.declared.completion.Word.TheVariants as phases
+use Rattle.ots_model.specs.declared.completion.Word.TheVariants as phase_words
 use Rattle.ots_model.specs.declared.line.Line.{Line}
 use Rattle.ots_model.specs.declared.line.Line.TheVariants as lines
 use Rattle.ots_model.specs.declared.service.RetryKey.{RetryKey}
-use Rattle.ots_model.specs.declared.tree.Outcome.{Outcome}
-use Rattle.ots_model.specs.declared.tree.Outcome.TheVariants as outcomes
+use Rattle.ots_model.specs.Numbered.{Outcome}
+use Rattle.ots_model.specs.declared.completion.Outcome.TheVariants as outcomes
 use Rattle.ots_model.specs.declared.tree.Outward.{Outward}
 use Rattle.decision_journal.specs.Journal.{Holds, found_in}
 use Rattle.decision_journal.specs.Laws.{IsSettled}
@@ -666,7 +666,7 @@ module _ (w : World) (place : ℕ) (s : Seat) (n : Node) (f g : Family) (there :
     | inr new ↦ absurd (unsent phase (subst (λ (y : List ℕ). IsSent phase y (lines_of told)) new.0 sent))
   ]
 
-  commit_of : (r t : List ℕ) (b : ℕ) (x : ObjectKey) (h : Family) → IsSent phases.Commit r (lines_of told) → IsRegistered r t (lines_of told)
+  commit_of : (r t : List ℕ) (b : ℕ) (x : ObjectKey) (h : Family) → IsSent phase_words.Commit r (lines_of told) → IsRegistered r t (lines_of told)
       → ((h ≡ g) × IsTrue (is_of x g)) ⊎ ((family_at w x ≡ Some h) × (IsTrue (is_of h.key f) → ⊥)) → IsBranch v h t b
       → stages.outcome h.completion ≡ Some (outcomes.Commit Record)
   commit_of r t b x h sent registered (inl this) one =
@@ -674,7 +674,7 @@ module _ (w : World) (place : ℕ) (s : Seat) (n : Node) (f g : Family) (there :
       ∙ k.open_words.commit r t b key f sent registered found (this_branch t b h this.0 one)
   commit_of r t b x h sent registered (inr that) one = k.open_words.commit r t b x h sent registered that.0 one
 
-  alone_of : (r t : List ℕ) (b : ℕ) (x : ObjectKey) (h : Family) → IsSent phases.CommitOnePhase r (lines_of told) → IsRegistered r t (lines_of told)
+  alone_of : (r t : List ℕ) (b : ℕ) (x : ObjectKey) (h : Family) → IsSent phase_words.CommitOnePhase r (lines_of told) → IsRegistered r t (lines_of told)
       → ((h ≡ g) × IsTrue (is_of x g)) ⊎ ((family_at w x ≡ Some h) × (IsTrue (is_of h.key f) → ⊥)) → IsBranch v h t b
       → IsAsking h.completion × (stages.decides_alone h.completion ≡ true)
   alone_of r t b x h sent registered (inl this) one =
@@ -686,11 +686,11 @@ module _ (w : World) (place : ℕ) (s : Seat) (n : Node) (f g : Family) (there :
   open_now : ToldIsOpen v (lines_of later)
   open_now = record {
     commit = λ r t b x h sent registered at one.
-        let was = sent_was phases.Commit r sent in
-        commit_of r t b x h was (registered_was phases.Commit r t was registered) (families x h at) one;
+        let was = sent_was phase_words.Commit r sent in
+        commit_of r t b x h was (registered_was phase_words.Commit r t was registered) (families x h at) one;
     one_phase = λ r t b x h sent registered at one.
-        let was = sent_was phases.CommitOnePhase r sent in
-        alone_of r t b x h was (registered_was phases.CommitOnePhase r t was registered) (families x h at) one;
+        let was = sent_was phase_words.CommitOnePhase r sent in
+        alone_of r t b x h was (registered_was phase_words.CommitOnePhase r t was registered) (families x h at) one;
   }
 
   -- ---- records
@@ -800,7 +800,7 @@ module _ (w : World) (place : ℕ) (s : Seat) (n : Node) (f g : Family) (there :
   -- ---- words of the second phase
 
   -- one that was told commit_one_phase is alone still
-  alone_on : (r : List ℕ) → IsSent phases.CommitOnePhase r (known told) → IsAlone w told r → IsAlone v later r
+  alone_on : (r : List ℕ) → IsSent phase_words.CommitOnePhase r (known told) → IsAlone w told r → IsAlone v later r
   alone_on r sent was = record {
     family = was.family;
     key = was.key;

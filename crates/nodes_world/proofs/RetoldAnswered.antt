@@ -7,6 +7,7 @@ use Rattle.ior_refs.specs.declared.key.ObjectKey.{ObjectKey}
 use Rattle.ots_model.specs.declared.completion.CallNumber.{CallNumber}
 use Rattle.ots_model.specs.declared.completion.Stood.{Stood}
 use Rattle.ots_model.specs.declared.tree.Outward.{Outward}
+use Rattle.ots_model.specs.declared.completion.Word.TheVariants as phase_words
 use Rattle.ots_model.specs.declared.tree.Word.TheVariants as words
 use Rattle.recovery_coord.specs.Limits.{retold_slot}
 use Rattle.recovery_coord.specs.Telling as telling
@@ -141,7 +142,7 @@ module _ (numbers : FamiliesNumberWords) (w : World) (told : List Told) (k : Kno
         no e = cc
     due_answered p (inr is) forget = is
 
-    by_comes : (place : ℕ) (o : Outward) → o.number.slot ≡ retold_slot → WordComes w v place o → (o.word ≡ words.Commit) ⊎ HasAnsweredCommit v o.to
+    by_comes : (place : ℕ) (o : Outward) → o.number.slot ≡ retold_slot → WordComes w v place o → (o.word ≡ words.Phase phase_words.Commit) ⊎ HasAnsweredCommit v o.to
     unfolding ticks
     by_comes place o again (of_call key e stood n up among) =
         let at = applied_word key e stood n o numbers among in
@@ -160,7 +161,7 @@ module _ (numbers : FamiliesNumberWords) (w : World) (told : List Told) (k : Kno
         is_of : Contains (ticks now n).words o → IsRetold (life m) m.recovered o
         is_of among = all_at (IsRetold (life m) m.recovered) (telling.words (life m) m.recovered) o (words_retold (life m) m.recovered) among
 
-        by : IsRetold (life m) m.recovered o → (o.word ≡ words.Commit) ⊎ HasAnsweredCommit v o.to
+        by : IsRetold (life m) m.recovered o → (o.word ≡ words.Phase phase_words.Commit) ⊎ HasAnsweredCommit v o.to
         by is = elim is.waits [
           | inl commit ↦ inl commit
           | inr forget ↦ inr (subst (HasAnsweredCommit v) (sym is.to)

@@ -8,6 +8,7 @@ use Rattle.std.proofs.lemmas.Slice.Eq.{bytes_eq-Decides}
 use Rattle.ots_model.specs.declared.completion.CallNumber.{CallNumber}
 use Rattle.ots_model.specs.declared.service.RetryKey.{RetryKey}
 use Rattle.ots_model.specs.declared.tree.Outward.{Outward}
+use Rattle.ots_model.specs.declared.completion.Word.TheVariants as phase_words
 use Rattle.ots_model.specs.declared.tree.Word.TheVariants as words
 use Rattle.decision_journal.specs.Journal.{first_gate}
 use Rattle.decision_journal.specs.declared.journal.Standing.{Standing}
@@ -51,9 +52,9 @@ pub record IsRetold (in_life : ℕ) (records : List Held) (o : Outward) : Type 0
   pub place : o.number.generation ≡ held.place
   pub index : o.number.serial ≡ party.index
   pub to : o.to ≡ party.to
-  pub word : (o.word ≡ words.Commit) ⊎ (phase_of o.word ≡ None)
+  pub word : (o.word ≡ words.Phase phase_words.Commit) ⊎ (phase_of o.word ≡ None)
   -- commit, where nothing was heard of it yet
-  pub waits : (o.word ≡ words.Commit) ⊎ (party.due ≡ due.Forget)
+  pub waits : (o.word ≡ words.Phase phase_words.Commit) ⊎ (party.due ≡ due.Forget)
 
 all_append : {A : Type 0} (P : A → Type 0) (xs ys : List A) → AllByRecursion P xs → AllByRecursion P ys → AllByRecursion P (xs ++ ys)
 all_append P [] ys all also = also

@@ -3,7 +3,7 @@ use Rattle.std.proofs.Common.{◌≡◌, inl, inr, ℕ, is_some, IsTrue, List, O
 use Rattle.ots_model.specs.Safe.{IsSent}
 use Rattle.ots_model.specs.declared.completion.Vote.{Vote}
 use Rattle.ots_model.specs.declared.completion.Vote.TheVariants.{VoteCommit, VoteReadOnly, VoteRollback}
-use Rattle.ots_model.specs.declared.completion.Word.TheVariants as phases
+use Rattle.ots_model.specs.declared.completion.Word.TheVariants as phase_words
 use Rattle.ots_model.specs.declared.line.Line.{Line}
 use Rattle.ots_model.specs.declared.line.ResourceState.TheVariants as shown
 use Rattle.resource_end.specs.Table.{row, on_prepare}
@@ -24,9 +24,9 @@ moved (Some n) s = n
 -- the word was told, as a line tells it
 abbrev pub WasTold : EndWord → List ℕ → List Line → Type 0
 WasTold tolds.Prepare name h = Unit {0}
-WasTold tolds.Commit name h = IsSent phases.Commit name h
-WasTold tolds.Rollback name h = IsSent phases.Rollback name h
-WasTold tolds.CommitOnePhase name h = IsSent phases.CommitOnePhase name h
+WasTold tolds.Commit name h = IsSent phase_words.Commit name h
+WasTold tolds.Rollback name h = IsSent phase_words.Rollback name h
+WasTold tolds.CommitOnePhase name h = IsSent phase_words.CommitOnePhase name h
 WasTold tolds.Forget name h = Unit {0}
 
 -- it is answered
@@ -145,7 +145,7 @@ unvoted_moves _ _ name h told is unvoted = absurd is
 
 -- its state follows the words
 pub follows_moves : (word : EndWord) (s : State) (name : List ℕ) (h : List Line) → WasTold word name h → StatesFollow s name h
-    → ((row word s).next ≡ Some states.Undone → IsSent phases.Commit name h → ⊥) → StatesFollow (moved (row word s).next s) name h
+    → ((row word s).next ≡ Some states.Undone → IsSent phase_words.Commit name h → ⊥) → StatesFollow (moved (row word s).next s) name h
 follows_moves tolds.Prepare states.Refused name h told is undo = undo refl
 follows_moves tolds.Prepare states.Applied name h told is undo = is
 follows_moves tolds.Prepare states.Undone name h told is undo = is

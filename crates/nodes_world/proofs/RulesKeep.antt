@@ -8,12 +8,12 @@ use Rattle.std.specs.Option.{option_and_then, option_map}
 use Rattle.ots_model.specs.declared.completion.CallNumber.{CallNumber}
 use Rattle.ots_model.specs.declared.completion.Ground.TheVariants.{Record, Nobody}
 use Rattle.ots_model.specs.declared.completion.Heard.{Heard}
-use Rattle.ots_model.specs.declared.completion.Heard.TheVariants as hears
+use Rattle.ots_model.specs.declared.completion.Heard.TheVariants as phase_hears
 use Rattle.ots_model.specs.declared.completion.Stood.{Stood}
 use Rattle.ots_model.specs.declared.completion.Receipt.{Receipt}
 use Rattle.ots_model.specs.declared.completion.Vote.{Vote}
-use Rattle.ots_model.specs.declared.tree.Outcome.{Outcome}
-use Rattle.ots_model.specs.declared.tree.Outcome.TheVariants as outcomes
+use Rattle.ots_model.specs.Numbered.{Outcome}
+use Rattle.ots_model.specs.declared.completion.Outcome.TheVariants as outcomes
 use Rattle.ots_model.specs.declared.tree.Outward.{Outward}
 use Rattle.ots_model.specs.declared.tree.Reason.{Reason}
 use Rattle.ots_model.specs.declared.tree.Reason.TheVariants as reasons
@@ -288,15 +288,15 @@ completes_keep later f kept parties tidy = record {
 
 -- what one answers that was asked alone is no record
 not_answered : (i : ℕ) (h : Heard) → by_answer i h ≡ outcomes.Commit Record → ⊥
-not_answered i hears.Done is = cc
-not_answered i (hears.Voted vote) is = cc
-not_answered i (hears.Heuristic d) is = cc
-not_answered i hears.RolledBack is = cc
-not_answered i hears.NotPrepared is = cc
-not_answered i hears.NoObject is = cc
-not_answered i hears.Other is = cc
-not_answered i hears.Lost is = cc
-not_answered i hears.Starved is = cc
+not_answered i phase_hears.Done is = cc
+not_answered i (phase_hears.Voted vote) is = cc
+not_answered i (phase_hears.Heuristic d) is = cc
+not_answered i phase_hears.RolledBack is = cc
+not_answered i phase_hears.NotPrepared is = cc
+not_answered i phase_hears.NoObject is = cc
+not_answered i phase_hears.Other is = cc
+not_answered i phase_hears.Lost is = cc
+not_answered i phase_hears.Starved is = cc
 
 some_outcome : {a b : Outcome} → Some a ≡ Some b → a ≡ b
 some_outcome is = cc
@@ -412,11 +412,11 @@ votes_plain k None why none stood is = rest (course.all_consent k) (course.some_
 one_plain : (some : List Registration) (ps : List Party) (why : Reason) → ps ≡ map party_of some → course.by_one (slice_get ps 0) ≡ Some (outcomes.Rollback why) → ⊥
 one_plain [] ps why same is = absurd (no (sym (ap (λ (x : List Party). course.by_one (slice_get x 0)) same) ∙ is))
   where
-    no : None ≡ Some (outcomes.Rollback why) → ⊥
+    no : ◌≡◌ {A = Option Outcome} None (Some (outcomes.Rollback why)) → ⊥
     no e = cc
 one_plain (r ∷ some) ps why same is = absurd (no (sym (ap (λ (x : List Party). course.by_one (slice_get x 0)) same) ∙ is))
   where
-    no : None ≡ Some (outcomes.Rollback why) → ⊥
+    no : ◌≡◌ {A = Option Outcome} None (Some (outcomes.Rollback why)) → ⊥
     no e = cc
 
 either_why : (t : Bool) (x y : Option Outcome) (why : Reason) → (x ≡ Some (outcomes.Rollback why) → ⊥) → (y ≡ Some (outcomes.Rollback why) → ⊥)

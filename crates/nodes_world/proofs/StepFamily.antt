@@ -4,15 +4,14 @@ use Rattle.ior_refs.specs.declared.key.ObjectKey.{ObjectKey}
 use Rattle.ots_model.specs.Safe.{Stands, IsRegistered}
 use Rattle.ots_model.specs.declared.completion.Ground.{Ground}
 use Rattle.ots_model.specs.declared.completion.Ground.TheVariants.{Record}
-use Rattle.ots_model.specs.declared.completion.Outcome.{Outcome as ToldOutcome}
-use Rattle.ots_model.specs.declared.completion.Outcome.TheVariants as told_outcomes
+use Rattle.ots_model.specs.Numbered.{LineOutcome}
 use Rattle.ots_model.specs.declared.completion.Reason.{Reason as ToldReason}
 use Rattle.ots_model.specs.declared.completion.Vote.{Vote}
 use Rattle.ots_model.specs.declared.line.Line.{Line}
 use Rattle.ots_model.specs.declared.line.Line.TheVariants as lines
 use Rattle.ots_model.specs.declared.service.RetryKey.{RetryKey}
-use Rattle.ots_model.specs.declared.tree.Outcome.{Outcome}
-use Rattle.ots_model.specs.declared.tree.Outcome.TheVariants as outcomes
+use Rattle.ots_model.specs.Numbered.{Outcome}
+use Rattle.ots_model.specs.declared.completion.Outcome.TheVariants as outcomes
 use Rattle.ots_model.specs.declared.tree.Outward.{Outward}
 use Rattle.txn_tree.specs.Rows.{state}
 use Rattle.txn_tree.specs.declared.row.Row.{Row}
@@ -120,36 +119,36 @@ module _ (w v : World) (told : List Told) (k : Known w told) (key : ObjectKey) (
   own_branch = named_branch w told k f c own old.name 0 (f.key, old.of_name, is_own f, old.top)
 
   -- commit is told where it is fixed
-  commits_now : (basis : Ground) → stages.outcome g.completion ≡ Some (outcomes.Commit basis) → Stands (lines.Decide old.name (told_outcomes.Commit basis)) (lines_of more)
+  commits_now : (basis : Ground) → stages.outcome g.completion ≡ Some (outcomes.Commit basis) → Stands (lines.Decide old.name (outcomes.Commit basis)) (lines_of more)
   commits_now basis now = by (stages.outcome f.completion) refl old.outcome
     where
       inner : {a b : Outcome} → Some a ≡ Some b → a ≡ b
       inner e = cc
 
       by : (o : Option Outcome) → stages.outcome f.completion ≡ o → OutcomeIsTold o old.name (lines_of told)
-          → Stands (lines.Decide old.name (told_outcomes.Commit basis)) (lines_of more)
+          → Stands (lines.Decide old.name (outcomes.Commit basis)) (lines_of more)
       by None before line =
           among_turned _ _ (new_stands w told k key f there c own early some is.turn entries done _
           (commit_told w c some basis old.name (new_decided w f g some words is (outcomes.Commit basis) before now) own_branch))
       by (Some fixed) before line = on _ (told_so fixed (inner (sym (is.stays fixed before) ∙ now)) line)
         where
           told_so : (x : Outcome) → x ≡ outcomes.Commit basis → OutcomeIsTold (Some x) old.name (lines_of told)
-              → Stands (lines.Decide old.name (told_outcomes.Commit basis)) (lines_of told)
+              → Stands (lines.Decide old.name (outcomes.Commit basis)) (lines_of told)
           told_so x same line = subst (λ (y : Outcome). OutcomeIsTold (Some y) old.name (lines_of told)) same line
 
-  no_commit : (stages.outcome g.completion ≡ Some (outcomes.Commit Record) → ⊥) → Stands (lines.Decide old.name (told_outcomes.Commit Record)) (lines_of more) → ⊥
-  no_commit other s = elim (cases (lines.Decide old.name (told_outcomes.Commit Record)) s) [
+  no_commit : (stages.outcome g.completion ≡ Some (outcomes.Commit Record) → ⊥) → Stands (lines.Decide old.name (outcomes.Commit Record)) (lines_of more) → ⊥
+  no_commit other s = elim (cases (lines.Decide old.name (outcomes.Commit Record)) s) [
     | inl before ↦ other (is.stays (outcomes.Commit Record) (old.recorded.0 (k.recorded old.name f.key old.of_name old.top before)))
     | inr (e, among, (fixed, same, named, said)) ↦ new fixed said (subst (λ (x : Effect). Contains some x) same among)
   ]
     where
-      same_basis : (x : ToldOutcome (List ℕ)) (a b : Ground) → x ≡ told_outcomes.Commit a → x ≡ told_outcomes.Commit b → a ≡ b
+      same_basis : (x : LineOutcome) (a b : Ground) → x ≡ outcomes.Commit a → x ≡ outcomes.Commit b → a ≡ b
       same_basis x a b e d = cc
 
-      no : (x : ToldOutcome (List ℕ)) (why : ToldReason (List ℕ)) → x ≡ told_outcomes.Commit Record → x ≡ told_outcomes.Rollback why → ⊥
+      no : (x : LineOutcome) (why : ToldReason (List ℕ)) → x ≡ outcomes.Commit Record → x ≡ outcomes.Rollback why → ⊥
       no x why e d = cc
 
-      new : (fixed : Outcome) → IsSaidAs fixed (told_outcomes.Commit Record) → Contains some (effects.Decided fixed) → ⊥
+      new : (fixed : Outcome) → IsSaidAs fixed (outcomes.Commit Record) → Contains some (effects.Decided fixed) → ⊥
       new (outcomes.Commit basis) said among =
           other ((decided_new w f g some words is (outcomes.Commit basis) among).1 ∙ ap (λ (x : Ground). Some (outcomes.Commit x)) (sym (same_basis _ Record basis refl said)))
       new (outcomes.Rollback reason) said among = absurd (no _ said.0 refl said.1)
@@ -158,16 +157,16 @@ module _ (w v : World) (told : List Told) (k : Known w told) (key : ObjectKey) (
   outcome_now : (o : Option Outcome) → stages.outcome g.completion ≡ o → OutcomeIsTold o old.name (lines_of more)
   outcome_now None now = no_commit (λ e. absurd (no (sym now ∙ e)))
     where
-      no : None ≡ Some (outcomes.Commit Record) → ⊥
+      no : ◌≡◌ {A = Option Outcome} None (Some (outcomes.Commit Record)) → ⊥
       no e = cc
   outcome_now (Some (outcomes.Commit basis)) now = commits_now basis now
   outcome_now (Some (outcomes.Rollback reason)) now = no_commit (λ e. absurd (no (sym now ∙ e)))
     where
-      no : Some (outcomes.Rollback reason) ≡ Some (outcomes.Commit Record) → ⊥
+      no : ◌≡◌ {A = Option Outcome} (Some (outcomes.Rollback reason)) (Some (outcomes.Commit Record)) → ⊥
       no e = cc
   outcome_now (Some outcomes.Unknown) now = no_commit (λ e. absurd (no (sym now ∙ e)))
     where
-      no : Some outcomes.Unknown ≡ Some (outcomes.Commit Record) → ⊥
+      no : ◌≡◌ {A = Option Outcome} (Some outcomes.Unknown) (Some (outcomes.Commit Record)) → ⊥
       no e = cc
 
   recorded_now : IsTrue (has_record v (place_of g.key) (is_decision_of g.key)) ↔ (stages.outcome g.completion ≡ Some (outcomes.Commit Record))

@@ -7,10 +7,11 @@ use Rattle.ots_model.specs.declared.completion.Heard.{Heard as ParticipantHeard}
 use Rattle.ots_model.specs.declared.completion.Stood.{Stood}
 use Rattle.ots_model.specs.declared.completion.Vote.{Vote}
 use Rattle.ots_model.specs.declared.tree.Heard.{Heard}
-use Rattle.ots_model.specs.declared.tree.Outcome.{Outcome}
-use Rattle.ots_model.specs.declared.tree.Outcome.TheVariants as outcomes
+use Rattle.ots_model.specs.Numbered.{Outcome}
+use Rattle.ots_model.specs.declared.completion.Outcome.TheVariants as outcomes
 use Rattle.ots_model.specs.declared.tree.Outward.{Outward}
 use Rattle.ots_model.specs.declared.tree.Reason.{Reason}
+use Rattle.ots_model.specs.declared.completion.Reason.TheVariants as phase_reasons
 use Rattle.ots_model.specs.declared.tree.Reason.TheVariants as reasons
 use Rattle.resource_votes.specs.Ballots.{participants}
 use Rattle.resource_votes.specs.declared.registration.Registration.{Registration}
@@ -63,10 +64,10 @@ HasNumber rs number = (r : Registration) × Contains rs r × (r.index ≡ number
 
 -- of whom the reason of a rollback speaks is registered
 abbrev pub SpeaksOf : List Registration → Reason → Type 0
-SpeaksOf rs (reasons.Vote number) = HasNumber rs number
-SpeaksOf rs (reasons.PrepareLost number) = HasNumber rs number
-SpeaksOf rs (reasons.PrepareStarved number) = HasNumber rs number
-SpeaksOf rs (reasons.PrepareFault number) = HasNumber rs number
+SpeaksOf rs (reasons.Phase (phase_reasons.Vote number)) = HasNumber rs number
+SpeaksOf rs (reasons.Phase (phase_reasons.PrepareLost number)) = HasNumber rs number
+SpeaksOf rs (reasons.Phase (phase_reasons.PrepareStarved number)) = HasNumber rs number
+SpeaksOf rs (reasons.Phase (phase_reasons.PrepareFault number)) = HasNumber rs number
 SpeaksOf rs _ = Unit {0}
 
 -- whom the lines of a step speak of: the family, and who is registered with it
@@ -162,17 +163,17 @@ speaks_of completions g sound why is = by g.completion sound.completion.there so
             (registered_as g.ballots.registrations c.parties (participants 0 g.ballots) answered.place answered.party parties.0 (registered_of g 0) answered.there)
 
         by_reason : (reason : Reason) → HasCause reason c → SpeaksOf g.ballots.registrations reason
-        by_reason (reasons.Vote number) (inl answered) = number_of number _ answered
-        by_reason (reasons.Vote number) (inr (alone, answered)) = number_of number _ answered
-        by_reason (reasons.PrepareLost number) answered = number_of number _ answered
-        by_reason (reasons.PrepareStarved number) answered = number_of number _ answered
-        by_reason (reasons.PrepareFault number) faulted = number_of number faulted.heard faulted.answer
+        by_reason (reasons.Phase (phase_reasons.Vote number)) (inl answered) = number_of number _ answered
+        by_reason (reasons.Phase (phase_reasons.Vote number)) (inr (alone, answered)) = number_of number _ answered
+        by_reason (reasons.Phase (phase_reasons.PrepareLost number)) answered = number_of number _ answered
+        by_reason (reasons.Phase (phase_reasons.PrepareStarved number)) answered = number_of number _ answered
+        by_reason (reasons.Phase (phase_reasons.PrepareFault number)) faulted = number_of number faulted.heard faulted.answer
         by_reason reasons.Asked cause = tt
         by_reason reasons.Marked cause = tt
         by_reason reasons.Timeout cause = tt
         by_reason (reasons.SyncLost number) cause = tt
         by_reason (reasons.SyncStarved number) cause = tt
-        by_reason (reasons.JournalFull used need) cause = tt
+        by_reason (reasons.Phase (phase_reasons.JournalFull used need)) cause = tt
         by_reason reasons.NotStored cause = tt
         by_reason reasons.Superior cause = tt
         by_reason reasons.NotEnlisted cause = tt

@@ -4,13 +4,12 @@ use Rattle.ior_refs.specs.declared.key.ObjectKey.{ObjectKey}
 use Rattle.ots_model.specs.Safe.{Stands, IsRegistered}
 use Rattle.ots_model.specs.declared.completion.Ground.{Ground}
 use Rattle.ots_model.specs.declared.completion.Ground.TheVariants.{Record}
-use Rattle.ots_model.specs.declared.completion.Outcome.TheVariants as told_outcomes
 use Rattle.ots_model.specs.declared.completion.Vote.{Vote}
 use Rattle.ots_model.specs.declared.line.Line.{Line}
 use Rattle.ots_model.specs.declared.line.Line.TheVariants as lines
 use Rattle.ots_model.specs.declared.service.RetryKey.{RetryKey}
-use Rattle.ots_model.specs.declared.tree.Outcome.{Outcome}
-use Rattle.ots_model.specs.declared.tree.Outcome.TheVariants as outcomes
+use Rattle.ots_model.specs.Numbered.{Outcome}
+use Rattle.ots_model.specs.declared.completion.Outcome.TheVariants as outcomes
 use Rattle.ots_model.specs.declared.tree.Outward.{Outward}
 use Rattle.txn_tree.specs.Rows.{is_live_branch}
 use Rattle.txn_tree.specs.declared.row.Row.{Row}
@@ -255,9 +254,9 @@ module _ (w : World) (place : ℕ) (s : Seat) (n : Node) (f g : Family) (there :
           absurd (not_both at.0 r.branch heard.r.branch (theirs.own r object at.0 registered leads same_object) at.1)
     ]
 
-    outcome_was : (basis : Ground) → Stands (lines.Decide theirs.name (told_outcomes.Commit basis)) (lines_of more)
-        → Stands (lines.Decide theirs.name (told_outcomes.Commit basis)) (lines_of told)
-    outcome_was basis x = elim (cases (lines.Decide theirs.name (told_outcomes.Commit basis)) (among_back _ _ x)) [
+    outcome_was : (basis : Ground) → Stands (lines.Decide theirs.name (outcomes.Commit basis)) (lines_of more)
+        → Stands (lines.Decide theirs.name (outcomes.Commit basis)) (lines_of told)
+    outcome_was basis x = elim (cases (lines.Decide theirs.name (outcomes.Commit basis)) (among_back _ _ x)) [
       | inl was ↦ among_turned _ _ was
       | inr (e, among, (fixed, same, named, said)) ↦ absurd (not_both theirs.name 0 0 own_top (branch_named w told k key f found c own 0 theirs.name named))
     ]

@@ -8,18 +8,18 @@ use Rattle.ior_refs.specs.declared.key.ObjectKey.{ObjectKey}
 use Rattle.ots_model.specs.Safe.{Stands, HasConsented, IsRegistered, IsSent, TakesPart}
 use Rattle.ots_model.specs.declared.completion.Ground.{Ground}
 use Rattle.ots_model.specs.declared.completion.Ground.TheVariants.{Record}
-use Rattle.ots_model.specs.declared.completion.Outcome.{Outcome as ToldOutcome}
-use Rattle.ots_model.specs.declared.completion.Outcome.TheVariants as told_outcomes
+use Rattle.ots_model.specs.Numbered.{LineOutcome}
 use Rattle.ots_model.specs.declared.completion.Reason.{Reason as ToldReason}
 use Rattle.ots_model.specs.declared.completion.Vote.TheVariants.{VoteCommit}
-use Rattle.ots_model.specs.declared.completion.Word.TheVariants as phases
+use Rattle.ots_model.specs.declared.completion.Word.TheVariants as phase_words
 use Rattle.ots_model.specs.declared.line.Line.{Line}
 use Rattle.ots_model.specs.declared.line.Line.TheVariants as lines
 use Rattle.ots_model.specs.declared.service.RetryKey.{RetryKey}
-use Rattle.ots_model.specs.declared.tree.Outcome.{Outcome}
-use Rattle.ots_model.specs.declared.tree.Outcome.TheVariants as outcomes
+use Rattle.ots_model.specs.Numbered.{Outcome}
+use Rattle.ots_model.specs.declared.completion.Outcome.TheVariants as outcomes
 use Rattle.ots_model.specs.declared.tree.Outward.{Outward}
 use Rattle.ots_model.specs.declared.tree.Reason.{Reason}
+use Rattle.ots_model.specs.declared.completion.Reason.TheVariants as phase_reasons
 use Rattle.ots_model.specs.declared.tree.Reason.TheVariants as reasons
 use Rattle.resource_votes.specs.declared.registration.Registration.{Registration}
 use Rattle.two_phase.specs.Stages as stages
@@ -105,24 +105,24 @@ module _ (w : World) (place : ℕ) (s : Seat) (n : Node) (f g : Family) (there :
   -- ---- decisions
 
   -- no commit by a record is told now
-  no_commit : (fixed : Outcome) → IsSaidAs fixed (told_outcomes.Commit Record) → Contains some (effects.Decided fixed) → ⊥
+  no_commit : (fixed : Outcome) → IsSaidAs fixed (outcomes.Commit Record) → Contains some (effects.Decided fixed) → ⊥
   no_commit (outcomes.Commit basis) said at =
       let new = decided_new w f g some sent is (outcomes.Commit basis) at in
       no (sym new.0 ∙ is.kept.commits (new.1 ∙ ap (λ (x : Ground). Some (outcomes.Commit x)) (sym (same_basis _ Record basis refl said))))
     where
-      same_basis : (x : ToldOutcome (List ℕ)) (a b : Ground) → x ≡ told_outcomes.Commit a → x ≡ told_outcomes.Commit b → a ≡ b
+      same_basis : (x : LineOutcome) (a b : Ground) → x ≡ outcomes.Commit a → x ≡ outcomes.Commit b → a ≡ b
       same_basis x a b e d = cc
 
-      no : None ≡ Some (outcomes.Commit Record) → ⊥
+      no : ◌≡◌ {A = Option Outcome} None (Some (outcomes.Commit Record)) → ⊥
       no e = cc
   no_commit (outcomes.Rollback reason) said at = absurd (no _ said.0 refl said.1)
     where
-      no : (x : ToldOutcome (List ℕ)) (why : ToldReason (List ℕ)) → x ≡ told_outcomes.Commit Record → x ≡ told_outcomes.Rollback why → ⊥
+      no : (x : LineOutcome) (why : ToldReason (List ℕ)) → x ≡ outcomes.Commit Record → x ≡ outcomes.Rollback why → ⊥
       no x why e d = cc
   no_commit outcomes.Unknown said at = absurd cc
 
-  commit_was : (name : List ℕ) → Stands (lines.Decide name (told_outcomes.Commit Record)) (known more) → Stands (lines.Decide name (told_outcomes.Commit Record)) (known told)
-  commit_was name x = elim (cases (lines.Decide name (told_outcomes.Commit Record)) x) [
+  commit_was : (name : List ℕ) → Stands (lines.Decide name (outcomes.Commit Record)) (known more) → Stands (lines.Decide name (outcomes.Commit Record)) (known told)
+  commit_was name x = elim (cases (lines.Decide name (outcomes.Commit Record)) x) [
     | inl was ↦ was
     | inr (e, at, (fixed, same, named, said)) ↦ absurd (no_commit fixed said (among e _ same at))
   ]
@@ -144,16 +144,16 @@ module _ (w : World) (place : ℕ) (s : Seat) (n : Node) (f g : Family) (there :
   IsNewBack name = (why : Reason) × Contains some (effects.Decided (outcomes.Rollback why)) × (branch_name w c 0 ≡ Some name)
 
   said_back : (e : Effect) (name : List ℕ) (reason : ToldReason (List ℕ)) (fixed : Outcome) → Contains some e → e ≡ effects.Decided fixed → branch_name w c 0 ≡ Some name
-      → IsSaidAs fixed (told_outcomes.Rollback reason) → IsNewBack name
+      → IsSaidAs fixed (outcomes.Rollback reason) → IsNewBack name
   said_back e name reason (outcomes.Commit basis) at same named said = absurd (no _ refl said)
     where
-      no : (x : ToldOutcome (List ℕ)) → x ≡ told_outcomes.Rollback reason → x ≡ told_outcomes.Commit basis → ⊥
+      no : (x : LineOutcome) → x ≡ outcomes.Rollback reason → x ≡ outcomes.Commit basis → ⊥
       no x a b = cc
   said_back e name reason (outcomes.Rollback why) at same named said = (why, among e _ same at, named)
   said_back e name reason outcomes.Unknown at same named said = absurd cc
 
   rolled_cases : (name : List ℕ) → IsRolledBack more name → IsRolledBack told name ⊎ IsNewBack name
-  rolled_cases name (agreed.IsRolledBack.by_known reason x) = elim (cases (lines.Decide name (told_outcomes.Rollback reason)) x) [
+  rolled_cases name (agreed.IsRolledBack.by_known reason x) = elim (cases (lines.Decide name (outcomes.Rollback reason)) x) [
     | inl was ↦ inl (agreed.IsRolledBack.by_known reason was)
     | inr (e, at, (fixed, same, named, said)) ↦ inr (said_back e name reason fixed at same named said)
   ]
@@ -300,16 +300,16 @@ module _ (w : World) (place : ℕ) (s : Seat) (n : Node) (f g : Family) (there :
       (number_named f.ballots.registrations old.named number (subst (λ (rs : List Registration). HasNumber rs number) is.registrations has_it))
 
   named_reason : (why : Reason) → IsPlainReason why → SpeaksOf g.ballots.registrations why → IsNamedReason w c why
-  named_reason (reasons.Vote number) plain of = registered_now number of
-  named_reason (reasons.PrepareLost number) plain of = registered_now number of
-  named_reason (reasons.PrepareStarved number) plain of = registered_now number of
-  named_reason (reasons.PrepareFault number) plain of = registered_now number of
+  named_reason (reasons.Phase (phase_reasons.Vote number)) plain of = registered_now number of
+  named_reason (reasons.Phase (phase_reasons.PrepareLost number)) plain of = registered_now number of
+  named_reason (reasons.Phase (phase_reasons.PrepareStarved number)) plain of = registered_now number of
+  named_reason (reasons.Phase (phase_reasons.PrepareFault number)) plain of = registered_now number of
   named_reason reasons.Asked plain of = tt
   named_reason reasons.Marked plain of = tt
   named_reason reasons.Timeout plain of = tt
   named_reason (reasons.SyncLost number) plain of = absurd plain
   named_reason (reasons.SyncStarved number) plain of = absurd plain
-  named_reason (reasons.JournalFull used need) plain of = tt
+  named_reason (reasons.Phase (phase_reasons.JournalFull used need)) plain of = tt
   named_reason reasons.NotStored plain of = tt
   named_reason reasons.Superior plain of = tt
   named_reason reasons.NotEnlisted plain of = tt
@@ -359,7 +359,7 @@ module _ (w : World) (place : ℕ) (s : Seat) (n : Node) (f g : Family) (there :
 
   -- ---- words
 
-  alone_on : (name : List ℕ) → IsSent phases.CommitOnePhase name (known told) → IsAlone w told name → IsAlone v more name
+  alone_on : (name : List ℕ) → IsSent phase_words.CommitOnePhase name (known told) → IsAlone w told name → IsAlone v more name
   alone_on name out was = record {
     family = was.family;
     key = was.key;
@@ -379,7 +379,7 @@ module _ (w : World) (place : ℕ) (s : Seat) (n : Node) (f g : Family) (there :
           (k.open_words.one_phase name turned.0 at.0 key f (out.0, among_turned _ _ out.1) turned.1 found at.1).0
 
   pub one_phase_now : OnePhaseIsAlone v more
-  one_phase_now name out = let before : IsSent phases.CommitOnePhase name (known told) = (out.0, tells.back _ refl out.1) in alone_on name before (k.one_phase name before)
+  one_phase_now name out = let before : IsSent phase_words.CommitOnePhase name (known told) = (out.0, tells.back _ refl out.1) in alone_on name before (k.one_phase name before)
 
   over_on : (t top : List ℕ) (of : ObjectKey) → IsClosed w told of top ⊎ IsCutOff (known told) t → IsClosed v more of top ⊎ IsCutOff (known more) t
   over_on t top of (inl closed) = inl (closed_on top of closed)
@@ -413,7 +413,7 @@ module _ (w : World) (place : ℕ) (s : Seat) (n : Node) (f g : Family) (there :
       this_branch h t b same (branch, named, of, first) =
           (branch, named, subst (λ (x : ObjectKey). IsTrue (is_of branch (record g { key = x }))) is.key (subst (λ (x : Family). IsTrue (is_of branch x)) same of), first)
 
-      commit_of : (x t : List ℕ) (b : ℕ) (of : ObjectKey) (h : Family) → IsSent phases.Commit x (lines_of told) → IsRegistered x t (lines_of told)
+      commit_of : (x t : List ℕ) (b : ℕ) (of : ObjectKey) (h : Family) → IsSent phase_words.Commit x (lines_of told) → IsRegistered x t (lines_of told)
           → ((h ≡ g) × IsTrue (is_of of g)) ⊎ ((family_at w of ≡ Some h) × (IsTrue (is_of h.key f) → ⊥)) → IsBranch v h t b
           → stages.outcome h.completion ≡ Some (outcomes.Commit Record)
       commit_of x t b of h out registered (inl this) branch =
@@ -421,7 +421,7 @@ module _ (w : World) (place : ℕ) (s : Seat) (n : Node) (f g : Family) (there :
           ∙ is.stays (outcomes.Commit Record) (k.open_words.commit x t b key f out registered found (this_branch h t b this.0 branch))
       commit_of x t b of h out registered (inr that) branch = k.open_words.commit x t b of h out registered that.0 branch
 
-      one_of : (x t : List ℕ) (b : ℕ) (of : ObjectKey) (h : Family) → IsSent phases.CommitOnePhase x (lines_of told) → IsRegistered x t (lines_of told)
+      one_of : (x t : List ℕ) (b : ℕ) (of : ObjectKey) (h : Family) → IsSent phase_words.CommitOnePhase x (lines_of told) → IsRegistered x t (lines_of told)
           → ((h ≡ g) × IsTrue (is_of of g)) ⊎ ((family_at w of ≡ Some h) × (IsTrue (is_of h.key f) → ⊥)) → IsBranch v h t b
           → IsAsking h.completion × (stages.decides_alone h.completion ≡ true)
       one_of x t b of h out registered (inl this) branch =

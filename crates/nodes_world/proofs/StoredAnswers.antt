@@ -1,7 +1,7 @@
 -- A resource that has answered commit has stored its updates, as a line tells. So it stays.
 use Rattle.std.proofs.Common.{◌≡◌, inl, inr, ℕ, ◌+◌, IsTrue, is_some, List, ◌++◌, slice_get, Option, Some, None, refl, sym, ap, subst, ◌∙◌, append_assoc, append-nil, arith}
 use Rattle.ots_model.specs.Safe.{Stands}
-use Rattle.ots_model.specs.declared.completion.Word.TheVariants as phases
+use Rattle.ots_model.specs.declared.completion.Word.TheVariants as phase_words
 use Rattle.ots_model.specs.declared.line.Line.{Line}
 use Rattle.ots_model.specs.declared.line.Line.TheVariants as lines
 use Rattle.ots_model.specs.declared.line.ResourceState.TheVariants as shown
@@ -52,7 +52,7 @@ pub record IsStored (w : World) (told : List Told) (to : List ℕ) : Type 0 wher
 
 -- so has each one that has answered commit
 abbrev pub AreStored : World → List Told → Type 0
-AreStored w told = (nth place reply : ℕ) (o : Outward) (answer : Said) → IsWord w nth place o → o.word ≡ words.Commit
+AreStored w told = (nth place reply : ℕ) (o : Outward) (answer : Said) → IsWord w nth place o → o.word ≡ words.Phase phase_words.Commit
     → HasContent w reply (contents.Reply (nth + 1) answer) → IsStored w told o.to
 
 -- ---- one step
@@ -67,16 +67,16 @@ module _ (w v : World) (told more : List Told) (k : Known w told) (later : Known
       (subst (Stands line) (sym (known_more told more)) (in_front (known told) (known more) line (among_back (known told) line s)))
 
   -- the reference of a commit word leads to the same resource
-  same_object : (nth place : ℕ) (o : Outward) (x : NamedKey) → IsWord w nth place o → o.word ≡ words.Commit → referred w o.to ≡ Some x
+  same_object : (nth place : ℕ) (o : Outward) (x : NamedKey) → IsWord w nth place o → o.word ≡ words.Phase phase_words.Commit → referred w o.to ≡ Some x
       → (y : NamedKey) × (referred v o.to ≡ Some y) × (y.name ≡ x.name)
   same_object nth place o x word commit refers =
-      let sent = k.words.told nth place o phases.Commit x word (ap phase_of commit) refers in
-      let at = later.words.sent (nth + 1) phases.Commit x.name (stands_on _ sent) in
+      let sent = k.words.told nth place o phase_words.Commit x word (ap phase_of commit) refers in
+      let at = later.words.sent (nth + 1) phase_words.Commit x.name (stands_on _ sent) in
       let number = at.5 in
       let same : at.2 ≡ o = one_word (one_content v at.0 nth _ _ (omega (arith, number)) at.4 (on nth _ word)) in
       (at.3, ap (λ (y : Outward). referred v y.to) (sym same) ∙ at.7, at.8)
 
-  stored_on : (nth place : ℕ) (o : Outward) → IsWord w nth place o → o.word ≡ words.Commit → IsStored w told o.to → IsStored v all o.to
+  stored_on : (nth place : ℕ) (o : Outward) → IsWord w nth place o → o.word ≡ words.Phase phase_words.Commit → IsStored w told o.to → IsStored v all o.to
   stored_on nth place o word commit is =
       let at = same_object nth place o is.object word commit is.refers in
       record {
@@ -86,7 +86,7 @@ module _ (w v : World) (told more : List Told) (k : Known w told) (later : Known
       }
 
   -- where the answer was given before
-  old_answer : AreStored w told → (nth place reply : ℕ) (o : Outward) (answer : Said) → IsWord v nth place o → o.word ≡ words.Commit
+  old_answer : AreStored w told → (nth place reply : ℕ) (o : Outward) (answer : Said) → IsWord v nth place o → o.word ≡ words.Phase phase_words.Commit
       → HasContent w reply (contents.Reply (nth + 1) answer) → IsStored v all o.to
   old_answer are nth place reply o answer word commit was =
       let asked = k.words.asked reply (nth + 1) was.0 answer was.1 was.2 in
@@ -103,7 +103,7 @@ module _ (w : World) (told more : List Told) (k : Known w told) (nth place : ℕ
   abbrev v : World
   v = (obeys (nth + 1) o w).world
 
-  new_answer : o.word ≡ words.Commit → IsStored v (told ++ more) o.to
+  new_answer : o.word ≡ words.Phase phase_words.Commit → IsStored v (told ++ more) o.to
   new_answer commit =
       let x = is_there (referred w o.to) (k.words.named place o (nth, word)) in
       let at = stored w told k nth place o x.0 word commit x.1 in

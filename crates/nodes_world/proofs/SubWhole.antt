@@ -5,11 +5,11 @@ use Rattle.std.specs.Option.{option_and_then}
 use Rattle.ior_refs.specs.declared.key.ObjectKey.{ObjectKey}
 use Rattle.ots_model.specs.Safe.{Stands, HasConsented, IsRegistered, IsSent, TakesPart}
 use Rattle.ots_model.specs.declared.completion.Ground.TheVariants.{Record}
-use Rattle.ots_model.specs.declared.completion.Word.TheVariants as phases
+use Rattle.ots_model.specs.declared.completion.Word.TheVariants as phase_words
 use Rattle.ots_model.specs.declared.line.Line.{Line}
 use Rattle.ots_model.specs.declared.line.Line.TheVariants as lines
 use Rattle.ots_model.specs.declared.service.RetryKey.{RetryKey}
-use Rattle.ots_model.specs.declared.tree.Outcome.TheVariants as outcomes
+use Rattle.ots_model.specs.declared.completion.Outcome.TheVariants as outcomes
 use Rattle.txn_tree.specs.Calls.{created}
 use Rattle.two_phase.specs.Stages as stages
 use Rattle.two_phase.specs.Stages.{Standing}
@@ -114,7 +114,7 @@ module _ (w : World) (place : ℕ) (s : Seat) (n : Node) (f g : Family) (there :
   registered_was : (r t : List ℕ) → IsRegistered r t (lines_of later) → IsRegistered r t (lines_of told)
   registered_was r t (end, x) = (end, back _ refl x)
 
-  commit_of : (r t : List ℕ) (b : ℕ) (x : ObjectKey) (h : Family) → IsSent phases.Commit r (lines_of told) → IsRegistered r t (lines_of told)
+  commit_of : (r t : List ℕ) (b : ℕ) (x : ObjectKey) (h : Family) → IsSent phase_words.Commit r (lines_of told) → IsRegistered r t (lines_of told)
       → ((h ≡ g) × IsTrue (is_of x g)) ⊎ ((family_at w x ≡ Some h) × (IsTrue (is_of h.key f) → ⊥)) → IsBranch v h t b
       → stages.outcome h.completion ≡ Some (outcomes.Commit Record)
   commit_of r t b x h sent registered (inl this) one =
@@ -122,7 +122,7 @@ module _ (w : World) (place : ℕ) (s : Seat) (n : Node) (f g : Family) (there :
       ∙ k.open_words.commit r t b key f sent registered found (this_branch t b h this.0 (branch_was r t b h registered one))
   commit_of r t b x h sent registered (inr that) one = k.open_words.commit r t b x h sent registered that.0 (branch_was r t b h registered one)
 
-  one_of : (r t : List ℕ) (b : ℕ) (x : ObjectKey) (h : Family) → IsSent phases.CommitOnePhase r (lines_of told) → IsRegistered r t (lines_of told)
+  one_of : (r t : List ℕ) (b : ℕ) (x : ObjectKey) (h : Family) → IsSent phase_words.CommitOnePhase r (lines_of told) → IsRegistered r t (lines_of told)
       → ((h ≡ g) × IsTrue (is_of x g)) ⊎ ((family_at w x ≡ Some h) × (IsTrue (is_of h.key f) → ⊥)) → IsBranch v h t b
       → IsAsking h.completion × (stages.decides_alone h.completion ≡ true)
   one_of r t b x h sent registered (inl this) one =

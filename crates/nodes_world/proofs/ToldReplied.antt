@@ -7,7 +7,7 @@ use Rattle.ior_refs.specs.declared.key.ObjectKey.{ObjectKey}
 use Rattle.ots_model.specs.Heard.{of_participant}
 use Rattle.ots_model.specs.declared.completion.CallNumber.{CallNumber}
 use Rattle.ots_model.specs.declared.completion.Heard.{Heard as ParticipantHeard}
-use Rattle.ots_model.specs.declared.completion.Heard.TheVariants as participants_heard
+use Rattle.ots_model.specs.declared.completion.Heard.TheVariants as phase_hears
 use Rattle.ots_model.specs.declared.completion.Stood.{Stood}
 use Rattle.ots_model.specs.declared.tree.Heard.{Heard}
 use Rattle.ots_model.specs.declared.tree.Outward.{Outward}
@@ -314,7 +314,7 @@ module _ (rightly : FamiliesStepRightly) (answered : FamiliesHearOutcomesAnswere
         apart : of_participant (heard_in said.Plain) ≡ of_participant (heard_in said.ObjectNotExist) → ⊥
         apart same = no same
           where
-            no : participants_heard.Done ≡ participants_heard.NoObject → ⊥
+            no : phase_hears.Done ≡ phase_hears.NoObject → ⊥
             no e = cc
 
         either : IsReplied w to ⊎ ((of_participant (heard_in said.Plain) ≡ x) × (waiting_for f o.number ≡ Some 0) × IsTelling f.completion to)

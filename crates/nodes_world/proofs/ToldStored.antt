@@ -4,10 +4,10 @@ use Rattle.ior_refs.specs.declared.key.ObjectKey.{ObjectKey}
 use Rattle.ots_model.specs.Safe.{Stands}
 use Rattle.ots_model.specs.declared.completion.Ground.TheVariants.{Record}
 use Rattle.ots_model.specs.declared.completion.Heard.{Heard as ParticipantHeard}
-use Rattle.ots_model.specs.declared.completion.Word.TheVariants as phases
+use Rattle.ots_model.specs.declared.completion.Word.TheVariants as phase_words
 use Rattle.ots_model.specs.declared.line.Line.TheVariants as lines
 use Rattle.ots_model.specs.declared.line.ResourceState.TheVariants as shown
-use Rattle.ots_model.specs.declared.tree.Outcome.TheVariants as outcomes
+use Rattle.ots_model.specs.declared.completion.Outcome.TheVariants as outcomes
 use Rattle.ots_model.specs.declared.tree.Word.{Word}
 use Rattle.ots_model.specs.declared.tree.Word.TheVariants as words
 use Rattle.resource_votes.specs.Ballots.{participants}
@@ -57,9 +57,9 @@ some_heard : (o : Option ParticipantHeard) → IsTrue (is_some o) → (x : Parti
 some_heard (Some x) is = (x, refl)
 some_heard None is = absurd cc
 
-pub outcome_cases : (word : Word) → IsOutcomeWord word → (word ≡ words.Commit) ⊎ (word ≡ words.Rollback)
-outcome_cases words.Commit is = inl refl
-outcome_cases words.Rollback is = inr refl
+pub outcome_cases : (word : Word) → IsOutcomeWord word → (word ≡ words.Phase phase_words.Commit) ⊎ (word ≡ words.Phase phase_words.Rollback)
+outcome_cases (words.Phase phase_words.Commit) is = inl refl
+outcome_cases (words.Phase phase_words.Rollback) is = inr refl
 outcome_cases _ is = absurd is
 
 -- what the reference of a stored one leads to has stored its updates
@@ -81,13 +81,13 @@ module _ (w : World) (told : List Told) (k : Known w told) (replied : ToldReplie
 
   -- none of its participants was told rollback
   not_back : (c : Course) → f.completion ≡ UnderWay c → (p : Party) → Contains c.parties p → (r : NamedKey) → referred w p.to ≡ Some r
-      → (x : IsReplied w p.to) → x.word.word ≡ words.Rollback → ⊥
+      → (x : IsReplied w p.to) → x.word.word ≡ words.Phase phase_words.Rollback → ⊥
   not_back c course p among r refers x back =
       let parties : HasParties (UnderWay c) (participants 0 f.ballots) = subst (λ (s : Standing). HasParties s (participants 0 f.ballots)) course known.sound.completion.parties in
       let as_one : IsRegisteredAs (participants 0 f.ballots) p =
       each_of (IsRegisteredAs (participants 0 f.ballots)) c.parties
       (all_registered (participants 0 f.ballots) c.parties (participants 0 f.ballots) parties.0 parties.1 (all_themselves (participants 0 f.ballots))) p among in
-      let sent = sent_of w told k x.place x.word phases.Rollback r (x.nth, x.sent) (ap phase_of back) (ap (referred w) x.own ∙ refers) in
+      let sent = sent_of w told k x.place x.word phase_words.Rollback r (x.nth, x.sent) (ap phase_of back) (ap (referred w) x.own ∙ refers) in
       subst IsBack commits (part_back w told k key f there as_one.r r as_one.there (ap (referred w) as_one.reference ∙ refers) sent)
 
   -- each one that counts as told has answered commit
@@ -105,7 +105,7 @@ module _ (w : World) (told : List Told) (k : Known w told) (replied : ToldReplie
       is = replied (place_of key) at.0 key.slot f p.to heard.0 at.1 (key_slot key at.0 f at.2).0
           (subst (λ (s : Standing). IsTold s p.to heard.0) (sym course) (p, among, heard.1, refl))
 
-      by : (is.word.word ≡ words.Commit) ⊎ (is.word.word ≡ words.Rollback) → HasAnsweredCommit w p.to
+      by : (is.word.word ≡ words.Phase phase_words.Commit) ⊎ (is.word.word ≡ words.Phase phase_words.Rollback) → HasAnsweredCommit w p.to
       by (inl commit) = replied_commit w p.to is commit
       by (inr back) = absurd (not_back c course p among r refers is back)
 

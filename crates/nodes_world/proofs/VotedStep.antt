@@ -3,11 +3,12 @@ use Rattle.std.proofs.Common.{◌≡◌, ℕ, ◌+◌, Bool, true, false, if◌t
 use Rattle.std.specs.Option.{option_map}
 use Rattle.ots_model.specs.Heard.{of_participant}
 use Rattle.ots_model.specs.declared.completion.CallNumber.{CallNumber}
-use Rattle.ots_model.specs.declared.completion.Heard.TheVariants as participants_heard
+use Rattle.ots_model.specs.declared.completion.Heard.TheVariants as phase_hears
 use Rattle.ots_model.specs.declared.completion.Stood.{Stood}
 use Rattle.ots_model.specs.declared.completion.Vote.{Vote}
 use Rattle.ots_model.specs.declared.tree.Heard.TheVariants as hears_words
 use Rattle.ots_model.specs.declared.tree.Outward.{Outward}
+use Rattle.ots_model.specs.declared.completion.Word.TheVariants as phase_words
 use Rattle.ots_model.specs.declared.tree.Word.TheVariants as words
 use Rattle.resource_votes.specs.Ballots.{participants}
 use Rattle.resource_votes.specs.declared.registration.Registration.{Registration}
@@ -46,7 +47,7 @@ pub settles_nothing : (g : Family) → Rule g (settles None g)
 unfolding settles
 settles_nothing g = only_keeps g
 
-pub vote_heard : (answer : Said) (vote : Vote) → answer ≡ said.Voted vote → of_participant (heard_in answer) ≡ participants_heard.Voted vote
+pub vote_heard : (answer : Said) (vote : Vote) → answer ≡ said.Voted vote → of_participant (heard_in answer) ≡ phase_hears.Voted vote
 unfolding heard_in
 vote_heard answer vote votes = ap (λ (x : Said). of_participant (heard_in x)) votes
 
@@ -73,7 +74,7 @@ asked_as completions f o c numbered waits at decides alone (UnderWay k) going th
 module _ (laws : FamilyLaws) (w : World) (nth place reply now : ℕ) (o : Outward) (back : Message) (answer : Said) (f : Family) (c : Call) (vote : Vote)
     (word : IsWord w nth place o) (replied : slice_get w.messages reply ≡ Some back) (says : back.content ≡ contents.Reply (nth + 1) answer)
     (votes : answer ≡ said.Voted vote) (sound : IsSoundFamily f) (tidy : IsTidy f) (numbered : IsNumberedBy f o) (waits : waiting_for f o.number ≡ Some 0)
-    (at : call_at f 0 ≡ Some c) (decides : c.leg ≡ Deciding) (asks : is_asking f.completion ≡ true) (prepare : o.word ≡ words.Prepare)
+    (at : call_at f 0 ≡ Some c) (decides : c.leg ≡ Deciding) (asks : is_asking f.completion ≡ true) (prepare : o.word ≡ words.Phase phase_words.Prepare)
     (stood : Option Stood) (settled : Rule (hears o.number (heard_in answer) f).family (settles stood (hears o.number (heard_in answer) f).family))
     (waiting : StepAsks f (family_step f (answer_event o answer now) stood)) where
   abbrev e : Event
@@ -82,11 +83,11 @@ module _ (laws : FamilyLaws) (w : World) (nth place reply now : ℕ) (o : Outwar
   abbrev step : Stepped
   step = family_step f e stood
 
-  heard_vote : heard_in answer ≡ hears_words.Voted vote
+  heard_vote : heard_in answer ≡ hears_words.Phase (phase_hears.Voted vote)
   unfolding heard_in
   heard_vote = ap heard_in votes
 
-  heard_so : of_participant (heard_in answer) ≡ participants_heard.Voted vote
+  heard_so : of_participant (heard_in answer) ≡ phase_hears.Voted vote
   heard_so = ap of_participant heard_vote
 
   alone : stages.decides_alone f.completion ≡ false
@@ -121,10 +122,10 @@ module _ (laws : FamilyLaws) (w : World) (nth place reply now : ℕ) (o : Outwar
       inner : {a b : ℕ} → Some a ≡ Some b → a ≡ b
       inner is = cc
 
-      same_vote : {a b : Vote} → hears_words.Voted a ≡ hears_words.Voted b → a ≡ b
+      same_vote : {a b : Vote} → (hears_words.Phase (phase_hears.Voted a)) ≡ hears_words.Phase (phase_hears.Voted b) → a ≡ b
       same_vote is = cc
 
-      same_heard : (m : CallNumber) → acts.Answer o.number (heard_in answer) ≡ acts.Answer m (hears_words.Voted other) → heard_in answer ≡ hears_words.Voted other
+      same_heard : (m : CallNumber) → acts.Answer o.number (heard_in answer) ≡ acts.Answer m (hears_words.Phase (phase_hears.Voted other)) → heard_in answer ≡ hears_words.Phase (phase_hears.Voted other)
       same_heard m is = cc
 
   -- where the journal was asked for nothing, no decision is wanted then

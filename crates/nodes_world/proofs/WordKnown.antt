@@ -5,7 +5,7 @@ use Rattle.ior_refs.specs.declared.key.ObjectKey.{ObjectKey}
 use Rattle.ots_model.specs.SafeByLine.{AllowedIsSafe, CanChange}
 use Rattle.ots_model.specs.declared.completion.Vote.{Vote}
 use Rattle.ots_model.specs.declared.completion.Vote.TheVariants.{VoteCommit, VoteReadOnly, VoteRollback}
-use Rattle.ots_model.specs.declared.completion.Word.TheVariants as phases
+use Rattle.ots_model.specs.declared.completion.Word.TheVariants as phase_words
 use Rattle.ots_model.specs.declared.line.Line.{Line}
 use Rattle.ots_model.specs.declared.line.ResourceState.{ResourceState}
 use Rattle.ots_model.specs.declared.line.ResourceState.TheVariants as shown
@@ -166,18 +166,18 @@ module _ (w : World) (told : List Told) (k : Known w told) (is_safe : AllowedIsS
       where
         by : (word : EndWord) → told_word o.word ≡ Some word → WasTold word x.name (lines_of told)
         by tolds.Prepare is = tt
-        by tolds.Commit is = sent_of w told k place o phases.Commit x (nth, asked) (told_phase o.word phases.Commit is) refers
-        by tolds.Rollback is = sent_of w told k place o phases.Rollback x (nth, asked) (told_phase o.word phases.Rollback is) refers
-        by tolds.CommitOnePhase is = sent_of w told k place o phases.CommitOnePhase x (nth, asked) (told_phase o.word phases.CommitOnePhase is) refers
+        by tolds.Commit is = sent_of w told k place o phase_words.Commit x (nth, asked) (told_phase o.word phase_words.Commit is) refers
+        by tolds.Rollback is = sent_of w told k place o phase_words.Rollback x (nth, asked) (told_phase o.word phase_words.Rollback is) refers
+        by tolds.CommitOnePhase is = sent_of w told k place o phase_words.CommitOnePhase x (nth, asked) (told_phase o.word phase_words.CommitOnePhase is) refers
         by tolds.Forget is = tt
 
-    prepared : o.word ≡ words.Prepare → word ≡ tolds.Prepare
+    prepared : o.word ≡ words.Phase phase_words.Prepare → word ≡ tolds.Prepare
     prepared is = some_word (sym means ∙ ap told_word is)
 
-    votes : (vote : Vote) → o.word ≡ words.Prepare → answer ≡ said.Voted vote → answer_of_row (row tolds.Prepare r.state).said ≡ Some (said.Voted vote)
+    votes : (vote : Vote) → o.word ≡ words.Phase phase_words.Prepare → answer ≡ said.Voted vote → answer_of_row (row tolds.Prepare r.state).said ≡ Some (said.Voted vote)
     votes vote is voted = ap (λ (z : EndWord). answer_of_row (row z r.state).said) (sym (prepared is)) ∙ says ∙ ap (λ (z : Said). Some z) voted
 
-    at_prepare : (P : State → Type 0) → o.word ≡ words.Prepare → P (moved (row tolds.Prepare r.state).next r.state) → P (moved (row word r.state).next r.state)
+    at_prepare : (P : State → Type 0) → o.word ≡ words.Phase phase_words.Prepare → P (moved (row tolds.Prepare r.state).next r.state) → P (moved (row word r.state).next r.state)
     at_prepare P is holds = subst (λ (z : EndWord). P (moved (row z r.state).next r.state)) (sym (prepared is)) holds
 
     changes_rightly : (t : ResourceState) → option_and_then shown_state (row word r.state).next ≡ Some t → CanChange t x.name (lines_of told)
@@ -210,11 +210,11 @@ module _ (w : World) (told : List Told) (k : Known w told) (is_safe : AllowedIsS
         said_inner : {a b : Said} → Some a ≡ Some b → a ≡ b
         said_inner e = cc
 
-        is_prepare : word ≡ tolds.Prepare → o.word ≡ words.Prepare
+        is_prepare : word ≡ tolds.Prepare → o.word ≡ words.Phase phase_words.Prepare
         is_prepare is = by o.word (means ∙ ap (λ (z : EndWord). Some z) is)
           where
-            by : (z : Word) → told_word z ≡ Some tolds.Prepare → z ≡ words.Prepare
-            by words.Prepare e = refl
+            by : (z : Word) → told_word z ≡ Some tolds.Prepare → z ≡ words.Phase phase_words.Prepare
+            by (words.Phase phase_words.Prepare) e = refl
             by _ e = absurd cc
 
     -- the two ways that a row goes
@@ -253,11 +253,11 @@ module _ (w : World) (told : List Told) (k : Known w told) (is_safe : AllowedIsS
       → Obeys (lines_of told) x.name r.state r.state o.word answer None
   obeys_plainly other answer no_vote = record {
     commit = λ voted. voted;
-    commit_now = λ is voted. absurd (none_of words.Prepare tolds.Prepare is refl);
+    commit_now = λ is voted. absurd (none_of (words.Phase phase_words.Prepare) tolds.Prepare is refl);
     read_only = λ is. is;
-    read_only_now = λ is voted. absurd (none_of words.Prepare tolds.Prepare is refl);
+    read_only_now = λ is voted. absurd (none_of (words.Phase phase_words.Prepare) tolds.Prepare is refl);
     rollback = λ is. is;
-    rollback_now = λ is voted. absurd (none_of words.Prepare tolds.Prepare is refl);
+    rollback_now = λ is voted. absurd (none_of (words.Phase phase_words.Prepare) tolds.Prepare is refl);
     none = λ unvoted before. before;
     follows = old.follows;
     voter = λ vote is. absurd (no_vote vote is);

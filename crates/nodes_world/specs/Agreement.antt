@@ -12,7 +12,7 @@ use Rattle.ots_model.specs.declared.completion.Outcome.TheVariants as outcomes
 use Rattle.ots_model.specs.declared.completion.Reason.{Reason}
 use Rattle.ots_model.specs.declared.completion.Vote.{Vote}
 use Rattle.ots_model.specs.declared.completion.Vote.TheVariants.{VoteCommit}
-use Rattle.ots_model.specs.declared.completion.Word.TheVariants as phases
+use Rattle.ots_model.specs.declared.completion.Word.TheVariants as phase_words
 use Rattle.ots_model.specs.declared.line.Line.{Line}
 use Rattle.ots_model.specs.declared.line.Line.TheVariants as lines
 use Rattle.ots_model.specs.declared.line.ResourceState.TheVariants as shown_states
@@ -257,7 +257,7 @@ names_object to (CellsOnePhase life number puts) = false
 
 -- commit is told to those alone that a decision record of the sender's disk names
 abbrev pub CommitsAreRecorded : World → Type 0
-CommitsAreRecorded w = (place : ℕ) (o : Outward) → HasSent w place o → o.word ≡ words.Commit → IsTrue (has_record w place (names_object o.to))
+CommitsAreRecorded w = (place : ℕ) (o : Outward) → HasSent w place o → o.word ≡ words.Phase phase_words.Commit → IsTrue (has_record w place (names_object o.to))
 
 -- the resource of this name is the only participant of its family, and the family isn't decided by a record
 pub record IsAlone (w : World) (told : List Told) (name : List ℕ) : Type 0 where
@@ -270,7 +270,7 @@ pub record IsAlone (w : World) (told : List Told) (name : List ℕ) : Type 0 whe
 
 -- commit_one_phase is told to those alone
 abbrev pub OnePhaseIsAlone : World → List Told → Type 0
-OnePhaseIsAlone w told = (name : List ℕ) → IsSent phases.CommitOnePhase name (known told) → IsAlone w told name
+OnePhaseIsAlone w told = (name : List ℕ) → IsSent phase_words.CommitOnePhase name (known told) → IsAlone w told name
 
 -- the resource of this name is one that rollback may be told: its family is closed, or its transaction is cut off
 pub record MayBeRolledBack (w : World) (told : List Told) (name : List ℕ) : Type 0 where
@@ -284,7 +284,7 @@ pub record MayBeRolledBack (w : World) (told : List Told) (name : List ℕ) : Ty
 
 -- rollback is told to those alone
 abbrev pub RollbacksAreClosed : World → List Told → Type 0
-RollbacksAreClosed w told = (place : ℕ) (o : Outward) (r : NamedKey) → HasSent w place o → o.word ≡ words.Rollback → referred w o.to ≡ Some r
+RollbacksAreClosed w told = (place : ℕ) (o : Outward) (r : NamedKey) → HasSent w place o → o.word ≡ words.Phase phase_words.Rollback → referred w o.to ≡ Some r
     → MayBeRolledBack w told r.name
 
 -- a resource keeps its updates for the outcome, or it is over for it
@@ -312,7 +312,7 @@ pub record HasGiven (w : World) (name : List ℕ) (vote : Vote) : Type 0 where
   pub from : ℕ
   pub asked : Outward
   pub sent : IsWord w request from asked
-  pub prepare : asked.word ≡ words.Prepare
+  pub prepare : asked.word ≡ words.Phase phase_words.Prepare
   pub resource : NamedKey
   pub object : referred w asked.to ≡ Some resource
   pub same_name : resource.name ≡ name
@@ -350,7 +350,7 @@ DonesAreComplete w = (place : ℕ) (rs : List JournalRecord) (key : ObjectKey) (
 -- a resource whose updates are stored was told so; one whose updates are dropped wasn't told commit
 abbrev pub StatesFollow : State → List ℕ → List Line → Type 0
 StatesFollow states.Applied name all = IsToldCommit name all
-StatesFollow states.Undone name all = IsSent phases.Commit name all → ⊥
+StatesFollow states.Undone name all = IsSent phase_words.Commit name all → ⊥
 StatesFollow _ name all = Unit {0}
 
 abbrev pub StatesFollowWords : World → List Told → Type 0

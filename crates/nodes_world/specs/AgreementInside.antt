@@ -8,19 +8,18 @@ use Rattle.ots_model.specs.Limits.{name_limit, registration_limit}
 use Rattle.ots_model.specs.Safe.{Stands, IsRegistered, IsSent, IsToldCommit, IsToldRollback, IsTop}
 use Rattle.ots_model.specs.SafeByLine.{AreAllowed}
 use Rattle.ots_model.specs.declared.completion.Ground.TheVariants.{Record}
-use Rattle.ots_model.specs.declared.completion.Outcome.{Outcome as ToldOutcome}
-use Rattle.ots_model.specs.declared.completion.Outcome.TheVariants as told_outcomes
+use Rattle.ots_model.specs.Numbered.{LineOutcome}
 use Rattle.ots_model.specs.declared.completion.Vote.{Vote}
 use Rattle.ots_model.specs.declared.completion.Vote.TheVariants.{VoteCommit, VoteReadOnly, VoteRollback}
 use Rattle.ots_model.specs.declared.completion.Word.{Word as Phase}
-use Rattle.ots_model.specs.declared.completion.Word.TheVariants as phases
+use Rattle.ots_model.specs.declared.completion.Word.TheVariants as phase_words
 use Rattle.ots_model.specs.declared.line.Line.{Line}
 use Rattle.ots_model.specs.declared.line.Line.TheVariants as lines
 use Rattle.ots_model.specs.declared.line.ResourceState.{ResourceState}
 use Rattle.ots_model.specs.declared.line.ResourceState.TheVariants as shown
 use Rattle.ots_model.specs.declared.service.RetryKey.{RetryKey}
-use Rattle.ots_model.specs.declared.tree.Outcome.{Outcome}
-use Rattle.ots_model.specs.declared.tree.Outcome.TheVariants as outcomes
+use Rattle.ots_model.specs.Numbered.{Outcome}
+use Rattle.ots_model.specs.declared.completion.Outcome.TheVariants as outcomes
 use Rattle.ots_model.specs.declared.tree.Outward.{Outward}
 use Rattle.ots_model.specs.declared.tree.Word.{Word}
 use Rattle.ots_model.specs.declared.tree.Word.TheVariants as words
@@ -151,10 +150,7 @@ pub record DisksAreKnown (w : World) (told : List Told) : Type 0 where
 -- ---- messages and their lines
 
 abbrev pub phase_of : Word → Option Phase
-phase_of words.Prepare = Some phases.Prepare
-phase_of words.Commit = Some phases.Commit
-phase_of words.CommitOnePhase = Some phases.CommitOnePhase
-phase_of words.Rollback = Some phases.Rollback
+phase_of (words.Phase word) = Some word
 phase_of _ = None
 
 -- each record, with the place of its gate
@@ -206,8 +202,8 @@ notice_out (UnderWay c) = option_and_then (notice_at c) c.out
 
 -- the outcome is told by one of these
 abbrev pub IsOutcomeWord : Word → Type 0
-IsOutcomeWord words.Commit = Unit {0}
-IsOutcomeWord words.Rollback = Unit {0}
+IsOutcomeWord (words.Phase phase_words.Commit) = Unit {0}
+IsOutcomeWord (words.Phase phase_words.Rollback) = Unit {0}
 IsOutcomeWord _ = ⊥
 
 abbrev pub IsAwaited : Awaited → Outward → Type 0
@@ -248,7 +244,8 @@ pub record WordsAreTold (w : World) (h : List Line) : Type 0 where
       → m.content ≡ contents.Reply request answer → (nth from : ℕ) × (o : Outward) × IsWord w nth from o × (request ≡ nth + 1)
   -- a vote answers prepare
   pub voters : (reply nth place : ℕ) (m : Message) (vote : Vote) (o : Outward) → slice_get w.messages reply ≡ Some m
-      → m.content ≡ contents.Reply (nth + 1) (said.Voted vote) → IsWord w nth place o → o.word ≡ words.Prepare
+      → m.content ≡ contents.Reply (nth + 1) (said.Voted vote) → IsWord w nth place o
+      → o.word ≡ words.Phase phase_words.Prepare
   -- no number is of a later life; those of this life were given
   pub lives : (place : ℕ) (o : Outward) (rs : List JournalRecord) → HasSent w place o → records_at w place ≡ Some rs
       → o.number.life ≤ (found_in rs).life
@@ -266,7 +263,7 @@ pub record WordsAreTold (w : World) (h : List Line) : Type 0 where
 
 -- the resource of this name has answered this vote
 abbrev pub HasAnswered : World → List ℕ → Vote → Type 0
-HasAnswered w name vote = (nth from reply : ℕ) × (o : Outward) × (r : NamedKey) × (m : Message) × IsWord w nth from o × (o.word ≡ words.Prepare)
+HasAnswered w name vote = (nth from reply : ℕ) × (o : Outward) × (r : NamedKey) × (m : Message) × IsWord w nth from o × (o.word ≡ words.Phase phase_words.Prepare)
     × (referred w o.to ≡ Some r) × (r.name ≡ name) × (slice_get w.messages reply ≡ Some m) × (m.content ≡ contents.Reply (nth + 1) (said.Voted vote))
 
 -- how it stands by the vote that it gave, and by what it was told
@@ -280,9 +277,9 @@ abbrev pub HasNotVoted : State → List ℕ → List Line → Type 0
 HasNotVoted states.Fresh name h = Unit {0}
 HasNotVoted states.Working name h = Unit {0}
 HasNotVoted states.Refused name h = Unit {0}
-HasNotVoted states.Applied name h = IsSent phases.CommitOnePhase name h
-HasNotVoted states.Undone name h = IsToldRollback name h ⊎ IsSent phases.CommitOnePhase name h
-HasNotVoted states.Forgotten name h = IsSent phases.CommitOnePhase name h
+HasNotVoted states.Applied name h = IsSent phase_words.CommitOnePhase name h
+HasNotVoted states.Undone name h = IsToldRollback name h ⊎ IsSent phase_words.CommitOnePhase name h
+HasNotVoted states.Forgotten name h = IsSent phase_words.CommitOnePhase name h
 HasNotVoted _ name h = ⊥
 
 pub record ResourceIsKnown (w : World) (h : List Line) (name : List ℕ) (r : FlatResource) : Type 0 where
@@ -316,8 +313,8 @@ IsListed w f name b = (c : ℕ) × (r : Registration) × (object : NamedKey) × 
 
 -- its outcome is told, or isn't fixed
 abbrev pub OutcomeIsTold : Option Outcome → List ℕ → List Line → Type 0
-OutcomeIsTold (Some (outcomes.Commit basis)) name h = Stands (lines.Decide name (told_outcomes.Commit basis)) h
-OutcomeIsTold _ name h = Stands (lines.Decide name (told_outcomes.Commit Record)) h → ⊥
+OutcomeIsTold (Some (outcomes.Commit basis)) name h = Stands (lines.Decide name (outcomes.Commit basis)) h
+OutcomeIsTold _ name h = Stands (lines.Decide name (outcomes.Commit Record)) h → ⊥
 
 -- a message has the number of this key; it was sent while a script went on
 abbrev pub HasMessage : World → RetryKey → Type 0
@@ -402,9 +399,9 @@ FamiliesAreKnown w h = (key : ObjectKey) (f : Family) → family_at w key ≡ So
 
 -- what was told to a participant of a family that is there
 pub record ToldIsOpen (w : World) (h : List Line) : Type 0 where
-  pub commit : (g t : List ℕ) (b : ℕ) (key : ObjectKey) (f : Family) → IsSent phases.Commit g h → IsRegistered g t h
+  pub commit : (g t : List ℕ) (b : ℕ) (key : ObjectKey) (f : Family) → IsSent phase_words.Commit g h → IsRegistered g t h
       → family_at w key ≡ Some f → IsBranch w f t b → stages.outcome f.completion ≡ Some (outcomes.Commit Record)
-  pub one_phase : (g t : List ℕ) (b : ℕ) (key : ObjectKey) (f : Family) → IsSent phases.CommitOnePhase g h → IsRegistered g t h
+  pub one_phase : (g t : List ℕ) (b : ℕ) (key : ObjectKey) (f : Family) → IsSent phase_words.CommitOnePhase g h → IsRegistered g t h
       → family_at w key ≡ Some f → IsBranch w f t b → IsAsking f.completion × (stages.decides_alone f.completion ≡ true)
 
 -- ---- what was rolled back
@@ -435,7 +432,7 @@ pub record TransactionsAreKnown (w : World) (told : List Told) : Type 0 where
   pub lives : (name : List ℕ) (key : ObjectKey) (rs : List JournalRecord) → IsTransaction w name key → records_at w (place_of key) ≡ Some rs
       → key.life ≤ (found_in rs).life
   -- nothing else is told to have an outcome
-  pub decided : (name : List ℕ) (outcome : ToldOutcome (List ℕ)) → Stands (lines.Decide name outcome) (known told) → IsNamed w name
+  pub decided : (name : List ℕ) (outcome : LineOutcome) → Stands (lines.Decide name outcome) (known told) → IsNamed w name
   pub rolled_back : (name : List ℕ) → IsRolledBack told name → IsNamed w name
 
 -- A record that a node tells again is one of its disk, to all whom that names, under their numbers; and its decision is told.
@@ -448,7 +445,7 @@ pub record IsHeldAs (w : World) (told : List Told) (place : ℕ) (rs : List Jour
   pub line : (life slot generation : ℕ) (by : Option RetryKey) (asked : Bool) (regs : List Named)
       → stood.item ≡ Decision life slot generation by asked regs
       → (name : List ℕ) × IsTransaction w name (recorded_key place life slot generation)
-      × Stands (lines.Decide name (told_outcomes.Commit Record)) (known told)
+      × Stands (lines.Decide name (outcomes.Commit Record)) (known told)
 
 pub record NodeIsKnown (w : World) (told : List Told) (place : ℕ) (n : Node) : Type 0 where
   -- it keeps its decisions, before the end of its journal

@@ -4,6 +4,7 @@ use Rattle.std.specs.Option.{option_map, option_map_or, option_and_then}
 use Rattle.ots_model.specs.declared.line.Line.TheVariants as lines
 use Rattle.ots_model.specs.declared.completion.Disposition.TheVariants as dispositions
 use Rattle.ots_model.specs.declared.tree.Heard.{Heard}
+use Rattle.ots_model.specs.declared.completion.Heard.TheVariants as phase_hears
 use Rattle.ots_model.specs.declared.tree.Heard.TheVariants as hears
 use Rattle.ots_model.specs.declared.tree.Outward.{Outward}
 use Rattle.coordinator.specs.declared.event.Act.TheVariants as acts
@@ -25,17 +26,17 @@ use Rattle.nodes_world.specs.Clients.{acts_at, answer_only}
 
 -- what the caller of a participant hears in an answer
 unfoldable pub heard_in : Said → Heard
-heard_in said.Plain = hears.Done
+heard_in said.Plain = hears.Phase phase_hears.Done
 heard_in (said.State s) = hears.Told s
-heard_in (said.Voted vote) = hears.Voted vote
-heard_in said.TransactionRolledBack = hears.RolledBack
-heard_in said.HeuristicMixed = hears.Heuristic dispositions.Mixed
-heard_in said.HeuristicHazard = hears.Heuristic dispositions.Unknown
-heard_in said.HeuristicRollback = hears.Heuristic dispositions.RolledBack
-heard_in said.HeuristicCommit = hears.Heuristic dispositions.Committed
-heard_in said.NotPrepared = hears.NotPrepared
-heard_in said.ObjectNotExist = hears.NoObject
-heard_in _ = hears.Other
+heard_in (said.Voted vote) = hears.Phase (phase_hears.Voted vote)
+heard_in said.TransactionRolledBack = hears.Phase phase_hears.RolledBack
+heard_in said.HeuristicMixed = hears.Phase (phase_hears.Heuristic dispositions.Mixed)
+heard_in said.HeuristicHazard = hears.Phase (phase_hears.Heuristic dispositions.Unknown)
+heard_in said.HeuristicRollback = hears.Phase (phase_hears.Heuristic dispositions.RolledBack)
+heard_in said.HeuristicCommit = hears.Phase (phase_hears.Heuristic dispositions.Committed)
+heard_in said.NotPrepared = hears.Phase phase_hears.NotPrepared
+heard_in said.ObjectNotExist = hears.Phase phase_hears.NoObject
+heard_in _ = hears.Phase phase_hears.Other
 
 -- the seat at a place is in this life
 abbrev pub is_in_life : World → ℕ → ℕ → Bool

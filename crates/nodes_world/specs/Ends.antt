@@ -9,9 +9,11 @@ use Rattle.ots_model.specs.declared.line.Line.TheVariants as lines
 use Rattle.ots_model.specs.declared.line.ResourceState.{ResourceState}
 use Rattle.ots_model.specs.declared.line.ResourceState.TheVariants as shown_states
 use Rattle.ots_model.specs.declared.tree.Heard.{Heard}
+use Rattle.ots_model.specs.declared.completion.Heard.TheVariants as phase_hears
 use Rattle.ots_model.specs.declared.tree.Heard.TheVariants as hears
 use Rattle.ots_model.specs.declared.tree.Outward.{Outward}
 use Rattle.ots_model.specs.declared.tree.Word.{Word}
+use Rattle.ots_model.specs.declared.completion.Word.TheVariants as phase_words
 use Rattle.ots_model.specs.declared.tree.Word.TheVariants as words
 use Rattle.resource_end.specs.declared.fault.EndFault.{EndFault}
 use Rattle.resource_end.specs.declared.fault.EndFault.TheVariants as faults
@@ -99,12 +101,12 @@ refuses_to key w = elim (resource_at w key) [
 
 -- ---- what a resource does by a word
 
--- the words of the two phases, as a resource's table has them
+-- the words that a resource's table has
 abbrev pub told_word : Word → Option Told
-told_word words.Prepare = Some tolds.Prepare
-told_word words.Commit = Some tolds.Commit
-told_word words.CommitOnePhase = Some tolds.CommitOnePhase
-told_word words.Rollback = Some tolds.Rollback
+told_word (words.Phase phase_words.Prepare) = Some tolds.Prepare
+told_word (words.Phase phase_words.Commit) = Some tolds.Commit
+told_word (words.Phase phase_words.CommitOnePhase) = Some tolds.CommitOnePhase
+told_word (words.Phase phase_words.Rollback) = Some tolds.Rollback
 told_word words.Forget = Some tolds.Forget
 told_word _ = None
 
@@ -117,12 +119,12 @@ heuristic dispositions.Unknown = said.HeuristicHazard
 
 -- what is answered, by what its caller hears; no resource answers so that any other thing is heard
 abbrev pub answer_heard : Heard → Option Said
-answer_heard hears.Done = Some said.Plain
-answer_heard (hears.Voted vote) = Some (said.Voted vote)
-answer_heard (hears.Heuristic d) = Some (heuristic d)
-answer_heard hears.RolledBack = Some said.TransactionRolledBack
-answer_heard hears.NotPrepared = Some said.NotPrepared
-answer_heard hears.NoObject = Some said.ObjectNotExist
+answer_heard (hears.Phase phase_hears.Done) = Some said.Plain
+answer_heard (hears.Phase (phase_hears.Voted vote)) = Some (said.Voted vote)
+answer_heard (hears.Phase (phase_hears.Heuristic d)) = Some (heuristic d)
+answer_heard (hears.Phase phase_hears.RolledBack) = Some said.TransactionRolledBack
+answer_heard (hears.Phase phase_hears.NotPrepared) = Some said.NotPrepared
+answer_heard (hears.Phase phase_hears.NoObject) = Some said.ObjectNotExist
 answer_heard _ = None
 
 -- or by why a word is refused: nobody knows of the resource

@@ -3,12 +3,11 @@ use Rattle.std.specs.Prelude.{ℕ, ◌==◌, true, false, List, [], ◌∷◌, �
 use Rattle.std.specs.List.{flat_map}
 use Rattle.std.specs.Option.{option_map, option_and_then}
 use Rattle.ior_refs.specs.declared.key.ObjectKey.{ObjectKey}
-use Rattle.ots_model.specs.declared.completion.Outcome.TheVariants as known_outcomes
-use Rattle.ots_model.specs.declared.completion.Reason.TheVariants as known_reasons
+use Rattle.ots_model.specs.declared.completion.Reason.TheVariants as phase_reasons
 use Rattle.ots_model.specs.declared.line.Line.TheVariants as lines
 use Rattle.ots_model.specs.declared.service.RetryKey.{RetryKey}
-use Rattle.ots_model.specs.declared.tree.Outcome.{Outcome}
-use Rattle.ots_model.specs.declared.tree.Outcome.TheVariants as outcomes
+use Rattle.ots_model.specs.Numbered.{Outcome}
+use Rattle.ots_model.specs.declared.completion.Outcome.TheVariants as outcomes
 use Rattle.ots_model.specs.declared.tree.Outward.{Outward}
 use Rattle.ots_model.specs.declared.tree.Reason.{Reason}
 use Rattle.ots_model.specs.declared.tree.Reason.TheVariants as reasons
@@ -121,27 +120,27 @@ abbrev pub rollback_lines : World → Cast → List ℕ → Reason → List Told
 rollback_lines w c name reasons.Asked = RolledBack name (codes "Asked") ∷ []
 rollback_lines w c name reasons.Marked = RolledBack name (codes "Marked") ∷ []
 rollback_lines w c name reasons.Timeout = RolledBack name (codes "Timeout") ∷ []
-rollback_lines w c name (reasons.Vote g) =
-    naming (λ (object : List ℕ). Known (lines.Decide name (known_outcomes.Rollback (known_reasons.Vote object)))) (registered w c g)
-rollback_lines w c name (reasons.PrepareLost g) =
-    naming (λ (object : List ℕ). Known (lines.Decide name (known_outcomes.Rollback (known_reasons.PrepareLost object)))) (registered w c g)
-rollback_lines w c name (reasons.PrepareStarved g) =
-    naming (λ (object : List ℕ). Known (lines.Decide name (known_outcomes.Rollback (known_reasons.PrepareStarved object)))) (registered w c g)
-rollback_lines w c name (reasons.PrepareFault g) =
-    naming (λ (object : List ℕ). Known (lines.Decide name (known_outcomes.Rollback (known_reasons.PrepareFault object)))) (registered w c g)
+rollback_lines w c name (reasons.Phase (phase_reasons.Vote g)) =
+    naming (λ (object : List ℕ). Known (lines.Decide name (outcomes.Rollback (phase_reasons.Vote object)))) (registered w c g)
+rollback_lines w c name (reasons.Phase (phase_reasons.PrepareLost g)) =
+    naming (λ (object : List ℕ). Known (lines.Decide name (outcomes.Rollback (phase_reasons.PrepareLost object)))) (registered w c g)
+rollback_lines w c name (reasons.Phase (phase_reasons.PrepareStarved g)) =
+    naming (λ (object : List ℕ). Known (lines.Decide name (outcomes.Rollback (phase_reasons.PrepareStarved object)))) (registered w c g)
+rollback_lines w c name (reasons.Phase (phase_reasons.PrepareFault g)) =
+    naming (λ (object : List ℕ). Known (lines.Decide name (outcomes.Rollback (phase_reasons.PrepareFault object)))) (registered w c g)
 rollback_lines w c name (reasons.SyncLost s) = naming (RolledBackBy name (codes "SyncLost")) (synchronized w c s)
 rollback_lines w c name (reasons.SyncStarved s) = naming (RolledBackBy name (codes "SyncStarved")) (synchronized w c s)
-rollback_lines w c name (reasons.JournalFull used need) =
-    Known (lines.Decide name (known_outcomes.Rollback (known_reasons.JournalFull used need))) ∷ []
+rollback_lines w c name (reasons.Phase (phase_reasons.JournalFull used need)) =
+    Known (lines.Decide name (outcomes.Rollback (phase_reasons.JournalFull used need))) ∷ []
 rollback_lines w c name reasons.NotStored = RolledBack name (codes "NotStored") ∷ []
 rollback_lines w c name reasons.Superior = RolledBack name (codes "Superior") ∷ []
 rollback_lines w c name reasons.NotEnlisted = RolledBack name (codes "NotEnlisted") ∷ []
 
 -- how a transaction ends
 abbrev pub outcome_lines : World → Cast → Outcome → List ℕ → List Told
-outcome_lines w c (outcomes.Commit basis) name = Known (lines.Decide name (known_outcomes.Commit basis)) ∷ []
+outcome_lines w c (outcomes.Commit basis) name = Known (lines.Decide name (outcomes.Commit basis)) ∷ []
 outcome_lines w c (outcomes.Rollback reason) name = rollback_lines w c name reason
-outcome_lines w c outcomes.Unknown name = Known (lines.Decide name known_outcomes.Unknown) ∷ []
+outcome_lines w c outcomes.Unknown name = Known (lines.Decide name outcomes.Unknown) ∷ []
 
 abbrev pub decided_lines : World → Cast → Outcome → Option (List ℕ) → List Told
 decided_lines w c outcome (Some name) = outcome_lines w c outcome name

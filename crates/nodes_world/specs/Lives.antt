@@ -2,7 +2,7 @@
 use Rattle.std.specs.Prelude.{ℕ, ◌+◌, min, List, [], ◌∷◌, ◌++◌, length, slice_get, Option, Some, None, if◌then◌else◌}
 use Rattle.std.specs.List.{flat_map}
 use Rattle.ots_model.specs.declared.completion.Ground.TheVariants.{Record}
-use Rattle.ots_model.specs.declared.completion.Outcome.TheVariants as known_outcomes
+use Rattle.ots_model.specs.declared.completion.Outcome.TheVariants as outcomes
 use Rattle.ots_model.specs.declared.line.Line.TheVariants as lines
 use Rattle.ots_outside.specs.Disk.{DiskState, at_first}
 use Rattle.decision_journal.specs.Loading.{loaded}
@@ -27,7 +27,7 @@ use Rattle.nodes_world.specs.Nodes.{crashes, key_of_record, ticks_node}
 abbrev pub standing_lines : World → ℕ → Held → List Told
 standing_lines w service r =
     if is_decided r.kind
-    then naming (λ (name : List ℕ). Known (lines.Decide name (known_outcomes.Commit Record))) (transaction_name w (key_of_record service r))
+    then naming (λ (name : List ℕ). Known (lines.Decide name (outcomes.Commit Record))) (transaction_name w (key_of_record service r))
     else []
 
 abbrev pub up_lines : World → List ℕ → Node → List Told

@@ -4,8 +4,9 @@ use Rattle.std.specs.Prelude.{◌≡◌, ℕ, ◌+◌, ◌&&◌, IsTrue, is_some
 use Rattle.std.specs.List.{list_any}
 use Rattle.ior_refs.specs.declared.key.ObjectKey.{ObjectKey}
 use Rattle.ots_model.specs.declared.completion.Ground.TheVariants.{Record}
-use Rattle.ots_model.specs.declared.tree.Outcome.TheVariants as outcomes
+use Rattle.ots_model.specs.declared.completion.Outcome.TheVariants as outcomes
 use Rattle.ots_model.specs.declared.tree.Outward.{Outward}
+use Rattle.ots_model.specs.declared.completion.Word.TheVariants as phase_words
 use Rattle.ots_model.specs.declared.tree.Word.TheVariants as words
 use Rattle.ots_world.specs.declared.script.ScriptEvent.{ScriptEvent}
 use Rattle.resource_end.specs.declared.state.State.{State}
@@ -49,12 +50,13 @@ pub record ResourcesStay : Type 0 where
 -- in a world that a script reaches, a resource that obeys commit has stored its updates then
 abbrev pub CommitsAreStored : Type 0
 CommitsAreStored = (w : World) (told : List Told) (nth place : ℕ) (o : Outward) (r : NamedKey) → Reaches w told → IsWord w nth place o
-    → o.word ≡ words.Commit → referred w o.to ≡ Some r → IsAt (λ (s : State). s ≡ states.Applied) (obeys (nth + 1) o w).world r.key
+    → o.word ≡ words.Phase phase_words.Commit → referred w o.to ≡ Some r → IsAt (λ (s : State). s ≡ states.Applied) (obeys (nth + 1) o w).world r.key
 
 -- and from the moment at which it has answered
 abbrev pub AnsweredCommitsAreStored : Type 0
 AnsweredCommitsAreStored = (w : World) (told : List Told) (nth place reply : ℕ) (o : Outward) (m : Message) (answer : Said) (r : NamedKey)
-    → Reaches w told → IsWord w nth place o → o.word ≡ words.Commit → slice_get w.messages reply ≡ Some m
+    → Reaches w told → IsWord w nth place o → o.word ≡ words.Phase phase_words.Commit
+    → slice_get w.messages reply ≡ Some m
     → m.content ≡ contents.Reply (nth + 1) answer → referred w o.to ≡ Some r → IsAt (λ (s : State). s ≡ states.Applied) w r.key
 
 -- so has each participant of a family that is there and committed by a record, once it counts as told

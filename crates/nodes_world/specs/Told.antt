@@ -5,7 +5,6 @@ use Rattle.hex.specs.Hex.{encode_lower}
 use Rattle.ots_model.specs.Line.{parts}
 use Rattle.ots_model.specs.Piece.{Part, Fixed, Named, Number, line_of}
 use Rattle.ots_model.specs.Words.{vote_word}
-use Rattle.ots_model.specs.declared.completion.Word.TheVariants as phases
 use Rattle.ots_model.specs.declared.line.Line.{Line}
 use Rattle.ots_model.specs.declared.line.Line.TheVariants as lines
 use Rattle.ots_model.specs.declared.service.Status.{Status}
@@ -157,10 +156,7 @@ operation_of _ = None
 
 -- a word goes out to a registration
 abbrev pub sent : ℕ → Word → List ℕ → Told
-sent message words.Prepare name = Known (lines.Send message phases.Prepare name)
-sent message words.Commit name = Known (lines.Send message phases.Commit name)
-sent message words.CommitOnePhase name = Known (lines.Send message phases.CommitOnePhase name)
-sent message words.Rollback name = Known (lines.Send message phases.Rollback name)
+sent message (words.Phase word) name = Known (lines.Send message word name)
 sent message words.Forget name = Sent message (codes "forget") name
 sent message words.BeforeCompletion name = Sent message (codes "before_completion") name
 sent message (words.AfterCompletion s) name = Sent message (codes "after_completion") name

@@ -2,6 +2,7 @@
 use Rattle.std.proofs.Common.{◌≡◌, subst}
 use Rattle.giop_frames.specs.declared.message.Reply.{Reply}
 use Rattle.ots_model.specs.declared.tree.Heard.{Heard}
+use Rattle.ots_model.specs.declared.completion.Heard.TheVariants as phase_hears
 use Rattle.ots_model.specs.declared.tree.Heard.TheVariants as hears
 use Rattle.ots_calls.specs.Answer.{IsAnswer}
 use Rattle.ots_calls.specs.Answering.{IsHeld, WantsMemory}
@@ -26,8 +27,8 @@ reference_held call (answers.Plain (given.Found value)) reply is h = absurd h
 reference_held call (answers.User exception) reply is h = absurd h
 reference_held call (answers.System exception minor done) reply is h = absurd h
 
-pub not_starved : (heard : Heard) → IsAnswered heard → ¬ (heard ≡ hears.Starved)
+pub not_starved : (heard : Heard) → IsAnswered heard → ¬ (heard ≡ hears.Phase phase_hears.Starved)
 not_starved heard is same = subst IsAnswered same is
 
-pub not_lost : (heard : Heard) → IsAnswered heard → ¬ (heard ≡ hears.Lost)
+pub not_lost : (heard : Heard) → IsAnswered heard → ¬ (heard ≡ hears.Phase phase_hears.Lost)
 not_lost heard is same = subst IsAnswered same is

@@ -11,8 +11,8 @@ use crate::exception::UserException;
 use crate::fault::CallFault;
 use crate::system::SystemException;
 use giop_frames::Reply;
-use ots_model::Disposition;
 use ots_model::tree::Heard;
+use ots_model::{Disposition, PhaseHeard};
 use std::alloc::{AllocError, Global};
 
 /// What the caller of an outward call hears in its answer.
@@ -33,9 +33,9 @@ pub fn heard(alloc: Global, a: &Answer) -> Result<Heard, AllocError>
 #[tactic(auto, using(crate::proofs::Replies::reference_held))]
 pub fn heard_in_reply(alloc: Global, c: &Call, r: &Reply) -> Heard
     requires { length r.now.body < 2 ^ 31 }
-    ensures heard { (result ≡ Heard.Starved) ⊎ (result ≡ heard_in_reply c.now r.now) }
-    ensures memory { result ≡ Heard.Starved → WantsMemory (operation_of c.now) r.now.status }
-    ensures came { result ≢ Heard.Lost }
+    ensures heard { (result ≡ Heard.Phase PhaseHeard.Starved) ⊎ (result ≡ heard_in_reply c.now r.now) }
+    ensures memory { result ≡ Heard.Phase PhaseHeard.Starved → WantsMemory (operation_of c.now) r.now.status }
+    ensures came { result ≢ Heard.Phase PhaseHeard.Lost }
 {
     match read_answer(alloc, c, r) {
         Ok(answer) => {
@@ -43,21 +43,21 @@ pub fn heard_in_reply(alloc: Global, c: &Call, r: &Reply) -> Heard
             drop(answer);
             heard
         }
-        Err(CallFault::Memory) => Heard::Starved,
-        Err(_) => Heard::Other,
+        Err(CallFault::Memory) => Heard::Phase(PhaseHeard::Starved),
+        Err(_) => Heard::Phase(PhaseHeard::Other),
     }
 }
 
 /// What the caller hears in its answer, and want of memory as Starved.
 #[tactic(auto, using(crate::proofs::Replies::not_starved, crate::proofs::Replies::not_lost))]
 fn heard_or_starved(alloc: Global, a: &Answer) -> Heard
-    ensures heard { (result ≡ Heard.Starved) ⊎ (result ≡ heard_in a.now) }
-    ensures memory { result ≡ Heard.Starved → GivesReference a.now }
-    ensures came { result ≢ Heard.Lost }
+    ensures heard { (result ≡ Heard.Phase PhaseHeard.Starved) ⊎ (result ≡ heard_in a.now) }
+    ensures memory { result ≡ Heard.Phase PhaseHeard.Starved → GivesReference a.now }
+    ensures came { result ≢ Heard.Phase PhaseHeard.Lost }
 {
     match heard(alloc, a) {
         Ok(heard) => heard,
-        Err(_) => Heard::Starved,
+        Err(_) => Heard::Phase(PhaseHeard::Starved),
     }
 }
 
@@ -68,15 +68,15 @@ fn heard_of_given(alloc: Global, given: &Given) -> Result<Heard, AllocError>
     ensures memory { IsErr result → GivesReference (answers.Plain given.now) }
 {
     match given {
-        Given::Nothing => Ok(Heard::Done),
-        Given::Ballot(vote) => Ok(Heard::Voted(*vote)),
+        Given::Nothing => Ok(Heard::Phase(PhaseHeard::Done)),
+        Given::Ballot(vote) => Ok(Heard::Phase(PhaseHeard::Voted(*vote))),
         Given::State(status) => Ok(Heard::Told(*status)),
         Given::Reference(reference) => Ok(Heard::Enlisted(reference.to_bytes(alloc)?)),
         Given::Flag(_)
         | Given::Number(_)
         | Given::Word(_)
         | Given::Transaction(_)
-        | Given::Found(_) => Ok(Heard::Other),
+        | Given::Found(_) => Ok(Heard::Phase(PhaseHeard::Other)),
     }
 }
 
@@ -86,16 +86,20 @@ fn heard_of_user(exception: UserException) -> Heard
     ensures answered { IsAnswered result }
 {
     match exception {
-        UserException::HeuristicRollback => Heard::Heuristic(Disposition::RolledBack),
-        UserException::HeuristicCommit => Heard::Heuristic(Disposition::Committed),
-        UserException::HeuristicMixed => Heard::Heuristic(Disposition::Mixed),
-        UserException::HeuristicHazard => Heard::Heuristic(Disposition::Unknown),
-        UserException::NotPrepared => Heard::NotPrepared,
+        UserException::HeuristicRollback => Heard::Phase(PhaseHeard::Heuristic(
+            Disposition::RolledBack,
+        )),
+        UserException::HeuristicCommit => Heard::Phase(PhaseHeard::Heuristic(
+            Disposition::Committed,
+        )),
+        UserException::HeuristicMixed => Heard::Phase(PhaseHeard::Heuristic(Disposition::Mixed)),
+        UserException::HeuristicHazard => Heard::Phase(PhaseHeard::Heuristic(Disposition::Unknown)),
+        UserException::NotPrepared => Heard::Phase(PhaseHeard::NotPrepared),
         UserException::Inactive
         | UserException::NotSubtransaction
         | UserException::SubtransactionsUnavailable
         | UserException::SynchronizationUnavailable
-        | UserException::Unavailable => Heard::Other,
+        | UserException::Unavailable => Heard::Phase(PhaseHeard::Other),
     }
 }
 
@@ -105,8 +109,8 @@ fn heard_of_system(exception: SystemException) -> Heard
     ensures answered { IsAnswered result }
 {
     match exception {
-        SystemException::TransactionRolledBack => Heard::RolledBack,
-        SystemException::ObjectNotExist => Heard::NoObject,
-        _ => Heard::Other,
+        SystemException::TransactionRolledBack => Heard::Phase(PhaseHeard::RolledBack),
+        SystemException::ObjectNotExist => Heard::Phase(PhaseHeard::NoObject),
+        _ => Heard::Phase(PhaseHeard::Other),
     }
 }

@@ -1,6 +1,5 @@
 pub mod NameLemmas
 pub mod PieceLemmas
-pub mod WordsRead
 pub mod LinesRead
 pub mod PlainWords
 pub mod LinesPlain

@@ -1,18 +1,12 @@
 -- The words of a line are plain.
-use Rattle.std.proofs.Common.{◌≡◌, ℕ, ◌<◌, Bool, true, false, List, [], ◌∷◌, length, map, refl, arith}
+use Rattle.std.proofs.Common.{◌≡◌, ◌<◌, Bool, true, false, List, [], ◌∷◌, length, map, refl, arith}
 use Rattle.std.specs.List.{list_all, AllByRecursion}
 use Rattle.std.proofs.lemmas.List.Elements.{recursion_from_All}
 use Rattle.ots_model.specs.Piece.{Part, Fixed, Named, Number, word_of, IsWell}
-use Rattle.ots_model.specs.Line.{parts, outcome_parts, reason_parts}
+use Rattle.ots_model.specs.Line.{parts}
 use Rattle.ots_model.specs.LineLaws.{IsLine}
-use Rattle.ots_model.proofs.WordsRead.{is_plain, vote_plain, told_plain, state_plain, decision_plain, ground_plain, ending_plain}
-use Rattle.ots_model.proofs.PlainWords.{IsPlain, ArePlain, first_of_both, last_of_both, fixed_is_plain, name_is_plain, number_is_plain}
-use Rattle.ots_model.specs.declared.completion.Reason.{Reason}
-use Rattle.ots_model.specs.declared.completion.Reason.TheVariants as reasons
-use Rattle.ots_model.specs.declared.completion.Outcome.{Outcome}
-use Rattle.ots_model.specs.declared.completion.Outcome.TheVariants as outcomes
+use Rattle.ots_model.proofs.PlainWords.{IsPlain, ArePlain, is_plain, first_of_both, last_of_both, fixed_is_plain, name_is_plain, number_is_plain}
 use Rattle.ots_model.specs.declared.line.Line.{Line}
-use Rattle.ots_model.specs.declared.line.Line.TheVariants as lines
 
 -- the part is plain, if its name is a name and its number a number
 abbrev is_plain_part : Part → Bool
@@ -25,21 +19,9 @@ abbrev can_be_parted : List Part → Bool
 can_be_parted [] = false
 can_be_parted (p ∷ ps) = list_all is_plain_part (p ∷ ps)
 
-reason_plain : (reason : Reason (List ℕ)) → list_all is_plain_part (reason_parts reason) ≡ true
-reason_plain (reasons.Vote g) = refl
-reason_plain _ = refl
-
-outcome_plain : (outcome : Outcome (List ℕ)) → list_all is_plain_part (outcome_parts outcome) ≡ true
-outcome_plain (outcomes.Commit basis) = simp ground_plain
-outcome_plain (outcomes.Rollback reason) = reason_plain reason
-outcome_plain outcomes.Unknown = refl
-
-ruleset plains = (vote_plain, told_plain, state_plain, decision_plain, ending_plain, outcome_plain)
-
 line_can_be_parted : (line : Line) → can_be_parted (parts line) ≡ true
 unfolding parts
-line_can_be_parted (lines.Recv message) = refl
-line_can_be_parted _ = first_of (cc, simp plains)
+line_can_be_parted line = grind arith
 
 part_is_plain : (p : Part) → is_plain_part p ≡ true → IsWell p → IsPlain (word_of p)
 part_is_plain (Fixed octets) h well = fixed_is_plain octets h

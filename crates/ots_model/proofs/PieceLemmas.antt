@@ -1,26 +1,15 @@
 -- How words are written one after another.
-use Rattle.std.proofs.Common.{◌≡◌, ℕ, ◌+◌, ◌/◌, ◌%◌, ◌^◌, ◌<◌, ◌≤◌, List, [], ◌∷◌, ◌++◌, length, get_or, take, drop, map, refl, sym, ap, ◌∙◌, append_assoc, arith}
+use Rattle.std.proofs.Common.{◌≡◌, ℕ, ◌+◌, ◌<◌, List, [], ◌∷◌, ◌++◌, length, get_or, take, drop, map, refl, sym, ap, ◌∙◌, append_assoc, arith}
 use Rattle.std.proofs.lemmas.List.{take-append-drop, take_more, length-take}
 use Rattle.std.proofs.Math.Seq.{take-append_seam}
-use Rattle.std.proofs.lemmas.Fmt.{decimal_digit, decimal_step}
 use Rattle.std.specs.List.{join_with_byte}
-use Rattle.std.specs.Fmt.{decimal}
 use Rattle.ots_model.specs.Piece.{word_of}
-use Rattle.ots_model.specs.PieceInside.{part_of, parts_of}
+use Rattle.ots_model.specs.Pieces.{part_of, parts_of}
 use Rattle.ots_model.specs.declared.piece.Piece.{Piece}
 
 -- pieces, parted by single spaces
 abbrev pub joined : List Piece → List ℕ
 joined words = join_with_byte 32 (map word_of (parts_of words))
-
--- one more digit
-pub digit_added : (xs : List ℕ) (n : ℕ) → n < 10 → xs ++ ((48 + n) ∷ []) ≡ xs ++ decimal n
-digit_added xs n h = ap (λ (ds : List ℕ). xs ++ ds) (sym (decimal_digit n h))
-
-pub last_digit_added : (xs : List ℕ) (n : ℕ) → 10 ≤ n → n < 2 ^ 64
-    → (xs ++ decimal (n / 10)) ++ ((48 + n % 10) ∷ []) ≡ xs ++ decimal n
-last_digit_added xs n h small =
-    append_assoc xs (decimal (n / 10)) _ ∙ ap (λ (ds : List ℕ). xs ++ ds) (sym (decimal_step n h small))
 
 -- what stood in front of a list stands in front of each longer one
 pub kept_in_front : (old was ys new : List ℕ) → was ≡ old ++ ys → take (length was) new ≡ was → take (length old) new ≡ old

@@ -12,7 +12,6 @@ use borrow.Author.Tests.{ltb-true}
 use Rattle.ots_model.specs.Limits.{name_limit}
 use Rattle.ots_model.specs.Name.{IsName, is_letter, is_digit, is_name_octet}
 use Rattle.ots_model.specs.Piece.{IsNumber}
-use Rattle.ots_model.proofs.WordsRead.{is_plain}
 
 -- the octet is past the space and the line feed
 abbrev pub IsPlainOctet : ℕ → Type 0
@@ -68,6 +67,9 @@ pub number_is_plain : (n : ℕ) → IsNumber n → IsPlain (decimal n)
 number_is_plain n h = digits_are_plain (decimal n) (decimal_is_IsNumeral n h).0.1
 
 -- a word whose octets pass the test
+abbrev pub is_plain : List ℕ → Bool
+is_plain word = list_all (nat_lt 32) word
+
 pub fixed_is_plain : (word : List ℕ) → is_plain word ≡ true → IsPlain word
 fixed_is_plain [] h = tt
 fixed_is_plain (b ∷ word) h = (

@@ -1,9 +1,10 @@
 pub mod Limits
 pub mod Name
 pub mod NameInside
+pub mod Numbered
 pub mod Words
 pub mod Piece
-pub mod PieceInside
+pub mod Pieces
 pub mod Line
 pub mod LineLaws
 pub mod Safe

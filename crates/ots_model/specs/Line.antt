@@ -6,7 +6,7 @@ use Rattle.ots_model.specs.Piece.{Part, Fixed, Named, Number, line_of}
 use Rattle.ots_model.specs.Words.{vote_word, told_word, state_word, decision_word, ground_word, ending_word}
 use Rattle.ots_model.specs.declared.completion.Reason.{Reason}
 use Rattle.ots_model.specs.declared.completion.Reason.TheVariants as reasons
-use Rattle.ots_model.specs.declared.completion.Outcome.{Outcome}
+use Rattle.ots_model.specs.Numbered.{LineOutcome}
 use Rattle.ots_model.specs.declared.completion.Outcome.TheVariants as outcomes
 use Rattle.ots_model.specs.declared.line.Line.{Line}
 use Rattle.ots_model.specs.declared.line.Line.TheVariants as lines
@@ -20,7 +20,7 @@ reason_parts (reasons.PrepareFault g) = Fixed (codes "PrepareFault") ∷ Named g
 reason_parts (reasons.JournalFull used need) = Fixed (codes "JournalFull") ∷ Number used ∷ Number need ∷ []
 
 -- an outcome
-abbrev pub outcome_parts : Outcome (List ℕ) → List Part
+abbrev pub outcome_parts : LineOutcome → List Part
 outcome_parts (outcomes.Commit basis) = Fixed (codes "commit") ∷ Fixed (ground_word basis) ∷ []
 outcome_parts (outcomes.Rollback reason) = Fixed (codes "rollback") ∷ reason_parts reason
 outcome_parts outcomes.Unknown = Fixed (codes "unknown") ∷ []

@@ -1,7 +1,5 @@
-//! The types of a completion: what participants are told and answer, the calls that carry it, how the transaction ends,
-//! and whether its decision record stands.
-
-use crate::octets::RefBytes;
+//! The types of the two phases of a completion: what participants are told and answer, the calls that carry it, how the
+//! transaction ends, and whether its decision record stands.
 
 /// What a participant is told (the operations of interface Resource).
 #[derive(Clone, Copy, Debug, PartialEq, Eq)]
@@ -40,7 +38,7 @@ pub enum Disposition {
     Unknown,
 }
 
-/// What was heard of an outward call.
+/// What may be heard of each outward call, whatever it says.
 #[derive(Clone, Copy)]
 pub enum Heard {
     /// It was answered plainly.
@@ -59,7 +57,7 @@ pub enum Heard {
     Other,
     /// The call failed, and nothing is known of it.
     Lost,
-    /// Memory was wanted in making the call.
+    /// Memory was wanted in writing the request, in the call or in reading the reply.
     Starved,
 }
 
@@ -85,22 +83,8 @@ pub struct Receipt {
     pub registration: u32,
 }
 
-/// A word on its way out.
-#[derive(Drop)]
-pub struct Outward {
-    /// The number of the call.
-    pub number: CallNumber,
-    /// The registration that it goes to, counted from 1.
-    pub registration: u32,
-    /// The participant's reference.
-    pub to: RefBytes,
-    /// The word.
-    pub word: Word,
-    /// The record behind a commit word.
-    pub receipt: Option<Receipt>,
-}
-
-/// Why a transaction is rolled back. `G` is what names a registration: its index, counted from 1, or its name.
+/// Why the votes or the journal roll a transaction back. `G` is what names a registration: its index, counted from 1,
+/// or its name.
 #[derive(Clone, Copy, Debug, PartialEq, Eq)]
 pub enum Reason<G = u32> {
     /// That registration voted rollback.
@@ -126,13 +110,13 @@ pub enum Ground {
     Nobody,
 }
 
-/// How a transaction ends. `G` is what names a registration, as in `Reason`.
+/// How a transaction ends. `R` is what tells why it is rolled back.
 #[derive(Clone, Copy, Debug, PartialEq, Eq)]
-pub enum Outcome<G = u32> {
+pub enum Outcome<R> {
     /// It commits.
     Commit(Ground),
     /// It rolls back.
-    Rollback(Reason<G>),
+    Rollback(R),
     /// That can't be known: a resource that was to decide alone didn't tell.
     Unknown,
 }

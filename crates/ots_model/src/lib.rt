@@ -2,12 +2,13 @@
 #![tactic(auto)]
 
 pub use completion::{
-    CallNumber, Disposition, Doubted, Ground, Heard, Outcome, Outward, Reason, Receipt, Stood,
-    Vote, Word,
+    CallNumber, Disposition, Doubted, Ground, Heard as PhaseHeard, Outcome, Reason as PhaseReason,
+    Receipt, Stood, Vote, Word as PhaseWord,
 };
 pub use line::{Decision, Line, ResourceState, different_lines_differ, text_reads_back};
 pub use name::{NAME_LIMIT, Name};
 pub use octets::{Octets, REFERENCE_LIMIT, RefBytes, RefFault};
+pub use piece::{Piece, write_line};
 pub use safety::{allowed_lines_are_safe, safety_refuses};
 pub use service::{Endpoint, Join, RetryKey, Status};
 

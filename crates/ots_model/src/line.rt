@@ -1,11 +1,11 @@
-ghost use Rattle.std.specs.Prelude.{◌≡◌, ◌++◌, length, take, OnOk, OnErr};
+ghost use Rattle.std.specs.Prelude.{◌≡◌, ◌++◌, OnOk, OnErr};
 ghost use Rattle.ots_model.specs.LineLaws.{DifferentLinesDiffer, TextReadsBack};
 ghost use Rattle.ots_model.specs.Line.{spelling};
 
 use crate::completion::{Outcome, Reason, Vote, Word};
 use crate::name::Name;
-use crate::piece::Piece::{Named, Number, Size, Text};
-use crate::piece::write_joined;
+use crate::piece::Piece::{Named, Number, Text};
+use crate::piece::write_line;
 use crate::words::ending_text;
 use std::alloc::AllocError;
 
@@ -79,7 +79,7 @@ pub enum Line {
     /// The outcome of a transaction is fixed.
     Decide {
         transaction: Name,
-        outcome: Outcome<Name>,
+        outcome: Outcome<Reason<Name>>,
     },
     /// A subtransaction ended, committed or rolled back.
     SubDone {
@@ -102,11 +102,11 @@ pub enum Line {
     },
 }
 
-/// Writes the words that stand beside a value in a table; behind the table, what writes the other values.
+/// Writes the line whose words stand beside a value in a table; behind the table, what writes the other values.
 macro_rules! write_row {
     ($lines:ident, $value:expr, $($row:pat => [$($word:expr),+],)+ $(; $other:pat => $write:expr)?) => {
         match $value {
-            $($row => write_joined($lines, &[$($word),+]),)+
+            $($row => write_line($lines, &[$($word),+]),)+
             $($other => $write,)?
         }
     };
@@ -114,32 +114,19 @@ macro_rules! write_row {
 
 impl Line {
     /// Writes the line at the end. Want of memory leaves what stood there.
+    #[tactic(auto, unfolding(crate::specs::Line::spelling, crate::specs::Line::parts))]
     pub fn write(&self, lines: &mut Vec<u8>) -> Result<(), AllocError>
         ensures ok { OnOk result (lines.new.items ≡ lines.old.items ++ spelling self.now) }
         ensures err { OnErr result (lines.new.items ≡ lines.old.items) }
     {
-        let start = lines.len();
-        let written = self.write_words(lines);
-        if written.is_err() {
-            lines.truncate(start);
-        }
-        written
-    }
-
-    /// Writes the words of the line. Want of memory leaves what stood there in front.
-    #[tactic(auto, unfolding(crate::specs::Line::spelling, crate::specs::Line::parts))]
-    fn write_words(&self, lines: &mut Vec<u8>) -> Result<(), AllocError>
-        ensures ok { OnOk result (lines.new.items ≡ lines.old.items ++ spelling self.now) }
-        ensures err { OnErr result (take (length lines.old.items) lines.new.items ≡ lines.old.items) }
-    {
         write_row! { lines, *self,
-            Line::Up { server, life } => [Text(b"up"), Named(server), Number(life)],
+            Line::Up { server, life } => [Text(b"up"), Named(server), Number(u64::from(life))],
             Line::Top { transaction, node } => [Text(b"top"), Named(transaction), Named(node)],
             Line::Sub { transaction, parent } => [Text(b"sub"), Named(transaction), Named(parent)],
             Line::Imp { subordinate, superior, node } => [Text(b"imp"), Named(subordinate), Named(superior), Named(node)],
             Line::Reg { resource, transaction, end } => [Text(b"reg"), Named(resource), Named(transaction), Named(end)],
-            Line::Send { message, word, registration } => [Text(b"send"), Number(message), Text(word.text()), Named(registration)],
-            Line::Recv { message } => [Text(b"recv"), Number(message)],
+            Line::Send { message, word, registration } => [Text(b"send"), Number(u64::from(message)), Text(word.text()), Named(registration)],
+            Line::Recv { message } => [Text(b"recv"), Number(u64::from(message))],
             Line::Voted { registration, vote } => [Text(b"vote"), Named(registration), Text(vote.text())],
             Line::SubDone { transaction, committed } => [Text(b"subdone"), Named(transaction), Text(ending_text(committed))],
             Line::State { resource, state } => [Text(b"state"), Named(resource), Text(state.text())],
@@ -150,15 +137,15 @@ impl Line {
     }
 }
 
-/// Writes the words of the line that tells the outcome of a transaction. Want of memory leaves what stood there in front.
+/// Writes the line that tells the outcome of a transaction. Want of memory leaves what stood there.
 #[tactic(auto, unfolding(crate::specs::Line::spelling, crate::specs::Line::parts))]
 fn write_decide(
     lines: &mut Vec<u8>,
     transaction: Name,
-    outcome: Outcome<Name>,
+    outcome: Outcome<Reason<Name>>,
 ) -> Result<(), AllocError>
     ensures ok { OnOk result (lines.new.items ≡ lines.old.items ++ spelling (Line.Decide transaction outcome)) }
-    ensures err { OnErr result (take (length lines.old.items) lines.new.items ≡ lines.old.items) }
+    ensures err { OnErr result (lines.new.items ≡ lines.old.items) }
 {
     let (decide, name, rollback) = (Text(b"decide"), Named(transaction), Text(b"rollback"));
     write_row! { lines, outcome,
@@ -167,7 +154,7 @@ fn write_decide(
         Outcome::Rollback(Reason::PrepareLost(g)) => [decide, name, rollback, Text(b"PrepareLost"), Named(g)],
         Outcome::Rollback(Reason::PrepareStarved(g)) => [decide, name, rollback, Text(b"PrepareStarved"), Named(g)],
         Outcome::Rollback(Reason::PrepareFault(g)) => [decide, name, rollback, Text(b"PrepareFault"), Named(g)],
-        Outcome::Rollback(Reason::JournalFull(used, need)) => [decide, name, rollback, Text(b"JournalFull"), Size(used), Size(need)],
+        Outcome::Rollback(Reason::JournalFull(used, need)) => [decide, name, rollback, Text(b"JournalFull"), Number(used), Number(need)],
         Outcome::Unknown => [decide, name, Text(b"unknown")],
     }
 }

@@ -89,8 +89,10 @@ impl RefBytes {
         requires { length octets.now < 2 ^ 31 }
         ensures copy { IfOk result (λ copy. copy ≡ octets.now) }
         ensures short { IsOk result → length octets.now ≤ reference_limit }
-        ensures too_long { reference_limit < length octets.now → IsErrOf result (RefFault.TooLong (length octets.now)) }
-        ensures memory { IfErr result (λ fault. (fault ≡ RefFault.Memory) ⊎ (reference_limit < length octets.now)) }
+        ensures too_long { reference_limit < length octets.now
+            → IsErrOf result (RefFault.TooLong (length octets.now)) }
+        ensures memory { IfErr result (λ fault.
+            (fault ≡ RefFault.Memory) ⊎ (reference_limit < length octets.now)) }
         ensures needed { OnErr result (0 < length octets.now) }
     {
         if octets.len() > REFERENCE_LIMIT {

@@ -1,11 +1,10 @@
 //! What is said in completing a whole tree of transactions, with its subtransactions, its synchronizations and its
-//! superior: every word, every answer, every reason, every outcome. A script's world has a part of these under the same
-//! names.
+//! superior: every word, every answer, every reason. Each holds those of the two phases.
 ghost use Rattle.std.specs.Prelude.{◌≡◌};
 ghost use Rattle.ots_model.specs.Heard.{of_participant};
 
 use crate::completion;
-use crate::completion::{CallNumber, Disposition, Ground, Receipt, Vote};
+use crate::completion::{CallNumber, Receipt};
 use crate::octets::RefBytes;
 use crate::service::Status;
 
@@ -19,14 +18,8 @@ pub enum Parent {
 /// What is told or asked in an outward call.
 #[derive(Clone, Copy)]
 pub enum Word {
-    /// `prepare`: vote.
-    Prepare,
-    /// `commit`: make the updates last.
-    Commit,
-    /// `commit_one_phase`: decide alone, as the only participant.
-    CommitOnePhase,
-    /// `rollback`: undo the updates.
-    Rollback,
+    /// A word of the two phases.
+    Phase(completion::Word),
     /// `forget`: the heuristic outcome is known, and need not be kept.
     Forget,
     /// `before_completion` of a synchronization.
@@ -61,28 +54,12 @@ pub struct Outward {
 /// What was heard of an outward call.
 #[derive(Drop)]
 pub enum Heard {
-    /// It was answered plainly, and nothing was given.
-    Done,
-    /// A vote.
-    Voted(Vote),
-    /// A heuristic exception.
-    Heuristic(Disposition),
-    /// TRANSACTION_ROLLEDBACK.
-    RolledBack,
-    /// NotPrepared.
-    NotPrepared,
-    /// OBJECT_NOT_EXIST.
-    NoObject,
+    /// What may be heard of each word.
+    Phase(completion::Heard),
     /// How the transaction stands, which a recovery coordinator told.
     Told(Status),
     /// The registration was taken. The canonical octets of the recovery coordinator's reference.
     Enlisted(RefBytes),
-    /// Any other answer.
-    Other,
-    /// The call failed, and nothing is known of it.
-    Lost,
-    /// Memory was wanted in writing the request, in the call or in reading the reply.
-    Starved,
 }
 
 impl Heard {
@@ -92,15 +69,8 @@ impl Heard {
         ensures { result ≡ of_participant self.now }
     {
         match self {
-            Heard::Done => completion::Heard::Done,
-            Heard::Voted(vote) => completion::Heard::Voted(*vote),
-            Heard::Heuristic(disposition) => completion::Heard::Heuristic(*disposition),
-            Heard::RolledBack => completion::Heard::RolledBack,
-            Heard::NotPrepared => completion::Heard::NotPrepared,
-            Heard::NoObject => completion::Heard::NoObject,
-            Heard::Told(_) | Heard::Enlisted(_) | Heard::Other => completion::Heard::Other,
-            Heard::Lost => completion::Heard::Lost,
-            Heard::Starved => completion::Heard::Starved,
+            Heard::Phase(heard) => *heard,
+            Heard::Told(_) | Heard::Enlisted(_) => completion::Heard::Other,
         }
     }
 }
@@ -114,20 +84,12 @@ pub enum Reason {
     Marked,
     /// Its time was over.
     Timeout,
-    /// That registration voted rollback.
-    Vote(u32),
-    /// That registration's prepare was lost.
-    PrepareLost(u32),
-    /// That registration's prepare wanted memory.
-    PrepareStarved(u32),
-    /// That registration answered its prepare with no vote.
-    PrepareFault(u32),
+    /// By the votes or by the journal.
+    Phase(completion::Reason),
     /// That synchronization's `before_completion` wasn't answered plainly.
     SyncLost(u32),
     /// That synchronization's `before_completion` wanted memory.
     SyncStarved(u32),
-    /// The journal, of which so much is used, has no room for a record of such a need.
-    JournalFull(u64, u64),
     /// The journal was read again, and the decision record doesn't stand.
     NotStored,
     /// The superior rolled back.
@@ -136,13 +98,5 @@ pub enum Reason {
     NotEnlisted,
 }
 
-/// How a transaction ends.
-#[derive(Clone, Copy, Debug, PartialEq, Eq)]
-pub enum Outcome {
-    /// It commits.
-    Commit(Ground),
-    /// It rolls back.
-    Rollback(Reason),
-    /// That can't be known: a resource that was to decide alone didn't tell.
-    Unknown,
-}
+/// How a transaction ends, for one of these reasons where it is rolled back.
+pub type Outcome = completion::Outcome<Reason>;

@@ -8,7 +8,7 @@ use crate::line::{Decision, ResourceState};
 
 impl Vote {
     /// Its name in module CosTransactions.
-    pub(crate) fn text(self) -> &'static [u8]
+    pub fn text(self) -> &'static [u8]
         ensures { result.now ≡ words.vote_word self }
     {
         match self {

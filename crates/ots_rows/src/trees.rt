@@ -17,7 +17,10 @@
 ghost use Rattle.std.specs.Prelude.{◌<◌, length, IfOk};
 
 use ots_model::tree::{Heard, Outward, Reason, Word};
-use ots_model::{CallNumber, Disposition, Doubted, REFERENCE_LIMIT, RefBytes, Status, Stood, Vote};
+use ots_model::{
+    CallNumber, Disposition, Doubted, PhaseHeard, PhaseWord, REFERENCE_LIMIT, RefBytes, Status,
+    Stood, Vote,
+};
 use resource_votes::{Registration, VoteFault, Votes};
 use std::alloc::Global;
 use std::io;
@@ -265,7 +268,7 @@ impl Trial {
 
     fn vote(&mut self, told: &mut Vec<u8>, index: &str, vote: &str) -> io::Result<()> {
         let index = number(index)?;
-        let Heard::Voted(vote) = named_vote(vote)? else {
+        let Heard::Phase(PhaseHeard::Voted(vote)) = named_vote(vote)? else {
             return Err(ErrorKind::InvalidInput.into());
         };
         if index == 0 || index > self.votes.count() {
@@ -371,10 +374,10 @@ fn tell_registration(told: &mut Vec<u8>, found: Option<&Registration>) -> io::Re
 
 fn tell_word(told: &mut Vec<u8>, outward: &Outward) -> io::Result<()> {
     let word = match outward.word {
-        Word::Prepare => "prepare",
-        Word::Commit => "commit",
-        Word::CommitOnePhase => "commit_one_phase",
-        Word::Rollback => "rollback",
+        Word::Phase(PhaseWord::Prepare) => "prepare",
+        Word::Phase(PhaseWord::Commit) => "commit",
+        Word::Phase(PhaseWord::CommitOnePhase) => "commit_one_phase",
+        Word::Phase(PhaseWord::Rollback) => "rollback",
         Word::Forget => "forget",
         _ => "another word",
     };
@@ -418,12 +421,12 @@ fn reference(alloc: Global, count: &str) -> io::Result<RefBytes> {
 /// The answer to a word that goes out, by the names of votes and exceptions.
 fn heard(word: &str) -> io::Result<Heard> {
     Ok(match word {
-        "ok" => Heard::Done,
-        "TRANSACTION_ROLLEDBACK" => Heard::RolledBack,
-        "NotPrepared" => Heard::NotPrepared,
-        "OBJECT_NOT_EXIST" => Heard::NoObject,
-        "other" => Heard::Other,
-        "starved" => Heard::Starved,
+        "ok" => Heard::Phase(PhaseHeard::Done),
+        "TRANSACTION_ROLLEDBACK" => Heard::Phase(PhaseHeard::RolledBack),
+        "NotPrepared" => Heard::Phase(PhaseHeard::NotPrepared),
+        "OBJECT_NOT_EXIST" => Heard::Phase(PhaseHeard::NoObject),
+        "other" => Heard::Phase(PhaseHeard::Other),
+        "starved" => Heard::Phase(PhaseHeard::Starved),
         "status" => Heard::Told(Status::Active),
         _ => return named_vote(word),
     })
@@ -431,13 +434,13 @@ fn heard(word: &str) -> io::Result<Heard> {
 
 fn named_vote(word: &str) -> io::Result<Heard> {
     Ok(match word {
-        "VoteCommit" => Heard::Voted(Vote::VoteCommit),
-        "VoteRollback" => Heard::Voted(Vote::VoteRollback),
-        "VoteReadOnly" => Heard::Voted(Vote::VoteReadOnly),
-        "HeuristicCommit" => Heard::Heuristic(Disposition::Committed),
-        "HeuristicRollback" => Heard::Heuristic(Disposition::RolledBack),
-        "HeuristicMixed" => Heard::Heuristic(Disposition::Mixed),
-        "HeuristicHazard" => Heard::Heuristic(Disposition::Unknown),
+        "VoteCommit" => Heard::Phase(PhaseHeard::Voted(Vote::VoteCommit)),
+        "VoteRollback" => Heard::Phase(PhaseHeard::Voted(Vote::VoteRollback)),
+        "VoteReadOnly" => Heard::Phase(PhaseHeard::Voted(Vote::VoteReadOnly)),
+        "HeuristicCommit" => Heard::Phase(PhaseHeard::Heuristic(Disposition::Committed)),
+        "HeuristicRollback" => Heard::Phase(PhaseHeard::Heuristic(Disposition::RolledBack)),
+        "HeuristicMixed" => Heard::Phase(PhaseHeard::Heuristic(Disposition::Mixed)),
+        "HeuristicHazard" => Heard::Phase(PhaseHeard::Heuristic(Disposition::Unknown)),
         _ => return Err(ErrorKind::InvalidInput.into()),
     })
 }

@@ -2,7 +2,7 @@
 ghost use Rattle.std.specs.Prelude.{◌<◌, length};
 
 use ots_model::tree::{Heard, Outcome};
-use ots_model::{CallNumber, Ground, RefBytes, Stood, Vote};
+use ots_model::{CallNumber, Ground, PhaseHeard, RefBytes, Stood, Vote};
 use resource_votes::Votes;
 use std::alloc::Global;
 use std::process::Abort;
@@ -52,10 +52,16 @@ fn answer_next(completion: &mut Completion, heard: &Heard) -> Result<(), Fail> {
 }
 
 fn check(rt: &impl Abort, completion: &mut Completion) -> Result<(), Fail> {
-    answer_next(completion, &Heard::Voted(Vote::VoteCommit))?;
-    answer_next(completion, &Heard::Voted(Vote::VoteCommit))?;
-    answer_next(completion, &Heard::Done)?;
-    answer_next(completion, &Heard::NoObject)?;
+    answer_next(
+        completion,
+        &Heard::Phase(PhaseHeard::Voted(Vote::VoteCommit)),
+    )?;
+    answer_next(
+        completion,
+        &Heard::Phase(PhaseHeard::Voted(Vote::VoteCommit)),
+    )?;
+    answer_next(completion, &Heard::Phase(PhaseHeard::Done))?;
+    answer_next(completion, &Heard::Phase(PhaseHeard::NoObject))?;
     check_committed(rt, completion);
     Ok(())
 }

@@ -1,6 +1,8 @@
 //! Tests of how lines are spelled.
 
-use ots_model::{Decision, Ground, Line, Name, Outcome, Reason, ResourceState, Vote, Word};
+use ots_model::{
+    Decision, Ground, Line, Name, Outcome, PhaseReason, PhaseWord, ResourceState, Vote,
+};
 use std::test::Fail;
 
 /// Each line, and how it is spelled.
@@ -28,10 +30,10 @@ fn each_line(rt: HostRuntime) -> Result<(), Fail> {
         Line::Sub { transaction: u, parent: t } => "sub u1 t1",
         Line::Imp { subordinate: u, superior: t, node: n } => "imp u1 t1 n1",
         Line::Reg { resource: g, transaction: t, end: e } => "reg g1 t1 e1",
-        Line::Send { message: 4, word: Word::Prepare, registration: g } => "send 4 prepare g1",
-        Line::Send { message: 5, word: Word::Commit, registration: g } => "send 5 commit g1",
-        Line::Send { message: 6, word: Word::CommitOnePhase, registration: g } => "send 6 commit_one_phase g1",
-        Line::Send { message: 7, word: Word::Rollback, registration: g } => "send 7 rollback g1",
+        Line::Send { message: 4, word: PhaseWord::Prepare, registration: g } => "send 4 prepare g1",
+        Line::Send { message: 5, word: PhaseWord::Commit, registration: g } => "send 5 commit g1",
+        Line::Send { message: 6, word: PhaseWord::CommitOnePhase, registration: g } => "send 6 commit_one_phase g1",
+        Line::Send { message: 7, word: PhaseWord::Rollback, registration: g } => "send 7 rollback g1",
         Line::Recv { message: 10 } => "recv 10",
         Line::Voted { registration: g, vote: Vote::VoteCommit } => "vote g1 VoteCommit",
         Line::Voted { registration: g, vote: Vote::VoteRollback } => "vote g1 VoteRollback",
@@ -56,11 +58,11 @@ fn each_outcome(rt: HostRuntime) -> Result<(), Fail> {
         Line::Decide { transaction: t, outcome: Outcome::Commit(Ground::Record) } => "decide t1 commit record",
         Line::Decide { transaction: t, outcome: Outcome::Commit(Ground::OnePhase) } => "decide t1 commit phase",
         Line::Decide { transaction: t, outcome: Outcome::Commit(Ground::Nobody) } => "decide t1 commit none",
-        Line::Decide { transaction: t, outcome: Outcome::Rollback(Reason::Vote(g)) } => "decide t1 rollback Vote g1",
-        Line::Decide { transaction: t, outcome: Outcome::Rollback(Reason::PrepareLost(g)) } => "decide t1 rollback PrepareLost g1",
-        Line::Decide { transaction: t, outcome: Outcome::Rollback(Reason::PrepareStarved(g)) } => "decide t1 rollback PrepareStarved g1",
-        Line::Decide { transaction: t, outcome: Outcome::Rollback(Reason::PrepareFault(g)) } => "decide t1 rollback PrepareFault g1",
-        Line::Decide { transaction: t, outcome: Outcome::Rollback(Reason::JournalFull(8, 9)) } => "decide t1 rollback JournalFull 8 9",
+        Line::Decide { transaction: t, outcome: Outcome::Rollback(PhaseReason::Vote(g)) } => "decide t1 rollback Vote g1",
+        Line::Decide { transaction: t, outcome: Outcome::Rollback(PhaseReason::PrepareLost(g)) } => "decide t1 rollback PrepareLost g1",
+        Line::Decide { transaction: t, outcome: Outcome::Rollback(PhaseReason::PrepareStarved(g)) } => "decide t1 rollback PrepareStarved g1",
+        Line::Decide { transaction: t, outcome: Outcome::Rollback(PhaseReason::PrepareFault(g)) } => "decide t1 rollback PrepareFault g1",
+        Line::Decide { transaction: t, outcome: Outcome::Rollback(PhaseReason::JournalFull(8, 9)) } => "decide t1 rollback JournalFull 8 9",
         Line::Decide { transaction: t, outcome: Outcome::Unknown } => "decide t1 unknown",
     }
     Ok(())

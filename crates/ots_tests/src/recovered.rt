@@ -3,7 +3,7 @@
 use decision_journal::{Journal, JournalRecord, Registration, Registrations};
 use ior_refs::{ObjectKey, ObjectRef};
 use ots_model::tree::{Heard, Word};
-use ots_model::{CallNumber, Disposition, RefBytes, Status};
+use ots_model::{CallNumber, Disposition, PhaseHeard, PhaseWord, RefBytes, Status};
 use ots_outside::MemDisk;
 use recovery_coord::{Due, Outbox, Party, Recovered, ReplayFault};
 use std::alloc::{AllocError, Global};
@@ -82,11 +82,11 @@ fn number(serial: u32) -> CallNumber {
 /// An answer by its letter.
 fn heard(letter: u8) -> Heard {
     match letter {
-        b'd' => Heard::Done,
-        b'n' => Heard::NoObject,
-        b'h' => Heard::Heuristic(Disposition::RolledBack),
-        b'l' => Heard::Lost,
-        _ => Heard::Other,
+        b'd' => Heard::Phase(PhaseHeard::Done),
+        b'n' => Heard::Phase(PhaseHeard::NoObject),
+        b'h' => Heard::Phase(PhaseHeard::Heuristic(Disposition::RolledBack)),
+        b'l' => Heard::Phase(PhaseHeard::Lost),
+        _ => Heard::Phase(PhaseHeard::Other),
     }
 }
 
@@ -195,7 +195,7 @@ fn words(alloc: Global, mut out: Outbox) -> Result<Vec<(u64, u32, bool)>, AllocE
 
 fn tell_word(out: &mut Outbox, told: &mut Vec<(u64, u32, bool)>) -> Result<(), AllocError> {
     if let Some(word) = out.take() {
-        let commits = matches!(word.word, Word::Commit);
+        let commits = matches!(word.word, Word::Phase(PhaseWord::Commit));
         told.push((word.number.generation, word.registration, commits))?;
     }
     Ok(())

@@ -3,6 +3,7 @@ use Rattle.std.specs.Prelude.{ℕ, ◌==◌, Bool, not, ◌&&◌, if◌then◌el
 use Rattle.std.specs.Option.{option_map}
 use Rattle.ots_model.specs.declared.completion.CallNumber.{CallNumber}
 use Rattle.ots_model.specs.declared.tree.Heard.{Heard}
+use Rattle.ots_model.specs.declared.completion.Heard.TheVariants as phase_hears
 use Rattle.ots_model.specs.declared.tree.Heard.TheVariants as heard
 use Rattle.recovery_coord.specs.declared.held.Due.{Due}
 use Rattle.recovery_coord.specs.declared.held.Due.TheVariants as due
@@ -13,15 +14,15 @@ use Rattle.recovery_coord.specs.Held.{is_complete}
 
 -- by a plain answer or OBJECT_NOT_EXIST commit is done, by a heuristic exception forget is due, by any other commit stays due
 abbrev pub after_commit : Heard → Due
-after_commit heard.Done = due.Nothing
-after_commit heard.NoObject = due.Nothing
-after_commit (heard.Heuristic disposition) = due.Forget
+after_commit (heard.Phase phase_hears.Done) = due.Nothing
+after_commit (heard.Phase phase_hears.NoObject) = due.Nothing
+after_commit (heard.Phase (phase_hears.Heuristic disposition)) = due.Forget
 after_commit _ = due.Commit
 
 -- by a plain answer or OBJECT_NOT_EXIST forget is done, by any other it stays due
 abbrev pub after_forget : Heard → Due
-after_forget heard.Done = due.Nothing
-after_forget heard.NoObject = due.Nothing
+after_forget (heard.Phase phase_hears.Done) = due.Nothing
+after_forget (heard.Phase phase_hears.NoObject) = due.Nothing
 after_forget _ = due.Forget
 
 -- what a registration waits for once it has answered what it waited for

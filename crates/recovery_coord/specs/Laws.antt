@@ -7,6 +7,7 @@ use Rattle.ots_model.specs.declared.completion.Receipt.{Receipt}
 use Rattle.ots_model.specs.declared.tree.Heard.{Heard}
 use Rattle.ots_model.specs.declared.tree.Outward.{Outward}
 use Rattle.ots_model.specs.declared.tree.Word.{Word}
+use Rattle.ots_model.specs.declared.completion.Word.TheVariants as phase_words
 use Rattle.ots_model.specs.declared.tree.Word.TheVariants as word
 use Rattle.decision_journal.specs.declared.record.Registration.{Registration}
 use Rattle.decision_journal.specs.declared.record.JournalRecord.{JournalRecord}
@@ -69,7 +70,8 @@ IsNamed stood place index to =
 
 -- a commit word has the record behind it as its receipt, and no other word has one
 abbrev pub IsReceipted : Word → ℕ → ℕ → Option Receipt → Type 0
-IsReceipted word.Commit place index receipt = receipt ≡ Some (record { place = place; registration = index })
+IsReceipted (word.Phase phase_words.Commit) place index receipt =
+    receipt ≡ Some (record { place = place; registration = index })
 IsReceipted _ place index receipt = receipt ≡ None
 
 -- a word goes to a registration that a record names, whose place stands in the number of the call

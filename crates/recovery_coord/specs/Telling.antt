@@ -5,6 +5,7 @@ use Rattle.ots_model.specs.declared.completion.CallNumber.{CallNumber}
 use Rattle.ots_model.specs.declared.completion.Receipt.{Receipt}
 use Rattle.ots_model.specs.declared.tree.Outward.{Outward}
 use Rattle.ots_model.specs.declared.tree.Word.{Word}
+use Rattle.ots_model.specs.declared.completion.Word.TheVariants as phase_words
 use Rattle.ots_model.specs.declared.tree.Word.TheVariants as word
 use Rattle.recovery_coord.specs.declared.held.Due.{Due}
 use Rattle.recovery_coord.specs.declared.held.Due.TheVariants as due
@@ -30,7 +31,8 @@ outward life place p w receipt = record {
 -- prepared record wait for its superior's.
 abbrev pub word_by : ℕ → ℕ → Bool → Party → Due → Option Outward
 word_by life place decided p due.Commit =
-    Some (outward life place p word.Commit (Some (record { place = place; registration = p.index })))
+    Some (outward life place p (word.Phase phase_words.Commit)
+    (Some (record { place = place; registration = p.index })))
 word_by life place true p due.Forget = Some (outward life place p word.Forget None)
 word_by life place false p due.Forget = None
 word_by life place decided p due.Nothing = None

@@ -6,6 +6,7 @@ ghost use Rattle.recovery_coord.specs.Telling as telling;
 
 use crate::held::{Due, Party};
 use decision_journal::Registration;
+use ots_model::PhaseHeard;
 use ots_model::tree::Heard;
 use std::alloc::{AllocError, Global};
 
@@ -14,8 +15,8 @@ fn due_after(due: Due, h: &Heard) -> Due
     ensures { result ≡ hearing.due_after due h.now }
 {
     match (due, h) {
-        (_, Heard::Done | Heard::NoObject) => Due::Nothing,
-        (Due::Commit, Heard::Heuristic(_)) => Due::Forget,
+        (_, Heard::Phase(PhaseHeard::Done) | Heard::Phase(PhaseHeard::NoObject)) => Due::Nothing,
+        (Due::Commit, Heard::Phase(PhaseHeard::Heuristic(_))) => Due::Forget,
         _ => due,
     }
 }

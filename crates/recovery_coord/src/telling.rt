@@ -7,7 +7,7 @@ ghost use Rattle.recovery_coord.specs.Telling as telling;
 use crate::held::{Due, Held, Party};
 use crate::outbox::Outbox;
 use ots_model::tree::{Outward, Word};
-use ots_model::{CallNumber, Receipt};
+use ots_model::{CallNumber, PhaseWord, Receipt};
 use std::alloc::{AllocError, Global};
 
 /// The slot in the number of a call that tells the word of a record again: that of no tree.
@@ -81,7 +81,7 @@ impl Teller {
                     place: self.place,
                     registration: party.index,
                 };
-                Ok(Some(self.outward(alloc, party, Word::Commit, Some(receipt))?))
+                Ok(Some(self.outward(alloc, party, Word::Phase(PhaseWord::Commit), Some(receipt))?))
             }
             Due::Forget if self.decided => {
                 Ok(Some(self.outward(alloc, party, Word::Forget, None)?))

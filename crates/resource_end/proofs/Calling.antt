@@ -9,6 +9,7 @@ use Rattle.ots_model.specs.declared.line.Decision.TheVariants as decision
 use Rattle.ots_model.specs.declared.service.Status.{Status}
 use Rattle.ots_model.specs.declared.service.Status.TheVariants as status
 use Rattle.ots_model.specs.declared.tree.Heard.{Heard}
+use Rattle.ots_model.specs.declared.completion.Heard.TheVariants as phase_hears
 use Rattle.ots_model.specs.declared.tree.Heard.TheVariants as heard
 use Rattle.ots_outside.specs.Disk.{DiskState}
 use Rattle.ots_outside.specs.Source.{HasRisen}
@@ -184,7 +185,7 @@ told_can _ = tt
 
 heard_can : (h : Heard) → IfSome (outcome_heard h) (CanMove states.Prepared)
 heard_can (heard.Told s) = told_can s
-heard_can heard.NoObject = closes states.Prepared states.Undone refl refl
+heard_can (heard.Phase phase_hears.NoObject) = closes states.Prepared states.Undone refl refl
 heard_can _ = tt
 
 pub learnt_can : (s : State) (h : Heard) → IfSome (learnt s h) (CanMove s)

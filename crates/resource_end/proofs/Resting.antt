@@ -11,6 +11,7 @@ use Rattle.ots_model.specs.declared.line.Decision.TheVariants as decision
 use Rattle.ots_model.specs.declared.service.Status.{Status}
 use Rattle.ots_model.specs.declared.service.Status.TheVariants as status
 use Rattle.ots_model.specs.declared.tree.Heard.{Heard}
+use Rattle.ots_model.specs.declared.completion.Heard.TheVariants as phase_hears
 use Rattle.ots_model.specs.declared.tree.Heard.TheVariants as heard
 use Rattle.decision_journal.specs.Journal.{Found, with_record}
 use Rattle.decision_journal.specs.State.{JournalState}
@@ -116,7 +117,7 @@ told_goes _ = tt
 
 heard_goes : (h : Heard) → IfSome (outcome_heard h) (λ n. goes states.Prepared n ≡ true)
 heard_goes (heard.Told s) = told_goes s
-heard_goes heard.NoObject = refl
+heard_goes (heard.Phase phase_hears.NoObject) = refl
 heard_goes _ = tt
 
 pub learnt_goes : (s : State) (h : Heard) → IfSome (learnt s h) (λ n. goes s n ≡ true)

@@ -6,6 +6,7 @@ use Rattle.ots_model.specs.declared.completion.Disposition.TheVariants as dispos
 use Rattle.ots_model.specs.declared.completion.Vote.TheVariants.{VoteCommit}
 use Rattle.ots_model.specs.declared.service.Status.TheVariants as status
 use Rattle.ots_model.specs.declared.tree.Word.TheVariants.{ReplayCompletion}
+use Rattle.ots_model.specs.declared.completion.Heard.TheVariants as phase_hears
 use Rattle.ots_model.specs.declared.tree.Heard.TheVariants as heard
 use Rattle.decision_journal.specs.declared.journal.Standing.{Standing}
 use Rattle.decision_journal.specs.declared.record.CellsEnd.TheVariants as ends
@@ -41,7 +42,7 @@ abbrev pub told_committed : End
 told_committed = (learn first (heard.Told status.Committed) (at 90) in_doubt).end
 
 abbrev pub nobody_knows : End
-nobody_knows = (learn first heard.NoObject (at 90) in_doubt).end
+nobody_knows = (learn first (heard.Phase phase_hears.NoObject) (at 90) in_doubt).end
 
 -- a resource made in the new life has a key that none had before
 abbrev pub next_key : ObjectKey
@@ -97,7 +98,7 @@ pub record AChoiceStays : Type 0 where
   pub commit_comes_later : stored 5 (after_word words.Commit overwritten) ≡ Some 60
   pub learns_nothing : state_named first (learn first (heard.Told status.RolledBack) (at 90) chose_commit).end ≡ states.ChoseCommit
   pub chooses_once : (choose_heuristic first decision.Rollback (at 90) chose_commit).answer ≡ Err faults.Inactive
-  pub answers_again : (told words.Rollback first (at 90) (after_word words.Rollback chose_commit)).answer ≡ Ok (heard.Heuristic disposition.Committed)
+  pub answers_again : (told words.Rollback first (at 90) (after_word words.Rollback chose_commit)).answer ≡ Ok (heard.Phase (phase_hears.Heuristic disposition.Committed))
 
 -- ---- two resources and one cell
 
@@ -137,7 +138,7 @@ pub record AFailureIsReadAgain : Type 0 where
   pub stood : (told words.Rollback second (finding (Stands place)) unsure).answer ≡ Err faults.ObjectNotExist
   pub is_prepared : state_named first (told words.Rollback second (finding (Stands place)) unsure).end ≡ states.Prepared
   pub stood_not : state_named first (told words.Rollback second (finding StandsNot) unsure).end ≡ states.Working
-  pub votes_then : (told words.Prepare first (finding (Stands place)) unsure).answer ≡ Ok (heard.Voted VoteCommit)
+  pub votes_then : (told words.Prepare first (finding (Stands place)) unsure).answer ≡ Ok (heard.Phase (phase_hears.Voted VoteCommit))
   pub unread : (told words.Rollback first (finding (Unread faults.PersistStore)) unsure).answer ≡ Err faults.PersistStore
   pub unread_changes_nothing : state_named first (told words.Rollback first (finding (Unread faults.PersistStore)) unsure).end ≡ states.Working
   pub shows_nothing : (told words.Rollback second (finding (Stands place)) unsure).end.changed ≡ None

@@ -3,6 +3,7 @@ use Rattle.std.specs.Prelude.{Bool, true, false, ◌&&◌, Option, Some, None}
 use Rattle.ots_model.specs.declared.service.Status.{Status}
 use Rattle.ots_model.specs.declared.service.Status.TheVariants as status
 use Rattle.ots_model.specs.declared.tree.Heard.{Heard}
+use Rattle.ots_model.specs.declared.completion.Heard.TheVariants as phase_hears
 use Rattle.ots_model.specs.declared.tree.Heard.TheVariants as heard
 use Rattle.decision_journal.specs.declared.record.CellsEnd.{CellsEnd}
 use Rattle.decision_journal.specs.declared.record.CellsEnd.TheVariants as ends
@@ -90,7 +91,7 @@ outcome_told _ = None
 
 abbrev pub outcome_heard : Heard → Option State
 outcome_heard (heard.Told s) = outcome_told s
-outcome_heard heard.NoObject = Some states.Undone
+outcome_heard (heard.Phase phase_hears.NoObject) = Some states.Undone
 outcome_heard _ = None
 
 -- what any resource becomes by it

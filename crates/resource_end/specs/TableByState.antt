@@ -5,8 +5,10 @@ use Rattle.ior_refs.specs.declared.key.ObjectKey.{ObjectKey}
 use Rattle.ots_model.specs.declared.completion.Disposition.TheVariants as disposition
 use Rattle.ots_model.specs.declared.completion.Vote.TheVariants.{VoteCommit, VoteRollback, VoteReadOnly}
 use Rattle.ots_model.specs.declared.line.Decision.TheVariants as decision
+use Rattle.ots_model.specs.declared.completion.Heard.{Heard as PhaseHeard}
+use Rattle.ots_model.specs.declared.completion.Heard.TheVariants as phase_hears
 use Rattle.ots_model.specs.declared.tree.Heard.{Heard}
-use Rattle.ots_model.specs.declared.tree.Heard.TheVariants as heard
+use Rattle.ots_model.specs.declared.tree.Heard.TheVariants.{Phase}
 use Rattle.decision_journal.specs.declared.record.CellsEnd.{CellsEnd}
 use Rattle.decision_journal.specs.declared.record.CellsEnd.TheVariants as ends
 use Rattle.decision_journal.specs.declared.record.JournalRecord.{JournalRecord}
@@ -93,15 +95,15 @@ abbrev pub each : End → List Shown
 each e = map (shown_by e) (words.Prepare ∷ words.Commit ∷ words.Rollback ∷ words.CommitOnePhase ∷ words.Forget ∷ [])
 
 -- it answers so, writes nothing, and is in this state then
-abbrev pub says : Heard → State → Option ℕ → Shown
-says h s cell = record { answer = Ok h; written = None; state = s; cell = cell }
+abbrev pub says : PhaseHeard → State → Option ℕ → Shown
+says h s cell = record { answer = Ok (Phase h); written = None; state = s; cell = cell }
 
 -- it writes a record
-abbrev pub writes : Heard → JournalRecord → State → Option ℕ → Shown
-writes h r s cell = record { answer = Ok h; written = Some r; state = s; cell = cell }
+abbrev pub writes : PhaseHeard → JournalRecord → State → Option ℕ → Shown
+writes h r s cell = record { answer = Ok (Phase h); written = Some r; state = s; cell = cell }
 
 -- it writes how it ended
-abbrev pub concludes : Heard → CellsEnd → State → Option ℕ → Shown
+abbrev pub concludes : PhaseHeard → CellsEnd → State → Option ℕ → Shown
 concludes h how s cell = writes h (CellsOutcome place how) s cell
 
 -- nobody knows of it
@@ -113,52 +115,52 @@ puts = record { cell = 5; value = 50 } ∷ []
 
 pub record TableByState : Type 0 where
   pub in_fresh : each fresh_one ≡
-      says (heard.Voted VoteReadOnly) states.Forgotten None
-      ∷ says heard.NotPrepared states.Fresh None
-      ∷ says heard.Done states.Undone None
-      ∷ says heard.Done states.Forgotten None
-      ∷ says heard.Done states.Fresh None ∷ []
+      says (phase_hears.Voted VoteReadOnly) states.Forgotten None
+      ∷ says phase_hears.NotPrepared states.Fresh None
+      ∷ says phase_hears.Done states.Undone None
+      ∷ says phase_hears.Done states.Forgotten None
+      ∷ says phase_hears.Done states.Fresh None ∷ []
   pub in_working : each working ≡
-      writes (heard.Voted VoteCommit) (CellsPrepared 3 1 recovery puts) states.Prepared None
-      ∷ says heard.NotPrepared states.Working None
-      ∷ says heard.Done states.Undone None
-      ∷ writes heard.Done (CellsOnePhase 3 1 puts) states.Applied (Some 50)
-      ∷ says heard.Done states.Working None ∷ []
+      writes (phase_hears.Voted VoteCommit) (CellsPrepared 3 1 recovery puts) states.Prepared None
+      ∷ says phase_hears.NotPrepared states.Working None
+      ∷ says phase_hears.Done states.Undone None
+      ∷ writes phase_hears.Done (CellsOnePhase 3 1 puts) states.Applied (Some 50)
+      ∷ says phase_hears.Done states.Working None ∷ []
   pub in_refused : each refused_one ≡
-      says (heard.Voted VoteRollback) states.Undone None
-      ∷ says heard.NotPrepared states.Refused None
-      ∷ says heard.Done states.Undone None
-      ∷ says heard.RolledBack states.Undone None
-      ∷ says heard.Done states.Refused None ∷ []
+      says (phase_hears.Voted VoteRollback) states.Undone None
+      ∷ says phase_hears.NotPrepared states.Refused None
+      ∷ says phase_hears.Done states.Undone None
+      ∷ says phase_hears.RolledBack states.Undone None
+      ∷ says phase_hears.Done states.Refused None ∷ []
   pub in_prepared : each prepared ≡
-      says (heard.Voted VoteCommit) states.Prepared None
-      ∷ concludes heard.Done ends.Applied states.Applied (Some 50)
-      ∷ concludes heard.Done ends.Undone states.Undone None
-      ∷ concludes heard.Done ends.Applied states.Applied (Some 50)
-      ∷ says heard.Done states.Prepared None ∷ []
+      says (phase_hears.Voted VoteCommit) states.Prepared None
+      ∷ concludes phase_hears.Done ends.Applied states.Applied (Some 50)
+      ∷ concludes phase_hears.Done ends.Undone states.Undone None
+      ∷ concludes phase_hears.Done ends.Applied states.Applied (Some 50)
+      ∷ says phase_hears.Done states.Prepared None ∷ []
   pub in_applied : each applied ≡
-      says (heard.Voted VoteCommit) states.Applied (Some 50)
-      ∷ says heard.Done states.Applied (Some 50)
-      ∷ says heard.Done states.Applied (Some 50)
-      ∷ says heard.Done states.Applied (Some 50)
-      ∷ says heard.Done states.Applied (Some 50) ∷ []
+      says (phase_hears.Voted VoteCommit) states.Applied (Some 50)
+      ∷ says phase_hears.Done states.Applied (Some 50)
+      ∷ says phase_hears.Done states.Applied (Some 50)
+      ∷ says phase_hears.Done states.Applied (Some 50)
+      ∷ says phase_hears.Done states.Applied (Some 50) ∷ []
   pub in_undone : each undone ≡
-      says (heard.Voted VoteRollback) states.Undone None
-      ∷ says heard.NotPrepared states.Undone None
-      ∷ says heard.Done states.Undone None
-      ∷ says heard.RolledBack states.Undone None
-      ∷ says heard.Done states.Undone None ∷ []
+      says (phase_hears.Voted VoteRollback) states.Undone None
+      ∷ says phase_hears.NotPrepared states.Undone None
+      ∷ says phase_hears.Done states.Undone None
+      ∷ says phase_hears.RolledBack states.Undone None
+      ∷ says phase_hears.Done states.Undone None ∷ []
   pub in_chose_commit : each chose_commit ≡
-      says (heard.Voted VoteCommit) states.ChoseCommit (Some 50)
-      ∷ concludes heard.Done ends.Applied states.Applied (Some 50)
-      ∷ says (heard.Heuristic disposition.Committed) states.ChoseCommit (Some 50)
-      ∷ concludes heard.Done ends.Applied states.Applied (Some 50)
-      ∷ concludes heard.Done ends.Forgotten states.Forgotten (Some 50) ∷ []
+      says (phase_hears.Voted VoteCommit) states.ChoseCommit (Some 50)
+      ∷ concludes phase_hears.Done ends.Applied states.Applied (Some 50)
+      ∷ says (phase_hears.Heuristic disposition.Committed) states.ChoseCommit (Some 50)
+      ∷ concludes phase_hears.Done ends.Applied states.Applied (Some 50)
+      ∷ concludes phase_hears.Done ends.Forgotten states.Forgotten (Some 50) ∷ []
   pub in_chose_rollback : each chose_rollback ≡
-      says (heard.Voted VoteCommit) states.ChoseRollback None
-      ∷ says (heard.Heuristic disposition.RolledBack) states.ChoseRollback None
-      ∷ concludes heard.Done ends.Undone states.Undone None
-      ∷ says (heard.Heuristic disposition.Unknown) states.ChoseRollback None
-      ∷ concludes heard.Done ends.Forgotten states.Forgotten None ∷ []
+      says (phase_hears.Voted VoteCommit) states.ChoseRollback None
+      ∷ says (phase_hears.Heuristic disposition.RolledBack) states.ChoseRollback None
+      ∷ concludes phase_hears.Done ends.Undone states.Undone None
+      ∷ says (phase_hears.Heuristic disposition.Unknown) states.ChoseRollback None
+      ∷ concludes phase_hears.Done ends.Forgotten states.Forgotten None ∷ []
   pub in_forgotten : each forgotten ≡
       unknown (Some 50) ∷ unknown (Some 50) ∷ unknown (Some 50) ∷ unknown (Some 50) ∷ unknown (Some 50) ∷ []

@@ -6,7 +6,7 @@ ghost use Rattle.resource_end.specs.Table.{on_commit, on_commit_one_phase, on_fo
 use crate::fault::EndFault;
 use decision_journal::CellsEnd;
 use ots_model::tree::Heard;
-use ots_model::{Decision, Disposition, Status, Vote};
+use ots_model::{Decision, Disposition, PhaseHeard, Status, Vote};
 
 /// How a resource stands.
 #[derive(Clone, Copy)]
@@ -125,7 +125,8 @@ impl State {
             ),
             (
                 State::Prepared,
-                Heard::Told(Status::RollingBack | Status::RolledBack) | Heard::NoObject,
+                Heard::Told(Status::RollingBack | Status::RolledBack)
+                | Heard::Phase(PhaseHeard::NoObject),
             ) => Some(State::Undone),
             _ => None,
         }
@@ -161,12 +162,12 @@ impl State {
         ensures { result ≡ on_prepare self }
     {
         match self {
-            State::Fresh => Row::becomes(Heard::Voted(Vote::VoteReadOnly), State::Forgotten),
-            State::Working => Row::becomes(Heard::Voted(Vote::VoteCommit), State::Prepared),
-            State::Refused => Row::becomes(Heard::Voted(Vote::VoteRollback), State::Undone),
-            State::Undone => Row::stays(Heard::Voted(Vote::VoteRollback)),
+            State::Fresh => Row::becomes(PhaseHeard::Voted(Vote::VoteReadOnly), State::Forgotten),
+            State::Working => Row::becomes(PhaseHeard::Voted(Vote::VoteCommit), State::Prepared),
+            State::Refused => Row::becomes(PhaseHeard::Voted(Vote::VoteRollback), State::Undone),
+            State::Undone => Row::stays(PhaseHeard::Voted(Vote::VoteRollback)),
             State::Forgotten => Row::nobody(),
-            _ => Row::stays(Heard::Voted(Vote::VoteCommit)),
+            _ => Row::stays(PhaseHeard::Voted(Vote::VoteCommit)),
         }
     }
 
@@ -174,11 +175,11 @@ impl State {
         ensures { result ≡ on_commit self }
     {
         match self {
-            State::Prepared | State::ChoseCommit => Row::becomes(Heard::Done, State::Applied),
-            State::Applied => Row::stays(Heard::Done),
-            State::ChoseRollback => Row::stays(Heard::Heuristic(Disposition::RolledBack)),
+            State::Prepared | State::ChoseCommit => Row::becomes(PhaseHeard::Done, State::Applied),
+            State::Applied => Row::stays(PhaseHeard::Done),
+            State::ChoseRollback => Row::stays(PhaseHeard::Heuristic(Disposition::RolledBack)),
             State::Forgotten => Row::nobody(),
-            _ => Row::stays(Heard::NotPrepared),
+            _ => Row::stays(PhaseHeard::NotPrepared),
         }
     }
 
@@ -186,10 +187,10 @@ impl State {
         ensures { result ≡ on_rollback self }
     {
         match self {
-            State::Applied | State::Undone => Row::stays(Heard::Done),
-            State::ChoseCommit => Row::stays(Heard::Heuristic(Disposition::Committed)),
+            State::Applied | State::Undone => Row::stays(PhaseHeard::Done),
+            State::ChoseCommit => Row::stays(PhaseHeard::Heuristic(Disposition::Committed)),
             State::Forgotten => Row::nobody(),
-            _ => Row::becomes(Heard::Done, State::Undone),
+            _ => Row::becomes(PhaseHeard::Done, State::Undone),
         }
     }
 
@@ -197,15 +198,15 @@ impl State {
         ensures { result ≡ on_commit_one_phase self }
     {
         match self {
-            State::Fresh => Row::becomes(Heard::Done, State::Forgotten),
+            State::Fresh => Row::becomes(PhaseHeard::Done, State::Forgotten),
             State::Working | State::Prepared | State::ChoseCommit => Row::becomes(
-                Heard::Done,
+                PhaseHeard::Done,
                 State::Applied,
             ),
-            State::Refused => Row::becomes(Heard::RolledBack, State::Undone),
-            State::Applied => Row::stays(Heard::Done),
-            State::Undone => Row::stays(Heard::RolledBack),
-            State::ChoseRollback => Row::stays(Heard::Heuristic(Disposition::Unknown)),
+            State::Refused => Row::becomes(PhaseHeard::RolledBack, State::Undone),
+            State::Applied => Row::stays(PhaseHeard::Done),
+            State::Undone => Row::stays(PhaseHeard::RolledBack),
+            State::ChoseRollback => Row::stays(PhaseHeard::Heuristic(Disposition::Unknown)),
             State::Forgotten => Row::nobody(),
         }
     }
@@ -215,11 +216,11 @@ impl State {
     {
         match self {
             State::ChoseCommit | State::ChoseRollback => Row::becomes(
-                Heard::Done,
+                PhaseHeard::Done,
                 State::Forgotten,
             ),
             State::Forgotten => Row::nobody(),
-            _ => Row::stays(Heard::Done),
+            _ => Row::stays(PhaseHeard::Done),
         }
     }
 }
@@ -251,20 +252,20 @@ pub struct Row {
 impl Row {
     ghost use Rattle.resource_end.specs.Table.{becomes, nobody, stays};
 
-    fn stays(heard: Heard) -> Row
+    fn stays(heard: PhaseHeard) -> Row
         ensures { result ≡ stays heard }
     {
         Row {
-            said: Ok(heard),
+            said: Ok(Heard::Phase(heard)),
             next: None,
         }
     }
 
-    fn becomes(heard: Heard, next: State) -> Row
+    fn becomes(heard: PhaseHeard, next: State) -> Row
         ensures { result ≡ becomes heard next }
     {
         Row {
-            said: Ok(heard),
+            said: Ok(Heard::Phase(heard)),
             next: Some(next),
         }
     }

@@ -8,7 +8,7 @@ ghost use Rattle.recovery_coord.specs.Replay as replay;
 use coordinator::{Act, Event, Said};
 use ior_refs::ObjectKey;
 use ots_model::tree::Word;
-use ots_model::{RefBytes, RetryKey, Vote};
+use ots_model::{PhaseWord, RefBytes, RetryKey, Vote};
 use recovery_coord::{Held, Kind, Party};
 
 /// The letters of the keys of a terminator, of a subordinate's resource, and of a recovery coordinator.
@@ -120,8 +120,8 @@ fn word_said(word: Word) -> Said
     ensures { result ≡ records.word_said word }
 {
     match word {
-        Word::Prepare => Said::Voted(Vote::VoteCommit),
-        Word::Rollback => Said::HeuristicCommit,
+        Word::Phase(PhaseWord::Prepare) => Said::Voted(Vote::VoteCommit),
+        Word::Phase(PhaseWord::Rollback) => Said::HeuristicCommit,
         _ => Said::Transient,
     }
 }

@@ -11,9 +11,10 @@ use Rattle.ots_model.specs.declared.completion.Ground.TheVariants.{Nobody}
 use Rattle.ots_model.specs.declared.completion.Stood.{Stood}
 use Rattle.ots_model.specs.declared.completion.Stood.TheVariants as answers
 use Rattle.ots_model.specs.declared.tree.Reason.{Reason}
+use Rattle.ots_model.specs.declared.completion.Reason.TheVariants as phase_reasons
 use Rattle.ots_model.specs.declared.tree.Reason.TheVariants as reasons
-use Rattle.ots_model.specs.declared.tree.Outcome.{Outcome}
-use Rattle.ots_model.specs.declared.tree.Outcome.TheVariants as outcomes
+use Rattle.ots_model.specs.Numbered.{Outcome}
+use Rattle.ots_model.specs.declared.completion.Outcome.TheVariants as outcomes
 use Rattle.two_phase.specs.Course.{same_number}
 use Rattle.two_phase.specs.Parties.{consents}
 use Rattle.two_phase.specs.Course.{Course, is_outside, decides_alone, all_consent, some_commit, first_refuser, by_refusal, by_record, by_one, by_votes, outcome, errand, answered, wants_decision, is_doubtful, may_roll_back}
@@ -62,11 +63,11 @@ overtaken_cause c (reasons.SyncLost s) o e = e
 overtaken_cause c (reasons.SyncStarved s) o e = e
 overtaken_cause c reasons.Superior o e = e
 overtaken_cause c reasons.NotEnlisted o e = e
-overtaken_cause c (reasons.Vote g) o e = absurd (cc (o))
-overtaken_cause c (reasons.PrepareLost g) o e = absurd (cc (o))
-overtaken_cause c (reasons.PrepareStarved g) o e = absurd (cc (o))
-overtaken_cause c (reasons.PrepareFault g) o e = absurd (cc (o))
-overtaken_cause c (reasons.JournalFull used need) o e = absurd (cc (o))
+overtaken_cause c (reasons.Phase (phase_reasons.Vote g)) o e = absurd (cc (o))
+overtaken_cause c (reasons.Phase (phase_reasons.PrepareLost g)) o e = absurd (cc (o))
+overtaken_cause c (reasons.Phase (phase_reasons.PrepareStarved g)) o e = absurd (cc (o))
+overtaken_cause c (reasons.Phase (phase_reasons.PrepareFault g)) o e = absurd (cc (o))
+overtaken_cause c (reasons.Phase (phase_reasons.JournalFull used need)) o e = absurd (cc (o))
 overtaken_cause c reasons.NotStored o e = absurd (cc (o))
 
 -- by the answer of the one that decides alone

@@ -7,10 +7,11 @@ use Rattle.std.proofs.lemmas.List.Sums.{sum_by-cons}
 use Rattle.ots_model.specs.declared.completion.Heard.{Heard}
 use Rattle.ots_model.specs.declared.completion.CallNumber.{CallNumber}
 use Rattle.ots_model.specs.declared.tree.Word.{Word}
+use Rattle.ots_model.specs.declared.completion.Word.TheVariants as phases
 use Rattle.ots_model.specs.declared.tree.Word.TheVariants as words
 use Rattle.ots_model.specs.declared.tree.Outward.{Outward}
-use Rattle.ots_model.specs.declared.tree.Outcome.{Outcome}
-use Rattle.ots_model.specs.declared.tree.Outcome.TheVariants as outcomes
+use Rattle.ots_model.specs.Numbered.{Outcome}
+use Rattle.ots_model.specs.declared.completion.Outcome.TheVariants as outcomes
 use Rattle.ots_model.specs.declared.tree.Reason.{Reason}
 use Rattle.resource_votes.specs.History.{times}
 use Rattle.two_phase.specs.Course.{same_number}
@@ -209,10 +210,10 @@ past_on e c later r (further between _ on step) due past =
 
 -- the stage of a word
 stage_of : Word → Stage
-stage_of words.Prepare = stages.Asking
-stage_of words.CommitOnePhase = stages.Asking
-stage_of words.Commit = stages.Telling
-stage_of words.Rollback = stages.Telling
+stage_of (words.Phase phases.Prepare) = stages.Asking
+stage_of (words.Phase phases.CommitOnePhase) = stages.Asking
+stage_of (words.Phase phases.Commit) = stages.Telling
+stage_of (words.Phase phases.Rollback) = stages.Telling
 stage_of _ = stages.Forgetting
 
 is_stage : (c : Course) (stage : Stage) → stage_of (word_of c stage) ≡ stage

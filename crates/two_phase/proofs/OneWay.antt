@@ -11,10 +11,11 @@ use Rattle.ots_model.specs.declared.completion.CallNumber.{CallNumber}
 use Rattle.ots_model.specs.declared.completion.Ground.TheVariants.{Record}
 use Rattle.ots_model.specs.declared.completion.Stood.{Stood}
 use Rattle.ots_model.specs.declared.tree.Word.{Word}
+use Rattle.ots_model.specs.declared.completion.Word.TheVariants as phases
 use Rattle.ots_model.specs.declared.tree.Word.TheVariants as words
 use Rattle.ots_model.specs.declared.tree.Outward.{Outward}
-use Rattle.ots_model.specs.declared.tree.Outcome.{Outcome}
-use Rattle.ots_model.specs.declared.tree.Outcome.TheVariants as outcomes
+use Rattle.ots_model.specs.Numbered.{Outcome}
+use Rattle.ots_model.specs.declared.completion.Outcome.TheVariants as outcomes
 use Rattle.ots_model.specs.declared.tree.Reason.{Reason}
 use Rattle.two_phase.specs.Course.{same_number}
 use Rattle.two_phase.specs.Course.{Course, decides_alone, all_consent, some_commit, outcome_word, by_one, outcome, errand, next_word, word_of, outward_of, outward, after_next, answered, heard_at, heard_by, wants_decision, after_decided, is_doubtful, after_reread, is_outside, may_roll_back, after_rollback}
@@ -78,14 +79,14 @@ stays_on c later fixed r (further between _ on step) is =
     (goes_on between later b.0 step, outcome_stays between later fixed b.0 step b.1)
 
 -- a rollback word goes out only where the outcome is rollback
-rolls_back : (c : Course) (o : Outward) → next_word c ≡ Some o → o.word ≡ words.Rollback → IsRollback (outcome c)
+rolls_back : (c : Course) (o : Outward) → next_word c ≡ Some o → o.word ≡ words.Phase phases.Rollback → IsRollback (outcome c)
 rolls_back c o h w =
     let g = words_rest c o h in
     let told : MayBeRolledBack g.party c = subst (λ word. RestsOn word g.place g.party c) w g.rests in
     told.fixed
 
-after_commit : (c later : Course) (first second : Outward) → IsReached c → next_word c ≡ Some first → first.word ≡ words.Commit
-    → TreeGoesOn (after_next c) later → next_word later ≡ Some second → second.word ≡ words.Rollback → ⊥
+after_commit : (c later : Course) (first second : Outward) → IsReached c → next_word c ≡ Some first → first.word ≡ words.Phase phases.Commit
+    → TreeGoesOn (after_next c) later → next_word later ≡ Some second → second.word ≡ words.Phase phases.Rollback → ⊥
 after_commit c later first second r h w on later_word back =
     let g = words_rest c first h in
     let told : MayBeTold g.party c = subst (λ word. RestsOn word g.place g.party c) w g.rests in
@@ -231,30 +232,30 @@ told_back c k q h ballot (outcomes.Rollback reason) is told back =
     not_told h (ap (λ b. hears_rollback b (Some h)) (sym k.alone) ∙ ap (hears_rollback (decides_alone c)) (sym ballot) ∙ told)
 told_back c k q h ballot outcomes.Unknown is told back = cc (told)
 
-stage_back : (c : Course) → Keeps c → (q : Party) (h : Heard) → q.ballot ≡ Some h → (stage : Stage) (i : ℕ) → Says c stage i q → word_of c stage ≡ words.Rollback → IsRollback (outcome c) → ⊥
+stage_back : (c : Course) → Keeps c → (q : Party) (h : Heard) → q.ballot ≡ Some h → (stage : Stage) (i : ℕ) → Says c stage i q → word_of c stage ≡ words.Phase phases.Rollback → IsRollback (outcome c) → ⊥
 stage_back c k q h ballot stages.Asking i says w back = subst IsRollback says.undecided back
 stage_back c k q h ballot stages.Telling i says w back = told_back c k q h ballot says.fixed says.ends says.told back
 stage_back c k q h ballot stages.Forgetting i says w back = cc (w)
 
-one_back : (c : Course) (o : Outward) → Keeps c → IsAskedOne c → Sent c o → o.word ≡ words.Rollback → IsRollback (outcome c) → ⊥
+one_back : (c : Course) (o : Outward) → Keeps c → IsAskedOne c → Sent c o → o.word ≡ words.Phase phases.Rollback → IsRollback (outcome c) → ⊥
 one_back c o k (waits e is asks) s w back = let contrary : None ≡ Some e = sym s.free ∙ is in cc (contrary)
 one_back c o k (has_answered p h at ballot) s w back =
     let same : s.party ≡ p = same_Some s.party p (sym (alone_first c s.task.place s.party k.alone s.there) ∙ at) in
     stage_back c k s.party h (ap (λ (y : Party). y.ballot) same ∙ ballot) s.task.stage s.task.place (errand_tells c s.task s.next s.party s.there) (sym s.word ∙ w) back
 
 -- the word that asks one to decide is that of the stage of asking
-asks_one : (c : Course) (stage : Stage) → word_of c stage ≡ words.CommitOnePhase → stage ≡ stages.Asking
+asks_one : (c : Course) (stage : Stage) → word_of c stage ≡ words.Phase phases.CommitOnePhase → stage ≡ stages.Asking
 asks_one c stages.Asking w = refl
 asks_one c stages.Telling w = absurd (tells_other (outcome c) w)
   where
-    tells_other : (o : Option Outcome) → outcome_word o ≡ words.CommitOnePhase → ⊥
+    tells_other : (o : Option Outcome) → outcome_word o ≡ words.Phase phases.CommitOnePhase → ⊥
     tells_other (Some (outcomes.Commit basis)) w = cc (w)
     tells_other (Some (outcomes.Rollback reason)) w = cc (w)
     tells_other (Some outcomes.Unknown) w = cc (w)
     tells_other None w = cc (w)
 asks_one c stages.Forgetting w = absurd (cc (w))
 
-begins_alone : (c : Course) (o : Outward) → next_word c ≡ Some o → o.word ≡ words.CommitOnePhase → Keeps (after_next c)
+begins_alone : (c : Course) (o : Outward) → next_word c ≡ Some o → o.word ≡ words.Phase phases.CommitOnePhase → Keeps (after_next c)
 begins_alone c o h w =
     let g = words_rest c o h in
     let rests : MayBeAsked g.place g.party c × (decides_alone c ≡ true) = subst (λ word. RestsOn word g.place g.party c) w g.rests in
@@ -271,28 +272,28 @@ begins_alone c o h w =
     free_keeps None never alone free e is asks = record { alone = alone; free = free; one = waits e is asks }
     free_keeps (Some f) never alone free e is asks = absurd (cc (never))
 
-after_one : (c later : Course) (first second : Outward) → IsReached c → next_word c ≡ Some first → first.word ≡ words.CommitOnePhase
-    → TreeGoesOn (after_next c) later → next_word later ≡ Some second → second.word ≡ words.Rollback → ⊥
+after_one : (c later : Course) (first second : Outward) → IsReached c → next_word c ≡ Some first → first.word ≡ words.Phase phases.CommitOnePhase
+    → TreeGoesOn (after_next c) later → next_word later ≡ Some second → second.word ≡ words.Phase phases.Rollback → ⊥
 after_one c later first second r h w on later_word back =
     let k = keeps_on (after_next c) later (goes_on c (after_next c) r (by_word c)) on (begins_alone c first h w) in
     one_back later second k.1 k.1.one (sent later second later_word) back (rolls_back later second later_word back)
 
 by_first_word : (c later : Course) (first second : Outward) → IsReached c → next_word c ≡ Some first → (w : Word) → first.word ≡ w → IsCommitWord w
-    → TreeGoesOn (after_next c) later → next_word later ≡ Some second → second.word ≡ words.Rollback → ⊥
-by_first_word c later first second r h words.Commit is commits on later_word back = after_commit c later first second r h is on later_word back
-by_first_word c later first second r h words.CommitOnePhase is commits on later_word back = after_one c later first second r h is on later_word back
+    → TreeGoesOn (after_next c) later → next_word later ≡ Some second → second.word ≡ words.Phase phases.Rollback → ⊥
+by_first_word c later first second r h (words.Phase phases.Commit) is commits on later_word back = after_commit c later first second r h is on later_word back
+by_first_word c later first second r h (words.Phase phases.CommitOnePhase) is commits on later_word back = after_one c later first second r h is on later_word back
 by_first_word c later first second r h _ is commits on later_word back = absurd commits
 
 pub one_way : (c later : Course) (first second : Outward) → IsReached c → next_word c ≡ Some first → IsCommitWord first.word
-    → TreeGoesOn (after_next c) later → next_word later ≡ Some second → second.word ≡ words.Rollback → ⊥
+    → TreeGoesOn (after_next c) later → next_word later ≡ Some second → second.word ≡ words.Phase phases.Rollback → ⊥
 one_way c later first second r h commits on later_word back = by_first_word c later first second r h first.word refl commits on later_word back
 
 -- no commit word rests on a rollback
 rests_back : (c : Course) (i : ℕ) (p : Party) (w : Word) → RestsOn w i p c → IsCommitWord w → (reason : Reason) → outcome c ≡ Some (outcomes.Rollback reason) → ⊥
-rests_back c i p words.Commit told commits reason is =
+rests_back c i p (words.Phase phases.Commit) told commits reason is =
     let contrary : Some (outcomes.Commit Record) ≡ Some (outcomes.Rollback reason) = sym told.fixed ∙ is in
     cc (contrary)
-rests_back c i p words.CommitOnePhase asked commits reason is =
+rests_back c i p (words.Phase phases.CommitOnePhase) asked commits reason is =
     let contrary : None ≡ Some (outcomes.Rollback reason) = sym asked.0.undecided ∙ is in
     cc (contrary)
 rests_back c i p _ rests commits reason is = commits
@@ -309,7 +310,7 @@ by_outcome c later second r on later_word commits (Some (outcomes.Rollback reaso
     let g = words_rest later second later_word in
     rests_back later g.place g.party second.word g.rests commits reason end.1
 
-pub other_way : (c later : Course) (first second : Outward) → IsReached c → next_word c ≡ Some first → first.word ≡ words.Rollback
+pub other_way : (c later : Course) (first second : Outward) → IsReached c → next_word c ≡ Some first → first.word ≡ words.Phase phases.Rollback
     → TreeGoesOn (after_next c) later → next_word later ≡ Some second → IsCommitWord second.word → ⊥
 other_way c later first second r h back on later_word commits =
     by_outcome c later second r on later_word commits (outcome c) refl (rolls_back c first h back)

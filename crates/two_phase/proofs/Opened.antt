@@ -4,7 +4,7 @@ use Rattle.std.specs.List.{slice_get}
 use Rattle.std.proofs.lemmas.List.Quantifiers.{position-Some}
 use Rattle.std.proofs.lemmas.Option.{slice_get-get_or, same_Some}
 use Rattle.ots_model.specs.declared.completion.Heard.{Heard}
-use Rattle.ots_model.specs.declared.tree.Outcome.{Outcome}
+use Rattle.ots_model.specs.Numbered.{Outcome}
 use Rattle.two_phase.specs.Course.{Course, decides_alone, outcome, errand, asking, telling, forgetting, may_forget, errand_at, next_asked, next_told, next_forgetting}
 use Rattle.two_phase.specs.CourseInside.{answer_at, OpenAt, IsOpen}
 use Rattle.two_phase.specs.Parties.{is_unasked, is_untold, is_told, is_unforgotten, has_raised}

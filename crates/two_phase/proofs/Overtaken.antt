@@ -1,6 +1,6 @@
 -- What is known where a completion may be rolled back from outside.
 use Rattle.std.proofs.Common.{◌≡◌, refl, ◌≤◌, suc, ◌&&◌, Bool, true, false, if◌then◌else◌, Option, Some, None, is_none, arith, ap, sym, ◌∙◌}
-use Rattle.ots_model.specs.declared.tree.Outcome.TheVariants as outcomes
+use Rattle.ots_model.specs.declared.completion.Outcome.TheVariants as outcomes
 use Rattle.ots_model.specs.declared.completion.CallNumber.{CallNumber}
 use Rattle.ots_model.specs.declared.tree.Reason.{Reason}
 use Rattle.two_phase.specs.Course.{Course, outcome, may_roll_back, overtaken_number, following}

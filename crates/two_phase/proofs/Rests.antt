@@ -12,8 +12,8 @@ use Rattle.ots_model.specs.declared.completion.Ground.TheVariants.{Record, Nobod
 use Rattle.ots_model.specs.declared.completion.Stood.{Stood}
 use Rattle.ots_model.specs.declared.completion.Stood.TheVariants as answers
 use Rattle.ots_model.specs.declared.tree.Outward.{Outward}
-use Rattle.ots_model.specs.declared.tree.Outcome.{Outcome}
-use Rattle.ots_model.specs.declared.tree.Outcome.TheVariants as outcomes
+use Rattle.ots_model.specs.Numbered.{Outcome}
+use Rattle.ots_model.specs.declared.completion.Outcome.TheVariants as outcomes
 use Rattle.ots_model.specs.declared.tree.Reason.{Reason}
 use Rattle.two_phase.specs.Course.{Course, decides_alone, all_consent, some_commit, first_refuser, by_refusal, by_record, by_one, by_votes, record_place, outcome, errand, asking, telling, forgetting, may_forget, errand_at, next_asked, next_told, next_forgetting, first_word, outcome_word, word_of, outward, outward_of, next_word}
 use Rattle.two_phase.specs.LawsOfCourses.{MayBeTold, MayBeAsked, MayForget, IsRollback, RestsOn, GoesRightly}

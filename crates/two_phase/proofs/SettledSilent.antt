@@ -5,7 +5,7 @@ use Rattle.std.specs.List.{list_all, list_any, position_or_len, prefix_len}
 use Rattle.std.specs.Option.{option_map_or, option_and_then}
 use Rattle.std.proofs.lemmas.Bool.Decides.{nat_tests}
 use Rattle.ots_model.specs.declared.completion.Heard.{Heard}
-use Rattle.ots_model.specs.declared.tree.Outcome.{Outcome}
+use Rattle.ots_model.specs.Numbered.{Outcome}
 use Rattle.two_phase.specs.Course.{Course, decides_alone, errand, errand_at, forgetting, may_forget, next_forgetting, next_told, next_word, outcome, outward_of, telling, asking}
 use Rattle.two_phase.specs.Parties.{has_raised, is_owed, is_through, is_told, is_unforgotten, is_untold, lets_go, completes}
 use Rattle.two_phase.specs.Reports.{all_completed, all_through, is_settled, some_owed}

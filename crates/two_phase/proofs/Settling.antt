@@ -4,8 +4,8 @@ use Rattle.std.specs.List.{slice_get, list_all, list_any}
 use Rattle.std.specs.Option.{option_map_or}
 use Rattle.std.proofs.lemmas.Option.{same_Some}
 use Rattle.ots_model.specs.declared.completion.Ground.{Ground}
-use Rattle.ots_model.specs.declared.tree.Outcome.{Outcome}
-use Rattle.ots_model.specs.declared.tree.Outcome.TheVariants as outcomes
+use Rattle.ots_model.specs.Numbered.{Outcome}
+use Rattle.ots_model.specs.declared.completion.Outcome.TheVariants as outcomes
 use Rattle.two_phase.specs.Course.{Course, decides_alone, outcome, waits_for_superior}
 use Rattle.two_phase.specs.LawsOfSettling.{AllComplete, AllLetGo, IsThrough}
 use Rattle.two_phase.specs.Parties.{is_told, is_through, is_owed, has_completed, has_raised, has_voted_commit, lets_go}

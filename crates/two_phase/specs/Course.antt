@@ -11,11 +11,13 @@ use Rattle.ots_model.specs.declared.completion.Stood.TheVariants as answers
 use Rattle.ots_model.specs.declared.completion.Receipt.{Receipt}
 use Rattle.ots_model.specs.declared.completion.Ground.TheVariants.{Record, Nobody}
 use Rattle.ots_model.specs.declared.tree.Word.{Word}
+use Rattle.ots_model.specs.declared.completion.Word.TheVariants as phases
 use Rattle.ots_model.specs.declared.tree.Word.TheVariants as words
 use Rattle.ots_model.specs.declared.tree.Reason.{Reason}
+use Rattle.ots_model.specs.declared.completion.Reason.TheVariants as phase_reasons
 use Rattle.ots_model.specs.declared.tree.Reason.TheVariants as reasons
-use Rattle.ots_model.specs.declared.tree.Outcome.{Outcome}
-use Rattle.ots_model.specs.declared.tree.Outcome.TheVariants as outcomes
+use Rattle.ots_model.specs.Numbered.{Outcome}
+use Rattle.ots_model.specs.declared.completion.Outcome.TheVariants as outcomes
 use Rattle.ots_model.specs.declared.tree.Outward.{Outward}
 use Rattle.resource_votes.specs.declared.registration.Registration.{Registration}
 use Rattle.two_phase.specs.Parties.{party_of, has_consented, has_refused, has_voted_commit, is_unasked, has_answered, reason_of, by_answer, is_untold, is_incomplete, is_unforgotten}
@@ -93,7 +95,8 @@ by_reread (Some None) = Some (outcomes.Rollback reasons.NotStored)
 abbrev pub by_record : Option Stood → Option (Option ℕ) → Option Outcome
 by_record None reread = None
 by_record (Some (answers.Stands place)) reread = Some (outcomes.Commit Record)
-by_record (Some (answers.Full used need)) reread = Some (outcomes.Rollback (reasons.JournalFull used need))
+by_record (Some (answers.Full used need)) reread =
+    Some (outcomes.Rollback (reasons.Phase (phase_reasons.JournalFull used need)))
 by_record (Some (answers.Unsure why)) reread = by_reread reread
 
 -- the outcome where one was asked to decide alone
@@ -195,11 +198,11 @@ errand c = elim (outcome c) [ Some fixed ↦ telling c fixed | None ↦ asking c
 
 -- the word of each stage
 abbrev pub first_word : Bool → Word
-first_word alone = if alone then words.CommitOnePhase else words.Prepare
+first_word alone = if alone then (words.Phase phases.CommitOnePhase) else (words.Phase phases.Prepare)
 
 abbrev pub outcome_word : Option Outcome → Word
-outcome_word (Some (outcomes.Commit basis)) = words.Commit
-outcome_word _ = words.Rollback
+outcome_word (Some (outcomes.Commit basis)) = words.Phase phases.Commit
+outcome_word _ = words.Phase phases.Rollback
 
 abbrev pub word_of : Course → Stage → Word
 word_of c stages.Asking = first_word (decides_alone c)
@@ -208,7 +211,8 @@ word_of c stages.Forgetting = words.Forget
 
 -- the record that a commit word rests on
 abbrev pub receipt_of : Word → Option ℕ → ℕ → Option Receipt
-receipt_of words.Commit (Some place) registration = Some (record { place = place; registration = registration })
+receipt_of (words.Phase phases.Commit) (Some place) registration =
+    Some (record { place = place; registration = registration })
 receipt_of _ _ _ = None
 
 -- a word to a participant, as a call

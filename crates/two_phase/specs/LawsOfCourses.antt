@@ -6,9 +6,10 @@ use Rattle.ots_model.specs.declared.completion.Heard.TheVariants.{Voted}
 use Rattle.ots_model.specs.declared.completion.Vote.TheVariants.{VoteCommit}
 use Rattle.ots_model.specs.declared.completion.Ground.TheVariants.{Record}
 use Rattle.ots_model.specs.declared.tree.Word.{Word}
+use Rattle.ots_model.specs.declared.completion.Word.TheVariants as phases
 use Rattle.ots_model.specs.declared.tree.Word.TheVariants as words
-use Rattle.ots_model.specs.declared.tree.Outcome.{Outcome}
-use Rattle.ots_model.specs.declared.tree.Outcome.TheVariants.{Commit, Rollback}
+use Rattle.ots_model.specs.Numbered.{Outcome}
+use Rattle.ots_model.specs.declared.completion.Outcome.TheVariants.{Commit, Rollback}
 use Rattle.ots_model.specs.declared.tree.Outward.{Outward}
 use Rattle.two_phase.specs.Course.{Course, all_consent, decides_alone, outcome, next_word, record_place, receipt_of, next_asked, next_told, may_forget}
 use Rattle.two_phase.specs.Parties.{has_raised, hears_rollback}
@@ -53,10 +54,10 @@ pub record MayForget (p : Party) (c : Course) : Type 0 where
 
 -- what a word to the participant at this place rests on: no other word goes out
 abbrev pub RestsOn : Word → ℕ → Party → Course → Type 0
-RestsOn words.Prepare place p c = MayBeAsked place p c × (decides_alone c ≡ false)
-RestsOn words.CommitOnePhase place p c = MayBeAsked place p c × (decides_alone c ≡ true)
-RestsOn words.Commit place p c = MayBeTold p c
-RestsOn words.Rollback place p c = MayBeRolledBack p c
+RestsOn (words.Phase phases.Prepare) place p c = MayBeAsked place p c × (decides_alone c ≡ false)
+RestsOn (words.Phase phases.CommitOnePhase) place p c = MayBeAsked place p c × (decides_alone c ≡ true)
+RestsOn (words.Phase phases.Commit) place p c = MayBeTold p c
+RestsOn (words.Phase phases.Rollback) place p c = MayBeRolledBack p c
 RestsOn words.Forget place p c = MayForget p c
 RestsOn _ place p c = ⊥
 

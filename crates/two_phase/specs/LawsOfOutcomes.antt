@@ -8,9 +8,10 @@ use Rattle.ots_model.specs.declared.completion.Vote.TheVariants.{VoteRollback}
 use Rattle.ots_model.specs.declared.completion.Ground.TheVariants.{Record, OnePhase, Nobody}
 use Rattle.ots_model.specs.declared.completion.Stood.TheVariants.{Full}
 use Rattle.ots_model.specs.declared.tree.Reason.{Reason}
+use Rattle.ots_model.specs.declared.completion.Reason.TheVariants as phase_reasons
 use Rattle.ots_model.specs.declared.tree.Reason.TheVariants as reasons
-use Rattle.ots_model.specs.declared.tree.Outcome.{Outcome}
-use Rattle.ots_model.specs.declared.tree.Outcome.TheVariants as outcomes
+use Rattle.ots_model.specs.Numbered.{Outcome}
+use Rattle.ots_model.specs.declared.completion.Outcome.TheVariants as outcomes
 use Rattle.two_phase.specs.Course.{Course, all_consent, some_commit, decides_alone, is_unsure, record_place, outcome}
 use Rattle.two_phase.specs.LawsOfReached.{IsReached}
 use Rattle.two_phase.specs.declared.party.Party.{Party}
@@ -44,12 +45,12 @@ pub record HasFaulted (number : ℕ) (c : Course) : Type 0 where
 
 -- what stands behind the reason of a rollback: where none of the answers and nothing of the record does, it came from outside
 abbrev pub HasCause : Reason → Course → Type 0
-HasCause (reasons.Vote number) c =
+HasCause (reasons.Phase (phase_reasons.Vote number)) c =
     HasAnswered number (hears.Voted VoteRollback) c ⊎ ((decides_alone c ≡ true) × HasAnswered number hears.RolledBack c)
-HasCause (reasons.PrepareLost number) c = HasAnswered number hears.Lost c
-HasCause (reasons.PrepareStarved number) c = HasAnswered number hears.Starved c
-HasCause (reasons.PrepareFault number) c = HasFaulted number c
-HasCause (reasons.JournalFull used need) c = c.stood ≡ Some (Full used need)
+HasCause (reasons.Phase (phase_reasons.PrepareLost number)) c = HasAnswered number hears.Lost c
+HasCause (reasons.Phase (phase_reasons.PrepareStarved number)) c = HasAnswered number hears.Starved c
+HasCause (reasons.Phase (phase_reasons.PrepareFault number)) c = HasFaulted number c
+HasCause (reasons.Phase (phase_reasons.JournalFull used need)) c = c.stood ≡ Some (Full used need)
 HasCause reasons.NotStored c = (is_unsure c.stood ≡ true) × (c.reread ≡ Some None)
 HasCause reason c = c.overtaken ≡ Some reason
 

@@ -5,9 +5,10 @@ use Rattle.ots_model.specs.declared.completion.CallNumber.{CallNumber}
 use Rattle.ots_model.specs.declared.completion.Heard.{Heard}
 use Rattle.ots_model.specs.declared.completion.Stood.{Stood}
 use Rattle.ots_model.specs.declared.tree.Reason.{Reason}
-use Rattle.ots_model.specs.declared.tree.Outcome.{Outcome}
+use Rattle.ots_model.specs.Numbered.{Outcome}
 use Rattle.ots_model.specs.declared.tree.Outward.{Outward}
 use Rattle.ots_model.specs.declared.tree.Word.{Word}
+use Rattle.ots_model.specs.declared.completion.Word.TheVariants as phases
 use Rattle.ots_model.specs.declared.tree.Word.TheVariants as words
 use Rattle.resource_votes.specs.declared.registration.Registration.{Registration}
 use Rattle.resource_votes.specs.History.{times}
@@ -40,18 +41,18 @@ pub data TreeGoesOn (c : Course) : Course → Type 0 where
 
 -- a word that makes updates last
 abbrev pub IsCommitWord : Word → Type 0
-IsCommitWord words.Commit = Unit {0}
-IsCommitWord words.CommitOnePhase = Unit {0}
+IsCommitWord (words.Phase phases.Commit) = Unit {0}
+IsCommitWord (words.Phase phases.CommitOnePhase) = Unit {0}
 IsCommitWord _ = ⊥
 
 -- once a commit word has gone out, no rollback goes out
 abbrev pub NoRollbackAfterCommit : Type 0
 NoRollbackAfterCommit = (c later : Course) (first second : Outward) → IsReached c → next_word c ≡ Some first → IsCommitWord first.word
-    → TreeGoesOn (after_next c) later → next_word later ≡ Some second → second.word ≡ words.Rollback → ⊥
+    → TreeGoesOn (after_next c) later → next_word later ≡ Some second → second.word ≡ words.Phase phases.Rollback → ⊥
 
 -- once a rollback has gone out, no commit word goes out
 abbrev pub NoCommitAfterRollback : Type 0
-NoCommitAfterRollback = (c later : Course) (first second : Outward) → IsReached c → next_word c ≡ Some first → first.word ≡ words.Rollback
+NoCommitAfterRollback = (c later : Course) (first second : Outward) → IsReached c → next_word c ≡ Some first → first.word ≡ words.Phase phases.Rollback
     → TreeGoesOn (after_next c) later → next_word later ≡ Some second → IsCommitWord second.word → ⊥
 
 -- the numbers of the participants, in list order

@@ -3,8 +3,8 @@ use Rattle.std.specs.Prelude.{◌≡◌, ◌↔◌, ℕ, true, false, [], Some, 
 use Rattle.std.specs.List.{slice_get}
 use Rattle.std.specs.Option.{option_map_or}
 use Rattle.ots_model.specs.declared.completion.Ground.{Ground}
-use Rattle.ots_model.specs.declared.tree.Outcome.{Outcome}
-use Rattle.ots_model.specs.declared.tree.Outcome.TheVariants as outcomes
+use Rattle.ots_model.specs.Numbered.{Outcome}
+use Rattle.ots_model.specs.declared.completion.Outcome.TheVariants as outcomes
 use Rattle.two_phase.specs.Course.{Course, decides_alone, next_word, outcome}
 use Rattle.two_phase.specs.Parties.{is_told, has_completed, has_raised, lets_go}
 use Rattle.two_phase.specs.Reports.{is_settled, pending_commits, pending_forgets}

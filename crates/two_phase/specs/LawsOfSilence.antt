@@ -2,8 +2,8 @@
 -- operations of interface Resource).
 use Rattle.std.specs.Prelude.{◌≡◌, ℕ, ◌⊎◌, true, Some, None, is_some}
 use Rattle.std.specs.List.{slice_get}
-use Rattle.ots_model.specs.declared.tree.Outcome.{Outcome}
-use Rattle.ots_model.specs.declared.tree.Outcome.TheVariants as outcomes
+use Rattle.ots_model.specs.Numbered.{Outcome}
+use Rattle.ots_model.specs.declared.completion.Outcome.TheVariants as outcomes
 use Rattle.two_phase.specs.Course.{Course, decides_alone, outcome, wants_decision, is_doubtful, waits_for_superior, some_incomplete, next_word}
 use Rattle.two_phase.specs.Parties.{is_told, has_raised}
 use Rattle.two_phase.specs.declared.party.Party.{Party}

@@ -11,9 +11,10 @@ use Rattle.ots_model.specs.declared.completion.Heard.TheVariants as hears
 use Rattle.ots_model.specs.declared.completion.Vote.TheVariants.{VoteCommit, VoteRollback, VoteReadOnly}
 use Rattle.ots_model.specs.declared.completion.Ground.TheVariants.{OnePhase}
 use Rattle.ots_model.specs.declared.tree.Reason.{Reason}
+use Rattle.ots_model.specs.declared.completion.Reason.TheVariants as phase_reasons
 use Rattle.ots_model.specs.declared.tree.Reason.TheVariants as reasons
-use Rattle.ots_model.specs.declared.tree.Outcome.{Outcome}
-use Rattle.ots_model.specs.declared.tree.Outcome.TheVariants as outcomes
+use Rattle.ots_model.specs.Numbered.{Outcome}
+use Rattle.ots_model.specs.declared.completion.Outcome.TheVariants as outcomes
 use Rattle.resource_votes.specs.declared.registration.Registration.{Registration}
 use Rattle.two_phase.specs.declared.party.Party.{Party}
 use Rattle.two_phase.specs.declared.party.Stage.{Stage}
@@ -55,15 +56,15 @@ has_answered p = is_some p.ballot
 
 -- why a vote that is no consent rolls the transaction back
 abbrev pub reason_of : ℕ → Heard → Reason
-reason_of g (hears.Voted vote) = reasons.Vote g
-reason_of g hears.Lost = reasons.PrepareLost g
-reason_of g hears.Starved = reasons.PrepareStarved g
-reason_of g _ = reasons.PrepareFault g
+reason_of g (hears.Voted vote) = reasons.Phase (phase_reasons.Vote g)
+reason_of g hears.Lost = reasons.Phase (phase_reasons.PrepareLost g)
+reason_of g hears.Starved = reasons.Phase (phase_reasons.PrepareStarved g)
+reason_of g _ = reasons.Phase (phase_reasons.PrepareFault g)
 
 -- the outcome by the answer to commit_one_phase: commit by a plain one, rollback by TRANSACTION_ROLLEDBACK; else nobody knows
 abbrev pub by_answer : ℕ → Heard → Outcome
 by_answer g hears.Done = outcomes.Commit OnePhase
-by_answer g hears.RolledBack = outcomes.Rollback (reasons.Vote g)
+by_answer g hears.RolledBack = outcomes.Rollback (reasons.Phase (phase_reasons.Vote g))
 by_answer g _ = outcomes.Unknown
 
 -- a rollback is told to all but those that have voted rollback or read-only, and not to one that was to decide alone and

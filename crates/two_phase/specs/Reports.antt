@@ -7,8 +7,8 @@ use Rattle.ots_model.specs.declared.line.Decision.TheVariants.{Commit, Rollback}
 use Rattle.ots_model.specs.declared.completion.Disposition.{Disposition}
 use Rattle.ots_model.specs.declared.service.Join.{Join}
 use Rattle.ots_model.specs.declared.service.Join.TheVariants as joins
-use Rattle.ots_model.specs.declared.tree.Outcome.{Outcome}
-use Rattle.ots_model.specs.declared.tree.Outcome.TheVariants as outcomes
+use Rattle.ots_model.specs.Numbered.{Outcome}
+use Rattle.ots_model.specs.declared.completion.Outcome.TheVariants as outcomes
 use Rattle.heuristic_join.specs.Join.{join_root, join_sub}
 use Rattle.two_phase.specs.Course.{Course, decides_alone, outcome, waits_for_superior}
 use Rattle.two_phase.specs.Parties.{dispositions_of, is_through, is_owed}

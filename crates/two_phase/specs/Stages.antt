@@ -7,7 +7,7 @@ use Rattle.ots_model.specs.declared.completion.Stood.{Stood}
 use Rattle.ots_model.specs.declared.service.Join.{Join}
 use Rattle.ots_model.specs.declared.service.Join.TheVariants as joins
 use Rattle.ots_model.specs.declared.tree.Reason.{Reason}
-use Rattle.ots_model.specs.declared.tree.Outcome.{Outcome}
+use Rattle.ots_model.specs.Numbered.{Outcome}
 use Rattle.ots_model.specs.declared.tree.Outward.{Outward}
 use Rattle.resource_votes.specs.declared.registration.Registration.{Registration}
 use Rattle.two_phase.specs.Course as course

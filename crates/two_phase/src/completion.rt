@@ -14,8 +14,8 @@ use crate::dispositions::Dispositions;
 use crate::party::Stage;
 use crate::stock::Stock;
 use heuristic_join::report;
-use ots_model::tree::{Outcome, Outward, Reason};
-use ots_model::{CallNumber, Heard, Join, Stood, tree};
+use ots_model::tree::{Heard, Outcome, Outward, Reason};
+use ots_model::{CallNumber, Join, PhaseHeard, Stood};
 use resource_votes::Votes;
 use std::alloc::{AllocError, Global};
 use std::marker::Model;
@@ -168,7 +168,7 @@ impl Completion {
     }
 
     /// What was heard of the word with this number. A number that isn't out changes nothing.
-    pub fn answer(&mut self, number: &CallNumber, heard: &tree::Heard)
+    pub fn answer(&mut self, number: &CallNumber, heard: &Heard)
         ensures after { self.new ≡ stages.after_answer number.now (of_participant heard.now) self.old }
     {
         if let Standing::Going(course) = &mut self.state {
@@ -181,7 +181,7 @@ impl Completion {
         ensures after { self.new ≡ stages.after_answer number.now Lost self.old }
     {
         if let Standing::Going(course) = &mut self.state {
-            course.answer(*number, Heard::Lost);
+            course.answer(*number, PhaseHeard::Lost);
         }
     }
 

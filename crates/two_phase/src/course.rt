@@ -19,7 +19,9 @@ use crate::room::Blank;
 use crate::stock::{Stock, enter};
 use heuristic_join::{join_root, join_sub};
 use ots_model::tree::{Outcome, Outward, Reason, Word};
-use ots_model::{CallNumber, Decision, Ground, Heard, Join, Receipt, Stood};
+use ots_model::{
+    CallNumber, Decision, Ground, Join, PhaseHeard, PhaseReason, PhaseWord, Receipt, Stood,
+};
 use resource_votes::Walk;
 use std::alloc::AllocError;
 use std::marker::Model;
@@ -129,7 +131,7 @@ impl Course {
     }
 
     /// What was heard of the word with this number.
-    pub fn answer(&mut self, number: CallNumber, heard: Heard)
+    pub fn answer(&mut self, number: CallNumber, heard: PhaseHeard)
         ensures { self.new ≡ course.after_answer number heard self.old }
     {
         let Some(errand) = self.out else {
@@ -584,7 +586,9 @@ fn by_record(stood: Option<Stood>, reread: Option<Option<u32>>) -> Option<Outcom
 {
     match stood? {
         Stood::Stands(_) => Some(Outcome::Commit(Ground::Record)),
-        Stood::Full(used, need) => Some(Outcome::Rollback(Reason::JournalFull(used, need))),
+        Stood::Full(used, need) => Some(Outcome::Rollback(Reason::Phase(PhaseReason::JournalFull(
+            used, need,
+        )))),
         Stood::Unsure(_) => by_reread(reread),
     }
 }
@@ -604,9 +608,9 @@ fn first_word(alone: bool) -> Word
     ensures { result ≡ course.first_word alone }
 {
     if alone {
-        Word::CommitOnePhase
+        Word::Phase(PhaseWord::CommitOnePhase)
     } else {
-        Word::Prepare
+        Word::Phase(PhaseWord::Prepare)
     }
 }
 
@@ -615,8 +619,8 @@ fn outcome_word(fixed: Option<Outcome>) -> Word
     ensures { result ≡ course.outcome_word fixed }
 {
     match fixed {
-        Some(Outcome::Commit(_)) => Word::Commit,
-        _ => Word::Rollback,
+        Some(Outcome::Commit(_)) => Word::Phase(PhaseWord::Commit),
+        _ => Word::Phase(PhaseWord::Rollback),
     }
 }
 
@@ -625,7 +629,7 @@ fn receipt_of(word: Word, place: Option<u32>, registration: u32) -> Option<Recei
     ensures { result ≡ course.receipt_of word place registration }
 {
     match (word, place) {
-        (Word::Commit, Some(place)) => Some(Receipt {
+        (Word::Phase(PhaseWord::Commit), Some(place)) => Some(Receipt {
             place,
             registration,
         }),

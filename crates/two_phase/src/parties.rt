@@ -10,11 +10,11 @@ ghost use Rattle.two_phase.specs.Reports as reports;
 use crate::dispositions::Dispositions;
 use crate::party::{Errand, Party, Stage, by_answer, disposition_of_ballot};
 use ots_model::tree::Outcome;
-use ots_model::{Decision, Disposition, Heard};
+use ots_model::{Decision, Disposition, PhaseHeard};
 use std::alloc::AllocError;
 
 /// What a participant answers to a word.
-pub(crate) fn hear(parties: &mut [Party], errand: Errand, heard: Heard)
+pub(crate) fn hear(parties: &mut [Party], errand: Errand, heard: PhaseHeard)
     requires there { errand.place < length parties.old }
     ensures { parties.new ≡ course.heard_by parties.old errand heard }
 {

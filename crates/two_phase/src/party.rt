@@ -5,7 +5,7 @@ ghost use Rattle.two_phase.specs.Course as course;
 ghost use Rattle.two_phase.specs.Parties as parties;
 
 use ots_model::tree::{Outcome, Reason};
-use ots_model::{Decision, Disposition, Ground, Heard, RefBytes, Vote};
+use ots_model::{Decision, Disposition, Ground, PhaseHeard, PhaseReason, RefBytes, Vote};
 
 /// A participant of a completion: its registration, where its words go, and what it has answered to the first one, to
 /// the one that tells the outcome, and to forget.
@@ -13,9 +13,9 @@ use ots_model::{Decision, Disposition, Ground, Heard, RefBytes, Vote};
 pub(crate) struct Party {
     pub index: u32,
     pub to: RefBytes,
-    pub ballot: Option<Heard>,
-    pub told: Option<Heard>,
-    pub forgot: Option<Heard>,
+    pub ballot: Option<PhaseHeard>,
+    pub told: Option<PhaseHeard>,
+    pub forgot: Option<PhaseHeard>,
 }
 
 /// The words that a participant is sent: one that asks it, one that tells the outcome, and forget.
@@ -34,10 +34,13 @@ pub(crate) struct Errand {
 }
 
 /// Whether an answer to prepare lets the asking go on.
-fn consents(heard: Heard) -> bool
+fn consents(heard: PhaseHeard) -> bool
     ensures { result ≡ parties.consents heard }
 {
-    matches!(heard, Heard::Voted(Vote::VoteCommit | Vote::VoteReadOnly))
+    matches!(
+        heard,
+        PhaseHeard::Voted(Vote::VoteCommit | Vote::VoteReadOnly)
+    )
 }
 
 impl Party {
@@ -59,7 +62,7 @@ impl Party {
     pub fn has_voted_commit(&self) -> bool
         ensures { result ≡ parties.has_voted_commit self.now }
     {
-        matches!(self.ballot, Some(Heard::Voted(Vote::VoteCommit)))
+        matches!(self.ballot, Some(PhaseHeard::Voted(Vote::VoteCommit)))
     }
 
     /// Whether it hasn't answered its first word.
@@ -142,7 +145,7 @@ impl Party {
     }
 
     /// What it answers to the word of this stage.
-    pub fn hear(&mut self, stage: Stage, heard: Heard)
+    pub fn hear(&mut self, stage: Stage, heard: PhaseHeard)
         ensures { self.new ≡ course.heard_at stage heard self.old }
     {
         match stage {
@@ -161,54 +164,57 @@ impl Party {
 }
 
 /// Whether a rollback is told to a participant with this answer to its first word.
-fn hears_rollback(alone: bool, ballot: Option<Heard>) -> bool
+fn hears_rollback(alone: bool, ballot: Option<PhaseHeard>) -> bool
     ensures { result ≡ parties.hears_rollback alone ballot }
 {
     match ballot {
         None => true,
-        Some(Heard::Voted(Vote::VoteRollback | Vote::VoteReadOnly)) => false,
+        Some(PhaseHeard::Voted(Vote::VoteRollback | Vote::VoteReadOnly)) => false,
         Some(_) => !alone,
     }
 }
 
 /// Whether an answer to the word that tells the outcome completes a participant.
-fn completes(heard: Heard) -> bool
+fn completes(heard: PhaseHeard) -> bool
     ensures { result ≡ parties.completes heard }
 {
-    matches!(heard, Heard::Done | Heard::NoObject | Heard::Heuristic(_))
+    matches!(
+        heard,
+        PhaseHeard::Done | PhaseHeard::NoObject | PhaseHeard::Heuristic(_)
+    )
 }
 
 /// Whether an answer is a heuristic exception.
-fn is_heuristic(heard: Heard) -> bool
+fn is_heuristic(heard: PhaseHeard) -> bool
     ensures { result ≡ parties.is_heuristic heard }
 {
-    matches!(heard, Heard::Heuristic(_))
+    matches!(heard, PhaseHeard::Heuristic(_))
 }
 
 /// Whether an answer to forget lets go of a heuristic outcome.
-fn lets_go(heard: Heard) -> bool
+fn lets_go(heard: PhaseHeard) -> bool
     ensures { result ≡ parties.lets_go heard }
 {
-    matches!(heard, Heard::Done | Heard::NoObject)
+    matches!(heard, PhaseHeard::Done | PhaseHeard::NoObject)
 }
 
 /// What the answer to its first word tells of a participant's updates.
-pub(crate) fn disposition_of_ballot(ballot: Option<Heard>) -> Option<Disposition>
+pub(crate) fn disposition_of_ballot(ballot: Option<PhaseHeard>) -> Option<Disposition>
     ensures { result ≡ parties.disposition_of_ballot ballot }
 {
     match ballot {
-        Some(Heard::Heuristic(disposition)) => Some(disposition),
+        Some(PhaseHeard::Heuristic(disposition)) => Some(disposition),
         _ => None,
     }
 }
 
 /// What the answer to the word that tells this decision says of a participant's updates.
-fn disposition_by(told: Decision, heard: Heard) -> Disposition
+fn disposition_by(told: Decision, heard: PhaseHeard) -> Disposition
     ensures { result ≡ parties.disposition_by told heard }
 {
     match heard {
-        Heard::Done | Heard::NoObject => followed(told),
-        Heard::Heuristic(disposition) => disposition,
+        PhaseHeard::Done | PhaseHeard::NoObject => followed(told),
+        PhaseHeard::Heuristic(disposition) => disposition,
         _ => Disposition::Unknown,
     }
 }
@@ -224,24 +230,24 @@ fn followed(told: Decision) -> Disposition
 }
 
 /// Why an answer to prepare rolls the transaction back.
-pub(crate) fn cause_of(registration: u32, heard: Heard) -> Reason
+pub(crate) fn cause_of(registration: u32, heard: PhaseHeard) -> Reason
     ensures { result ≡ parties.reason_of registration heard }
 {
     match heard {
-        Heard::Voted(_) => Reason::Vote(registration),
-        Heard::Lost => Reason::PrepareLost(registration),
-        Heard::Starved => Reason::PrepareStarved(registration),
-        _ => Reason::PrepareFault(registration),
+        PhaseHeard::Voted(_) => Reason::Phase(PhaseReason::Vote(registration)),
+        PhaseHeard::Lost => Reason::Phase(PhaseReason::PrepareLost(registration)),
+        PhaseHeard::Starved => Reason::Phase(PhaseReason::PrepareStarved(registration)),
+        _ => Reason::Phase(PhaseReason::PrepareFault(registration)),
     }
 }
 
 /// What the answer to commit_one_phase says of the outcome.
-pub(crate) fn by_answer(registration: u32, heard: Heard) -> Outcome
+pub(crate) fn by_answer(registration: u32, heard: PhaseHeard) -> Outcome
     ensures { result ≡ parties.by_answer registration heard }
 {
     match heard {
-        Heard::Done => Outcome::Commit(Ground::OnePhase),
-        Heard::RolledBack => Outcome::Rollback(Reason::Vote(registration)),
+        PhaseHeard::Done => Outcome::Commit(Ground::OnePhase),
+        PhaseHeard::RolledBack => Outcome::Rollback(Reason::Phase(PhaseReason::Vote(registration))),
         _ => Outcome::Unknown,
     }
 }

@@ -8,8 +8,8 @@ use crate::told::Told;
 use crate::values::{MOST, is_short, tell_fields, tell_reference};
 use giop_frames::{Message, Reply};
 use ots_calls::{Answer, Call, CallFault, Given, heard, heard_in_reply, read_answer, write_answer};
-use ots_model::Disposition;
 use ots_model::tree::Heard;
+use ots_model::{Disposition, PhaseHeard};
 use std::alloc::Global;
 
 /// Tells the answer that a Reply is, which stands behind its Request, what is heard in it, and how it is written.
@@ -126,17 +126,20 @@ fn is_answer_short(answer: &Answer) -> bool
 fn tell_heard(told: &mut Told, heard: &Heard) {
     told.text(b"\n", b"heard ");
     match heard {
-        Heard::Voted(vote) => told.value(b"", vote),
-        Heard::Heuristic(disposition) => told.text(b"Heuristic ", disposition_text(*disposition)),
+        Heard::Phase(PhaseHeard::Voted(vote)) => told.value(b"", vote),
+        Heard::Phase(PhaseHeard::Heuristic(disposition)) => told.text(
+            b"Heuristic ",
+            disposition_text(*disposition),
+        ),
         Heard::Told(status) => told.value(b"Told ", status),
         Heard::Enlisted(reference) => told.digits(b"Enlisted ", reference.bytes()),
-        Heard::Done => told.text(b"", b"Done"),
-        Heard::RolledBack => told.text(b"", b"RolledBack"),
-        Heard::NotPrepared => told.text(b"", b"NotPrepared"),
-        Heard::NoObject => told.text(b"", b"NoObject"),
-        Heard::Other => told.text(b"", b"Other"),
-        Heard::Lost => told.text(b"", b"Lost"),
-        Heard::Starved => told.text(b"", b"Starved"),
+        Heard::Phase(PhaseHeard::Done) => told.text(b"", b"Done"),
+        Heard::Phase(PhaseHeard::RolledBack) => told.text(b"", b"RolledBack"),
+        Heard::Phase(PhaseHeard::NotPrepared) => told.text(b"", b"NotPrepared"),
+        Heard::Phase(PhaseHeard::NoObject) => told.text(b"", b"NoObject"),
+        Heard::Phase(PhaseHeard::Other) => told.text(b"", b"Other"),
+        Heard::Phase(PhaseHeard::Lost) => told.text(b"", b"Lost"),
+        Heard::Phase(PhaseHeard::Starved) => told.text(b"", b"Starved"),
     }
 }
 

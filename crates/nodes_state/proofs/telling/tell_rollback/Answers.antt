@@ -27,3 +27,9 @@ returns-in-SyncStarved c = λ w k names stands.
     (sym c.in-SyncStarved.is)
     (subst (λ o. TellsOne (naming (RolledBackBy c.args.transaction (codes "SyncStarved")) o) c.args.lines.now.items after c.tell_by-in-SyncStarved.result)
     (c.synchronized-in-SyncStarved.ensures w k names stands) c.tell_by-in-SyncStarved.ensures)
+
+pub returns-in-Phase : goal.returns-in-Phase
+returns-in-Phase c = λ w k names stands.
+    subst (λ r. TellsOne (rollback_lines w k c.args.transaction r) c.args.lines.now.items c.tell_phase_reason.new.lines.items c.tell_phase_reason.result)
+    (sym c.in-Phase.is)
+    (c.tell_phase_reason.ensures w k names stands)

@@ -1,8 +1,8 @@
 use Rattle.std.proofs.Common.{arith, append_assoc}
 use Rattle.std.proofs.lemmas.Grind.{common_steps}
-use Rattle.nodes_lines.proofs.PieceLemmas.{kept_in_front, first_joined, more_joined}
-use Rattle.nodes_lines.proofs.piece.write_words.Goals as goal
-use Rattle.nodes_lines.proofs.piece.write_words.Goals.{then-index-gt0+in_ok-push, else-index-gt0}
+use Rattle.ots_model.proofs.PieceLemmas.{kept_in_front, first_joined, more_joined}
+use Rattle.ots_model.proofs.piece.write_words.Goals as goal
+use Rattle.ots_model.proofs.piece.write_words.Goals.{then-index-gt0+in_ok-push, else-index-gt0}
 
 pub loop-index-preserved : goal.loop-index-preserved
 loop-index-preserved c =

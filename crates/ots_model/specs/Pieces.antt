@@ -1,16 +1,14 @@
 -- The words that are written of a line (our profile).
 use Rattle.std.specs.Prelude.{◌≡◌, ℕ, ◌++◌, List, map, Result, Ok, Err}
 use Rattle.ots_model.specs.Piece.{Part, Fixed, Named, Number, line_of}
-use Rattle.nodes_world.specs.Told.{answer_part}
-use Rattle.nodes_lines.specs.declared.piece.Piece.{Piece}
-use Rattle.nodes_lines.specs.declared.piece.Piece.TheVariants as pieces
+use Rattle.ots_model.specs.declared.piece.Piece.{Piece}
+use Rattle.ots_model.specs.declared.piece.Piece.TheVariants as pieces
 
 -- the word that a piece stands for
 abbrev pub part_of : Piece → Part
 part_of (pieces.Text octets) = Fixed octets.now
 part_of (pieces.Named name) = Named name
 part_of (pieces.Number number) = Number number
-part_of (pieces.Answer answer) = answer_part answer.now
 
 abbrev pub parts_of : List Piece → List Part
 parts_of some = map part_of some
