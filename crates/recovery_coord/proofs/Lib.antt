@@ -3,3 +3,4 @@ mod Loaded
 mod Pieces
 mod Lawful
 mod Treed
+mod Waited

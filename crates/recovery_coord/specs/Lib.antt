@@ -1,6 +1,7 @@
 pub mod Limits
 pub mod Outbox
 pub mod Held
+pub mod Waiting
 pub mod Hearing
 pub mod Telling
 pub mod Replay

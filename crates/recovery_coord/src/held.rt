@@ -3,8 +3,10 @@ ghost use Rattle.ots_model.specs.declared.service.Status.TheVariants as status;
 ghost use Rattle.recovery_coord.specs.Held as holding;
 ghost use Rattle.recovery_coord.specs.Hearing as hearing;
 ghost use Rattle.recovery_coord.specs.Telling as telling;
+ghost use Rattle.recovery_coord.specs.Waiting as waits;
 
-use crate::parties::{all_done, copy_parties, hear_all, recall_all};
+use crate::parties::{copy_parties, hear_all, recall_all};
+use crate::waiting::{Waiting, waiting_of};
 use decision_journal::{JournalRecord, Registration};
 use ots_model::tree::Heard;
 use ots_model::{RefBytes, RetryKey, Status};
@@ -33,22 +35,34 @@ pub struct Party {
     pub due: Due,
 }
 
-/// The registrations of a record. Contracts see them as a list.
+/// The registrations of a record, with what they wait for, taken together. Contracts see them as a list.
 #[derive(Drop)]
 pub struct Parties {
     items: Vec<Party>,
+    waiting: Waiting,
 }
 
 impl Model for Parties {
-    ghost use Rattle.std.specs.Prelude.{List};
+    ghost use Rattle.std.specs.Prelude.{◌≡◌, List};
     ghost use Rattle.recovery_coord.specs.declared.held.Party.{Party};
+    ghost use Rattle.recovery_coord.specs.Waiting.{waiting_of};
 
     ghost Value = { List Party };
 
     ghost view = { λ p. p.items.items };
+
+    ghost invariant = { λ p. p.waiting ≡ waiting_of p.items.items };
 }
 
 impl Parties {
+    /// These registrations.
+    fn of(items: Vec<Party>) -> Parties
+        ensures { result ≡ items.items }
+    {
+        let waiting = waiting_of(&items);
+        Parties { items, waiting }
+    }
+
     /// The registrations.
     pub fn items(&self) -> &[Party]
         ensures { result.now ≡ self.now }
@@ -56,18 +70,32 @@ impl Parties {
         self.items.as_slice()
     }
 
+    /// Whether each waits for nothing. It looks at none of them.
+    fn are_done(&self) -> bool
+        ensures { result ≡ holding.are_done self.now }
+    {
+        self.waiting.is_over()
+    }
+
+    /// Whether one has a word to tell, of a decision or of a prepared record. It looks at none of them.
+    pub(crate) fn have_words(&self, decided: bool) -> bool
+        ensures { result ≡ waits.have_words decided (waits.waiting_of self.now) }
+    {
+        self.waiting.has_words(decided)
+    }
+
     /// The registration with this number hears an answer.
     fn hear(&mut self, serial: u32, h: &Heard)
         ensures { self.new ≡ map (hearing.party_after serial h.now) self.old }
     {
-        hear_all(self.items.as_mut_slice(), serial, h);
+        self.waiting = hear_all(self.items.as_mut_slice(), serial, h);
     }
 
     /// Each waits for commit once more.
     fn recall(&mut self)
         ensures { self.new ≡ map telling.recalled self.old }
     {
-        recall_all(self.items.as_mut_slice());
+        self.waiting = recall_all(self.items.as_mut_slice());
     }
 }
 
@@ -113,7 +141,7 @@ impl Held {
     pub fn is_complete(&self) -> bool
         ensures { result ≡ holding.is_complete self.now }
     {
-        self.kind.is_decided() && all_done(self.parties.items())
+        self.kind.is_decided() && self.parties.are_done()
     }
 
     /// The registration with this number hears an answer. The result tells whether that completes the record.
@@ -194,7 +222,6 @@ fn parties_of(
     ensures { IfOk result (λ parties. parties
         ≡ map (holding.party_of first commits.now forgets.now) registrations.now) }
 {
-    Ok(Parties {
-        items: copy_parties(alloc, registrations, first, commits, forgets)?,
-    })
+    let items = copy_parties(alloc, registrations, first, commits, forgets)?;
+    Ok(Parties::of(items))
 }

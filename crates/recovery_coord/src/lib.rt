@@ -14,3 +14,4 @@ mod records;
 mod recovered;
 mod telling;
 mod trees;
+mod waiting;

@@ -3,8 +3,10 @@ ghost use Rattle.std.specs.Prelude.{◌≡◌, map, IfOk};
 ghost use Rattle.recovery_coord.specs.Held as holding;
 ghost use Rattle.recovery_coord.specs.Hearing as hearing;
 ghost use Rattle.recovery_coord.specs.Telling as telling;
+ghost use Rattle.recovery_coord.specs.Waiting.{waiting_of};
 
 use crate::held::{Due, Party};
+use crate::waiting::Waiting;
 use decision_journal::Registration;
 use ots_model::PhaseHeard;
 use ots_model::tree::Heard;
@@ -30,13 +32,17 @@ fn hear_one(party: &mut Party, serial: u32, h: &Heard)
     }
 }
 
-/// The registration with this number hears an answer.
-pub(crate) fn hear_all(parties: &mut [Party], serial: u32, h: &Heard)
-    ensures { parties.new ≡ map (hearing.party_after serial h.now) parties.old }
+/// The registration with this number hears an answer. The result is what they wait for then.
+pub(crate) fn hear_all(parties: &mut [Party], serial: u32, h: &Heard) -> Waiting
+    ensures after { parties.new ≡ map (hearing.party_after serial h.now) parties.old }
+    ensures waiting { result ≡ waiting_of parties.new }
 {
+    let mut waiting = Waiting::none();
     for party in parties.iter_mut() {
         hear_one(party, serial, h);
+        waiting = waiting.with(party.due);
     }
+    waiting
 }
 
 /// A registration waits for commit once more.
@@ -46,26 +52,17 @@ fn recall_one(party: &mut Party)
     party.due = Due::Commit;
 }
 
-/// Each registration waits for commit once more.
-pub(crate) fn recall_all(parties: &mut [Party])
-    ensures { parties.new ≡ map telling.recalled parties.old }
+/// Each registration waits for commit once more. The result is what they wait for then.
+pub(crate) fn recall_all(parties: &mut [Party]) -> Waiting
+    ensures after { parties.new ≡ map telling.recalled parties.old }
+    ensures waiting { result ≡ waiting_of parties.new }
 {
+    let mut waiting = Waiting::none();
     for party in parties.iter_mut() {
         recall_one(party);
+        waiting = waiting.with(party.due);
     }
-}
-
-/// Whether each registration waits for nothing.
-pub(crate) fn all_done(parties: &[Party]) -> bool
-    ensures { result ≡ holding.are_done parties.now }
-{
-    parties.iter().all(|party| is_nothing(party.due))
-}
-
-fn is_nothing(due: Due) -> bool
-    ensures { result ≡ holding.is_nothing due }
-{
-    matches!(due, Due::Nothing)
+    waiting
 }
 
 /// The registrations of a record, of whose tree these words are left over.

@@ -33,14 +33,27 @@ pub(crate) fn tell_all(
     ensures room { out.new.room ≡ out.old.room }
 {
     for held in records {
-        let teller = Teller {
-            life,
-            place: held.place,
-            decided: held.kind.is_decided(),
-        };
-        teller.tell(alloc, held.parties.items(), out)?;
+        tell_record(alloc, life, held, out)?;
     }
     Ok(())
+}
+
+/// The words of a record, behind those of an outbox. Its registrations are looked at only where one has a word to tell.
+fn tell_record(alloc: Global, life: u32, held: &Held, out: &mut Outbox) -> Result<(), AllocError>
+    ensures ok { OnOk result (out.new.words ≡ out.old.words ++ telling.words_of life held.now) }
+    ensures more { telling.IsMore out.old.words out.new.words }
+    ensures room { out.new.room ≡ out.old.room }
+{
+    let decided = held.kind.is_decided();
+    if !held.parties.have_words(decided) {
+        return Ok(());
+    }
+    let teller = Teller {
+        life,
+        place: held.place,
+        decided,
+    };
+    teller.tell(alloc, held.parties.items(), out)
 }
 
 impl Teller {

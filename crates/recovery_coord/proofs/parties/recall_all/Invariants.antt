@@ -1,7 +1,10 @@
 use Rattle.std.proofs.Common.{◌≡◌, ◌++◌, map, take, drop}
 use Rattle.recovery_coord.specs.Telling.{recalled}
+use Rattle.recovery_coord.specs.Waiting.{waiting_of}
 use Rattle.recovery_coord.proofs.parties.recall_all.Given as goal
 
 abbrev pub invariant-loop-party : goal.invariant-loop-party
-invariant-loop-party l =
-    l.parties ≡ map recalled (take l.party-index l.initial.parties) ++ drop l.party-index l.initial.parties
+invariant-loop-party l = record {
+  after : l.parties ≡ map recalled (take l.party-index l.initial.parties) ++ drop l.party-index l.initial.parties;
+  waiting : l.waiting ≡ waiting_of (map recalled (take l.party-index l.initial.parties));
+}
