@@ -1,10 +1,7 @@
 mod Among
-mod Named
 mod Played
 mod Phased
 mod Rightly
 mod Outcomes
 mod NodesPlayed
 mod Numbers
-mod Telling
-mod Decided

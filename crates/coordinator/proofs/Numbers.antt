@@ -27,7 +27,7 @@ use Rattle.coordinator.specs.History.{has_room}
 use Rattle.coordinator.specs.NodeCalls.{RetoldAnswer, retold_answer, journaled, steps_to, refuses, replies, records_hear, hears_record, by_records, answers_recovered, family_for, applied_by, applies}
 use Rattle.coordinator.specs.NodeTick.{ticks}
 use Rattle.coordinator.specs.NodeLaws.{NodeBecomes, by_making, by_call, by_tick, still, further, KeepsNumbers, NodesKeepNumbers, KeysAreNew, LivesRise}
-use Rattle.coordinator.proofs.Outcomes.{append_by_consent}
+use Rattle.coordinator.proofs.Outcomes.{appended_draft}
 
 -- ---- lives
 
@@ -73,7 +73,7 @@ decision_keeps_life f found place = refl
 
 step_keeps_life : (f : Family) (e : Event) (stood : Option Stood) (found : Found) → (journaled (wanted f e) stood found).life ≡ found.life
 step_keeps_life f e stood found = keeps_life (wanted f e) stood found (λ item place is.
-    let by = append_by_consent f e item is in
+    let by = appended_draft f e item is in
     subst (λ (r : JournalRecord). (with_record found place r).life ≡ found.life) (sym by.is_record) (decision_keeps_life by.heard found place))
 
 done_keeps_life : (o : Option ℕ) (stood : Option Stood) (found : Found) → (journaled (option_map WritesDone o) stood found).life ≡ found.life

@@ -1,20 +1,11 @@
--- What follows of the steps of a family by the laws of completions: an outcome stays, and commit goes out by a record.
-use Rattle.std.proofs.Common.{◌≡◌, ◌⊎◌, refl, sym, subst, ◌∙◌, ℕ, inl, inr, Bool, true, false, not, ◌&&◌, if◌then◌else◌, List, [], ◌∷◌, Option, Some, None, is_some, is_none}
-use Rattle.std.specs.List.{AllByRecursion}
+-- What a step of a family leaves: an outcome stays, what is appended is a draft of a family, and what changes nothing.
+use Rattle.std.proofs.Common.{◌≡◌, ◌⊎◌, refl, sym, subst, ℕ, inl, inr, Bool, true, false, if◌then◌else◌, Option, Some, None, is_some, is_none}
 use Rattle.std.specs.Option.{option_map}
 use Rattle.ots_model.specs.declared.completion.CallNumber.{CallNumber}
 use Rattle.ots_model.specs.declared.completion.Stood.{Stood}
 use Rattle.ots_model.specs.declared.tree.Heard.{Heard}
-use Rattle.ots_model.specs.declared.tree.Outward.{Outward}
-use Rattle.ots_model.specs.declared.completion.Word.TheVariants as phase_words
-use Rattle.ots_model.specs.declared.tree.Word.TheVariants as words
 use Rattle.decision_journal.specs.declared.record.JournalRecord.{JournalRecord}
-use Rattle.two_phase.specs.Course as course
-use Rattle.two_phase.specs.Course.{Course}
-use Rattle.two_phase.specs.LawsOfCourses.{TreeWordsGoRightly, GoesRightly, RestsOn}
 use Rattle.two_phase.specs.LawsOfReached.{TreeOutcomeStays}
-use Rattle.two_phase.specs.Stages as stages
-use Rattle.two_phase.specs.Stages.{Standing, Waiting, Going as UnderWay}
 use Rattle.coordinator.specs.declared.event.Act.{Act}
 use Rattle.coordinator.specs.declared.event.Act.TheVariants as acts
 use Rattle.coordinator.specs.declared.event.Event.{Event}
@@ -24,51 +15,17 @@ use Rattle.coordinator.specs.Family.{Family, waiting_for}
 use Rattle.coordinator.specs.Hearing.{decision_record, record_place}
 use Rattle.coordinator.specs.History.{kept_for, repeated}
 use Rattle.coordinator.specs.Step.{quiet, is_silent_act, entered, acted, step_by, family_step, Appends, WritesDone, wanted, wanted_act, wanted_by, hears}
-use Rattle.coordinator.specs.Laws.{entry_made, HistoriesGrowByEntries, RepeatsChangeNothing, IsOfSubtransaction, GoesOut, FamilyOutcomesStay, IsByRecord, CommitGoesByRecord, FamiliesCommitByRecord, IsAgreed, AppendsRightly, FamiliesAppendByConsent, ChangesNothing, StaleAnswersChangeNothing}
+use Rattle.coordinator.specs.Laws.{entry_made, HistoriesGrowByEntries, RepeatsChangeNothing, FamilyOutcomesStay, ChangesNothing, StaleAnswersChangeNothing}
 use Rattle.coordinator.proofs.Rightly.{steps_right, stays}
 
 pub outcomes_stay : TreeOutcomeStays → FamilyOutcomesStay
 outcomes_stay law f e stood fixed there is =
     (stays law fixed f.completion (family_step f e stood).family.completion (steps_right f e stood).proceeds there).same is
 
--- a word of the completion that is commit rests on the record
-by_record : (s : Standing) (o w : Outward) (c : Course) → GoesRightly w c → w.word ≡ words.Phase phase_words.Commit → s ≡ UnderWay (course.after_next c)
-    → o.registration ≡ w.registration → o.to ≡ w.to → o.receipt ≡ w.receipt → IsByRecord s o
-by_record s o w c g is now registration reference receipt = record {
-  before = c;
-  now = now;
-  party = g.party;
-  registration = registration ∙ g.registration;
-  reference = reference ∙ g.reference;
-  receipt = receipt ∙ subst (λ x. w.receipt ≡ course.receipt_of x (course.record_place c.stood c.reread) g.party.index) is g.receipt;
-  may = subst (λ x. RestsOn x g.place g.party c) is g.rests;
-}
-
-commits : TreeWordsGoRightly → (s : Standing) (o : Outward) → GoesOut s o → CommitGoesByRecord s o
-commits law s o (inl k) is =
-    by_record s o k.word k.before (law k.before k.word k.next) (sym k.same_word ∙ is) k.now k.same_registration k.same_reference k.same_receipt
-commits law s o (inr other) is = absurd (subst IsOfSubtransaction is other.0)
-
-all_commit : TreeWordsGoRightly → (s : Standing) (some : List Outward) → AllByRecursion (GoesOut s) some → AllByRecursion (CommitGoesByRecord s) some
-all_commit law s [] all = tt
-all_commit law s (o ∷ others) all = (commits law s o all.0, all_commit law s others all.1)
-
-pub commit_by_record : TreeWordsGoRightly → FamiliesCommitByRecord
-commit_by_record law f e stood =
-    all_commit law (family_step f e stood).family.completion (family_step f e stood).words (steps_right f e stood).words
-
--- a decision that is wanted has each consent
-both : (alone overtaken asked all some : Bool) → (not alone && overtaken && asked && all && some) ≡ true → (all ≡ true) × (some ≡ true)
-both false true true true true e = (refl, refl)
-both true overtaken asked all some e = absurd (cc (e))
-both false false asked all some e = absurd (cc (e))
-both false true false all some e = absurd (cc (e))
-both false true true false some e = absurd (cc (e))
-both false true true true false e = absurd (cc (e))
-
-agreed : (s : Standing) → stages.wants_decision s ≡ true → IsAgreed s
-agreed (Waiting room) e = absurd (cc (e))
-agreed (UnderWay c) e = both (course.decides_alone c) (is_none c.overtaken) (is_none c.stood) (course.all_consent c) (course.some_commit c) e
+-- what is appended is the draft of a family
+pub record IsDraft (item : JournalRecord) : Type 0 where
+  pub heard : Family
+  pub is_record : item ≡ decision_record heard
 
 no_done : (o : Option ℕ) (item : JournalRecord) → option_map WritesDone o ≡ Some (Appends item) → ⊥
 no_done None item e = absurd (cc (e))
@@ -76,8 +33,8 @@ no_done (Some place) item e = absurd (cc (e))
 
 by_wanted : (f : Family) (wants closing : Bool) (item : JournalRecord)
     → (if wants then Some (Appends (decision_record f)) else if closing then option_map WritesDone (record_place f.completion) else None) ≡ Some (Appends item)
-    → (wants ≡ true) × (item ≡ decision_record f)
-by_wanted f true closing item e = (refl, cc (e))
+    → item ≡ decision_record f
+by_wanted f true closing item e = cc (e)
 by_wanted f false true item e = absurd (no_done (record_place f.completion) item e)
 by_wanted f false false item e = absurd (cc (e))
 
@@ -95,7 +52,7 @@ pub stale : StaleAnswersChangeNothing
 unfolding family_step
 stale f e stood n h is none = stale_by (kept_for f.entries e.key) f e stood n h is none
 
-append_act : (act : Act) (f : Family) (item : JournalRecord) → wanted_act act f ≡ Some (Appends item) → AppendsRightly f item
+append_act : (act : Act) (f : Family) (item : JournalRecord) → wanted_act act f ≡ Some (Appends item) → IsDraft item
 append_act acts.GetTerminator f item e = absurd (cc (e))
 append_act acts.GetCoordinator f item e = absurd (cc (e))
 append_act (acts.Commit asked) f item e = absurd (cc (e))
@@ -124,19 +81,18 @@ append_act (acts.Reread stands) f item e = absurd (cc (e))
 append_act (acts.Opened deadline) f item e = absurd (cc (e))
 append_act (acts.Answer n h) f item e = by_waiting (is_some (waiting_for f n)) e
   where
-    by_waiting : (b : Bool) → (if b then wanted_by (hears n h f).family else None) ≡ Some (Appends item) → AppendsRightly f item
+    by_waiting : (b : Bool) → (if b then wanted_by (hears n h f).family else None) ≡ Some (Appends item) → IsDraft item
     by_waiting true e = record {
       heard = (hears n h f).family;
-      is_record = (by_wanted (hears n h f).family _ _ item e).1;
-      agreed = agreed (hears n h f).family.completion (by_wanted (hears n h f).family _ _ item e).0;
+      is_record = by_wanted (hears n h f).family _ _ item e;
     }
     by_waiting false e = absurd (cc (e))
 
-pub append_by_consent : FamiliesAppendByConsent
+pub appended_draft : (f : Family) (e : Event) (item : JournalRecord) → wanted f e ≡ Some (Appends item) → IsDraft item
 unfolding wanted
-append_by_consent f e item is = by_kept (is_some (kept_for f.entries e.key)) is
+appended_draft f e item is = by_kept (is_some (kept_for f.entries e.key)) is
   where
-    by_kept : (b : Bool) → (if b then None else wanted_act e.act f) ≡ Some (Appends item) → AppendsRightly f item
+    by_kept : (b : Bool) → (if b then None else wanted_act e.act f) ≡ Some (Appends item) → IsDraft item
     by_kept true e = absurd (cc (e))
     by_kept false is = append_act e.act f item is
 

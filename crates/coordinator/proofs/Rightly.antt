@@ -1,6 +1,6 @@
 -- Each step of a family goes rightly: its completion proceeds, and what goes out is the completion's next word, or a word of a
 -- subtransaction's end, or to a synchronization.
-use Rattle.std.proofs.Common.{◌≡◌, ◌==◌, ◌∙◌, refl, sym, subst, ℕ, zero, suc, Bool, true, false, inl, inr, List, [], ◌∷◌, ◌++◌, length, Option, Some, None, if◌then◌else◌, is_none}
+use Rattle.std.proofs.Common.{◌≡◌, ◌==◌, refl, sym, subst, ℕ, zero, suc, Bool, true, false, inl, inr, List, [], ◌∷◌, ◌++◌, length, Option, Some, None, if◌then◌else◌, is_none}
 use Rattle.std.specs.List.{AllByRecursion}
 use Rattle.ots_model.specs.Heard.{of_participant}
 use Rattle.ots_model.specs.declared.completion.CallNumber.{CallNumber}
@@ -26,13 +26,13 @@ use Rattle.coordinator.specs.declared.said.Said.{Said}
 use Rattle.coordinator.specs.declared.said.Said.TheVariants as said
 use Rattle.coordinator.specs.declared.effect.Effect.TheVariants as effects
 use Rattle.coordinator.specs.Family.{Family, Call, Aim, Commits, RollsBack, Duty, Ending, TellsRollback, TellsCommit, RollsBackUpdates, Stage, Going, Finishing, Completing, Over, Leg, Below, Own, Before, Deciding, After, call_at, number_of, waiting_for, with_call}
-use Rattle.coordinator.specs.Moves.{Moved, Notice, only, ◌▹◌, outward, sends, ends_call, completes_as, fixed_now, shows}
+use Rattle.coordinator.specs.Moves.{Moved, Notice, only, ◌▹◌, outward, sends, ends_call, completes_as, shows}
 use Rattle.coordinator.specs.declared.phase.Column.{Column}
 use Rattle.coordinator.specs.declared.phase.Column.TheVariants as columns
 use Rattle.coordinator.specs.Phases.{column, is_marked, has_parent_ended}
 use Rattle.coordinator.specs.Closing.{asking, rolling_back, begun, begins, decides, decides_by, rests, tells_next, next_told, next_synchronization, calls_next, afterwards, finishes, before, asked_of, asked_ones, gives_up, waits}
 use Rattle.coordinator.specs.Running.{word_of, tells_first, commits_up, own_ends, own_duties, tells_own, passes_top, passes, ends_below, duties_below, sweeps_next, sweeps, tells_after, by_leg, runs, runs_call, goes_on}
-use Rattle.coordinator.specs.Hearing.{is_markable, marks, marks_parent, is_plain, told_commit, told_end, told_before, reason_of, told_participant, inner_number, told, hears_at, vote_effects, done_effects, wants_done, answers_doubt, doubts_by, decided, closes, settles}
+use Rattle.coordinator.specs.Hearing.{is_markable, marks, marks_parent, is_plain, told_commit, told_end, told_before, reason_of, told_participant, inner_number, told, hears_at, vote_effects, wants_done, answers_doubt, doubts_by, decided, closes, settles}
 use Rattle.coordinator.specs.declared.event.Act.{Act}
 use Rattle.coordinator.specs.declared.event.Act.TheVariants as acts
 use Rattle.coordinator.specs.declared.event.Event.{Event}
@@ -45,10 +45,8 @@ use Rattle.resource_votes.specs.Ballots.{Ballots, adopted}
 use Rattle.resource_votes.specs.declared.registration.VoteFault.{VoteFault}
 use Rattle.two_phase.specs.LawsOfReached.{TreeOutcomeStays}
 use Rattle.two_phase.specs.LawsOfReached.IsReached.{begins as reached, rolls_back as reached_by_rollback, goes_on as reached_on}
-use Rattle.ots_model.specs.declared.completion.Outcome.TheVariants as outcomes
-use Rattle.ots_model.specs.declared.completion.Heard.TheVariants as phase_hears
 use Rattle.coordinator.specs.declared.effect.Effect.{Effect}
-use Rattle.coordinator.specs.Laws.{IsThere, IsNewOutcome, FamiliesDecideOnce, Proceeds, still, asks, rolls_back as starts_back, goes_on as proceeds_on, further, GoesOut, IsOfSubtransaction, FamiliesStepRightly}
+use Rattle.coordinator.specs.Laws.{IsThere, Proceeds, still, asks, rolls_back as starts_back, goes_on as proceeds_on, further, GoesOut, IsOfSubtransaction, FamiliesStepRightly}
 
 -- a completion that proceeds is there, and keeps its outcome
 pub record Stays (fixed : Outcome) (s later : Standing) : Type 0 where
@@ -74,80 +72,30 @@ stays law fixed _ _ (further s between later p q) there =
     let second : Stays fixed between later = stays law fixed between later q first.there in
     record { there = second.there; same = λ e. second.same (first.same e) }
 
--- an outcome that was new stays so
-new_later : (s t u : Standing) → ((fixed : Outcome) → Stays fixed t u) → (some : List Effect)
-    → AllByRecursion (IsNewOutcome s t) some → AllByRecursion (IsNewOutcome s u) some
-new_later s t u on [] all = tt
-new_later s t u on (effects.Decided fixed ∷ others) all = ((all.0.0, (on fixed).same all.0.1), new_later s t u on others all.1)
-new_later s t u on (effects.Voted g vote ∷ others) all = (tt, new_later s t u on others all.1)
-new_later s t u on (effects.SubtransactionEnded b committed ∷ others) all = (tt, new_later s t u on others all.1)
-new_later s t u on (effects.Marked b ∷ others) all = (tt, new_later s t u on others all.1)
-new_later s t u on (effects.Doubted ∷ others) all = (tt, new_later s t u on others all.1)
-new_later s t u on (effects.Done ∷ others) all = (tt, new_later s t u on others all.1)
-
--- and was new before
-open_before : (s t : Standing) → ((fixed : Outcome) → Stays fixed s t) → stages.outcome t ≡ None → (o : Option Outcome) → stages.outcome s ≡ o → o ≡ None
-open_before s t on none None e = refl
-open_before s t on none (Some fixed) e = absurd (cc (sym none ∙ (on fixed).same e))
-
-new_before : (s t u : Standing) → ((fixed : Outcome) → Stays fixed s t) → (some : List Effect)
-    → AllByRecursion (IsNewOutcome t u) some → AllByRecursion (IsNewOutcome s u) some
-new_before s t u on [] all = tt
-new_before s t u on (effects.Decided fixed ∷ others) all =
-    ((open_before s t on all.0.0 (stages.outcome s) refl, all.0.1), new_before s t u on others all.1)
-new_before s t u on (effects.Voted g vote ∷ others) all = (tt, new_before s t u on others all.1)
-new_before s t u on (effects.SubtransactionEnded b committed ∷ others) all = (tt, new_before s t u on others all.1)
-new_before s t u on (effects.Marked b ∷ others) all = (tt, new_before s t u on others all.1)
-new_before s t u on (effects.Doubted ∷ others) all = (tt, new_before s t u on others all.1)
-new_before s t u on (effects.Done ∷ others) all = (tt, new_before s t u on others all.1)
-
-new_all : (s u : Standing) (some others : List Effect) → AllByRecursion (IsNewOutcome s u) some → AllByRecursion (IsNewOutcome s u) others
-    → AllByRecursion (IsNewOutcome s u) (some ++ others)
-new_all s u [] others all more = more
-new_all s u (x ∷ some) others all more = (all.0, new_all s u some others all.1 more)
-
--- each outcome that is told is new, where outcomes stay
-abbrev pub Tells : Standing → Moved → Type 0
-Tells s m = TreeOutcomeStays → IsThere s → AllByRecursion (IsNewOutcome s m.family.completion) m.effects
-
-tells_chain : (s : Standing) (first : Moved) (next : Family → Moved) → Proceeds s first.family.completion → Tells s first
-    → Proceeds first.family.completion (next first.family).family.completion → Tells first.family.completion (next first.family) → Tells s (first ▹ next)
-tells_chain s first next p one q other law there =
-    let on : (fixed : Outcome) → Stays fixed s first.family.completion = λ fixed. stays law fixed s first.family.completion p there in
-    let found : IsThere first.family.completion = (on outcomes.Unknown).there in
-    new_all s (next first.family).family.completion first.effects (next first.family).effects
-    (new_later s first.family.completion (next first.family).family.completion
-    (λ fixed. stays law fixed first.family.completion (next first.family).family.completion q found) first.effects (one law there))
-    (new_before s first.family.completion (next first.family).family.completion on (next first.family).effects (other law found))
-
 -- what comes of something goes rightly
 pub record Right (s : Standing) (m : Moved) : Type 0 where
   pub proceeds : Proceeds s m.family.completion
   pub words : AllByRecursion (GoesOut m.family.completion) m.words
-  pub told : Tells s m
 
 -- nothing goes out
 pub record Quiet (s : Standing) (m : Moved) : Type 0 where
   pub proceeds : Proceeds s m.family.completion
   pub silent : m.words ≡ []
-  pub told : Tells s m
 
 right_of : (s : Standing) (m : Moved) → Quiet s m → Right s m
-right_of s m q = record { proceeds = q.proceeds; words = subst (λ ws. AllByRecursion (GoesOut m.family.completion) ws) (sym q.silent) tt; told = q.told }
+right_of s m q = record { proceeds = q.proceeds; words = subst (λ ws. AllByRecursion (GoesOut m.family.completion) ws) (sym q.silent) tt }
 
 -- one thing that is quiet, and then what comes next
 chained : (s : Standing) (first : Moved) (next : Family → Moved) → Quiet s first → Right first.family.completion (next first.family) → Right s (first ▹ next)
 chained s first next q r = record {
   proceeds = further s first.family.completion (next first.family).family.completion q.proceeds r.proceeds;
   words = subst (λ ws. AllByRecursion (GoesOut (next first.family).family.completion) (ws ++ (next first.family).words)) (sym q.silent) r.words;
-  told = tells_chain s first next q.proceeds q.told r.proceeds r.told;
 }
 
 quietly : (s : Standing) (first : Moved) (next : Family → Moved) → Quiet s first → Quiet first.family.completion (next first.family) → Quiet s (first ▹ next)
 quietly s first next q r = record {
   proceeds = further s first.family.completion (next first.family).family.completion q.proceeds r.proceeds;
   silent = subst (λ ws. ws ++ (next first.family).words ≡ []) (sym q.silent) r.silent;
-  told = tells_chain s first next q.proceeds q.told r.proceeds r.told;
 }
 
 either : (s : Standing) (b : Bool) (x y : Moved) → Right s x → Right s y → Right s (if b then x else y)
@@ -159,19 +107,19 @@ either_quiet s true x y r t = r
 either_quiet s false x y r t = t
 
 only_quiet : (f : Family) → Quiet f.completion (only f)
-only_quiet f = record { proceeds = still f.completion; silent = refl; told = λ law there. tt }
+only_quiet f = record { proceeds = still f.completion; silent = refl }
 
 pub only_right : (f : Family) → Right f.completion (only f)
-only_right f = record { proceeds = still f.completion; words = tt; told = λ law there. tt }
+only_right f = record { proceeds = still f.completion; words = tt }
 
 sends_right : (s : Standing) (b : ℕ) (c : Call) (n : Notice) (r : Option Receipt) (f : Family)
     → Proceeds s f.completion → GoesOut f.completion (outward f n r) → Right s (sends b c n r f)
 unfolding sends
-sends_right s b c n r f p g = record { proceeds = p; words = (g, tt); told = λ law there. tt }
+sends_right s b c n r f p g = record { proceeds = p; words = (g, tt) }
 
 ends_call_right : (b : ℕ) (c : Call) (answer : Said) (f : Family) → Right f.completion (ends_call b c answer f)
 unfolding ends_call
-ends_call_right b c answer f = record { proceeds = still f.completion; words = tt; told = λ law there. tt }
+ends_call_right b c answer f = record { proceeds = still f.completion; words = tt }
 
 tells_next_right : (o : Option Registration) (called : ℕ) (c : Call) (fixed : Outcome) (f : Family) → Right f.completion (tells_next o called c fixed f)
 unfolding finishes
@@ -183,7 +131,7 @@ unfolding afterwards
 afterwards_right called c fixed f = tells_next_right (next_told f fixed called) called c fixed f
 
 waits_right : (b : ℕ) (c : Call) (f : Family) → Right f.completion (waits b c f)
-waits_right b c f = record { proceeds = still f.completion; words = tt; told = λ law there. tt }
+waits_right b c f = record { proceeds = still f.completion; words = tt }
 
 rests_right : (c : Call) (o : Option Outcome) (f : Family) → Right f.completion (rests c o f)
 rests_right c (Some fixed) f = afterwards_right 0 c fixed f
@@ -210,18 +158,11 @@ begun_rolling : (s : Standing) (some : List Registration) (asked : Bool) (n : Ca
 begun_rolling (Waiting room) some asked n one reason = starts_back room some asked n one reason
 begun_rolling (UnderWay k) some asked n one reason = still (UnderWay k)
 
--- an outcome that is told because it wasn't fixed before
-new_by : (s later : Standing) (o p : Option Outcome) → stages.outcome s ≡ o → stages.outcome later ≡ p → AllByRecursion (IsNewOutcome s later) (fixed_now o p)
-new_by s later None None e g = tt
-new_by s later None (Some fixed) e g = ((e, g), tt)
-new_by s later (Some fixed) p e g = tt
-
 completes_quiet : (later : Standing) (f : Family) → Proceeds f.completion later → Quiet f.completion (completes_as later f)
 unfolding completes_as
 completes_quiet later f p = record {
   proceeds = p;
   silent = refl;
-  told = λ law there. new_by f.completion later (stages.outcome f.completion) (stages.outcome later) refl refl;
 }
 
 asks_quiet : (asked : Bool) (f : Family) → Quiet f.completion (begins (asking asked f) f)
@@ -236,12 +177,11 @@ rolls_quiet asked reason f =
     completes_quiet (begun f.completion (rolling_back asked reason f)) (record f { stage = Completing })
     (begun_rolling f.completion (asked_ones f) asked (number_of f 1) (is_none f.superior) reason)
 
--- one thing happened, and it is no outcome
-happened_quiet : (x : Effect) (f g : Family) → g.completion ≡ f.completion → IsNewOutcome f.completion f.completion x → Quiet f.completion (shows (x ∷ []) g)
-happened_quiet x f g e new = record {
+-- one thing happened
+happened_quiet : (x : Effect) (f g : Family) → g.completion ≡ f.completion → Quiet f.completion (shows (x ∷ []) g)
+happened_quiet x f g e = record {
   proceeds = subst (λ s. Proceeds f.completion s) (sym e) (still f.completion);
   silent = refl;
-  told = λ law there. (subst (λ s. IsNewOutcome f.completion s x) (sym e) new, tt);
 }
 
 calls_next_right : (o : Option Registration) (called : ℕ) (c : Call) (f : Family) → Right f.completion (calls_next o called c f)
@@ -274,7 +214,7 @@ commits_up_right : (b : ℕ) (o : Option ℕ) (c : Call) (f : Family) → Right 
 unfolding commits_up
 commits_up_right b (Some above) c f =
     chained f.completion (shows (effects.SubtransactionEnded b true ∷ []) (joined b above f)) (ends_call b c said.Plain)
-    (happened_quiet (effects.SubtransactionEnded b true) f (joined b above f) refl tt) (ends_call_right b c said.Plain (joined b above f))
+    (happened_quiet (effects.SubtransactionEnded b true) f (joined b above f) refl) (ends_call_right b c said.Plain (joined b above f))
 commits_up_right b None c f = waits_right b c f
 
 own_ends_right : (aim : Aim) (b : ℕ) (c : Call) (f : Family) → Right f.completion (own_ends aim b c f)
@@ -297,7 +237,7 @@ passes_right b c f = either f.completion _ _ _ (passes_top_right f.stage c f) (t
 
 ends_below_quiet : (d : ℕ) (f : Family) → Quiet f.completion (ends_below d f)
 unfolding ends_below
-ends_below_quiet d f = record { proceeds = still f.completion; silent = refl; told = λ law there. (tt, tt) }
+ends_below_quiet d f = record { proceeds = still f.completion; silent = refl }
 
 sweeps_next_right : (o : Option ℕ) (b : ℕ) (c : Call) (next : Family → Moved) → ((g : Family) → Right g.completion (next g)) → (f : Family)
     → Right f.completion (sweeps_next o b c next f)
@@ -336,7 +276,7 @@ goes_on_right b f = runs_call_right (call_at f b) b f
 
 marks_quiet : (b : ℕ) (f : Family) → Quiet f.completion (marks b f)
 unfolding marks
-marks_quiet b f = either_quiet f.completion (is_markable f b) _ _ (record { proceeds = still f.completion; silent = refl; told = λ law there. (tt, tt) }) (only_quiet f)
+marks_quiet b f = either_quiet f.completion (is_markable f b) _ _ (record { proceeds = still f.completion; silent = refl }) (only_quiet f)
 
 marks_parent_quiet : (o : Option ℕ) (f : Family) → Quiet f.completion (marks_parent o f)
 marks_parent_quiet (Some above) f = marks_quiet above f
@@ -356,25 +296,12 @@ hears_answer : (s : Standing) (n : CallNumber) (h : ParticipantHeard) → Procee
 hears_answer (Waiting room) n h = still (Waiting room)
 hears_answer (UnderWay k) n h = proceeds_on k (course.after_answer n h k) (by_answer k n h)
 
--- votes are no outcome
-vote_effects_new : (s later : Standing) (h : ParticipantHeard) (o : Option ℕ) → AllByRecursion (IsNewOutcome s later) (vote_effects h o)
-vote_effects_new s later (phase_hears.Voted vote) (Some p) = (tt, tt)
-vote_effects_new s later (phase_hears.Voted vote) None = tt
-vote_effects_new s later phase_hears.Done o = tt
-vote_effects_new s later (phase_hears.Heuristic d) o = tt
-vote_effects_new s later phase_hears.RolledBack o = tt
-vote_effects_new s later phase_hears.NotPrepared o = tt
-vote_effects_new s later phase_hears.NoObject o = tt
-vote_effects_new s later phase_hears.Other o = tt
-vote_effects_new s later phase_hears.Lost o = tt
-vote_effects_new s later phase_hears.Starved o = tt
-
 told_participant_quiet : (n : CallNumber) (h : Heard) (f : Family) → Quiet f.completion (told_participant n h f)
 unfolding told_participant
 told_participant_quiet n h f =
     let later : Standing = stages.after_answer (inner_number f f.completion n) (of_participant h) f.completion in
     quietly f.completion (shows (vote_effects (of_participant h) (stages.voter f.completion)) f) (completes_as later)
-    (record { proceeds = still f.completion; silent = refl; told = λ law there. vote_effects_new f.completion f.completion (of_participant h) (stages.voter f.completion) })
+    (record { proceeds = still f.completion; silent = refl })
     (completes_quiet later f (hears_answer f.completion (inner_number f f.completion n) (of_participant h)))
 
 told_quiet : (leg : Leg) (n : CallNumber) (b : ℕ) (c : Call) (h : Heard) (f : Family) → Quiet f.completion (told leg n b c h f)
@@ -390,7 +317,7 @@ hears_at_quiet n b c h f = told_quiet c.leg n b _ h _
 
 answers_doubt_quiet : (why : Doubted) (o : Option Call) (f : Family) → Quiet f.completion (answers_doubt why o f)
 unfolding answers_doubt
-answers_doubt_quiet why (Some c) f = record { proceeds = still f.completion; silent = refl; told = λ law there. tt }
+answers_doubt_quiet why (Some c) f = record { proceeds = still f.completion; silent = refl }
 answers_doubt_quiet why None f = only_quiet f
 
 doubts_by_quiet : (stood : Stood) (f : Family) → Quiet f.completion (doubts_by stood f)
@@ -398,7 +325,7 @@ doubts_by_quiet (answers.Stands place) f = only_quiet f
 doubts_by_quiet (answers.Full used need) f = only_quiet f
 doubts_by_quiet (answers.Unsure why) f =
     quietly f.completion (shows (effects.Doubted ∷ []) f) (λ g. answers_doubt why (call_at g 0) g)
-    (happened_quiet effects.Doubted f f refl tt) (answers_doubt_quiet why (call_at f 0) f)
+    (happened_quiet effects.Doubted f f refl) (answers_doubt_quiet why (call_at f 0) f)
 
 hears_record : (s : Standing) (stood : Stood) → Proceeds s (stages.after_decided stood s)
 hears_record (Waiting room) stood = still (Waiting room)
@@ -411,14 +338,9 @@ decided_quiet stood f =
     (completes_quiet (stages.after_decided stood f.completion) f (hears_record f.completion stood))
     (doubts_by_quiet stood (completes_as (stages.after_decided stood f.completion) f).family)
 
-done_new : (s later : Standing) (stood : Stood) → AllByRecursion (IsNewOutcome s later) (done_effects stood)
-done_new s later (answers.Stands place) = (tt, tt)
-done_new s later (answers.Full used need) = tt
-done_new s later (answers.Unsure why) = tt
-
 closes_quiet : (stood : Stood) (f : Family) → Quiet f.completion (closes stood f)
 unfolding closes
-closes_quiet stood f = record { proceeds = still f.completion; silent = refl; told = λ law there. done_new f.completion f.completion stood }
+closes_quiet stood f = record { proceeds = still f.completion; silent = refl }
 
 settles_quiet : (stood : Option Stood) (f : Family) → Quiet f.completion (settles stood f)
 unfolding settles
@@ -470,7 +392,7 @@ unfolding rolls_back_sub
 rolls_back_sub_right b caller answer f =
     let first : Moved = shows (effects.SubtransactionEnded b false ∷ []) (record f { rows = ended f.rows b false }) in
     chained f.completion first (runs b (new_call caller (RollsBack answer)))
-    (happened_quiet (effects.SubtransactionEnded b false) f first.family refl tt) (runs_right b (new_call caller (RollsBack answer)) first.family)
+    (happened_quiet (effects.SubtransactionEnded b false) f first.family refl) (runs_right b (new_call caller (RollsBack answer)) first.family)
 
 rolls_back_right : (b : ℕ) (reason : Reason) (caller : Option ℕ) (answer : Said) (f : Family) → Right f.completion (rolls_back b reason caller answer f)
 rolls_back_right b reason caller answer f =
@@ -575,14 +497,13 @@ by_act acts.Tick b now stood f = ticks_right now f
 by_act (acts.Reread stands) b now stood f = rereads_right stood f
 by_act (acts.Opened deadline) b now stood f = only_right (record f { deadline = deadline })
 
--- a step goes rightly, and each outcome that it tells is new
+-- a step goes rightly
 pub record Steps (f : Family) (s : Stepped) : Type 0 where
   pub proceeds : Proceeds f.completion s.family.completion
   pub words : AllByRecursion (GoesOut s.family.completion) s.words
-  pub told : TreeOutcomeStays → IsThere f.completion → AllByRecursion (IsNewOutcome f.completion s.family.completion) s.effects
 
 quiet_steps : (answer : Said) (f : Family) → Steps f (quiet answer f)
-quiet_steps answer f = record { proceeds = still f.completion; words = tt; told = λ law there. tt }
+quiet_steps answer f = record { proceeds = still f.completion; words = tt }
 
 either_steps : (f : Family) (b : Bool) (x y : Stepped) → Steps f x → Steps f y → Steps f (if b then x else y)
 either_steps f true x y r t = r
@@ -590,7 +511,7 @@ either_steps f false x y r t = t
 
 entered_steps : (e : Event) (stood : Option Stood) (f : Family) (a : Acted) → Does f a → Steps f (entered f e stood a)
 unfolding entered
-entered_steps e stood f a r = record { proceeds = r.proceeds; words = r.words; told = r.told }
+entered_steps e stood f a r = record { proceeds = r.proceeds; words = r.words }
 
 step_by_right : (o : Option Said) (f : Family) (e : Event) (stood : Option Stood) → Steps f (step_by o f e stood)
 unfolding acted
@@ -604,6 +525,3 @@ steps f e stood = step_by_right (kept_for f.entries e.key) f e stood
 
 pub steps_right : FamiliesStepRightly
 steps_right f e stood = record { proceeds = (steps f e stood).proceeds; words = (steps f e stood).words }
-
-pub decide_once : TreeOutcomeStays → FamiliesDecideOnce
-decide_once law f e stood there = (steps f e stood).told law there

@@ -1,8 +1,7 @@
--- What holds of every step of every family: what each word that goes out rests on, that an outcome stays and is new where it is told,
--- that a decision is recorded by consent alone, and what changes nothing (Transaction Service, nested transactions and the
--- operations of interface Resource).
-use Rattle.std.specs.Prelude.{◌≡◌, ◌==◌, ℕ, ◌⊎◌, Bool, true, List, [], ◌∷◌, ◌++◌, Option, Some, None}
-use Rattle.std.specs.List.{AllByRecursion, list_any}
+-- What holds of every step of every family: whose word each one that goes out is, that an outcome stays, and what changes nothing
+-- (Transaction Service, nested transactions and the operations of interface Resource).
+use Rattle.std.specs.Prelude.{◌≡◌, ℕ, ◌⊎◌, Bool, List, [], ◌∷◌, ◌++◌, Option, Some, None}
+use Rattle.std.specs.List.{AllByRecursion}
 use Rattle.ots_model.specs.declared.completion.CallNumber.{CallNumber}
 use Rattle.ots_model.specs.declared.completion.Stood.{Stood}
 use Rattle.ots_model.specs.declared.tree.Heard.{Heard}
@@ -15,23 +14,16 @@ use Rattle.ots_model.specs.declared.tree.Word.TheVariants as words
 use Rattle.resource_votes.specs.declared.registration.Registration.{Registration}
 use Rattle.two_phase.specs.Course as course
 use Rattle.two_phase.specs.Course.{Course}
-use Rattle.two_phase.specs.LawsOfCourses.{MayBeTold}
 use Rattle.two_phase.specs.LawsOfReached.{TreeBecomes, IsReached}
-use Rattle.two_phase.specs.declared.party.Party.{Party}
-use Rattle.decision_journal.specs.declared.record.JournalRecord.{JournalRecord}
-use Rattle.decision_journal.specs.declared.record.Registration.{Registration as Recorded}
-use Rattle.coordinator.specs.Hearing.{decision_record, named}
 use Rattle.two_phase.specs.Stages as stages
 use Rattle.two_phase.specs.Stages.{Standing, Waiting, Going as UnderWay}
-use Rattle.coordinator.specs.declared.effect.Effect.{Effect}
-use Rattle.coordinator.specs.declared.effect.Effect.TheVariants as effects
 use Rattle.coordinator.specs.declared.event.Act.TheVariants as acts
 use Rattle.coordinator.specs.declared.event.Event.{Event}
 use Rattle.coordinator.specs.Family.{Family, waiting_for}
 use Rattle.coordinator.specs.declared.said.Entry.{Entry}
 use Rattle.coordinator.specs.declared.said.Said.{Said}
 use Rattle.coordinator.specs.History.{kept_for, repeated}
-use Rattle.coordinator.specs.Step.{entry_of, Stepped, family_step, Appends, wanted}
+use Rattle.coordinator.specs.Step.{entry_of, Stepped, family_step}
 
 -- what the completion of a family becomes by any number of steps: it begins once, by asking or by rolling back, and goes on
 pub data Proceeds : Standing → Standing → Type 0 where
@@ -96,53 +88,6 @@ abbrev pub FamilyOutcomesStay : Type 0
 FamilyOutcomesStay = (f : Family) (e : Event) (stood : Option Stood) (fixed : Outcome)
     → IsThere f.completion → stages.outcome f.completion ≡ Some fixed
     → stages.outcome (family_step f e stood).family.completion ≡ Some fixed
-
--- an outcome that a step tells is new: it wasn't fixed before, and is from then on
-abbrev pub IsNewOutcome : Standing → Standing → Effect → Type 0
-IsNewOutcome s later (effects.Decided fixed) = (stages.outcome s ≡ None) × (stages.outcome later ≡ Some fixed)
-IsNewOutcome s later _ = Unit {0}
-
-abbrev pub FamiliesDecideOnce : Type 0
-FamiliesDecideOnce = (f : Family) (e : Event) (stood : Option Stood) → IsThere f.completion
-    → AllByRecursion (IsNewOutcome f.completion (family_step f e stood).family.completion) (family_step f e stood).effects
-
--- A commit word goes out by a record that stands: just before, each participant has consented, this one by VoteCommit, the
--- journal has told where the record stands, and it was not told before.
-pub record IsByRecord (s : Standing) (o : Outward) : Type 0 where
-  pub before : Course
-  pub now : s ≡ UnderWay (course.after_next before)
-  pub party : Party
-  pub registration : o.registration ≡ party.index
-  pub reference : o.to ≡ party.to
-  pub receipt : o.receipt
-      ≡ course.receipt_of (words.Phase phase_words.Commit) (course.record_place before.stood before.reread) party.index
-  pub may : MayBeTold party before
-
--- each commit word of a step does
-abbrev pub CommitGoesByRecord : Standing → Outward → Type 0
-CommitGoesByRecord s o = o.word ≡ words.Phase phase_words.Commit → IsByRecord s o
-
-abbrev pub FamiliesCommitByRecord : Type 0
-FamiliesCommitByRecord = (f : Family) (e : Event) (stood : Option Stood)
-    → AllByRecursion (CommitGoesByRecord (family_step f e stood).family.completion) (family_step f e stood).words
-
--- each participant has consented, and one of them waits for the outcome
-abbrev pub IsAgreed : Standing → Type 0
-IsAgreed (Waiting room) = ⊥
-IsAgreed (UnderWay c) = (course.all_consent c ≡ true) × (course.some_commit c ≡ true)
-
--- a decision is appended only then: it is that of a family whose participants agree
-pub record AppendsRightly (f : Family) (item : JournalRecord) : Type 0 where
-  pub heard : Family
-  pub is_record : item ≡ decision_record heard
-  pub agreed : IsAgreed heard.completion
-
--- a decision record names exactly the registrations that take part and have voted commit
-abbrev pub RecordsNameVoters : Type 0
-RecordsNameVoters = (s : Standing) (g : ℕ) → list_any (λ (r : Recorded). r.index == g) (named s) ≡ stages.is_named s g
-
-abbrev pub FamiliesAppendByConsent : Type 0
-FamiliesAppendByConsent = (f : Family) (e : Event) (item : JournalRecord) → wanted f e ≡ Some (Appends item) → AppendsRightly f item
 
 -- an answer that nobody waits for changes nothing
 pub record ChangesNothing (f : Family) (s : Stepped) : Type 0 where

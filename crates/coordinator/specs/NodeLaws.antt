@@ -1,18 +1,11 @@
--- What holds of every node: its life and its numbers are never used twice, and what is told again stands (our profile).
+-- What holds of every node: its life and its numbers are never used twice (our profile).
 use Rattle.std.specs.Prelude.{◌≡◌, ℕ, ◌+◌, ◌<◌, ◌≤◌, List, Option, Ok}
-use Rattle.std.specs.List.{AllByRecursion}
 use Rattle.ior_refs.specs.declared.key.ObjectKey.{ObjectKey}
 use Rattle.ots_model.specs.declared.completion.Stood.{Stood}
-use Rattle.ots_model.specs.declared.tree.Outward.{Outward}
-use Rattle.ots_model.specs.declared.completion.Word.TheVariants as phase_words
-use Rattle.ots_model.specs.declared.tree.Word.TheVariants as words
-use Rattle.two_phase.specs.Stages.{Standing}
 use Rattle.decision_journal.specs.Journal.{found_in}
 use Rattle.decision_journal.specs.declared.record.JournalRecord.{JournalRecord}
-use Rattle.recovery_coord.specs.Laws.{Comes, IsBacked}
 use Rattle.coordinator.specs.declared.event.Event.{Event}
 use Rattle.coordinator.specs.Family.{Family}
-use Rattle.coordinator.specs.Laws.{IsByRecord}
 use Rattle.coordinator.specs.Node.{Node, load, life}
 use Rattle.coordinator.specs.NodeSlots.{makes}
 use Rattle.coordinator.specs.NodeCalls.{applies}
@@ -50,28 +43,3 @@ KeysAreNew = (make other : ObjectKey → Family) (n later : Node) (first second 
 -- a load begins the life behind the last one of the records that it reads
 abbrev pub LivesRise : Type 0
 LivesRise = (service : ℕ) (records : List JournalRecord) → life (load service records) ≡ (found_in records).life + 1
-
--- what a node holds of its records comes of those that stand
-abbrev pub HoldsStanding : Node → Type 0
-HoldsStanding n = Comes n.found.standing n.recovered
-
--- so it is after a load, and while families are made and time passes. Then each word that is told again at a tick goes to a
--- registration that a record names which stands.
-pub record TicksTellStanding : Type 0 where
-  pub loaded : (service : ℕ) (records : List JournalRecord) → HoldsStanding (load service records)
-  pub made : (make : ObjectKey → Family) (n : Node) → HoldsStanding n → HoldsStanding (makes make n).node
-  pub ticked : (now : ℕ) (n : Node) → HoldsStanding n → HoldsStanding (ticks now n).node
-  pub told : (now : ℕ) (n : Node) → HoldsStanding n → AllByRecursion (IsBacked n.found.standing) (ticks now n).words
-
--- a commit word goes out by the completion of a family whose decision record stands
-pub record IsDecided (o : Outward) : Type 0 where
-  pub completion : Standing
-  pub by_record : IsByRecord completion o
-
-abbrev pub GoesDecided : Outward → Type 0
-GoesDecided o = o.word ≡ words.Phase phase_words.Commit → IsDecided o
-
--- so does each commit word of a call, and each one of a tick that isn't told again
-pub record NodesCommitByRecord : Type 0 where
-  pub called : (k : ObjectKey) (e : Event) (stood : Option Stood) (n : Node) → AllByRecursion GoesDecided (applies k e stood n).words
-  pub ticked : (now : ℕ) (n : Node) → AllByRecursion (λ h. AllByRecursion GoesDecided h.words) (ticks now n).happened

@@ -7,11 +7,9 @@ pub use effect::{Effect, Effects};
 pub use event::{Act, CALL_LIMIT, Event, HISTORY_LIMIT};
 pub use history::kept;
 pub use laws::{
-    answers_follow_phases, decisions_rest_on_consent, families_commit_by_record,
-    families_decide_once, families_play, families_step_rightly, family_outcomes_stay,
-    histories_grow_by_entries, keys_are_new, lives_rise, nodes_commit_by_record,
-    nodes_keep_numbers, nodes_play, records_name_voters, repeats_change_nothing,
-    stale_answers_change_nothing, ticks_tell_standing,
+    answers_follow_phases, families_play, families_step_rightly, family_outcomes_stay,
+    histories_grow_by_entries, keys_are_new, lives_rise, nodes_keep_numbers, nodes_play,
+    repeats_change_nothing, stale_answers_change_nothing,
 };
 pub use node::NodeFault;
 pub use phase::{Column, Phase};

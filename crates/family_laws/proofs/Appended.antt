@@ -11,7 +11,6 @@ use Rattle.coordinator.specs.Family.{Family}
 use Rattle.coordinator.specs.Hearing.{decision_record}
 use Rattle.coordinator.specs.Step.{family_step, wanted, hears}
 use Rattle.family_laws.specs.LawsOfJournal.{AppendsOwn}
-use Rattle.family_laws.specs.Sound.{IsSoundFamily}
 use Rattle.family_laws.specs.SoundNode.{IsDecisionOf}
 use Rattle.family_laws.specs.LawsBelow.{Laws}
 use Rattle.family_laws.proofs.Journal.{families_append_own}
@@ -24,10 +23,10 @@ record_own : (f g : Family) → f.key ≡ g.key → IsDecisionOf f (decision_rec
 unfolding decision_record
 record_own f g e = (ap (λ (k : ObjectKey). k.life) e, ap (λ (k : ObjectKey). k.slot) e, ap (λ (k : ObjectKey). k.generation) e)
 
-pub appended_own : Laws → TreeOutcomeStays → (f : Family) (e : Event) (stood : Option Stood) (s : Standing) → IsSoundFamily f → IsNew (wanted f e) stood s
+pub appended_own : Laws → TreeOutcomeStays → (f : Family) (e : Event) (stood : Option Stood) (s : Standing) → IsNew (wanted f e) stood s
     → IsDecisionOf (family_step f e stood).family s.item × (stages.record_place (family_step f e stood).family.completion ≡ Some s.place)
-appended_own law stays f e stood s sound x =
-    let a : AppendsOwn f e x.item = families_append_own law stays f e x.item sound x.wanted in
+appended_own law stays f e stood s x =
+    let a : AppendsOwn f e x.item = families_append_own law stays f e x.item x.wanted in
     let g : Family = (hears a.number a.heard f).family in
     let later : Family = (family_step f e stood).family in
     let key : later.key ≡ g.key = families_number_words.key f e stood ∙ sym (hears_is a.number a.heard f).told.key_stays in

@@ -27,9 +27,9 @@ use Rattle.coordinator.specs.Family.{Family, waiting_for}
 use Rattle.coordinator.specs.Moves.{only, completes_as}
 use Rattle.coordinator.specs.Hearing.{decision_record, wants_done, decided, closes, settles}
 use Rattle.coordinator.specs.History.{kept_for}
-use Rattle.coordinator.specs.Laws.{IsThere, IsAgreed}
+use Rattle.coordinator.specs.Laws.{IsThere}
 use Rattle.coordinator.specs.Step.{Wanted, Appends, WritesDone, Rereads, wanted_by, wanted_act, wanted, hears, answered, goes_on_at, acts_on, acted, is_silent_act, Stepped, quiet, entered, step_by, family_step}
-use Rattle.family_laws.specs.LawsOfJournal.{FamiliesAppendOwn}
+use Rattle.family_laws.specs.LawsOfJournal.{FamiliesAppendOwn, IsAgreed}
 use Rattle.family_laws.specs.LawsBelow.{Laws}
 use Rattle.family_laws.proofs.Telling.{Stays, Plain}
 use Rattle.family_laws.proofs.Votes.{hears_is}
@@ -265,13 +265,19 @@ entered_completion : (f : Family) (e : Event) (stood : Option Stood) (n : CallNu
 unfolding entered
 entered_completion f e stood n h = refl
 
--- the record stands, and decides, once the call has gone on
-record IsDecidedAt (s : Standing) (place : ℕ) : Type 0 where
-  at : stages.record_place s ≡ Some place
-  commit : stages.outcome s ≡ Some (outcomes.Commit Record)
+-- the record stands, once the call has gone on
+answered_placed : (n : CallNumber) (h : Heard) (f : Family) (place : ℕ) → stages.wants_decision (hears n h f).family.completion ≡ true
+    → stages.record_place (answered n h (Some (answers.Stands place)) f).family.completion ≡ Some place
+unfolding answered
+answered_placed n h f place wants =
+    let g : Family = (hears n h f).family in
+    let k : Family = (settles (Some (answers.Stands place)) g).family in
+    let last : Plain k (goes_on_at (waiting_for f n) k) = goes_on_at_plain (waiting_for f n) k in
+    last.kept.place place (ap (λ (s : Standing). stages.record_place s) (settled_completion g place wants) ∙ decided_place g.completion place wants)
 
+-- and decides
 answered_decided : Laws → TreeOutcomeStays → (n : CallNumber) (h : Heard) (f : Family) (place : ℕ) → IsThere f.completion → stages.wants_decision (hears n h f).family.completion ≡ true
-    → IsDecidedAt (answered n h (Some (answers.Stands place)) f).family.completion place
+    → stages.outcome (answered n h (Some (answers.Stands place)) f).family.completion ≡ Some (outcomes.Commit Record)
 unfolding answered
 answered_decided below law n h f place there wants =
     let g : Family = (hears n h f).family in
@@ -279,30 +285,26 @@ answered_decided below law n h f place there wants =
     let first = ((hears_is n h f).told.outcomes law there).0 in
     let second = ((settles_is (Some (answers.Stands place)) g).told.outcomes law first.there).0 in
     let last : Plain k (goes_on_at (waiting_for f n) k) = goes_on_at_plain (waiting_for f n) k in
-    let is : k.completion ≡ stages.after_decided (answers.Stands place) g.completion = settled_completion g place wants in
-    record {
-      at = last.kept.place place (ap (λ (s : Standing). stages.record_place s) is ∙ decided_place g.completion place wants);
-      commit = (last.told.outcomes law second.there).0.same (outcomes.Commit Record) (ap (λ (s : Standing). stages.outcome s) is ∙ decided_commit below g.completion place wants);
-    }
+    (last.told.outcomes law second.there).0.same (outcomes.Commit Record)
+    (ap (λ (s : Standing). stages.outcome s) (settled_completion g place wants) ∙ decided_commit below g.completion place wants)
 
 step_completion : (f : Family) (e : Event) (stood : Option Stood) (w : Wanted) (x : IsWantedBy f e w) → (family_step f e stood).family.completion ≡ (answered x.number x.heard stood f).family.completion
 step_completion f e stood w x = ap (λ (s : Stepped). s.family.completion) (wanted_step f e stood w x) ∙ entered_completion f e stood x.number x.heard
 
 pub families_append_own : Laws → TreeOutcomeStays → FamiliesAppendOwn
-families_append_own below law f e item sound w =
+families_append_own below law f e item w =
     let x : IsWantedBy f e (Appends item) = wanted_is f e (Appends item) tt w in
     let g : Family = (hears x.number x.heard f).family in
     let by = appends_by g item x.by in
-    let stays : Stays f.completion g.completion = ((hears_is x.number x.heard f).told.outcomes law sound.completion.there).0 in
     record {
       number = x.number;
       heard = x.heard;
       answer = x.answer;
       is_record = by.1;
       agreed = agreed_by g.completion by.0;
-      undecided = still_open f.completion g.completion stays (open_by below g.completion by.0) (stages.outcome f.completion) refl;
+      undecided = λ there. still_open f.completion g.completion ((hears_is x.number x.heard f).told.outcomes law there).0 (open_by below g.completion by.0) (stages.outcome f.completion) refl;
       stands = λ place. ap (λ (s : Standing). stages.record_place s) (step_completion f e (Some (answers.Stands place)) (Appends item) x)
-          ∙ (answered_decided below law x.number x.heard f place sound.completion.there by.0).at;
-      decides = λ place. ap (λ (s : Standing). stages.outcome s) (step_completion f e (Some (answers.Stands place)) (Appends item) x)
-          ∙ (answered_decided below law x.number x.heard f place sound.completion.there by.0).commit;
+          ∙ answered_placed x.number x.heard f place by.0;
+      decides = λ there place. ap (λ (s : Standing). stages.outcome s) (step_completion f e (Some (answers.Stands place)) (Appends item) x)
+          ∙ answered_decided below law x.number x.heard f place there by.0;
     }

@@ -347,7 +347,7 @@ stepped_sound law stays f e stood n slot there behind lives h = record {
         → (is_held s.place n.recovered ≡ true) ⊎ HasFamilyOf (slice_set n.families g.key.slot (Some g)) s
     decide s d (inl c) = kept s (h.decisions s c d)
     decide s d (inr x) =
-        let own = appended_own law stays f e stood s old.1 x in
+        let own = appended_own law stays f e stood s x in
         inr (record { slot = slot; family = g; there = now_there; own = own.0; decided = own.1 })
 
 -- where a record hears an answer

@@ -165,7 +165,7 @@ module _ (law : Laws) (stays : TreeOutcomeStays) (f : Family) (e : Event) (stood
   so = step_answers stays f e stood sound.completion.there
 
   appends_own : (item : JournalRecord) → w ≡ Some (Appends item) → (x : Family) × (item ≡ decision_record x)
-  appends_own item i = let a : AppendsOwn f e item = families_append_own law stays f e item sound i in ((hears a.number a.heard f).family, a.is_record)
+  appends_own item i = let a : AppendsOwn f e item = families_append_own law stays f e item i in ((hears a.number a.heard f).family, a.is_record)
 
   behind : (item : JournalRecord) (place : ℕ) → w ≡ Some (Appends item) → stood ≡ Some (answers.Stands place) → AreBefore place n.found.standing
   behind item place i j = before_more edge place (appends item place i j).0 n.found.standing h.before
@@ -215,7 +215,7 @@ module _ (law : Laws) (stays : TreeOutcomeStays) (f : Family) (e : Event) (stood
           let is = is_here other x same i in
           subst (λ (y : Family). IsDecisionOf y s.item) is
           (own_kept f g key s.item (own_step s old (so.place s.place (ap (λ (y : Family). stages.record_place y.completion) is ∙ at))))
-      by (inl same) (inr new) = subst (λ (y : Family). IsDecisionOf y s.item) (is_here other x same i) (appended_own law stays f e stood s sound new).0
+      by (inl same) (inr new) = subst (λ (y : Family). IsDecisionOf y s.item) (is_here other x same i) (appended_own law stays f e stood s new).0
       by (inr apart) (inl old) = h.own other x s (not_here other x apart i) old at
       by (inr apart) (inr new) =
           let b = h.decided other new.place x (not_here other x apart i) (at ∙ ap (λ (t : Standing). Some t.place) new.is) in
@@ -265,7 +265,7 @@ module _ (law : Laws) (stays : TreeOutcomeStays) (f : Family) (e : Event) (stood
         stood = t;
         there = placed item i j;
         at = refl;
-        own = (appended_own law stays f e stood t sound (record { place = place; item = item; wanted = i; stands = j; is = refl })).0;
+        own = (appended_own law stays f e stood t (record { place = place; item = item; wanted = i; stands = j; is = refl })).0;
         untold = λ x c same.
             let old = h.held x c in
             let b = all_at (λ (y : Standing). y.place < place) n.found.standing old.stood (behind item place i j) old.there in

@@ -1,6 +1,6 @@
 -- When a step of a family asks the journal for a decision record and for its Done, and what stands behind each (Transaction Service,
 -- the operations of interface Resource; that a decision is recorded, and named done at last, is our profile).
-use Rattle.std.specs.Prelude.{◌≡◌, ◌⊎◌, ℕ, Option, Some, None, Contains}
+use Rattle.std.specs.Prelude.{◌≡◌, ◌⊎◌, ℕ, true, Option, Some, None, Contains}
 use Rattle.std.specs.List.{AllByRecursion}
 use Rattle.ots_model.specs.declared.completion.CallNumber.{CallNumber}
 use Rattle.ots_model.specs.declared.completion.Disposition.{Disposition}
@@ -12,6 +12,7 @@ use Rattle.ots_model.specs.declared.completion.Stood.TheVariants as answers
 use Rattle.ots_model.specs.declared.completion.Vote.TheVariants.{VoteCommit}
 use Rattle.ots_model.specs.declared.tree.Heard.{Heard}
 use Rattle.ots_model.specs.declared.completion.Outcome.TheVariants as outcomes
+use Rattle.two_phase.specs.Course as course
 use Rattle.two_phase.specs.Stages as stages
 use Rattle.two_phase.specs.Stages.{Standing, Waiting, Going as UnderWay}
 use Rattle.two_phase.specs.declared.party.Party.{Party}
@@ -21,24 +22,29 @@ use Rattle.coordinator.specs.declared.event.Act.TheVariants as acts
 use Rattle.coordinator.specs.declared.event.Event.{Event}
 use Rattle.coordinator.specs.Family.{Family}
 use Rattle.coordinator.specs.Hearing.{decision_record}
-use Rattle.coordinator.specs.Laws.{IsAgreed}
+use Rattle.coordinator.specs.Laws.{IsThere}
 use Rattle.coordinator.specs.Step.{Appends, WritesDone, family_step, hears, wanted}
 use Rattle.family_laws.specs.Sound.{IsSoundFamily}
 
+-- each participant has consented, and one of them waits for the outcome
+abbrev pub IsAgreed : Standing → Type 0
+IsAgreed (Waiting room) = ⊥
+IsAgreed (UnderWay c) = (course.all_consent c ≡ true) × (course.some_commit c ≡ true)
+
 -- A decision is appended of the family that has heard an answer, whose participants agree; where the record stands, the family is
--- decided by it.
+-- decided by it. Where the completion is one that can be reached, the outcome was open, and is commit by that record then.
 pub record AppendsOwn (f : Family) (e : Event) (item : JournalRecord) : Type 0 where
   pub number : CallNumber
   pub heard : Heard
   pub answer : e.act ≡ acts.Answer number heard
   pub is_record : item ≡ decision_record (hears number heard f).family
   pub agreed : IsAgreed (hears number heard f).family.completion
-  pub undecided : stages.outcome f.completion ≡ None
+  pub undecided : IsThere f.completion → stages.outcome f.completion ≡ None
   pub stands : (place : ℕ) → stages.record_place (family_step f e (Some (answers.Stands place))).family.completion ≡ Some place
-  pub decides : (place : ℕ) → stages.outcome (family_step f e (Some (answers.Stands place))).family.completion ≡ Some (outcomes.Commit Record)
+  pub decides : IsThere f.completion → (place : ℕ) → stages.outcome (family_step f e (Some (answers.Stands place))).family.completion ≡ Some (outcomes.Commit Record)
 
 abbrev pub FamiliesAppendOwn : Type 0
-FamiliesAppendOwn = (f : Family) (e : Event) (item : JournalRecord) → IsSoundFamily f → wanted f e ≡ Some (Appends item) → AppendsOwn f e item
+FamiliesAppendOwn = (f : Family) (e : Event) (item : JournalRecord) → wanted f e ≡ Some (Appends item) → AppendsOwn f e item
 
 -- an answer to forget that lets go of a heuristic outcome
 abbrev pub HasForgotten : Option Participant → Type 0

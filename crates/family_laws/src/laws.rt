@@ -81,8 +81,9 @@ pub fn families_hear_outcomes_answered()
     ensures { FamiliesHearOutcomesAnswered }
 {}
 
-/// A decision is appended of the sound family that has heard an answer, once its participants agree and before its outcome was
-/// fixed. Where the record stands, the family that the step leaves is decided by that place, and its outcome is commit by a record.
+/// A decision is appended only in the step of an answer, of the family that has heard it, once each participant has consented. Where
+/// the record stands, the family that the step leaves is decided by that place. Where the completion is one that can be reached, its
+/// outcome was open, and then is commit by a record.
 pub fn families_append_own()
     ensures { FamiliesAppendOwn }
 {

@@ -30,10 +30,10 @@ use Rattle.coordinator.specs.declared.said.Said.TheVariants as said
 use Rattle.coordinator.specs.Family.{Family}
 use Rattle.coordinator.specs.Hearing.{commit_key, decision_record, named, recorded}
 use Rattle.coordinator.specs.History.{has_room}
-use Rattle.coordinator.specs.Laws.{FamiliesStepRightly, FamilyOutcomesStay, IsAgreed, IsThere, Proceeds, still, asks, rolls_back, goes_on, further}
+use Rattle.coordinator.specs.Laws.{FamiliesStepRightly, FamilyOutcomesStay, IsThere, Proceeds, still, asks, rolls_back, goes_on, further}
 use Rattle.coordinator.specs.NodeTick.{tick_at, tick_of}
 use Rattle.coordinator.specs.Step.{family_step, quiet, hears, wanted, Appends}
-use Rattle.family_laws.specs.LawsOfJournal.{AppendsOwn, CompletesAll, FamiliesAppendOwn, FamiliesCloseLast, HasCompleted}
+use Rattle.family_laws.specs.LawsOfJournal.{AppendsOwn, CompletesAll, FamiliesAppendOwn, FamiliesCloseLast, HasCompleted, IsAgreed}
 use Rattle.family_laws.specs.LawsOfTelling.{FamiliesNumberWords}
 use Rattle.family_laws.specs.Sound.{IsSoundFamily}
 use Rattle.node_laws.specs.Rules.{HasToldAll, NamesVoters, NamesVotersOf, named_as}
@@ -176,10 +176,10 @@ record_names h g agreed same = go h.completion refl agreed same
         subst (λ (t : Completion). NamesVotersOf (Decision h.key.life h.key.slot h.key.generation (commit_key h) (stages.asked h.completion) (named h.completion)) t) (sym x.1)
         (subst (λ (t : Completion). NamesVoters (named t) x.0.parties) (sym i) (subst (λ (ps : List Party). NamesVoters (map recorded (filter has_voted_commit c.parties)) ps) (sym x.2) refl))
 
-pub newly_named : FamiliesAppendOwn → (f : Family) (e : Event) (stood : Option Stood) (item : JournalRecord) → IsSoundFamily f → wanted f e ≡ Some (Appends item)
+pub newly_named : FamiliesAppendOwn → (f : Family) (e : Event) (stood : Option Stood) (item : JournalRecord) → wanted f e ≡ Some (Appends item)
     → NamesVotersOf item (family_step f e stood).family.completion
-newly_named law f e stood item sound w =
-    let a : AppendsOwn f e item = law f e item sound w in
+newly_named law f e stood item w =
+    let a : AppendsOwn f e item = law f e item w in
     subst (λ (r : JournalRecord). NamesVotersOf r (family_step f e stood).family.completion) (sym a.is_record)
     (record_names (hears a.number a.heard f).family (family_step f e stood).family a.agreed (step_parties f e stood (Appends item) a.number a.heard w a.answer))
 

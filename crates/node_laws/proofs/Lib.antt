@@ -8,6 +8,7 @@ mod Held
 mod Families
 mod Rules
 mod Rests
+mod Named
 mod Undecided
 mod Numbered
 mod Dones

@@ -321,7 +321,7 @@ module _ (law : Facts) (edge more : ℕ) (n : Node) (h : KeepsRules edge n) wher
     -- a record that is appended is behind the edge, and decides the family
     module _ (s : Standing) (new : IsNew (wanted f e) stood s) where
       own : AppendsOwn f e new.item
-      own = law.append f e new.item sound new.wanted
+      own = law.append f e new.item new.wanted
 
       behind : edge ≤ s.place
       behind =
@@ -334,10 +334,10 @@ module _ (law : Facts) (edge more : ℕ) (n : Node) (h : KeepsRules edge n) wher
           ∙ ap (λ (t : Standing). Some t.place) (sym new.is)
 
       commits : stages.outcome g.completion ≡ Some (Commit Record)
-      commits = subst (λ (o : Option Stood). stages.outcome (family_step f e o).family.completion ≡ Some (Commit Record)) (sym new.stands) (own.decides new.place)
+      commits = subst (λ (o : Option Stood). stages.outcome (family_step f e o).family.completion ≡ Some (Commit Record)) (sym new.stands) (own.decides sound.completion.there new.place)
 
       named_now : NamesVotersOf s.item g.completion
-      named_now = subst (λ (t : Standing). NamesVotersOf t.item g.completion) (sym new.is) (newly_named law.append f e stood new.item sound new.wanted)
+      named_now = subst (λ (t : Standing). NamesVotersOf t.item g.completion) (sym new.is) (newly_named law.append f e stood new.item new.wanted)
 
     old_there : (s : Standing) → Contains later.found.standing s → s.place < edge → Contains n.found.standing s
     old_there s c low = go (journaled_new (wanted f e) stood n.found s c)

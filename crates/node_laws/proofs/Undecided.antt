@@ -193,12 +193,12 @@ module _ (law : Laws) (edge more : ℕ) (n : Node) (f : Family) (r : KeepsRules 
 
   new_apart : KeepsDecisions more later → family_in later.families slot ≡ Some g → (s : Standing) → Contains later.found.standing s → IsNew (wanted x e) stood s → IsDecisionOf f s.item → ⊥
   new_apart d now s c new own_f =
-      let own : AppendsOwn x e new.item = law.append x e new.item sound new.wanted in
+      let own : AppendsOwn x e new.item = law.append x e new.item new.wanted in
       let at : stages.record_place g.completion ≡ Some s.place =
       subst (λ (o : Option Stood). stages.record_place (family_step x e o).family.completion ≡ Some new.place) (sym new.stands) (own.stands new.place) ∙ ap (λ (t : Standing). Some t.place) (sym new.is) in
       let alike : AreAlike f g = are_alike f g s.item own_f (d.own slot g s now c at) in
       not_open (stages.outcome x.completion)
-      (is_over (alike.same_slot ∙ at_slot) (sym (ap (λ (k : ObjectKey). k.life) behind.key) ∙ sym alike.same_life) (sym (ap (λ (k : ObjectKey). k.generation) behind.key) ∙ sym alike.same_number)) own.undecided
+      (is_over (alike.same_slot ∙ at_slot) (sym (ap (λ (k : ObjectKey). k.life) behind.key) ∙ sym alike.same_life) (sym (ap (λ (k : ObjectKey). k.generation) behind.key) ∙ sym alike.same_number)) (own.undecided sound.completion.there)
 
   shut_stepped : KeepsDecisions more later → life later ≡ life n → family_in later.families slot ≡ Some g → IsShut later f
   shut_stepped d same_life now = record {

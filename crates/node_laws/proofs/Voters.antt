@@ -26,7 +26,6 @@ use Rattle.recovery_coord.specs.Laws.{registrations_of}
 use Rattle.coordinator.specs.declared.event.Event.{Event}
 use Rattle.coordinator.specs.Family.{Family}
 use Rattle.coordinator.specs.Hearing.{decision_record, recorded}
-use Rattle.coordinator.specs.Laws.{RecordsNameVoters}
 use Rattle.coordinator.specs.Node.{Node, life, load}
 use Rattle.coordinator.specs.NodeCalls.{applies, call_wants, family_for, journaled}
 use Rattle.coordinator.specs.NodeSlots.{creates}
@@ -44,6 +43,7 @@ use Rattle.node_laws.specs.Voters.{DecisionsNameVoters, HasVoted, IsKept, Leaves
 use Rattle.node_laws.proofs.Dones.{made_found, stood_or_new, ticked_found}
 use Rattle.node_laws.proofs.Families.{newly_named, voters_named}
 use Rattle.node_laws.proofs.Lists.{all_each, all_map, all_on, of_filter, passes_filter}
+use Rattle.node_laws.proofs.Named.{named_by}
 use Rattle.node_laws.proofs.Rules.{loaded_so, now_there}
 use Rattle.node_laws.proofs.Stands.{Called, called_is, never_appends, once}
 use Rattle.node_laws.proofs.Stands.Called.{by_answer, by_nothing, by_step}
@@ -74,8 +74,8 @@ all_voted ps =
       reference = refl;
     }))
 
-names_exactly : RecordsNameVoters → (item : JournalRecord) (f : Family) → HasParties f.completion (participants 0 f.ballots) → NamesVotersOf item f.completion → NamesExactly item f
-names_exactly numbers item f take_part names = go item f.completion refl names
+names_exactly : (item : JournalRecord) (f : Family) → HasParties f.completion (participants 0 f.ballots) → NamesVotersOf item f.completion → NamesExactly item f
+names_exactly item f take_part names = go item f.completion refl names
   where
     go : (r : JournalRecord) (s : Completion) → f.completion ≡ s → NamesVotersOf r s → NamesExactly r f
     go (Decision l slot generation by asked some) (UnderWay c) i k = record {
@@ -85,7 +85,7 @@ names_exactly numbers item f take_part names = go item f.completion refl names
       each = voters_named some c.parties k;
       alone = subst (λ (rs : List Registration). AllByRecursion (HasVoted c.parties) rs) (sym k) (all_voted c.parties);
       in_order = k;
-      by_number = λ g. ap (λ (rs : List Registration). list_any (λ (r : Registration). r.index == g) rs) k ∙ numbers (UnderWay c) g
+      by_number = λ g. ap (λ (rs : List Registration). list_any (λ (r : Registration). r.index == g) rs) k ∙ named_by g c.parties
           ∙ ap (λ (s : Completion). stages.is_named s g) (sym i);
     }
     go (Decision l slot generation by asked some) (Waiting room) i k = absurd k
@@ -104,7 +104,6 @@ pub record Laws : Type 0 where
   pub sound : FamiliesStaySound
   pub nodes : NodesKeepRules
   pub rest : CommitsRest
-  pub numbers : RecordsNameVoters
 
 appended_there : (found : Found) (place : ℕ) (h : Family) → Contains (with_record found place (decision_record h)).standing (record { place = place; item = decision_record h })
 unfolding decision_record
@@ -124,7 +123,7 @@ leaves_decision : Laws → (edge place : ℕ) (n : Node) (k : ObjectKey) (e : Ev
 leaves_decision law edge place n k e item _ _ _ (by_step f there) h wants =
     let stood : Option Stood = Some (answers.Stands place) in
     let sound : IsSoundFamily f = (h.decisions.sound.families k.slot f there).1 in
-    let own : AppendsOwn f e item = law.append f e item sound wants in
+    let own : AppendsOwn f e item = law.append f e item wants in
     record {
       family = f;
       came_to = there;
@@ -136,7 +135,7 @@ leaves_decision law edge place n k e item _ _ _ (by_step f there) h wants =
       draft = own.is_record;
       stands = stands_then (wanted f e) n.found place item (hears own.number own.heard f).family wants own.is_record;
       decided = own.stands place;
-      names = names_exactly law.numbers item (family_step f e stood).family (law.sound.steps f e stood sound).completion.parties (newly_named law.append f e stood item sound wants);
+      names = names_exactly item (family_step f e stood).family (law.sound.steps f e stood sound).completion.parties (newly_named law.append f e stood item wants);
     }
 leaves_decision law edge place n k e item _ _ _ (by_answer number heard) h wants = absurd (never_appends (completed n.found.life number heard n.recovered) item wants)
 leaves_decision law edge place n k e item _ _ _ (by_nothing w none) h wants = absurd (no_append (sym none ∙ wants))
@@ -225,6 +224,6 @@ decisions_name_voters law = record {
   called = λ edge place k e n item h wants.
       let stood : Option Stood = Some (answers.Stands place) in
       leaves_decision law edge place n k e item (call_wants k e n) (applies k e stood n).node (applies k e stood n).words (called_is n k e stood) h wants;
-  stands = λ edge slot n f s h there c at. names_exactly law.numbers s.item f (h.decisions.sound.families slot f there).1.completion.parties (h.named slot f s there c at);
+  stands = λ edge slot n f s h there c at. names_exactly s.item f (h.decisions.sound.families slot f there).1.completion.parties (h.named slot f s there c at);
   kept = keeps_decision law;
 }

@@ -7,10 +7,7 @@ ghost use Rattle.node_laws.specs.Rollbacks.{RollbacksAreUndecided};
 ghost use Rattle.node_laws.specs.Rules.{NodesKeepRules};
 ghost use Rattle.node_laws.specs.Voters.{DecisionsNameVoters};
 
-use coordinator::{
-    families_step_rightly, family_outcomes_stay, lives_rise, nodes_keep_numbers,
-    records_name_voters,
-};
+use coordinator::{families_step_rightly, family_outcomes_stay, lives_rise, nodes_keep_numbers};
 use decision_journal::{appends_are_safe, journals_grow, octets_stand_for_one_list};
 use family_laws::{
     families_append_own, families_close_last, families_number_words, families_stay_sound,
@@ -83,7 +80,6 @@ pub fn decisions_name_voters()
     families_append_own();
     families_number_words();
     families_stay_sound();
-    records_name_voters();
 }
 
 /// At such a node no decision stands of a family that is rolled back, and none is ever asked for. A rollback word rests on that, or it

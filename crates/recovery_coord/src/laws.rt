@@ -1,9 +1,4 @@
-ghost use Rattle.recovery_coord.specs.Laws.{CompletesOnce, OtherAnswersChangeNothing, WordsHaveRecords};
-
-/// A law: each word that is told again goes to a registration that a record names which stood in the journal.
-pub fn words_have_records()
-    ensures { WordsHaveRecords }
-{}
+ghost use Rattle.recovery_coord.specs.Laws.{CompletesOnce, OtherAnswersChangeNothing};
 
 /// A law: an answer whose number isn't outstanding changes nothing.
 pub fn other_answers_change_nothing()

@@ -2,7 +2,7 @@
 #![tactic(auto)]
 
 pub use held::{Due, Held, Kind, Parties, Party};
-pub use laws::{completes_once, other_answers_change_nothing, words_have_records};
+pub use laws::{completes_once, other_answers_change_nothing};
 pub use outbox::Outbox;
 pub use recovered::{Recovered, ReplayFault};
 

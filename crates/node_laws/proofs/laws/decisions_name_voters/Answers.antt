@@ -8,5 +8,4 @@ returns c = decisions_name_voters (record {
   sound = c.families_stay_sound.ensures;
   nodes = c.nodes_keep_rules.ensures;
   rest = c.commits_rest.ensures;
-  numbers = c.records_name_voters.ensures;
 })

@@ -1,14 +1,12 @@
--- A decision record names exactly the participants that have voted commit.
+-- A decision record names by their numbers exactly the participants that have voted commit.
 use Rattle.std.proofs.Common.{◌≡◌, ◌==◌, refl, ℕ, Bool, true, false, ◌&&◌, ◌||◌, List, [], ◌∷◌, map, filter, if◌then◌else◌}
 use Rattle.std.specs.List.{list_any}
-use Rattle.decision_journal.specs.declared.record.Registration.{Registration as Recorded}
+use Rattle.decision_journal.specs.declared.record.Registration.{Registration}
 use Rattle.two_phase.specs.Parties.{has_voted_commit}
-use Rattle.two_phase.specs.Stages.{Waiting, Going as UnderWay}
 use Rattle.two_phase.specs.declared.party.Party.{Party}
 use Rattle.coordinator.specs.Hearing.{recorded}
-use Rattle.coordinator.specs.Laws.{RecordsNameVoters}
 
-abbrev has_number : ℕ → Recorded → Bool
+abbrev has_number : ℕ → Registration → Bool
 has_number g r = r.index == g
 
 abbrev is_voter : ℕ → Party → Bool
@@ -23,10 +21,6 @@ one_more false true rest g p others e r = rw (e, r) refl
 one_more true false rest g p others e r = r
 one_more false false rest g p others e r = r
 
-named_by : (g : ℕ) (some : List Party) → list_any (has_number g) (map recorded (filter has_voted_commit some)) ≡ list_any (is_voter g) some
+pub named_by : (g : ℕ) (some : List Party) → list_any (has_number g) (map recorded (filter has_voted_commit some)) ≡ list_any (is_voter g) some
 named_by g [] = refl
 named_by g (p ∷ others) = one_more (p.index == g) (has_voted_commit p) (list_any (is_voter g) others) g p others refl (named_by g others)
-
-pub records_name_voters : RecordsNameVoters
-records_name_voters (Waiting room) g = refl
-records_name_voters (UnderWay c) g = named_by g c.parties
