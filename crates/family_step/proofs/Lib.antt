@@ -11,4 +11,7 @@ mod Recorded
 mod LastVotes
 mod Naming
 mod Caused
+mod Earlier
+mod Positions
+mod Later
 mod Indexed

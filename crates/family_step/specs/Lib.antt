@@ -3,3 +3,4 @@ pub mod Reserving
 pub mod FamilyInside
 pub mod Asking
 pub mod Callers
+pub mod Earlier

@@ -1,8 +1,9 @@
 // The calls of a history, by their retry keys.
 ghost use Rattle.std.specs.Prelude.{◌≡◌, ◌<◌, ◌≤◌, [], OnOk};
-ghost use Rattle.family_step.specs.Callers.{IsAdded, IsKept, IsNoted, caller_key, place_in};
+ghost use Rattle.std.specs.Option.{option_copied};
+ghost use Rattle.family_step.specs.Callers.{AreAnswered, IsAdded, IsAnswered, IsKept, IsNoted, call_in, caller_key, key_at, meets};
 
-use coordinator::Entry;
+use coordinator::{Entry, Finished};
 use ots_model::RetryKey;
 use std::alloc::{AllocError, Global};
 use std::collections::HashMap;
@@ -15,10 +16,36 @@ pub(crate) struct CallerKey {
     number: u64,
 }
 
-/// For each retry key the place of the first entry with it. Contracts see the keys with their places, and how many more fit.
+/// Where a call stands in a history.
+#[derive(Clone, Copy)]
+pub(crate) struct CallPlaces {
+    /// The place of its entry.
+    pub entry: u32,
+    /// The place of the first entry that answers it, once there is one.
+    pub answered: Option<u32>,
+}
+
+impl CallPlaces {
+    /// The entry at a place answers the call at this position. A call keeps its first answer.
+    fn meet(self, position: u32, place: u32) -> CallPlaces
+        ensures { result ≡ meets position place self }
+    {
+        if self.entry == position {
+            CallPlaces {
+                entry: self.entry,
+                answered: self.answered.or(Some(place)),
+            }
+        } else {
+            self
+        }
+    }
+}
+
+/// For each retry key the place of the first entry with it, and of the first one that answers that. Contracts see the keys with these
+/// places, and how many more fit.
 #[derive(Drop)]
 pub(crate) struct Callers {
-    places: HashMap<CallerKey, u32>,
+    places: HashMap<CallerKey, CallPlaces>,
 }
 
 impl Model for Callers {
@@ -49,9 +76,9 @@ impl Callers {
         self.places.reserve(1)
     }
 
-    /// The place of the first entry with a key.
-    pub(crate) fn place(&self, key: &RetryKey) -> Option<u32>
-        ensures { result ≡ place_in self.now.places key.now }
+    /// Where the first call with a key stands.
+    pub(crate) fn find(&self, key: &RetryKey) -> Option<CallPlaces>
+        ensures { result ≡ call_in self.now.places key.now }
     {
         self.places.get(&caller_key(key)).copied()
     }
@@ -62,8 +89,31 @@ impl Callers {
         ensures noted { IsNoted entries.now place self.old.places self.new.places }
     {
         if let Some(entry) = entries.get(place as usize) {
+            self.note_answers(entries, entry.finished.items(), place);
             if let Some(key) = &entry.event.key {
                 self.add(key, place);
+            }
+        }
+    }
+
+    /// The entry at a place has these answers.
+    fn note_answers(&mut self, entries: &[Entry], answers: &[Finished], place: u32)
+        ensures answered { AreAnswered entries.now answers.now place self.old.places self.new.places }
+        ensures room { self.new.room ≡ self.old.room }
+    {
+        for answer in answers {
+            self.note_answer(entries, answer.position, place);
+        }
+    }
+
+    /// The entry at a place answers the call at this position.
+    fn note_answer(&mut self, entries: &[Entry], position: u32, place: u32)
+        ensures answered { IsAnswered entries.now position place self.old.places self.new.places }
+        ensures room { self.new.room ≡ self.old.room }
+    {
+        if let Some(key) = key_at(entries, position) {
+            if let Some(call) = self.places.get_mut(&caller_key(key)) {
+                *call = call.meet(position, place);
             }
         }
     }
@@ -73,9 +123,23 @@ impl Callers {
         requires room { 0 < self.old.room }
         ensures added { IsAdded key.now place self.old.places self.new.places }
     {
-        if self.place(key).is_none() {
-            let _ = self.places.insert(caller_key(key), place);
+        if self.find(key).is_none() {
+            let call = CallPlaces {
+                entry: place,
+                answered: None,
+            };
+            let _ = self.places.insert(caller_key(key), call);
         }
+    }
+}
+
+/// The key of the entry at a place, where it has one.
+fn key_at(entries: &[Entry], place: u32) -> Option<&RetryKey>
+    ensures { option_copied result ≡ key_at entries.now place }
+{
+    match entries.get(place as usize) {
+        Some(entry) => entry.event.key.as_ref(),
+        None => None,
     }
 }
 

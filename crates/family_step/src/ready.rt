@@ -7,11 +7,11 @@ ghost use Rattle.family_rules.specs.Changes.{nothing_yet};
 ghost use Rattle.family_rules.specs.Going.{CanGo};
 ghost use Rattle.family_step.specs.Acting.{name_in, name_of_said, reference_in};
 ghost use Rattle.family_step.specs.Asking.{AreReady, may_decide, may_name, may_want, waits_for};
-ghost use Rattle.family_step.specs.Callers.{IsIndex, place_for};
+ghost use Rattle.family_step.specs.Callers.{IsIndex, answer_to, answered_later, call_for};
 
-use crate::callers::Callers;
+use crate::callers::{CallPlaces, Callers};
 use crate::step::again;
-use coordinator::{Act, Event, Said, copy_event};
+use coordinator::{Act, Entry, Event, Finished, Said, copy_event};
 use decision_journal::Registration;
 use family_rules::{Draft, State};
 use ots_model::{Octets, RefBytes, RetryKey};
@@ -168,15 +168,15 @@ pub(crate) fn has_room(state: &State, callers: &Callers, event: &Event) -> bool
     requires index { IsIndex (callers.now).places (state.now.family).entries }
     ensures { result ≡ history.has_room (state.now.family).entries event.entry.now }
 {
-    place_of(callers, event).is_some() || state.entry_count() < event.act.history_limit()
+    call_of(callers, event).is_some() || state.entry_count() < event.act.history_limit()
 }
 
-/// The place of the first call with the key of an event.
-fn place_of(callers: &Callers, event: &Event) -> Option<u32>
-    ensures { result ≡ place_for (callers.now).places (event.entry.now).key }
+/// Where the first call with the key of an event stands.
+fn call_of(callers: &Callers, event: &Event) -> Option<CallPlaces>
+    ensures { result ≡ call_for (callers.now).places (event.entry.now).key }
 {
     match &event.key {
-        Some(key) => callers.place(key),
+        Some(key) => callers.find(key),
         None => None,
     }
 }
@@ -192,16 +192,42 @@ fn known<'a>(state: &'a State, callers: &Callers, event: &Event) -> Option<&'a S
     }
 }
 
-/// What the call with this key was answered. The history is walked only where it was answered later.
+/// What the call with this key was answered. Of the history its entry is read, and the one that answered it.
 pub(crate) fn kept<'a>(state: &'a State, callers: &Callers, key: &RetryKey) -> Option<&'a Said>
     requires index { IsIndex (callers.now).places (state.now.family).entries }
     ensures { option_copied result ≡ history.kept (state.now.family).entries key.now }
 {
-    let place = callers.place(key)?;
-    let said = &state.entries()[place as usize].said;
-    if said.is_later() {
-        state.kept(key)
-    } else {
-        Some(said)
+    let call = callers.find(key)?;
+    let entries = state.entries();
+    let entry = entries.get(call.entry as usize)?;
+    Some(answer_to(entries, call, entry))
+}
+
+/// What a call was answered, where this is its entry.
+fn answer_to<'a>(entries: &'a [Entry], call: CallPlaces, entry: &'a Entry) -> &'a Said
+    ensures { result.now ≡ answer_to entries.now call entry.now }
+{
+    if !entry.said.is_later() {
+        return &entry.said;
     }
+    match answered_later(entries, call) {
+        Some(said) => said,
+        None => &entry.said,
+    }
+}
+
+/// What a call was answered later.
+fn answered_later(entries: &[Entry], call: CallPlaces) -> Option<&Said>
+    ensures { option_copied result ≡ answered_later entries.now call }
+{
+    let entry = entries.get(call.answered? as usize)?;
+    answer_for(entry.finished.items(), call.entry)
+}
+
+/// The one of these answers that is for the call at a place.
+fn answer_for(answers: &[Finished], at: u32) -> Option<&Said>
+    ensures { option_copied result ≡ history.answer_among at answers.now }
+{
+    let found = answers.iter().find(|a| a.position == at)?;
+    Some(&found.said)
 }

@@ -3,7 +3,7 @@ use Rattle.coordinator.specs.Family.{Family}
 use Rattle.family_laws.specs.Sound.{IsSoundFamily}
 use Rattle.family_step.specs.Reserving.{IsStockedFor}
 use Rattle.family_step.specs.declared.ready.Ready.{Ready}
-use Rattle.family_step.proofs.Indexed.{index_after}
+use Rattle.family_step.proofs.Indexed.{index_after, there_after}
 use Rattle.family_step.proofs.family.Family.step_with.Goals as goal
 
 pub invariant_of-self : goal.invariant_of-self
@@ -16,8 +16,9 @@ invariant_of-self c =
     record {
       serial = c.step-answer.ensures.serial;
       sound = subst (λ (g : Family). IsSoundFamily g) (sym is) (c.families_stay_sound.ensures.steps f e stood c.self.invariant.sound);
+      there = there_after f e stood c.step-answer.new.state.family c.histories_grow_by_entries.ensures is c.self.invariant.there;
       index = index_after f e stood c.step-answer.new.state.family c.self.inside.callers.places c.note.new.self.places c.entries.result.now c.entry_count-place.result
-          c.histories_grow_by_entries.ensures is c.self.invariant.index c.entries.ensures c.entry_count-place.ensures.count c.note.ensures.noted;
+          c.histories_grow_by_entries.ensures is c.self.invariant.there c.self.invariant.index c.entries.ensures c.entry_count-place.ensures.count c.note.ensures.noted;
       stocked = subst (λ (r : Option Ready). IsStockedFor c.step-answer.new.state r) none tt;
       noted = subst (λ (r : Option Ready). IfSome r (λ (x : Ready). 0 < c.note.new.self.room)) none tt;
     }
