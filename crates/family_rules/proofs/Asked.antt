@@ -69,6 +69,8 @@ sound_same s v p is = subst (λ (x : Ballots). IsSound (record s { votes = recor
   tasks = p.tasks;
   places = p.places;
   tally = p.tally;
+  outs = p.outs;
+  outs_room = p.outs_room;
 })
 
 -- one more registration
@@ -92,6 +94,8 @@ one_more s v b to aware lists p some few once =
       tasks = all_stay rs r s.seats.items p.tasks;
       places = places_stay s.completion rs r some;
       tally = p.tally;
+      outs = p.outs;
+      outs_room = p.outs_room;
     }
 
 pub sound_registered : (s : Inside) (v : VotesParts) (b : ℕ) (to : List ℕ) (aware : Bool) → IsSound s → 0 < spare s.completion (length s.votes.ballots.registrations)
@@ -122,6 +126,8 @@ sound_sync s v b to p fits is = subst (λ (x : Ballots). IsSound (record s { vot
       tasks = p.tasks;
       places = p.places;
       tally = p.tally;
+      outs = p.outs;
+      outs_room = p.outs_room;
     })
 
 -- the synchronizations are fewer than there may be where one was taken
@@ -163,7 +169,14 @@ least a b h = let p = min-le_left a b in let q = min-le_right a b in (omega (ari
 
 pub spare_there : (s : Inside) → 0 < (shown s).room → (0 < s.tree.room) × (0 < s.votes.room) × (0 < spare s.completion (length s.votes.ballots.registrations))
 spare_there s h =
-    let all = least (vec_capacity s.seats - vec_len s.seats) _ h in
+    let all = least (min (vec_capacity s.seats - vec_len s.seats) (s.outs.capacity - vec_len s.seats)) _ h in
     let some = least (min s.tree.room s.votes.room) _ all.1 in
     let both = least s.tree.room s.votes.room some.0 in
     (both.0, both.1, some.1)
+
+pub seat_there : (s : Inside) → 0 < (shown s).room → vec_len s.seats < s.outs.capacity
+seat_there s h =
+    let all = least (min (vec_capacity s.seats - vec_len s.seats) (s.outs.capacity - vec_len s.seats)) _ h in
+    let both = least (vec_capacity s.seats - vec_len s.seats) (s.outs.capacity - vec_len s.seats) all.0 in
+    let some = both.1 in
+    omega (arith, some)

@@ -1,8 +1,7 @@
 -- What the calls of a family are by its seats, and what a change of one of these makes of the family.
 use Rattle.std.proofs.Common.{◌≡◌, ◌∙◌, refl, ap, sym, subst, ℕ, zero, suc, ◌<◌, ◌&&◌, ◌+◌, Bool, true, false, not, cond, position, List, [], ◌∷◌, drop, length, get_or, slice_set, Option, Some, None, is_some, arith, if◌then◌else◌}
 use Rattle.std.specs.Prelude.{nat_lt}
-use Rattle.std.specs.List.{slice_get, prefix_len, position_or_len}
-use Rattle.std.proofs.lemmas.Bool.Decides.{nat_tests}
+use Rattle.std.specs.List.{slice_get, prefix_len}
 use Rattle.std.specs.Option.{option_map, option_map_or, option_and_then, IsSome, IfSome}
 use Rattle.resource_votes.specs.Ballots.{numbered}
 use Rattle.std.proofs.lemmas.List.{set-get_or, length-map, length-set, get_or-set_same}
@@ -306,13 +305,6 @@ placed f rs serial seats is =
     sym (ap (λ (cs : List (Option Call)). position (has_out serial) cs) is
     ∙ (ap (λ (n : ℕ). cond (nat_lt n (length (all_seated rs seats))) (Some n) None) (passed rs serial seats)
     ∙ ap (λ (m : ℕ). cond (nat_lt (prefix_len (λ (s : Seat). not (has_serial serial s.call)) seats) m) (Some (prefix_len (λ (s : Seat). not (has_serial serial s.call)) seats)) None) (as_many_seated rs seats)))
-
-within_by : (b : Bool) (n count i : ℕ) → nat_lt n count ≡ b → cond b (Some n) None ≡ Some i → i < count
-within_by true n count i lt is = let e : n ≡ i = cc (is) in grind (arith, nat_tests)
-within_by false n count i lt is = absurd (cc (is))
-
-pub placed_within : (p : Seat → Bool) (seats : List Seat) (i : ℕ) → position p seats ≡ Some i → i < length seats
-placed_within p seats i is = within_by (nat_lt (position_or_len p seats) (length seats)) (position_or_len p seats) (length seats) i refl is
 
 pub waits_at : (f : Family) (n : CallNumber) (o : Option ℕ) → is_own_number f n ≡ true → o ≡ position (has_out n.serial) f.calls → o ≡ waiting_for f n
 unfolding waiting_for

@@ -19,3 +19,5 @@ mod Asked
 mod Lefts
 mod Tallied
 mod Made
+mod Words
+mod Waited

@@ -5,6 +5,8 @@ pub mod Order
 pub mod DraftInside
 pub mod Going
 pub mod Tallies
+pub mod Outs
+pub mod OutsInside
 pub mod StateInside
 pub mod Asking
 pub mod Recording

@@ -6,6 +6,7 @@ use Rattle.family_rules.specs.Calls.{all_seated, AllTasks}
 use Rattle.family_rules.specs.Order.{AreInOrder}
 use Rattle.coordinator.specs.Limits.{history_limit}
 use Rattle.family_rules.specs.Room.{StateParts, spare}
+use Rattle.family_rules.specs.Outs.{AreOut}
 use Rattle.family_rules.specs.Tallies.{IsTallied}
 use Rattle.family_rules.specs.declared.state.State.TheInside.{Inside}
 
@@ -29,7 +30,7 @@ shown s = record {
     serial = s.serial;
     entries = s.entries.items;
   };
-  room = min (vec_capacity s.seats - vec_len s.seats)
+  room = min (min (vec_capacity s.seats - vec_len s.seats) (s.outs.capacity - vec_len s.seats))
       (min (min s.tree.room s.votes.room) (spare s.completion (length s.votes.ballots.registrations)));
   history_room = vec_capacity s.entries - vec_len s.entries;
 }
@@ -53,7 +54,7 @@ HasPlaces (UnderWay c) count = Unit {0}
 -- the history and the synchronizations keep to their limits; each entry has sent one word at most, and so has the step that
 -- goes on; each transaction has a seat, and what it has left to tell is of registrations that there are; each registration and each
 -- synchronization has the number of its place; each registration is in one list at most; all who are registered can take part;
--- and what is counted over the seats is so
+-- what is counted over the seats is so; and the words are listed that are out, with room for one of each seat
 pub record IsSound (s : Inside) : Type 0 where
   pub few : vec_len s.entries ≤ history_limit
   pub serial : s.serial ≤ vec_len s.entries + 1
@@ -66,3 +67,5 @@ pub record IsSound (s : Inside) : Type 0 where
   pub tasks : AllTasks s.votes.ballots.registrations s.seats.items
   pub places : HasPlaces s.completion (length s.votes.ballots.registrations)
   pub tally : IsTallied s.tally s.seats.items
+  pub outs : AreOut s.outs.words s.seats.items
+  pub outs_room : vec_len s.seats ≤ s.outs.capacity

@@ -1,6 +1,7 @@
 // Calls under way, as they are kept.
 ghost use Rattle.std.specs.Prelude.{◌≡◌};
 ghost use Rattle.family_rules.specs.Calls.{said_of};
+ghost use Rattle.family_rules.specs.Outs.{out_of};
 
 use coordinator::{Ending, Leg, Said};
 use std::collections::VecDeque;
@@ -69,4 +70,13 @@ pub(crate) struct Seat {
     pub call: Option<Call>,
     /// What is to be told before the call goes on, where it owes that.
     pub left: VecDeque<Task>,
+}
+
+impl Seat {
+    /// The serial number of the word whose answer its call awaits.
+    pub(crate) fn awaited(&self) -> Option<u32>
+        ensures { result ≡ out_of self.now.call }
+    {
+        self.call?.out
+    }
 }

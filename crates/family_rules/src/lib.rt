@@ -12,6 +12,7 @@ mod draft;
 mod hearing;
 mod motion;
 mod names;
+mod outs;
 mod recording;
 mod registered;
 mod running;

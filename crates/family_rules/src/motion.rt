@@ -55,6 +55,7 @@ impl State {
     {
         let seat = &mut self.seats[branch as usize];
         let had = seat.call.is_some();
+        self.outs.change(branch, seat.awaited(), call.out);
         seat.call = Some(call);
         self.tally = self.tally.with_call(had);
     }
@@ -68,6 +69,7 @@ impl State {
     {
         let seat = &mut self.seats[branch as usize];
         let had = seat.call.is_some();
+        self.outs.change(branch, seat.awaited(), None);
         seat.call = None;
         self.tally = self.tally.without_call(had);
     }

@@ -10,6 +10,7 @@ ghost use Rattle.coordinator.specs.Table as table;
 ghost use Rattle.two_phase.specs.Stages as stages;
 
 use crate::call::Seat;
+use crate::outs::Outs;
 use crate::tally::Tally;
 use coordinator::{Column, Entry, Phase, Said, Stage, Superior, kept};
 use ior_refs::ObjectKey;
@@ -36,6 +37,7 @@ pub struct State {
     pub(crate) tree: Tree,
     pub(crate) votes: Votes,
     pub(crate) seats: Vec<Seat>,
+    pub(crate) outs: Outs,
     pub(crate) completion: Completion,
     pub(crate) closed: Option<Stood>,
     pub(crate) serial: u32,
@@ -57,7 +59,7 @@ impl Model for State {
 
 impl State {
     /// The top-level transaction of a root alone.
-    #[tactic(auto, using(crate::proofs::Kept::none_few, crate::proofs::Kept::none_once), unfolding(crate::specs::Calls::all_seated))]
+    #[tactic(auto, using(crate::proofs::Kept::none_few, crate::proofs::Kept::none_once, crate::proofs::Waited::none_out), unfolding(crate::specs::Calls::all_seated))]
     pub fn new(alloc: Global, key: ObjectKey, deadline: Option<u64>) -> Result<State, AllocError>
         ensures made { IfOk result (λ s. s.family ≡ new_family key deadline) }
     {
@@ -74,6 +76,7 @@ impl State {
             tree: Tree::new(alloc)?,
             votes: Votes::new(alloc)?,
             seats,
+            outs: Outs::new(alloc)?,
             completion: Completion::idle(alloc),
             closed: None,
             serial: 0,
@@ -103,6 +106,7 @@ impl State {
         ensures history { self.new.history_room ≡ self.old.history_room }
     {
         self.seats.reserve(1)?;
+        self.outs.reserve(self.seats.capacity())?;
         self.tree.reserve()?;
         self.votes.reserve()?;
         self.completion.reserve(self.votes.count() + 1)

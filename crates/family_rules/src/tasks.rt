@@ -6,7 +6,6 @@ ghost use Rattle.std.specs.VecDeque.{deque_capacity, deque_len};
 ghost use Rattle.ots_model.specs.Limits.{registration_limit};
 ghost use Rattle.resource_votes.specs.Ballots.{numbered};
 ghost use Rattle.family_rules.specs.declared.call.Call.{Call as KeptCall};
-ghost use Rattle.family_rules.specs.declared.call.Seat.{Seat as KeptSeat};
 ghost use Rattle.family_rules.specs.Changes.{with_tasks};
 ghost use Rattle.family_rules.specs.Calls as calls;
 ghost use Rattle.family_rules.specs.Calls.{AreTasks, Sees, duties_in, duty_in, plain_call};
@@ -42,7 +41,10 @@ impl State {
             ≡ calls.changed_in (families.call_at self.old.family branch) branch caller out self.old.family }
         ensures kept { self.old.history_room ≤ self.new.history_room }
     {
-        set_out(&mut self.seats[branch as usize], caller, out);
+        let seat = &mut self.seats[branch as usize];
+        let before = seat.awaited();
+        set_out(seat, caller, out);
+        self.outs.change(branch, before, seat.awaited());
     }
 
     /// A call under way goes on with the completion.
@@ -80,10 +82,7 @@ impl State {
         ensures { result ≡ position (families.has_out serial) (self.now.family).calls }
     {
         let _ = self.tree.count();
-        match place_of(&self.seats, serial) {
-            Some(place) => Some(place as u32),
-            None => None,
-        }
+        self.outs.first_of(serial)
     }
 
     /// A live subtransaction is rolled back, and a commit of it is over. What is to be told then is gathered.
@@ -126,6 +125,7 @@ impl State {
     {
         let seat = &mut self.seats[branch as usize];
         let had = seat.call.is_some();
+        self.outs.change(branch, seat.awaited(), None);
         let caller = vacate(seat, &mut out.tasks);
         self.tally = self.tally.without_call(had);
         caller
@@ -199,6 +199,7 @@ impl State {
         let tasks = out.tasks.len();
         let seat = &mut self.seats[branch as usize];
         let had = seat.call.is_some();
+        self.outs.change(branch, seat.awaited(), call.out);
         mem::swap(&mut seat.left, &mut out.tasks);
         seat.call = Some(Call { owes: true, ..call });
         let called = self.tally.with_call(had);
@@ -253,23 +254,6 @@ impl State {
         self.serial += 1;
         let out = Some(self.serial);
         self.change_call(branch, caller, out);
-    }
-}
-
-/// The place of the seat whose call has the word with this number out.
-fn place_of(seats: &[Seat], serial: u32) -> Option<usize>
-    ensures { result ≡ position (λ (s : KeptSeat). calls.has_serial serial s.call) seats.now }
-{
-    seats.iter().position(|s| has_out(s.call, serial))
-}
-
-/// Whether a call has the word with this number out.
-fn has_out(call: Option<Call>, serial: u32) -> bool
-    ensures { result ≡ calls.has_serial serial call }
-{
-    match call {
-        Some(call) => call.out == Some(serial),
-        None => false,
     }
 }
 

@@ -31,4 +31,6 @@ invariant_of-self c =
       tasks = c.self.invariant.tasks;
       places = c.self.invariant.places;
       tally = c.self.invariant.tally;
+      outs = c.self.invariant.outs;
+      outs_room = c.self.invariant.outs_room;
     })

@@ -7,6 +7,7 @@ use Rattle.family_rules.specs.declared.call.Seat.{Seat}
 use Rattle.family_rules.proofs.AtSeat.{call_decides}
 use Rattle.family_rules.proofs.Kept.{tasks_at, tasks_set}
 use Rattle.family_rules.proofs.Tallied.{tallied_deciding}
+use Rattle.family_rules.proofs.Waited.{outs_deciding}
 use Rattle.family_rules.proofs.state.State.begin_deciding.Goals as goal
 
 pub invariant_of-self : goal.invariant_of-self
@@ -29,6 +30,8 @@ invariant_of-self c =
       tasks = tasks_set rs seats b c.set_deciding.new.seat c.self.invariant.tasks (subst (λ (x : Seat). AreTasks rs x.left.items) (sym c.set_deciding.ensures) all);
       places = c.self.invariant.places;
       tally = tallied_deciding c.self.inside.tally seats b c.index_mut.result.now c.set_deciding.new.seat within c.index_mut.ensures.value c.self.invariant.tally c.set_deciding.ensures;
+      outs = outs_deciding c.self.inside.outs.words seats b c.index_mut.result.now c.set_deciding.new.seat within c.index_mut.ensures.value c.self.invariant.outs c.set_deciding.ensures;
+      outs_room = c.self.invariant.outs_room;
     }
 
 pub returns-clause-does : goal.returns-clause-does

@@ -1,4 +1,5 @@
-use Rattle.std.proofs.Common.{◌≡◌, ◌+◌, ◌∙◌, List, ap, refl, subst, sym, length, arith, length-append}
+use Rattle.std.proofs.Common.{◌≡◌, ◌+◌, ◌∙◌, List, ap, refl, subst, sym, length, arith, length-append, ◌<◌}
+use Rattle.std.specs.Prelude.{vec_len}
 use Rattle.std.specs.Result.{IsOk}
 use Rattle.txn_tree.specs.Calls.{created, creating}
 use Rattle.txn_tree.specs.declared.row.Row.{Row}
@@ -11,6 +12,9 @@ use Rattle.family_rules.proofs.Added.{seats_more, tasks_more}
 use Rattle.family_rules.proofs.Made.{at_ok, creates_one}
 use Rattle.family_rules.specs.Tallies.{IsTallied}
 use Rattle.family_rules.proofs.Tallied.{tallied_more}
+use Rattle.family_rules.specs.Outs.{AreOut}
+use Rattle.family_rules.proofs.Asked.{seat_there}
+use Rattle.family_rules.proofs.Waited.{outs_more}
 use Rattle.family_rules.proofs.state.State.create_sub.Goals as goal
 
 pub invariant_of-self : goal.invariant_of-self
@@ -21,6 +25,7 @@ invariant_of-self c =
     let count : length c.create_sub-made.new.self.rows ≡ length s.tree.rows + 1 = ap (λ (xs : List Row). length xs) rows ∙ length-append s.tree.rows _ in
     let seats = c.self.invariant.seats in
     let len = c.push_reserved.ensures.len in
+    let some : vec_len s.seats < s.outs.capacity = seat_there s (subst (λ (p : StateParts). 0 < p.room) (sym c.self.view_is) c.requires.room) in
     record {
       few = c.self.invariant.few;
       serial = c.self.invariant.serial;
@@ -35,6 +40,9 @@ invariant_of-self c =
       places = c.self.invariant.places;
       tally = subst (λ (xs : List Seat). IsTallied s.tally xs) (sym c.push_reserved.ensures.items)
           (tallied_more s.tally s.seats.items _ c.new.ensures.items refl c.self.invariant.tally);
+      outs = subst (λ (xs : List Seat). AreOut s.outs.words xs) (sym c.push_reserved.ensures.items)
+          (outs_more s.outs.words s.seats.items _ refl c.self.invariant.outs);
+      outs_room = omega (arith, len, some);
     }
 
 pub returns-then-is_ok-clause-made : goal.returns-then-is_ok-clause-made

@@ -1,4 +1,4 @@
-use Rattle.std.proofs.Common.{◌≡◌, ◌∙◌, refl, sym, ap, subst, ◌+◌, ◌<◌, max, Bool, if◌then◌else◌, is_some, List, length, slice_set, true, Some, arith}
+use Rattle.std.proofs.Common.{◌≡◌, ◌∙◌, refl, sym, ap, subst, ◌+◌, ◌<◌, max, Bool, if◌then◌else◌, is_some, List, length, slice_set, true, Some, arith, ℕ, Option}
 use Rattle.resource_votes.specs.declared.registration.Registration.{Registration}
 use Rattle.family_rules.specs.Calls.{AreTasks, all_seated, duties_in, plain_call}
 use Rattle.family_rules.specs.Changes.{DraftParts}
@@ -12,6 +12,8 @@ use Rattle.family_rules.specs.declared.tally.Tally.{Tally}
 use Rattle.family_rules.proofs.AtSeat.{put, put_there}
 use Rattle.family_rules.proofs.Kept.{tasks_set}
 use Rattle.family_rules.proofs.Tallied.{tallied_gathered}
+use Rattle.family_rules.specs.Outs.{out_of, some_of}
+use Rattle.family_rules.proofs.Waited.{outs_few, outs_set, outs_there}
 use Rattle.family_rules.proofs.state.State.keep_gathered.Goals as goal
 
 pub invariant_of-self : goal.invariant_of-self
@@ -48,6 +50,9 @@ invariant_of-self c =
       places = c.self.invariant.places;
       tally = subst (λ (x : Tally). IsTallied x (slice_set seats b new)) (sym tallied)
           (tallied_gathered t seats b s new c.len-tasks.result within c.index_mut-seat.ensures.value c.self.invariant.tally refl many);
+      outs = outs_set c.self.inside.outs.words c.change.new.self.words seats b s new c.awaited.result (c.args.call.out) within c.index_mut-seat.ensures.value c.awaited.ensures (refl) c.self.invariant.outs
+          c.change.ensures.times c.change.ensures.count;
+      outs_room = omega (arith, c.self.invariant.outs_room, c.change.ensures.capacity);
     }
 
 pub returns-clause-family : goal.returns-clause-family
@@ -74,3 +79,18 @@ returns-clause-call c =
     put_there (record (shown c.self.inside).family { calls = all_seated rs (slice_set seats b new) }) rs seats b new refl within
     ∙ (ap (λ (xs : List Task). Some (record (plain_call c.args.call) { left = duties_in rs xs })) same
     ∙ ap (λ (v : StateParts). Some (record (plain_call c.args.call) { left = duties_in v.family.ballots.registrations c.args.out.now.changes.tasks })) c.self.view_is)
+
+pub change-requires : goal.change-requires
+change-requires c =
+    let words = c.self.inside.outs.words in
+    let seats = c.self.inside.seats.items in
+    let b = c.args.branch in
+    let rows = ap (λ (v : StateParts). length v.family.rows) c.self.view_is in
+    let within : b < length seats = omega (arith, c.requires.there, rows, c.self.invariant.seats, c.self.inside.seats.ok.0) in
+    let s = c.index_mut-seat.result.now in
+    let few = outs_few words seats b s within c.index_mut-seat.ensures.value c.self.invariant.outs in
+    let had : some_of c.awaited.result ≡ some_of (out_of s.call) = ap (λ (o : Option ℕ). some_of o) c.awaited.ensures in
+    record {
+      there = λ n is. outs_there words seats b n s within c.index_mut-seat.ensures.value c.self.invariant.outs (sym c.awaited.ensures ∙ is);
+      room = omega (arith, few, had, c.self.invariant.outs_room, c.self.inside.seats.ok.0);
+    }

@@ -1,10 +1,12 @@
-use Rattle.std.proofs.Common.{◌≡◌, ◌∙◌, refl, sym, ap, subst, ◌+◌, ◌<◌, Bool, if◌then◌else◌, is_some, length, slice_set, Some, arith}
+use Rattle.std.proofs.Common.{◌≡◌, ◌∙◌, refl, sym, ap, subst, ◌+◌, ◌<◌, Bool, if◌then◌else◌, is_some, length, slice_set, Some, arith, ℕ, Option}
 use Rattle.family_rules.specs.Room.{StateParts}
 use Rattle.family_rules.specs.Tallies.{IsTallied}
 use Rattle.family_rules.specs.declared.call.Seat.{Seat}
 use Rattle.family_rules.specs.declared.tally.Tally.{Tally}
 use Rattle.family_rules.proofs.Kept.{tasks_at, tasks_set}
 use Rattle.family_rules.proofs.Tallied.{tallied_called}
+use Rattle.family_rules.specs.Outs.{out_of, some_of}
+use Rattle.family_rules.proofs.Waited.{outs_few, outs_set, outs_there}
 use Rattle.family_rules.proofs.state.State.set_call.Goals as goal
 
 pub invariant_of-self : goal.invariant_of-self
@@ -32,4 +34,22 @@ invariant_of-self c =
       places = c.self.invariant.places;
       tally = subst (λ (x : Tally). IsTallied x (slice_set seats b new)) (sym tallied)
           (tallied_called t seats b s new within c.index_mut-seat.ensures.value c.self.invariant.tally (omega arith) refl);
+      outs = outs_set c.self.inside.outs.words c.change.new.self.words seats b s new c.awaited.result (c.args.call.out) within c.index_mut-seat.ensures.value c.awaited.ensures (refl) c.self.invariant.outs
+          c.change.ensures.times c.change.ensures.count;
+      outs_room = omega (arith, c.self.invariant.outs_room, c.change.ensures.capacity);
+    }
+
+pub change-requires : goal.change-requires
+change-requires c =
+    let words = c.self.inside.outs.words in
+    let seats = c.self.inside.seats.items in
+    let b = c.args.branch in
+    let rows = ap (λ (v : StateParts). length v.family.rows) c.self.view_is in
+    let within : b < length seats = omega (arith, c.requires.there, rows, c.self.invariant.seats, c.self.inside.seats.ok.0) in
+    let s = c.index_mut-seat.result.now in
+    let few = outs_few words seats b s within c.index_mut-seat.ensures.value c.self.invariant.outs in
+    let had : some_of c.awaited.result ≡ some_of (out_of s.call) = ap (λ (o : Option ℕ). some_of o) c.awaited.ensures in
+    record {
+      there = λ n is. outs_there words seats b n s within c.index_mut-seat.ensures.value c.self.invariant.outs (sym c.awaited.ensures ∙ is);
+      room = omega (arith, few, had, c.self.invariant.outs_room, c.self.inside.seats.ok.0);
     }

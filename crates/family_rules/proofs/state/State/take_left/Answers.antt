@@ -1,4 +1,4 @@
-use Rattle.std.proofs.Common.{◌≡◌, ◌∙◌, refl, ap, subst, ◌<◌, length, arith}
+use Rattle.std.proofs.Common.{◌≡◌, ◌∙◌, refl, ap, subst, ◌<◌, length, arith, Option}
 use Rattle.family_rules.specs.Calls.{AreTasks, left_at, told_in}
 use Rattle.coordinator.specs.Family.{call_at}
 use Rattle.family_rules.specs.Room.{StateParts}
@@ -11,6 +11,9 @@ use Rattle.family_rules.specs.Calls.{duty_in}
 use Rattle.family_rules.proofs.AtSeat.{first_is, first_task_there, still_tasks, tells_first}
 use Rattle.family_rules.proofs.Kept.{tasks_at, tasks_set}
 use Rattle.family_rules.proofs.Tallied.{tallied_told}
+use Rattle.family_rules.specs.Outs.{out_of}
+use Rattle.family_rules.specs.declared.call.Call.{Call as KeptCall}
+use Rattle.family_rules.proofs.Waited.{outs_kept}
 use Rattle.family_rules.proofs.state.State.take_left.Goals as goal
 
 pub invariant_of-self : goal.invariant_of-self
@@ -34,6 +37,8 @@ invariant_of-self c =
       tasks = tasks_set rs seats b c.take_task.new.seat c.self.invariant.tasks (still_tasks rs s c.take_task.new.seat.left.items c.take_task.ensures.left all);
       places = c.self.invariant.places;
       tally = tallied_told c.self.inside.tally seats b s c.take_task.new.seat within c.index_mut.ensures.value c.self.invariant.tally c.take_task.ensures.call c.take_task.ensures.left;
+      outs = outs_kept c.self.inside.outs.words seats b s c.take_task.new.seat within c.index_mut.ensures.value c.self.invariant.outs (ap (λ (o : Option KeptCall). out_of o) c.take_task.ensures.call);
+      outs_room = c.self.invariant.outs_room;
     }
 
 pub returns-clause-first : goal.returns-clause-first

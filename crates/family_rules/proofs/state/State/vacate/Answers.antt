@@ -1,4 +1,4 @@
-use Rattle.std.proofs.Common.{◌≡◌, ◌∙◌, refl, sym, ap, subst, ◌-◌, ◌<◌, Bool, if◌then◌else◌, is_some, List, [], ◌++◌, length, slice_set, arith}
+use Rattle.std.proofs.Common.{◌≡◌, ◌∙◌, refl, sym, ap, subst, ◌-◌, ◌<◌, Bool, if◌then◌else◌, is_some, List, [], ◌++◌, length, slice_set, arith, ℕ, Option, None}
 use Rattle.family_rules.specs.Calls.{AreTasks, duties_in, owed_below}
 use Rattle.family_rules.specs.Changes.{DraftParts}
 use Rattle.coordinator.specs.Family.{Duty, call_at, without_call}
@@ -12,6 +12,9 @@ use Rattle.family_rules.proofs.AtSeat.{caller_is, owed_below_is, puts_none, task
 use Rattle.family_rules.proofs.Duties.{as_many}
 use Rattle.family_rules.proofs.Kept.{tasks_at, tasks_set}
 use Rattle.family_rules.proofs.Tallied.{some_open, tallied_vacated}
+use Rattle.family_rules.specs.Outs.{out_of, some_of}
+use Rattle.family_rules.proofs.Waited.{outs_few, outs_set, outs_there}
+use Rattle.family_rules.specs.declared.call.Call.{Call as KeptCall}
 use Rattle.family_rules.proofs.state.State.vacate.Goals as goal
 
 pub vacate-caller-requires : goal.vacate-caller-requires
@@ -58,6 +61,9 @@ invariant_of-self c =
       places = c.self.invariant.places;
       tally = subst (λ (x : Tally). IsTallied x (slice_set seats b c.vacate-caller.new.seat)) (sym tallied)
           (tallied_vacated t seats b s c.vacate-caller.new.seat within c.index_mut-seat.ensures.value c.self.invariant.tally c.vacate-caller.ensures.vacant c.vacate-caller.ensures.left);
+      outs = outs_set c.self.inside.outs.words c.change.new.self.words seats b s c.vacate-caller.new.seat c.awaited.result (None) within c.index_mut-seat.ensures.value c.awaited.ensures (sym (ap (λ (o : Option KeptCall). out_of o) c.vacate-caller.ensures.vacant)) c.self.invariant.outs
+          c.change.ensures.times c.change.ensures.count;
+      outs_room = omega (arith, c.self.invariant.outs_room, c.change.ensures.capacity);
     }
 
 pub without_call-self-inside-requires : goal.without_call-self-inside-requires
@@ -115,3 +121,18 @@ returns-clause-tasks c =
     let none : c.out.inside.tasks.items ≡ [] = ap (λ (d : DraftParts). d.changes.tasks) c.out.view_is ∙ c.requires.empty in
     let now : c.vacate-caller.new.tasks.items ≡ owed_below s = c.vacate-caller.ensures.tasks ∙ ap (λ (xs : List Task). xs ++ owed_below s) none in
     subst (λ (xs : List Task). AreTasks rs xs) (sym now) (tasks_below rs s all)
+
+pub change-requires : goal.change-requires
+change-requires c =
+    let words = c.self.inside.outs.words in
+    let seats = c.self.inside.seats.items in
+    let b = c.args.branch in
+    let rows = ap (λ (v : StateParts). length v.family.rows) c.self.view_is in
+    let within : b < length seats = omega (arith, c.requires.there, rows, c.self.invariant.seats, c.self.inside.seats.ok.0) in
+    let s = c.index_mut-seat.result.now in
+    let few = outs_few words seats b s within c.index_mut-seat.ensures.value c.self.invariant.outs in
+    let had : some_of c.awaited.result ≡ some_of (out_of s.call) = ap (λ (o : Option ℕ). some_of o) c.awaited.ensures in
+    record {
+      there = λ n is. outs_there words seats b n s within c.index_mut-seat.ensures.value c.self.invariant.outs (sym c.awaited.ensures ∙ is);
+      room = omega (arith, few, had, c.self.invariant.outs_room, c.self.inside.seats.ok.0);
+    }
