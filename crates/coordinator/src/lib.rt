@@ -5,7 +5,6 @@ pub use call::{Ending, Leg, Stage, Superior};
 pub use copies::copy_event;
 pub use effect::{Effect, Effects};
 pub use event::{Act, CALL_LIMIT, Event, HISTORY_LIMIT};
-pub use history::kept;
 pub use laws::{
     answers_follow_phases, families_play, families_step_rightly, family_outcomes_stay,
     histories_grow_by_entries, keys_are_new, lives_rise, nodes_keep_numbers, nodes_play,
@@ -19,7 +18,6 @@ mod call;
 mod copies;
 mod effect;
 mod event;
-mod history;
 mod laws;
 mod node;
 mod phase;

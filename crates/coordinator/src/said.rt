@@ -1,13 +1,10 @@
 ghost use Rattle.std.specs.Prelude.{◌≡◌};
 ghost use Rattle.coordinator.specs.History as history;
-ghost use Rattle.coordinator.specs.Closing.{plain_answer, reported};
-ghost use Rattle.coordinator.specs.Hearing.{doubt_answer};
 ghost use Rattle.coordinator.specs.Table.{tree_refusal, vote_refusal};
 
 use crate::effect::Effects;
 use crate::event::Event;
-use ots_model::tree::Outcome;
-use ots_model::{Doubted, Join, Octets, Status, Stood, Vote};
+use ots_model::{Octets, Status, Stood, Vote};
 use resource_votes::VoteFault;
 use std::marker::Model;
 use txn_tree::TreeFault;
@@ -77,38 +74,6 @@ impl Said {
         ensures { result ≡ history.is_later self.now }
     {
         matches!(self, Said::Later)
-    }
-
-    /// What a commit is answered by its outcome alone, where nothing is reported.
-    pub fn of_outcome(outcome: Outcome) -> Said
-        ensures { result ≡ plain_answer outcome }
-    {
-        match outcome {
-            Outcome::Commit(_) => Said::Plain,
-            Outcome::Rollback(_) => Said::TransactionRolledBack,
-            Outcome::Unknown => Said::CommFailure,
-        }
-    }
-
-    /// The exception that reports at a root what became of the updates together, where there is something to report.
-    pub fn of_join(join: Join) -> Option<Said>
-        ensures { result ≡ reported join }
-    {
-        match join {
-            Join::Mixed => Some(Said::HeuristicMixed),
-            Join::Hazard => Some(Said::HeuristicHazard),
-            Join::Nothing | Join::Opposite => None,
-        }
-    }
-
-    /// What a commit is answered where nobody knows whether its record stands.
-    pub fn of_doubt(why: Doubted) -> Said
-        ensures { result ≡ doubt_answer why }
-    {
-        match why {
-            Doubted::Starved => Said::NoMemory,
-            Doubted::Counted(_, _) | Doubted::Damaged(_) => Said::PersistStore,
-        }
     }
 
     /// Why nothing was registered.

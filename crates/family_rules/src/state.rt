@@ -1,9 +1,7 @@
 // How the transactions of a family stand, and what they are called.
 ghost use Rattle.std.specs.Prelude.{◌≡◌, ◌++◌, ◌<◌, ◌≤◌, is_some, IfOk, OnOk};
-ghost use Rattle.std.specs.Option.{option_copied};
 ghost use Rattle.family_rules.specs.Calls as calls;
 ghost use Rattle.coordinator.specs.Family.{call_at, new_family};
-ghost use Rattle.coordinator.specs.History as history;
 ghost use Rattle.coordinator.specs.Phases as phases;
 ghost use Rattle.coordinator.specs.Step as steps;
 ghost use Rattle.coordinator.specs.Table as table;
@@ -12,10 +10,10 @@ ghost use Rattle.two_phase.specs.Stages as stages;
 use crate::call::Seat;
 use crate::outs::Outs;
 use crate::tally::Tally;
-use coordinator::{Column, Entry, Phase, Said, Stage, Superior, kept};
+use coordinator::{Column, Entry, Phase, Stage, Superior};
 use ior_refs::ObjectKey;
 use ots_model::tree::Outcome;
-use ots_model::{RetryKey, Status, Stood};
+use ots_model::{Status, Stood};
 use resource_votes::Votes;
 use std::alloc::{AllocError, Global};
 use std::collections::VecDeque;
@@ -259,13 +257,6 @@ impl State {
             Stage::Over => self.tally.calls == 0,
             _ => false,
         }
-    }
-
-    /// What the call with this key was answered, where there was one.
-    pub fn kept(&self, key: &RetryKey) -> Option<&Said>
-        ensures { option_copied result ≡ history.kept (self.now.family).entries key.now }
-    {
-        kept(&self.entries, key)
     }
 
     /// The place at which the decision record stands.

@@ -59,7 +59,8 @@ fn carry_out(state: &mut State, lines: &mut Vec<u8>, deed: Deed) -> Result<(), W
 fn do_deed(state: &mut State, lines: &mut Vec<u8>, deed: Deed) -> Result<(), WorldFault>
     requires ready { IsReady state.old }
     requires named { IsNamed deed (shown state.old) }
-    ensures carries { Carries (stepping.limit_before deed (shown state.old)) (stepping.carried_out deed (shown state.old))
+    ensures carries { Carries
+        (stepping.limit_before deed (shown state.old)) (stepping.carried_out deed (shown state.old))
         (shown state.new) lines.old.items lines.new.items result }
     ensures ready { OnOk result (IsReady state.new) }
     ensures quiet { IsQuietDeed deed (shown state.old) → ¬ (IsErrOf result Memory) }
