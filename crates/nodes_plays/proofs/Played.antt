@@ -1,5 +1,6 @@
 -- What the scripts of `examples/` tell: it computes.
 use Rattle.std.proofs.Common.{◌≡◌, Some, refl}
+use Rattle.nodes_steps.specs.Steps.{LinesKeepAgreement}
 use Rattle.nodes_plays.specs.Plays.{Plays}
 use Rattle.nodes_plays.specs.Scripts.{commit_script, crash_script, nested_script, rollback_script}
 use Rattle.nodes_plays.specs.Told.{commit_lines, crash_lines, nested_lines, rollback_lines}
@@ -52,14 +53,14 @@ computed = record {
   nested = refl;
 }
 
-pub commit_plays : Plays commit_script commit_lines
-commit_plays = plays commit_script commit_lines (refl, (refl, (refl, (refl, (refl, (refl, (refl, (refl, (refl, tt))))))))) computed.commit
+pub commit_plays : LinesKeepAgreement → Plays commit_script commit_lines
+commit_plays law = plays law commit_script commit_lines (refl, (refl, (refl, (refl, (refl, (refl, (refl, (refl, (refl, tt))))))))) computed.commit
 
-pub rollback_plays : Plays rollback_script rollback_lines
-rollback_plays = plays rollback_script rollback_lines (refl, (refl, (refl, (refl, (refl, (refl, (refl, (refl, (refl, (refl, tt)))))))))) computed.rollback
+pub rollback_plays : LinesKeepAgreement → Plays rollback_script rollback_lines
+rollback_plays law = plays law rollback_script rollback_lines (refl, (refl, (refl, (refl, (refl, (refl, (refl, (refl, (refl, (refl, tt)))))))))) computed.rollback
 
-pub crash_plays : Plays crash_script crash_lines
-crash_plays = plays crash_script crash_lines (refl, (refl, (refl, (refl, (refl, (refl, (refl, (refl, (refl, (refl, (refl, (refl, (refl, tt))))))))))))) computed.crash
+pub crash_plays : LinesKeepAgreement → Plays crash_script crash_lines
+crash_plays law = plays law crash_script crash_lines (refl, (refl, (refl, (refl, (refl, (refl, (refl, (refl, (refl, (refl, (refl, (refl, (refl, tt))))))))))))) computed.crash
 
-pub nested_plays : Plays nested_script nested_lines
-nested_plays = plays nested_script nested_lines (refl, (refl, (refl, (refl, (refl, (refl, (refl, (refl, (refl, (refl, (refl, (refl, (refl, (refl, (refl, (refl, (refl, tt))))))))))))))))) computed.nested
+pub nested_plays : LinesKeepAgreement → Plays nested_script nested_lines
+nested_plays law = plays law nested_script nested_lines (refl, (refl, (refl, (refl, (refl, (refl, (refl, (refl, (refl, (refl, (refl, (refl, (refl, (refl, (refl, (refl, (refl, tt))))))))))))))))) computed.nested

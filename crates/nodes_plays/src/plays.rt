@@ -3,6 +3,8 @@ ghost use Rattle.nodes_plays.specs.Plays.{Plays};
 ghost use Rattle.nodes_plays.specs.Scripts.{commit_script, crash_script, nested_script, rollback_script};
 ghost use Rattle.nodes_plays.specs.Told.{commit_lines, crash_lines, nested_lines, rollback_lines};
 
+use nodes_steps::lines_keep_agreement;
+
 /// Agreement speaks of something: the scripts of `examples/` come to worlds that are reached, and tell these lines on
 /// their way. Two resources vote commit, the decision is recorded, and both are told commit; or one votes rollback, and
 /// the other is told so; or the node crashes inside the write of its decision, and tells it again in its next life; or
@@ -12,4 +14,6 @@ pub fn agreement_is_met()
     ensures rollback { Plays rollback_script rollback_lines }
     ensures crash { Plays crash_script crash_lines }
     ensures nested { Plays nested_script nested_lines }
-{}
+{
+    lines_keep_agreement();
+}

@@ -1,5 +1,4 @@
 mod Carried
 mod Flowing
 mod Promises
-mod Resolved
 mod Safely

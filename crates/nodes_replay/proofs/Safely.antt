@@ -1,48 +1,35 @@
 -- Lines stay safe, from what a step says of the world and the lines.
-use Rattle.std.proofs.Common.{◌≡◌, ℕ, ◌+◌, List, [], ◌∷◌, ◌++◌, take, drop, Option, Some, None, Result, Ok, Err, refl, sym, ap, subst, ◌∙◌, append_assoc, ⊎_elim}
+use Rattle.std.proofs.Common.{◌≡◌, ℕ, List, [], ◌++◌, take, drop, Result, Ok, Err, refl, sym, ap, subst, ◌∙◌, append_assoc, ⊎_elim}
 use Rattle.std.specs.Prelude.{IfErr, IsErrOf, IsTrue, OnOk}
 use Rattle.std.proofs.lemmas.List.{append-nil, take-append-drop}
-use Rattle.std.proofs.lemmas.List.Elements.{filter_map-append}
-use Rattle.ots_model.specs.declared.line.Line.{Line}
 use Rattle.ots_model.specs.Safe.{AreSafe}
-use Rattle.decision_journal.specs.declared.record.JournalRecord.{JournalRecord}
 use Rattle.ots_world.specs.declared.fault.WorldFault.{WorldFault}
 use Rattle.ots_world.specs.declared.fault.WorldFault.TheVariants as faults
 use Rattle.ots_world.specs.declared.script.ScriptEvent.{ScriptEvent}
-use Rattle.nodes_world.specs.Agreement.{Agreement, Reaches, further as goes_further, names_fit}
-use Rattle.nodes_world.specs.Happenings.{Done}
-use Rattle.nodes_world.specs.Journals.{records_on}
-use Rattle.nodes_world.specs.Lives.{journal_line, journal_lines_from, journal_lines_of, last_lines}
-use Rattle.nodes_world.specs.Objects.{service_at}
+use Rattle.nodes_world.specs.Agreement.{names_fit}
+use Rattle.nodes_world.specs.Lives.{last_lines}
 use Rattle.nodes_world.specs.Step.{Stepped, Moves, Passes, Names, step}
-use Rattle.nodes_world.specs.Told.{Told, known, known_in}
-use Rattle.nodes_world.specs.World.{Seat, Server, OfNode, OfEnd, World}
+use Rattle.nodes_world.specs.Told.{Told, known}
+use Rattle.nodes_world.specs.World.{World}
+use Rattle.nodes_steps.specs.Steps.{Keeps, LinesKeepAgreement, lines_by}
+use Rattle.nodes_steps.proofs.Fronts.{front_safe}
 use Rattle.nodes_replay.specs.Agreement.{AreOf, AreOfStep, EndsSafely, GoesOnSafely, HasTold}
 use Rattle.nodes_replay.specs.Going.{GoesOn}
 use Rattle.nodes_replay.specs.Standing.{Standing}
 use Rattle.nodes_replay.specs.Stands.{HasFinished, HasStepped, IsRefusal, MayTell, Moved, Refused, Spent, Stopped}
-use Rattle.nodes_replay.proofs.Resolved.{may_safe, moves_deed}
 
 -- ---- lines
-
-known_more : (some others : List Told) → known (some ++ others) ≡ known some ++ known others
-known_more some others = filter_map-append known_in some others
-
-front_safe : (all rest : List Line) → AreSafe (all ++ rest) → AreSafe all
-front_safe all rest safe front behind is =
-    safe front (behind ++ rest) (ap (λ xs. xs ++ rest) is ∙ append_assoc front behind rest)
 
 -- some from the front of lines that are safe
 part_safe : (told some : List Told) (k : ℕ) → AreSafe (known (told ++ some)) → AreSafe (known (told ++ take k some))
 part_safe told some k safe =
     let whole : told ++ some ≡ (told ++ take k some) ++ drop k some =
     ap (λ xs. told ++ xs) (sym (take-append-drop k some)) ∙ sym (append_assoc told (take k some) (drop k some)) in
-    front_safe (known (told ++ take k some)) (known (drop k some))
-    (subst (λ (ls : List Line). AreSafe ls) (ap known whole ∙ known_more (told ++ take k some) (drop k some)) safe)
+    front_safe (told ++ take k some) (drop k some) (subst (λ (all : List Told). AreSafe (known all)) whole safe)
 
 -- what has told lines has told safe ones
-safe_so_far : Agreement → (s : Standing) (told : List Told) → HasTold s told → AreSafe (known told)
-safe_so_far law (Ok w) told h = law w told h
+safe_so_far : LinesKeepAgreement → (s : Standing) (told : List Told) → HasTold s told → AreSafe (known told)
+safe_so_far law (Ok w) told h = front_safe told (last_lines w) (law.ends w told h)
 safe_so_far law (Err fault) told h = h
 
 none_safe : (told : List Told) → AreSafe (known told) → AreSafe (known (told ++ []))
@@ -81,7 +68,7 @@ own_spent old event fault new before after s = subst (λ (x : Standing). AreOf x
 -- ---- a line of a script
 
 -- nothing more was told
-stays : Agreement → (old : Standing) (event : ScriptEvent) (new : Standing) (told : List Told) (before after : List ℕ) → HasTold old told
+stays : LinesKeepAgreement → (old : Standing) (event : ScriptEvent) (new : Standing) (told : List Told) (before after : List ℕ) → HasTold old told
     → AreOf old event new [] → new ≡ old → after ≡ before → GoesOnSafely old event told new before after
 stays law old event new told before after h own same text = record {
   further = [];
@@ -91,32 +78,36 @@ stays law old event new told before after h own same text = record {
   safe = none_safe told (safe_so_far law old told h);
 }
 
--- the world that a line moves on is reached
-pub moved_reached : (old : Standing) (event : ScriptEvent) (new : Standing) (told : List Told) (before after : List ℕ) → GoesOn old
-    → IsTrue (names_fit event) → HasTold old told → (m : Moved old event new before after) → Reaches m.to.world (told ++ m.to.lines)
-moved_reached old event new told before after goes fit h m =
-    let d = moves_deed event m.world m.to m.moves in
-    subst (λ (x : Done). Reaches x.world (told ++ x.lines)) (sym d.is)
-    (goes_further m.world told event d.deed (subst (λ (s : Standing). HasTold s told) m.was h) (subst (λ (s : Standing). GoesOn s) m.was goes) fit
-    d.named d.unlimited)
+-- what the line keeps
+pub line_keeps : LinesKeepAgreement → (old : Standing) (event : ScriptEvent) (told : List Told) (w : World) → old ≡ Ok w → GoesOn old
+    → IsTrue (names_fit event) → HasTold old told → Keeps event w told
+line_keeps law old event told w was goes fit h =
+    law.keeps event w told fit
+    (record { reached = subst (λ (s : Standing). HasTold s told) was h; few = subst (λ (s : Standing). GoesOn s) was goes })
 
-moves_on : Agreement → (old : Standing) (event : ScriptEvent) (new : Standing) (told : List Told) (before after : List ℕ) → GoesOn old
+moves_on : LinesKeepAgreement → (old : Standing) (event : ScriptEvent) (new : Standing) (told : List Told) (before after : List ℕ) → GoesOn old
     → IsTrue (names_fit event) → HasTold old told → Moved old event new before after → GoesOnSafely old event told new before after
 moves_on law old event new told before after goes fit h m =
-    let reached = moved_reached old event new told before after goes fit h m in record {
+    let k = line_keeps law old event told m.world m.was goes fit h in record {
       further = m.to.lines;
       own = own_moved old event new before after m;
       told = m.told;
-      has_told = subst (λ (s : Standing). HasTold s (told ++ m.to.lines)) (sym m.now) reached;
-      safe = law m.to.world (told ++ m.to.lines) reached;
+      has_told = subst (λ (s : Standing). HasTold s (told ++ m.to.lines)) (sym m.now) (k.goes_on m.to m.moves).reached;
+      safe = subst (λ (s : Stepped). AreSafe (known (told ++ lines_by s))) m.moves k.safe;
     }
 
+may_are : (s : Stepped) (lines : List Told) → MayTell s lines → lines_by s ≡ lines
+may_are (Moves to) lines may = sym may
+may_are (Passes limit some) lines may = sym may
+may_are Names lines may = absurd may
+
 -- the world stopped in the midst of the line
-stops_midway : Agreement → (old : Standing) (event : ScriptEvent) (fault : WorldFault) (new : Standing) (told : List Told) (before after : List ℕ)
+stops_midway : LinesKeepAgreement → (old : Standing) (event : ScriptEvent) (fault : WorldFault) (new : Standing) (told : List Told) (before after : List ℕ)
     → GoesOn old → IsTrue (names_fit event) → HasTold old told → Stopped old event fault new before after → GoesOnSafely old event told new before after
 stops_midway law old event fault new told before after goes fit h s =
     let safe = part_safe told s.lines s.told.0
-    (may_safe law event s.world told s.lines (subst (λ (x : Standing). HasTold x told) s.was h) (subst (λ (x : Standing). GoesOn x) s.was goes) fit s.may) in record {
+    (subst (λ (lines : List Told). AreSafe (known (told ++ lines))) (may_are (step event s.world) s.lines s.may)
+    (line_keeps law old event told s.world s.was goes fit h).safe) in record {
       further = take s.told.0 s.lines;
       own = own_stopped old event fault new before after s;
       told = s.told.1;
@@ -125,7 +116,7 @@ stops_midway law old event fault new told before after goes fit h s =
     }
 
 -- whatever a step answers
-goes_on_by : Agreement → (old : Standing) (event : ScriptEvent) (new : Standing) (told : List Told) (before after : List ℕ)
+goes_on_by : LinesKeepAgreement → (old : Standing) (event : ScriptEvent) (new : Standing) (told : List Told) (before after : List ℕ)
     → (r : Result (Unit {0}) WorldFault) → GoesOn old → IsTrue (names_fit event) → HasTold old told → OnOk r (Moved old event new before after)
     → (IsErrOf r faults.Names → Refused old event new before after)
     → IfErr r (λ fault. IsRefusal old event fault new before after) → GoesOnSafely old event told new before after
@@ -135,7 +126,7 @@ goes_on_by law old event new told before after (Err fault) goes fit h moved name
     (λ rest. ⊎_elim (λ s. stops_midway law old event fault new told before after goes fit h s)
     (λ s. stays law old event new told before after h (own_spent old event fault new before after s) s.now s.told) rest) stopped
 
-pub goes_on_safely : Agreement → (old : Standing) (event : ScriptEvent) (new : Standing) (told : List Told) (before after : List ℕ)
+pub goes_on_safely : LinesKeepAgreement → (old : Standing) (event : ScriptEvent) (new : Standing) (told : List Told) (before after : List ℕ)
     → (r : Result (Unit {0}) WorldFault) → GoesOn old → IsTrue (names_fit event) → HasTold old told → HasStepped old event new before after r
     → GoesOnSafely old event told new before after
 goes_on_safely law old event new told before after r goes fit h s =
@@ -143,37 +134,15 @@ goes_on_safely law old event new told before after r goes fit h s =
 
 -- ---- the end of a script
 
--- agreement doesn't speak of the lines that end a script's
-journal_unknown : (name : List ℕ) (service : ℕ) (rs : Option (List JournalRecord)) → known (journal_line name service rs) ≡ []
-journal_unknown name service (Some rs) = refl
-journal_unknown name service None = refl
-
-seat_unknown : (place : ℕ) (s : Seat) (server : Server) → known (journal_lines_of place s server) ≡ []
-seat_unknown place s (OfNode up) = journal_unknown s.name (service_at place) (records_on (service_at place) s.disk)
-seat_unknown place s (OfEnd up) = refl
-
-last_unknown : (place : ℕ) (seats : List Seat) → known (journal_lines_from place seats) ≡ []
-unfolding journal_lines_from
-last_unknown place [] = refl
-last_unknown place (s ∷ others) =
-    known_more (journal_lines_of place s s.server) (journal_lines_from (place + 1) others)
-    ∙ ap (λ ls. ls ++ known (journal_lines_from (place + 1) others)) (seat_unknown place s s.server)
-    ∙ last_unknown (place + 1) others
-
-last_safe : (w : World) (told : List Told) → AreSafe (known told) → AreSafe (known (told ++ last_lines w))
-last_safe w told safe =
-    let same = known_more told (last_lines w) ∙ ap (λ ls. known told ++ ls) (last_unknown 0 w.seats) ∙ append-nil (known told) in
-    subst (λ (ls : List Line). AreSafe ls) (sym same) safe
-
-pub ends_safely : Agreement → (old : Standing) (told : List Told) (before after : List ℕ) (r : Result (Unit {0}) WorldFault) → HasTold old told
+pub ends_safely : LinesKeepAgreement → (old : Standing) (told : List Told) (before after : List ℕ) (r : Result (Unit {0}) WorldFault) → HasTold old told
     → HasFinished old before after r → EndsSafely old told before after r
 ends_safely law (Ok w) told before after (Ok _) h f =
-    record { further = last_lines w; own = refl; told = f; safe = last_safe w told (law w told h) }
+    record { further = last_lines w; own = refl; told = f; safe = law.ends w told h }
 ends_safely law (Ok w) told before after (Err fault) h f = record {
   further = take f.1.0 (last_lines w);
   own = (f.1.0, refl);
   told = f.1.1;
-  safe = part_safe told (last_lines w) f.1.0 (last_safe w told (law w told h));
+  safe = part_safe told (last_lines w) f.1.0 (law.ends w told h);
 }
 ends_safely law (Err fault) told before after r h f =
     record { further = []; own = refl; told = f.1 ∙ sym (append-nil before); safe = none_safe told h }

@@ -1,32 +1,33 @@
--- The world in which a replay stands agrees with what it has told, and all that it tells is safe.
+-- The world in which a replay stands agrees with what it has told, and all that it tells is right.
 use Rattle.std.proofs.Common.{◌≡◌, ℕ, List, [], ◌∷◌, ◌++◌, refl, sym, ap, subst, ◌∙◌, append_assoc, append-nil, arith}
-use Rattle.ots_model.specs.Safe.{AreSafe}
 use Rattle.nodes_world.specs.Agreement as agreement
 use Rattle.nodes_world.specs.Agreement.{Reaches}
-use Rattle.nodes_world.specs.Told.{Told, known}
+use Rattle.nodes_world.specs.Lives.{last_lines}
+use Rattle.nodes_world.specs.Told.{Told}
 use Rattle.nodes_world.specs.World.{World}
+use Rattle.nodes_told.specs.Reached as told_reached
+use Rattle.nodes_steps.specs.Steps.{Lasts}
 use Rattle.ots_program.specs.Answers.{Agrees, OutcomesStay, journals_by}
 use Rattle.ots_program.specs.Laws.{WorldsAgree}
 use Rattle.ots_program.specs.Replay.{Row, Replay, Ending, Completed, Refused, Limited, Place, Turn, Goes, Stops, turn, ahead_of, behind, completed, stopped, replay_from, replay, rows, start}
-use Rattle.ots_program.proofs.Followed.{Follows, Follows-turn, IsStop, Lasts-nothing, Reaches-still, Stood}
-use Rattle.ots_program.proofs.Lasting.{Lasts, Lasts-still, Lasts-then}
+use Rattle.ots_program.proofs.Followed.{AreRight, AreRight-last, Follows, Follows-turn, IsStop, Lasts-nothing, Stood, Stood-still}
+use Rattle.ots_program.proofs.Lasting.{Lasts-still, Lasts-then}
 use Rattle.ots_program.proofs.Replays.{replay-ended, replay-goes, replay-stops}
-use Rattle.ots_program.proofs.Spoken.{AreSafe-last}
 
 -- behind lines, a replay stands in a world that a script can reach, where what was so for good is so still, and what it tells is
--- safe
+-- right
 record ComesTo (w : World) (told : List Told) (r : Replay) : Type 0 where
   lines : r.lines ≡ r.told ++ journals_by r.ending r.world
   reached : Reaches r.world (told ++ r.told)
   lasts : Lasts w r.world told (told ++ r.told)
-  safe : AreSafe (known (told ++ (r.lines ++ r.further)))
+  right : AreRight (told ++ (r.lines ++ r.further))
 
-ComesTo-completed : WorldsAgree → (w : World) (told : List Told) → Reaches w told → ComesTo w told (completed w)
-ComesTo-completed law w told r = record {
+ComesTo-completed : WorldsAgree → (w : World) (told : List Told) → Stood w told → ComesTo w told (completed w)
+ComesTo-completed law w told h = record {
   lines = refl;
-  reached = Reaches-still w told r;
+  reached = (Stood-still w told h).goes_on.reached;
   lasts = Lasts-nothing w told;
-  safe = AreSafe-last w told (law.safe w told r);
+  right = subst (λ (some : List Told). AreRight (told ++ some)) (sym (append-nil (last_lines w))) (AreRight-last law w told h);
 }
 
 journals_by-stop : (ending : Ending) (w : World) → IsStop ending → journals_by ending w ≡ []
@@ -34,12 +35,13 @@ journals_by-stop Completed w stop = absurd stop
 journals_by-stop (Refused line) w stop = refl
 journals_by-stop (Limited line number) w stop = refl
 
-ComesTo-stopped : WorldsAgree → (w v : World) (told : List Told) (ending : Ending) (further : List Told) → IsStop ending → Reaches w told → Reaches v (told ++ further) → ComesTo w told (stopped w ending further)
-ComesTo-stopped law w v told ending further stop r later = record {
+ComesTo-stopped : (w : World) (told : List Told) (ending : Ending) (further : List Told) → Stood w told → IsStop ending → AreRight (told ++ further)
+    → ComesTo w told (stopped w ending further)
+ComesTo-stopped w told ending further h stop right = record {
   lines = sym (journals_by-stop ending w stop);
-  reached = Reaches-still w told r;
+  reached = (Stood-still w told h).goes_on.reached;
   lasts = Lasts-nothing w told;
-  safe = law.safe v (told ++ further) later;
+  right = right;
 }
 
 ComesTo-ahead : (w world : World) (told lines : List Told) (r : Replay) → Lasts w world told (told ++ lines) → ComesTo world (told ++ lines) r → ComesTo w told (ahead_of lines r)
@@ -47,25 +49,22 @@ ComesTo-ahead w world told lines r lasts h = record {
   lines = ap (λ all. lines ++ all) h.lines ∙ sym (append_assoc lines r.told (journals_by r.ending r.world));
   reached = subst (Reaches r.world) (append_assoc told lines r.told) h.reached;
   lasts = subst (Lasts w r.world told) (append_assoc told lines r.told) (Lasts-then w world r.world told (told ++ lines) ((told ++ lines) ++ r.told) lasts h.lasts);
-  safe =
-      subst (λ (all : List Told). AreSafe (known all))
-      (append_assoc told lines (r.lines ++ r.further) ∙ ap (λ all. told ++ all) (sym (append_assoc lines r.lines r.further))) h.safe;
+  right = subst AreRight (append_assoc told lines (r.lines ++ r.further) ∙ ap (λ all. told ++ all) (sym (append_assoc lines r.lines r.further))) h.right;
 }
 
-ComesTo-row : WorldsAgree → (p : Place) (row : Row) (others : List Row) (told : List Told) (t : Turn) → turn p row ≡ t → Stood p.world told → Follows p.world told t
+ComesTo-row : (p : Place) (row : Row) (others : List Row) (told : List Told) (t : Turn) → turn p row ≡ t → Stood p.world told → Follows p.world told t
     → ((world : World) (lines : List Told) → Stood world (told ++ lines) → ComesTo world (told ++ lines) (replay_from (behind p row world) others))
     → ComesTo p.world told (replay_from p (row ∷ others))
-ComesTo-row law p row others told (Goes world lines) e h follows more =
+ComesTo-row p row others told (Goes world lines) e h follows more =
     subst (ComesTo p.world told) (sym (replay-goes p row others world lines e))
     (ComesTo-ahead p.world world told lines (replay_from (behind p row world) others) follows.1 (more world lines follows.0))
-ComesTo-row law p row others told (Stops ending further) e h follows more =
-    subst (ComesTo p.world told) (sym (replay-stops p row others ending further e))
-    (ComesTo-stopped law p.world follows.1.0 told ending further follows.0 h.reached follows.1.1)
+ComesTo-row p row others told (Stops ending further) e h follows more =
+    subst (ComesTo p.world told) (sym (replay-stops p row others ending further e)) (ComesTo-stopped p.world told ending further h follows.0 follows.1)
 
 ComesTo-rows : WorldsAgree → (p : Place) (some : List Row) (told : List Told) → Stood p.world told → ComesTo p.world told (replay_from p some)
-ComesTo-rows law p [] told h = subst (ComesTo p.world told) (sym (replay-ended p)) (ComesTo-completed law p.world told h.reached)
+ComesTo-rows law p [] told h = subst (ComesTo p.world told) (sym (replay-ended p)) (ComesTo-completed law p.world told h)
 ComesTo-rows law p (row ∷ others) told h =
-    ComesTo-row law p row others told (turn p row) refl h (Follows-turn law p row told h)
+    ComesTo-row p row others told (turn p row) refl h (Follows-turn law p row told h)
     (λ world lines later. ComesTo-rows law (behind p row world) others (told ++ lines) later)
 
 -- ---- from a front of the lines to the end
@@ -97,14 +96,14 @@ Stays-front law p (row ∷ front) others told h =
 -- ---- scripts
 
 Stood-start : Stood start.world []
-Stood-start = record { reached = agreement.nothing; goes_on = omega arith }
+Stood-start = record { goes_on = record { reached = agreement.nothing; few = omega arith }; comes = told_reached.nothing }
 
 ComesTo-script : WorldsAgree → (octets : List ℕ) → ComesTo start.world [] (replay octets)
 ComesTo-script law octets = ComesTo-rows law start (rows octets) [] Stood-start
 
--- what a replay tells is safe
-pub replay-safe : WorldsAgree → (octets : List ℕ) → AreSafe (known ((replay octets).lines ++ (replay octets).further))
-replay-safe law octets = (ComesTo-script law octets).safe
+-- what a replay tells is safe, and can be read
+pub replay-right : WorldsAgree → (octets : List ℕ) → AreRight ((replay octets).lines ++ (replay octets).further)
+replay-right law octets = (ComesTo-script law octets).right
 
 -- its world agrees with that
 pub replay-agrees : WorldsAgree → (octets : List ℕ) → Agrees (replay octets)

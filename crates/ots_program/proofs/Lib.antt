@@ -6,7 +6,6 @@ pub mod Fed
 pub mod Taken
 pub mod Carried
 pub mod Runs
-pub mod Spoken
 pub mod Lasting
 pub mod Followed
 pub mod Agreed

@@ -1,22 +1,13 @@
 -- What a sink has taken of a replay is safe.
-use Rattle.std.proofs.Common.{◌≡◌, ℕ, zero, suc, ◌+◌, ◌-◌, ◌<◌, ◌≤◌, ◌⊎◌, inl, inr, List, [], ◌∷◌, ◌++◌, length, take, Option, Some, None, IfSome, refl, sym, subst, ap, ◌∙◌, append_assoc, arith}
+use Rattle.std.proofs.Common.{◌≡◌, ℕ, zero, suc, ◌+◌, ◌-◌, ◌<◌, ◌≤◌, ◌⊎◌, inl, inr, List, [], ◌∷◌, ◌++◌, length, take, Option, Some, None, IfSome, refl, ap, ◌∙◌, append_assoc, arith}
 use Rattle.std.proofs.lemmas.List.{take-append-le}
 use Rattle.std.proofs.Math.Seq.{take-append-add}
-use Rattle.ots_model.specs.declared.line.Line.{Line}
-use Rattle.ots_model.specs.Safe.{AreSafe}
-use Rattle.nodes_world.specs.Told.{Told, known, spelled, text}
+use Rattle.nodes_world.specs.Told.{Told, spelled, text}
+use Rattle.nodes_steps.proofs.Fronts.{front_safe}
 use Rattle.ots_program.specs.Answers.{IsPart, TakesFront, TakesSafely}
 use Rattle.ots_program.specs.Laws.{WorldsAgree}
 use Rattle.ots_program.specs.Replay.{replay}
-use Rattle.ots_program.proofs.Agreed.{replay-safe}
-use Rattle.ots_program.proofs.Spoken.{known-append}
-
--- a front of safe lines is safe
-AreSafe-lines : (some others : List Line) → AreSafe (some ++ others) → AreSafe some
-AreSafe-lines some others h = λ front behind is. h front (behind ++ others) (ap (λ x. x ++ others) is ∙ append_assoc front behind others)
-
-AreSafe-front : (some others : List Told) → AreSafe (known (some ++ others)) → AreSafe (known some)
-AreSafe-front some others h = AreSafe-lines (known some) (known others) (subst AreSafe (known-append some others) h)
+use Rattle.ots_program.proofs.Agreed.{replay-right}
 
 -- a front of a text, as whole lines and a part of the next one
 record IsCut (n : ℕ) (all : List Told) : Type 0 where
@@ -71,6 +62,7 @@ TakesSafely-front : WorldsAgree → (octets before : List ℕ) (after : Option (
 TakesSafely-front law octets before after h =
     let all = (replay octets).lines ++ (replay octets).further in
     let k = cut h.0 all in
+    let safe = (replay-right law octets).safe in
     record {
       lines = k.lines;
       others = k.others;
@@ -78,7 +70,7 @@ TakesSafely-front law octets before after h =
       part = k.part;
       of_next = k.of_next;
       taken = rw (h.1, k.front) refl;
-      safe = AreSafe-front k.lines k.others (rw k.split at (replay-safe law octets));
+      safe = front_safe k.lines k.others (rw k.split at safe);
     }
 
 -- what was taken is safe

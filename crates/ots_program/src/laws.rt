@@ -2,10 +2,11 @@ ghost use Rattle.ots_program.specs.Answers.{ReplaysAreSafe};
 ghost use Rattle.ots_program.specs.Laws.{WorldsAgree};
 ghost use Rattle.ots_program.specs.ReadBack.{ReplaysAreTold, WhatIsReadIsSafe};
 
+use nodes_steps::lines_keep_agreement;
 use nodes_told::{reached_lines_are_told, told_lines_are_read};
 use nodes_world::{
-    decisions_outlive_crashes, deeds_are_changes, dones_are_complete, names_that_are_read_fit,
-    outcomes_last, reached_lines_are_safe, reached_worlds_are_known,
+    decisions_outlive_crashes, dones_are_complete, names_that_are_read_fit,
+    reached_worlds_are_known,
 };
 
 /// A law: all lines that a replay tells are safe, whatever the script.
@@ -28,12 +29,10 @@ pub fn what_is_read_is_safe()
 pub fn worlds_agree()
     ensures { WorldsAgree }
 {
-    reached_lines_are_safe();
+    lines_keep_agreement();
     reached_worlds_are_known();
     decisions_outlive_crashes();
     dones_are_complete();
-    outcomes_last();
-    deeds_are_changes();
     names_that_are_read_fit();
     reached_lines_are_told();
     told_lines_are_read();

@@ -2,13 +2,13 @@ use Rattle.nodes_plays.proofs.Played.{commit_plays, crash_plays, nested_plays, r
 use Rattle.nodes_plays.proofs.plays.agreement_is_met.Goals as goal
 
 pub returns-clause-commit : goal.returns-clause-commit
-returns-clause-commit c = commit_plays
+returns-clause-commit c = commit_plays c.lines_keep_agreement.ensures
 
 pub returns-clause-rollback : goal.returns-clause-rollback
-returns-clause-rollback c = rollback_plays
+returns-clause-rollback c = rollback_plays c.lines_keep_agreement.ensures
 
 pub returns-clause-crash : goal.returns-clause-crash
-returns-clause-crash c = crash_plays
+returns-clause-crash c = crash_plays c.lines_keep_agreement.ensures
 
 pub returns-clause-nested : goal.returns-clause-nested
-returns-clause-nested c = nested_plays
+returns-clause-nested c = nested_plays c.lines_keep_agreement.ensures
