@@ -1,8 +1,12 @@
 -- What a sink has taken of a replay is safe.
-use Rattle.std.proofs.Common.{◌≡◌, ℕ, zero, suc, ◌+◌, ◌-◌, ◌<◌, ◌≤◌, ◌⊎◌, inl, inr, List, [], ◌∷◌, ◌++◌, length, take, Option, Some, None, IfSome, refl, ap, ◌∙◌, append_assoc, arith}
+use Rattle.std.proofs.Common.{◌≡◌, ◌≢◌, ℕ, zero, suc, ◌+◌, ◌-◌, ◌<◌, ◌≤◌, ◌⊎◌, inl, inr, List, [], ◌∷◌, ◌++◌, length, take, Option, Some, None, IfSome, refl, sym, ap, subst, ◌∙◌, append_assoc, arith}
+use Rattle.std.specs.List.{AllByRecursion}
 use Rattle.std.proofs.lemmas.List.{take-append-le}
+use Rattle.std.proofs.lemmas.List.Elements.{All-from_recursion}
 use Rattle.std.proofs.Math.Seq.{take-append-add}
+use Rattle.ots_model.specs.LineLaws.{HasNoLineFeed}
 use Rattle.nodes_world.specs.Told.{Told, spelled, text}
+use Rattle.nodes_told.specs.Reading.{IsTold, PartsHaveNoFeed}
 use Rattle.nodes_steps.proofs.Fronts.{front_safe}
 use Rattle.ots_program.specs.Answers.{IsPart, TakesFront, TakesSafely}
 use Rattle.ots_program.specs.Laws.{WorldsAgree}
@@ -57,12 +61,27 @@ cut n (line ∷ all) = elim (low_or_high n (length (spelled line))) [
   | inr h ↦ IsCut-over n line all h (cut (n - length (spelled line)) all)
 ]
 
+-- what holds of each of some lines holds of each of the first of them, and of each of the others
+first_told : (some others : List Told) → AllByRecursion IsTold (some ++ others) → AllByRecursion IsTold some
+first_told [] others is = tt
+first_told (line ∷ some) others is = (is.0, first_told some others is.1)
+
+others_told : (some others : List Told) → AllByRecursion IsTold (some ++ others) → AllByRecursion IsTold others
+others_told [] others is = is
+others_told (line ∷ some) others is = others_told some others is.1
+
+-- a part of the next line has no line feed
+part_on_one_line : PartsHaveNoFeed → (part : List ℕ) (others : List Told) → AllByRecursion IsTold others → IsPart part others → HasNoLineFeed part
+part_on_one_line law part [] is of_next = subst (λ (octets : List ℕ). HasNoLineFeed octets) (sym of_next) (All-from_recursion (λ b. b ≢ 10) [] tt)
+part_on_one_line law part (line ∷ others) is (n, low, same) = subst (λ (octets : List ℕ). HasNoLineFeed octets) (sym same) (law line n is.0 low)
+
 -- a front of the text of what a replay tells
 TakesSafely-front : WorldsAgree → (octets before : List ℕ) (after : Option (List ℕ)) → TakesFront ((replay octets).lines ++ (replay octets).further) before after → TakesSafely octets before after
 TakesSafely-front law octets before after h =
     let all = (replay octets).lines ++ (replay octets).further in
     let k = cut h.0 all in
     let safe = (replay-right law octets).safe in
+    let told : AllByRecursion IsTold (k.lines ++ k.others) = subst (λ (some : List Told). AllByRecursion IsTold some) k.split (replay-right law octets).read in
     record {
       lines = k.lines;
       others = k.others;
@@ -71,6 +90,8 @@ TakesSafely-front law octets before after h =
       of_next = k.of_next;
       taken = rw (h.1, k.front) refl;
       safe = front_safe k.lines k.others (rw k.split at safe);
+      told = first_told k.lines k.others told;
+      one_line = part_on_one_line law.parts k.part k.others (others_told k.lines k.others told) k.of_next;
     }
 
 -- what was taken is safe

@@ -1,5 +1,7 @@
 -- What a replay answers, and what its sink has taken (our profile).
 use Rattle.std.specs.Prelude.{◌≡◌, ◌≢◌, ℕ, ◌<◌, List, [], ◌∷◌, ◌++◌, length, take, Option, Some, IfSome}
+use Rattle.std.specs.List.{AllByRecursion}
+use Rattle.ots_model.specs.LineLaws.{HasNoLineFeed}
 use Rattle.ots_model.specs.Safe.{AreSafe}
 use Rattle.coordinator.specs.Node.{Node}
 use Rattle.nodes_world.specs.Agreement.{DonesAreComplete, IsKnown, OutcomesLast, Reaches}
@@ -7,6 +9,7 @@ use Rattle.nodes_world.specs.Lives.{last_lines}
 use Rattle.nodes_world.specs.StandingDecisions.{AreToldDecided}
 use Rattle.nodes_world.specs.Told.{Told, known, spelled, text}
 use Rattle.nodes_world.specs.World.{World, node_at}
+use Rattle.nodes_told.specs.Reading.{IsTold}
 use Rattle.ots_outside.specs.Source.{HasRisen}
 use Rattle.ots_program.specs.declared.status.Status.{Status}
 use Rattle.ots_program.specs.declared.status.Status.TheVariants as statuses
@@ -67,8 +70,8 @@ abbrev pub IsPart : List ℕ → List Told → Type 0
 IsPart octets [] = octets ≡ []
 IsPart octets (line ∷ others) = (n : ℕ) × (n < length (spelled line)) × (octets ≡ take n (spelled line))
 
--- The sink has taken whole lines, which are safe, and then maybe a part of the next one. They are what the replay of
--- these octets tells first.
+-- The sink has taken whole lines, which are safe and can be read, and then maybe a part of the next one, in which no line
+-- ends. They are what the replay of these octets tells first.
 pub record TakesSafely (octets before : List ℕ) (after : Option (List ℕ)) : Type 0 where
   pub lines : List Told
   pub others : List Told
@@ -77,6 +80,8 @@ pub record TakesSafely (octets before : List ℕ) (after : Option (List ℕ)) : 
   pub of_next : IsPart part others
   pub taken : after ≡ Some (before ++ (text lines ++ part))
   pub safe : AreSafe (known lines)
+  pub told : AllByRecursion IsTold lines
+  pub one_line : HasNoLineFeed part
 
 -- the journals that a replay tells in the end: those of its world, where all lines were carried out
 abbrev pub journals_by : Ending → World → List Told

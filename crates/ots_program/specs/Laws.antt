@@ -2,7 +2,7 @@
 use Rattle.nodes_world.specs.Agreement.{ReachedDonesAreComplete, ReachedIsKnown, ReadNamesFit}
 use Rattle.nodes_world.specs.StandingDecisions.{StandingIsTold}
 use Rattle.nodes_told.specs.Reached.{ReachedLinesAreTold, ReadNamesAreNames}
-use Rattle.nodes_told.specs.Reading.{ReadLinesAreSafe}
+use Rattle.nodes_told.specs.Reading.{PartsHaveNoFeed, ReadLinesAreSafe}
 use Rattle.nodes_steps.specs.Steps.{LinesKeepAgreement}
 
 pub record WorldsAgree : Type 0 where
@@ -14,3 +14,4 @@ pub record WorldsAgree : Type 0 where
   pub named : ReadNamesAreNames
   pub told : ReachedLinesAreTold
   pub read : ReadLinesAreSafe
+  pub parts : PartsHaveNoFeed
