@@ -12,7 +12,6 @@ use Rattle.nodes_world.specs.Step.{Stepped, Moves, Passes, Names, step}
 use Rattle.nodes_world.specs.Told.{Told, known}
 use Rattle.nodes_world.specs.World.{World}
 use Rattle.nodes_steps.specs.Steps.{Keeps, LinesKeepAgreement, lines_by}
-use Rattle.nodes_steps.proofs.Fronts.{front_safe}
 use Rattle.nodes_replay.specs.Agreement.{AreOf, AreOfStep, EndsSafely, GoesOnSafely, HasTold}
 use Rattle.nodes_replay.specs.Going.{GoesOn}
 use Rattle.nodes_replay.specs.Standing.{Standing}
@@ -21,15 +20,15 @@ use Rattle.nodes_replay.specs.Stands.{HasFinished, HasStepped, IsRefusal, MayTel
 -- ---- lines
 
 -- some from the front of lines that are safe
-part_safe : (told some : List Told) (k : ℕ) → AreSafe (known (told ++ some)) → AreSafe (known (told ++ take k some))
-part_safe told some k safe =
+part_safe : LinesKeepAgreement → (told some : List Told) (k : ℕ) → AreSafe (known (told ++ some)) → AreSafe (known (told ++ take k some))
+part_safe law told some k safe =
     let whole : told ++ some ≡ (told ++ take k some) ++ drop k some =
     ap (λ xs. told ++ xs) (sym (take-append-drop k some)) ∙ sym (append_assoc told (take k some) (drop k some)) in
-    front_safe (told ++ take k some) (drop k some) (subst (λ (all : List Told). AreSafe (known all)) whole safe)
+    law.fronts (told ++ take k some) (drop k some) (subst (λ (all : List Told). AreSafe (known all)) whole safe)
 
 -- what has told lines has told safe ones
 safe_so_far : LinesKeepAgreement → (s : Standing) (told : List Told) → HasTold s told → AreSafe (known told)
-safe_so_far law (Ok w) told h = front_safe told (last_lines w) (law.ends w told h)
+safe_so_far law (Ok w) told h = law.fronts told (last_lines w) (law.ends w told h)
 safe_so_far law (Err fault) told h = h
 
 none_safe : (told : List Told) → AreSafe (known told) → AreSafe (known (told ++ []))
@@ -105,7 +104,7 @@ may_are Names lines may = absurd may
 stops_midway : LinesKeepAgreement → (old : Standing) (event : ScriptEvent) (fault : WorldFault) (new : Standing) (told : List Told) (before after : List ℕ)
     → GoesOn old → IsTrue (names_fit event) → HasTold old told → Stopped old event fault new before after → GoesOnSafely old event told new before after
 stops_midway law old event fault new told before after goes fit h s =
-    let safe = part_safe told s.lines s.told.0
+    let safe = part_safe law told s.lines s.told.0
     (subst (λ (lines : List Told). AreSafe (known (told ++ lines))) (may_are (step event s.world) s.lines s.may)
     (line_keeps law old event told s.world s.was goes fit h).safe) in record {
       further = take s.told.0 s.lines;
@@ -142,7 +141,7 @@ ends_safely law (Ok w) told before after (Err fault) h f = record {
   further = take f.1.0 (last_lines w);
   own = (f.1.0, refl);
   told = f.1.1;
-  safe = part_safe told (last_lines w) f.1.0 (law.ends w told h);
+  safe = part_safe law told (last_lines w) f.1.0 (law.ends w told h);
 }
 ends_safely law (Err fault) told before after r h f =
     record { further = []; own = refl; told = f.1 ∙ sym (append-nil before); safe = none_safe told h }

@@ -12,6 +12,7 @@ use Rattle.nodes_world.specs.Resolve.{resolve}
 use Rattle.nodes_world.specs.Step.{Stepped, Moves, Passes, Names, carried_out, carries_named, carries_unless, limit_before, limit_behind, limit_where, moves_unless, step}
 use Rattle.nodes_world.specs.Told.{Told, known}
 use Rattle.nodes_world.specs.World.{World}
+use Rattle.nodes_steps.proofs.Fronts.{front_safe}
 use Rattle.nodes_steps.specs.Steps.{CanGoOn, IsDone, Keeps, Lasts, LinesKeepAgreement, lines_by}
 use Rattle.nodes_steps.proofs.Journals.{last_safe}
 use Rattle.nodes_steps.proofs.Named.{named_goes}
@@ -103,4 +104,5 @@ module _ (agree : Agreement) (last : ReachedOutcomesLast) (changes : DeedsAreCha
     passes = λ event w limit lines is. given event w (Passes limit lines) is;
     keeps = line_keeps;
     ends = λ w told reached. last_safe w told (agree w told reached);
+    fronts = front_safe;
   }

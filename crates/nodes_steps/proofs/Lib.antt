@@ -1,4 +1,4 @@
-pub mod Fronts
+mod Fronts
 mod Named
 mod Journals
 mod Kept

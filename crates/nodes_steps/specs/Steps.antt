@@ -55,3 +55,5 @@ pub record LinesKeepAgreement : Type 0 where
   pub keeps : (event : ScriptEvent) (w : World) (told : List Told) → IsTrue (names_fit event) → CanGoOn w told → Keeps event w told
   -- and where the script ends there, all lines are safe with the journals
   pub ends : (w : World) (told : List Told) → Reaches w told → AreSafe (known (told ++ last_lines w))
+  -- some from the front of safe lines are safe
+  pub fronts : (some others : List Told) → AreSafe (known (some ++ others)) → AreSafe (known some)

@@ -14,7 +14,6 @@ use Rattle.nodes_told.specs.Reached as told_reached
 use Rattle.nodes_told.specs.Reached.{ComesTo, GivesName}
 use Rattle.nodes_told.specs.Reading.{IsTold}
 use Rattle.nodes_steps.specs.Steps.{CanGoOn, IsDone, Keeps, Lasts, lines_by}
-use Rattle.nodes_steps.proofs.Fronts.{front_safe}
 use Rattle.ots_program.specs.Laws.{WorldsAgree}
 use Rattle.ots_program.specs.Limits.{lines_limit, octets_limit}
 use Rattle.ots_program.specs.Replay.{Row, size, Ending, Completed, Refused, Limited, Place, Turn, Goes, Stops, turn, turn_by, turn_of}
@@ -50,7 +49,7 @@ Stood-still w told h = subst (Stood w) (sym (append-nil told)) h
 pub Lasts-nothing : (w : World) (told : List Told) → Lasts w w told (told ++ [])
 Lasts-nothing w told = subst (Lasts w w told) (sym (append-nil told)) (Lasts-still w told)
 
-front_told : (some more : List Told) → AllByRecursion IsTold (some ++ more) → AllByRecursion IsTold some
+pub front_told : (some more : List Told) → AllByRecursion IsTold (some ++ more) → AllByRecursion IsTold some
 front_told [] more all = tt
 front_told (line ∷ some) more all = (all.0, front_told some more all.1)
 
@@ -65,7 +64,7 @@ read_still law w told some comes none =
 
 AreRight-still : WorldsAgree → (w : World) (told : List Told) → Stood w told → AreRight (told ++ [])
 AreRight-still law w told h = record {
-  safe = subst (λ (all : List Told). AreSafe (known all)) (sym (append-nil told)) (front_safe told (last_lines w) (law.lines.ends w told h.goes_on.reached));
+  safe = subst (λ (all : List Told). AreSafe (known all)) (sym (append-nil told)) (law.lines.fronts told (last_lines w) (law.lines.ends w told h.goes_on.reached));
   read = read_still law w told [] h.comes refl;
 }
 

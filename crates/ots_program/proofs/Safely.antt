@@ -7,11 +7,11 @@ use Rattle.std.proofs.Math.Seq.{take-append-add}
 use Rattle.ots_model.specs.LineLaws.{HasNoLineFeed}
 use Rattle.nodes_world.specs.Told.{Told, spelled, text}
 use Rattle.nodes_told.specs.Reading.{IsTold, PartsHaveNoFeed}
-use Rattle.nodes_steps.proofs.Fronts.{front_safe}
 use Rattle.ots_program.specs.Answers.{IsPart, TakesFront, TakesSafely}
 use Rattle.ots_program.specs.Laws.{WorldsAgree}
 use Rattle.ots_program.specs.Replay.{replay}
 use Rattle.ots_program.proofs.Agreed.{replay-right}
+use Rattle.ots_program.proofs.Followed.{front_told}
 
 -- a front of a text, as whole lines and a part of the next one
 record IsCut (n : ℕ) (all : List Told) : Type 0 where
@@ -61,11 +61,7 @@ cut n (line ∷ all) = elim (low_or_high n (length (spelled line))) [
   | inr h ↦ IsCut-over n line all h (cut (n - length (spelled line)) all)
 ]
 
--- what holds of each of some lines holds of each of the first of them, and of each of the others
-first_told : (some others : List Told) → AllByRecursion IsTold (some ++ others) → AllByRecursion IsTold some
-first_told [] others is = tt
-first_told (line ∷ some) others is = (is.0, first_told some others is.1)
-
+-- what holds of each of some lines holds of each of the last of them
 others_told : (some others : List Told) → AllByRecursion IsTold (some ++ others) → AllByRecursion IsTold others
 others_told [] others is = is
 others_told (line ∷ some) others is = others_told some others is.1
@@ -89,8 +85,8 @@ TakesSafely-front law octets before after h =
       part = k.part;
       of_next = k.of_next;
       taken = rw (h.1, k.front) refl;
-      safe = front_safe k.lines k.others (rw k.split at safe);
-      told = first_told k.lines k.others told;
+      safe = law.lines.fronts k.lines k.others (rw k.split at safe);
+      told = front_told k.lines k.others told;
       one_line = part_on_one_line law.parts k.part k.others (others_told k.lines k.others told) k.of_next;
     }
 
