@@ -4,3 +4,4 @@ mod Pieces
 mod Lawful
 mod Treed
 mod Waited
+mod Rows

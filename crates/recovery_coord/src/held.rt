@@ -164,6 +164,19 @@ impl Held {
     }
 }
 
+/// A record without registrations, in the stead of one that is gone. It takes no memory.
+pub(crate) fn nobody(alloc: Global) -> Held {
+    Held {
+        place: 0,
+        life: 0,
+        slot: 0,
+        generation: 0,
+        kind: Kind::Decision(None, false),
+        status: Status::Committing,
+        parties: Parties::of(Vec::new(alloc)),
+    }
+}
+
 /// A record of the journal, of whose tree these words are left over; none, where it is no decision and no prepared record.
 pub(crate) fn held_of(
     alloc: Global,

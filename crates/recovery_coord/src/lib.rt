@@ -12,6 +12,7 @@ mod outbox;
 mod parties;
 mod records;
 mod recovered;
+mod row;
 mod telling;
 mod trees;
 mod waiting;

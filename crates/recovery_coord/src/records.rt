@@ -1,18 +1,14 @@
 // Held records in the order of their places.
-ghost use Rattle.std.specs.Prelude.{◌≡◌, ◌==◌, ◌&&◌, false, map, find, not, Some, None, if◌then◌else◌, IfOk, IfErr, OnOk, OnErr};
+ghost use Rattle.std.specs.Prelude.{◌≡◌, ◌==◌, ◌&&◌, map, find, not, Some, None, if◌then◌else◌, IfOk, IfErr};
 ghost use Rattle.std.specs.Option.{option_copied, option_map};
 ghost use Rattle.recovery_coord.specs.declared.held.Held.{Held as HeldRecord};
 ghost use Rattle.recovery_coord.specs.Held as holding;
 ghost use Rattle.recovery_coord.specs.Hearing as hearing;
-ghost use Rattle.recovery_coord.specs.Telling as telling;
 ghost use Rattle.recovery_coord.specs.Order.{IsAt, IsGap, RiseFrom};
-ghost use Rattle.recovery_coord.specs.Trees.{IsPartedWhere, Joins};
 
 use crate::held::Held;
-use crate::trees::{Tree, tree_of};
 use ots_model::CallNumber;
 use ots_model::tree::Heard;
-use std::alloc::AllocError;
 
 /// The index of the record at this place, or that at which it would stand.
 pub(crate) fn search(records: &[Held], place: u64) -> Result<usize, usize>
@@ -74,47 +70,4 @@ fn hear_one(held: &mut Held, serial: u32, h: &Heard) -> Option<u32>
         return Some(held.place);
     }
     None
-}
-
-/// Each record that is complete is told again.
-pub(crate) fn recall_all(records: &mut [Held])
-    ensures { records.new ≡ map telling.retold records.old }
-{
-    for held in records.iter_mut() {
-        held.recall();
-    }
-}
-
-/// Puts a record into its turn, where none is held at its place.
-pub(crate) fn take_in(records: &mut Vec<Held>, held: Held) -> Result<(), AllocError>
-    requires order { RiseFrom 0 records.old.items }
-    requires free { holding.is_held held.place records.old.items ≡ false }
-    ensures ok { OnOk result (records.new.items ≡ holding.taken (Some held) records.old.items) }
-    ensures err { OnErr result (records.new.items ≡ records.old.items) }
-    ensures order { RiseFrom 0 records.new.items }
-    ensures joined { OnOk result (Joins held records.old.items records.new.items) }
-{
-    match search(records, u64::from(held.place)) {
-        Ok(_) => Ok(()),
-        Err(index) => {
-            records.insert(index, held)?;
-            Ok(())
-        }
-    }
-}
-
-/// Lets the record at this place go, where one is held, and tells its tree.
-pub(crate) fn let_go(records: &mut Vec<Held>, place: u32) -> Option<Tree>
-    requires order { RiseFrom 0 records.old.items }
-    ensures without { records.new.items ≡ holding.without place records.old.items }
-    ensures order { RiseFrom 0 records.new.items }
-    ensures parted { IsPartedWhere result records.old.items records.new.items }
-{
-    match search(records, u64::from(place)) {
-        Ok(index) => {
-            let gone = records.remove(index);
-            Some(tree_of(&gone))
-        }
-        Err(_) => None,
-    }
 }

@@ -10,8 +10,9 @@ ghost use Rattle.recovery_coord.specs.Replay as replay;
 
 use crate::held::{Held, Party, held_of};
 use crate::outbox::Outbox;
-use crate::records::{hear, holds, let_go, recall_all, record_at, search, take_in};
-use crate::telling::{RETOLD_SLOT, tell_all};
+use crate::records::{holds, record_at, search};
+use crate::row::Row;
+use crate::telling::RETOLD_SLOT;
 use crate::trees::{Trees, tree_named, tree_of};
 use decision_journal::{Journal, JournalRecord, Standing};
 use ior_refs::{ObjectKey, ObjectRef};
@@ -42,7 +43,7 @@ pub struct Recovered {
     alloc: Global,
     service: u64,
     life: u32,
-    records: Vec<Held>,
+    records: Row,
     trees: Trees,
 }
 
@@ -52,9 +53,9 @@ impl Model for Recovered {
 
     ghost Value = { Recoveries };
 
-    ghost view = { λ r. record { service = r.service; life = r.life; records = r.records.items } };
+    ghost view = { λ r. record { service = r.service; life = r.life; records = r.records } };
 
-    ghost invariant = { λ r. AreFound r.trees.firsts r.records.items };
+    ghost invariant = { λ r. AreFound r.trees.firsts r.records };
 }
 
 impl Recovered {
@@ -71,7 +72,7 @@ impl Recovered {
             alloc,
             service: journal.service(),
             life: journal.life(),
-            records,
+            records: Row::of(records),
             trees,
         })
     }
@@ -135,7 +136,7 @@ impl Recovered {
         }
         let first = self.trees.first(tree_named(key))?;
         match search(self.records.as_slice(), u64::from(first.place)) {
-            Ok(index) => Some(&self.records[index]),
+            Ok(index) => Some(&self.records.as_slice()[index]),
             Err(_) => None,
         }
     }
@@ -149,9 +150,8 @@ impl Recovered {
         ensures err { OnErr result (out.new.words ≡ out.old.words) }
         ensures room { out.new.room ≡ out.old.room }
     {
-        recall_all(self.records.as_mut_slice());
         let count = out.len();
-        match tell_all(self.alloc, self.life, self.records.as_slice(), out) {
+        match self.records.tell_all(self.alloc, self.life, out) {
             Ok(()) => Ok(()),
             Err(refused) => {
                 out.keep(count);
@@ -171,7 +171,7 @@ impl Recovered {
         if n.life != self.life || n.slot != RETOLD_SLOT {
             return None;
         }
-        hear(self.records.as_mut_slice(), n, h)
+        self.records.hear(n, h)
     }
 
     /// The standing record of a tree that is finished goes on here. The commit and forget words to these registrations are then to
@@ -206,7 +206,7 @@ impl Recovered {
         self.trees.reserve()?;
         let tree = tree_of(&held);
         let place = held.place;
-        take_in(&mut self.records, held)?;
+        self.records.take_in(held)?;
         self.trees.join(tree, place);
         Ok(())
     }
@@ -215,7 +215,7 @@ impl Recovered {
     pub fn done(&mut self, place: u32)
         ensures { self.new ≡ record self.old { records = holding.without place self.old.records } }
     {
-        if let Some(tree) = let_go(&mut self.records, place) {
+        if let Some(tree) = self.records.let_go(self.alloc, place) {
             self.trees.part(tree, self.records.as_slice());
         }
     }

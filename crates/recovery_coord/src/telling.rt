@@ -1,5 +1,5 @@
 // The words that are told again.
-ghost use Rattle.std.specs.Prelude.{◌≡◌, ◌++◌, IfOk, OnOk, OnErr};
+ghost use Rattle.std.specs.Prelude.{◌≡◌, ◌++◌, map, IfOk, IsOk, OnOk, OnErr};
 ghost use Rattle.std.specs.List.{filter_map};
 ghost use Rattle.std.specs.Option.{option_to_list};
 ghost use Rattle.recovery_coord.specs.Telling as telling;
@@ -21,25 +21,48 @@ pub(crate) struct Teller {
     pub decided: bool,
 }
 
-/// The words of all records, behind those of an outbox.
+/// Tells each complete record again from the beginning, and puts the words of all behind those of an outbox. Where memory is
+/// wanted, the records behind that are told again too, without their words.
 pub(crate) fn tell_all(
     alloc: Global,
     life: u32,
-    records: &[Held],
+    records: &mut [Held],
     out: &mut Outbox,
 ) -> Result<(), AllocError>
-    ensures ok { OnOk result (out.new.words ≡ out.old.words ++ telling.words life records.now) }
+    ensures records { records.new ≡ map telling.retold records.old }
+    ensures ok { OnOk result (out.new.words ≡ out.old.words ++ telling.words life records.new) }
     ensures more { telling.IsMore out.old.words out.new.words }
     ensures room { out.new.room ≡ out.old.room }
 {
-    for held in records {
-        tell_record(alloc, life, held, out)?;
+    let mut told = Ok(());
+    for held in records.iter_mut() {
+        told = tell_record(alloc, life, held, told, out);
     }
-    Ok(())
+    told
+}
+
+/// Tells a complete record again from the beginning, and puts the words of a record behind those of an outbox, where those
+/// before it were told.
+fn tell_record(
+    alloc: Global,
+    life: u32,
+    held: &mut Held,
+    before: Result<(), AllocError>,
+    out: &mut Outbox,
+) -> Result<(), AllocError>
+    ensures retold { held.new ≡ telling.retold held.old }
+    ensures before { OnOk result (IsOk before) }
+    ensures ok { OnOk result (out.new.words ≡ out.old.words ++ telling.words_of life held.new) }
+    ensures more { telling.IsMore out.old.words out.new.words }
+    ensures room { out.new.room ≡ out.old.room }
+{
+    held.recall();
+    before?;
+    tell_words(alloc, life, held, out)
 }
 
 /// The words of a record, behind those of an outbox. Its registrations are looked at only where one has a word to tell.
-fn tell_record(alloc: Global, life: u32, held: &Held, out: &mut Outbox) -> Result<(), AllocError>
+fn tell_words(alloc: Global, life: u32, held: &Held, out: &mut Outbox) -> Result<(), AllocError>
     ensures ok { OnOk result (out.new.words ≡ out.old.words ++ telling.words_of life held.now) }
     ensures more { telling.IsMore out.old.words out.new.words }
     ensures room { out.new.room ≡ out.old.room }

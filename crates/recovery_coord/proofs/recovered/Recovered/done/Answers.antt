@@ -11,6 +11,6 @@ invariant_of-self c =
     let after = c.part.new.self.firsts in
     record {
       order = c.let_go.ensures.order;
-      index = index_parted before after tree c.self.inside.records.items c.let_go.new.records.items c.self.invariant.index c.in-Some.ensures.parted
-          (subst (λ (xs : List Held). IsPut tree (parted (first_in before tree) (first_of tree xs)) before after) c.as_slice.ensures.value c.part.ensures.put);
+      index = index_parted before after tree c.self.inside.records c.let_go.new.self c.self.invariant.index c.in-Some.ensures.parted
+          (subst (λ (xs : List Held). IsPut tree (parted (first_in before tree) (first_of tree xs)) before after) c.as_slice.ensures c.part.ensures.put);
     }

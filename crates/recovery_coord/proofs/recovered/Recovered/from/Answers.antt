@@ -18,6 +18,6 @@ pub invariant_of-result : goal.invariant_of-result
 invariant_of-result g c =
     let order = loaded_rise 0 c.args.journal.now.found.standing c.standing.ensures.order (λ k d within. omega arith) in
     record {
-      order = subst (λ (xs : List Held). RiseFrom 0 xs) (sym (c.in_ok-records.ensures ∙ ap (filter_map loaded) c.standing.ensures.same)) order;
-      index = subst (λ (xs : List Held). IsIndex c.in_ok-trees.trees.firsts xs) c.deref.ensures.value c.in_ok-trees.ensures;
+      order = subst (λ (xs : List Held). RiseFrom 0 xs) (sym (c.of-2.ensures ∙ c.in_ok-records.ensures ∙ ap (filter_map loaded) c.standing.ensures.same)) order;
+      index = subst (λ (xs : List Held). IsIndex c.in_ok-trees.trees.firsts xs) (c.deref.ensures.value ∙ sym c.of-2.ensures) c.in_ok-trees.ensures;
     }

@@ -15,12 +15,12 @@ returns-then-key-self c =
     let key = c.args.key.now in
     let other : (key.service == c.self.inside.service) ≡ false = grind (arith, nat_tests, c.if-key-self.true) in
     subst (λ (v : Recoveries). None ≡ find (is_of_tree v.service key) v.records) c.self.view_is
-    (sym (other_service c.self.inside.service key other c.self.inside.records.items))
+    (sym (other_service c.self.inside.service key other c.self.inside.records))
 
 pub returns-in_err-first : goal.returns-in_err-first
 returns-in_err-first c =
     let key = c.args.key.now in
-    let rs = c.self.inside.records.items in
+    let rs = c.self.inside.records in
     let own : (key.service == c.self.inside.service) ≡ true = grind (arith, nat_tests, c.if-key-self.false) in
     let none : first_of (tree_named key) rs ≡ None =
     sym (c.self.invariant.index (tree_named key)) ∙ ap (first_in c.self.inside.trees.firsts) (sym c.tree_named.ensures) ∙ sym c.first.ensures ∙ c.in_err-first.was in
@@ -32,22 +32,22 @@ returns-in_err-first c =
 pub returns-in-Ok : goal.returns-in-Ok
 returns-in-Ok c =
     let key = c.args.key.now in
-    let rs = c.self.inside.records.items in
+    let rs = c.self.inside.records in
     let own : (key.service == c.self.inside.service) ≡ true = grind (arith, nat_tests, c.if-key-self.false) in
     let is : first_of (tree_named key) rs ≡ Some c.in_ok-first.first =
     sym (c.self.invariant.index (tree_named key)) ∙ ap (first_in c.self.inside.trees.firsts) (sym c.tree_named.ensures) ∙ sym c.first.ensures ∙ c.in_ok-first.was in
     let at = subst (λ (p : ℕ). IsAt p c.in-Ok.index c.as_slice.result.now) c.from.ensures c.in-Ok.ensures.found in
-    let there = subst (λ (xs : List Held). IsAt c.in_ok-first.first.place c.in-Ok.index xs) c.as_slice.ensures.value at in
-    ap Some c.index.ensures
-    ∙ subst (λ (v : Recoveries). Some (get_or rs c.in-Ok.index c.index.result.now) ≡ find (is_of_tree v.service key) v.records) c.self.view_is
-    (sym (named_find c.self.inside.service key own rs ∙ first_found (tree_named key) rs c.self.invariant.order c.in_ok-first.first is c.in-Ok.index c.index.result.now there))
+    let there = subst (λ (xs : List Held). IsAt c.in_ok-first.first.place c.in-Ok.index xs) c.as_slice.ensures at in
+    ap Some (c.index-as_slice-index.is ∙ ap (λ (xs : List Held). get_or xs c.in-Ok.index c.index-as_slice-index.result) c.as_slice-in-Ok.ensures)
+    ∙ subst (λ (v : Recoveries). Some (get_or rs c.in-Ok.index c.index-as_slice-index.result) ≡ find (is_of_tree v.service key) v.records) c.self.view_is
+    (sym (named_find c.self.inside.service key own rs ∙ first_found (tree_named key) rs c.self.invariant.order c.in_ok-first.first is c.in-Ok.index c.index-as_slice-index.result there))
 
 pub returns-in-Err : goal.returns-in-Err
 returns-in-Err c =
     let key = c.args.key.now in
-    let rs = c.self.inside.records.items in
+    let rs = c.self.inside.records in
     let is : first_of (tree_named key) rs ≡ Some c.in_ok-first.first =
     sym (c.self.invariant.index (tree_named key)) ∙ ap (first_in c.self.inside.trees.firsts) (sym c.tree_named.ensures) ∙ sym c.first.ensures ∙ c.in_ok-first.was in
     let none = subst (λ (p : ℕ). IsGap p c.in-Err.field-0 c.as_slice.result.now) c.from.ensures c.in-Err.ensures.none in
-    let gap = subst (λ (xs : List Held). IsGap c.in_ok-first.first.place c.in-Err.field-0 xs) c.as_slice.ensures.value none in
+    let gap = subst (λ (xs : List Held). IsGap c.in_ok-first.first.place c.in-Err.field-0 xs) c.as_slice.ensures none in
     absurd (first_no_gap (tree_named key) rs c.in_ok-first.first is c.in-Err.field-0 gap)

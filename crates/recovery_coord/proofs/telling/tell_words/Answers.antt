@@ -4,7 +4,7 @@ use Rattle.ots_model.specs.declared.tree.Outward.{Outward}
 use Rattle.recovery_coord.specs.Held.{is_decided}
 use Rattle.recovery_coord.specs.Waiting.{have_words, waiting_of}
 use Rattle.recovery_coord.proofs.Waited.{no_words}
-use Rattle.recovery_coord.proofs.telling.tell_record.Goals as goal
+use Rattle.recovery_coord.proofs.telling.tell_words.Goals as goal
 
 pub returns-then-not-have_words-clause-ok : goal.returns-then-not-have_words-clause-ok
 returns-then-not-have_words-clause-ok c =
