@@ -50,11 +50,4 @@ impl Effects {
     {
         self.items.as_slice()
     }
-
-    /// The effects as a vector. It needs no memory.
-    pub fn into_vec(self) -> Vec<Effect>
-        ensures same { result.items ≡ self }
-    {
-        self.items
-    }
 }
