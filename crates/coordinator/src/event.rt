@@ -1,4 +1,5 @@
 ghost use Rattle.std.specs.Prelude.{◌≡◌};
+ghost use Rattle.std.specs.Option.{option_map};
 
 use ior_refs::ObjectKey;
 use ots_model::tree::{Heard, Word};
@@ -9,6 +10,9 @@ pub const HISTORY_LIMIT: u32 = 16384;
 
 /// How many it has at most before a call from outside (our profile).
 pub const CALL_LIMIT: u32 = 12288;
+
+/// The slot in the number of a word that is told again for a record: that of no family.
+const RETOLD_SLOT: u32 = u32::MAX;
 
 /// What happens to a family.
 #[derive(Drop)]
@@ -86,6 +90,7 @@ pub enum Act {
 
 impl Act {
     ghost use Rattle.coordinator.specs.History.{is_own_act, limit_of};
+    ghost use Rattle.coordinator.specs.NodeCalls.{retold_answer};
 
     /// Whether the service itself brings it. All else comes from outside.
     pub fn is_own(&self) -> bool
@@ -105,6 +110,16 @@ impl Act {
             HISTORY_LIMIT
         } else {
             CALL_LIMIT
+        }
+    }
+
+    /// The number of a word that was told again, and what was heard of it, where this is the answer to one.
+    pub fn retold_answer(&self) -> Option<(&CallNumber, &Heard)>
+        ensures { option_map (λ a. record { number = a.0.now; heard = a.1.now }) result ≡ retold_answer self.now }
+    {
+        match self {
+            Act::Answer(number, heard) if number.slot == RETOLD_SLOT => Some((number, heard)),
+            _ => None,
         }
     }
 }
