@@ -208,9 +208,9 @@ place_is : (q : Seat → Bool) (seats : List Seat) (i : ℕ) (x : Bool) (r : Opt
 place_is q seats i x r at lt is = sym
     (ap (λ (m : ℕ). cond (nat_lt m (length seats)) (Some m) None) at ∙ (ap (λ (y : Bool). cond y (Some i) None) lt ∙ is))
 
-first_at : (words : List Posted) (seats : List Seat) (n : ℕ) (d : Seat) (r : Option ℕ) → AreOut words seats → length seats ≤ 4294967296 → IsFirstOf n words r
+first_at : (words : List Posted) (seats : List Seat) (n : ℕ) (d : Seat) (r : Option ℕ) → AreOut words seats → IsFirstOf n words r
     → r ≡ position (λ (s : Seat). has_serial n s.call) seats
-first_at words seats n d (Some b) p few h =
+first_at words seats n d (Some b) p h =
     let within : b < length seats = within_some seats n b (let e = p.each n b in let some = h.0 in omega (arith, e, some)) in
     let at = is_true (has_serial n (get_or seats b d).call) (times n b words) (at_place words seats n b d within p) h.0 in
     place_is (λ (s : Seat). has_serial n s.call) seats b true (Some b)
@@ -218,15 +218,15 @@ first_at words seats n d (Some b) p few h =
     (λ k less. is_false (has_serial n (get_or seats k d).call) (times n k words) (at_place words seats n k d (omega (arith, within, less)) p) (h.1 k less))
     (λ l. at))
     (grind (arith, nat_tests, within)) refl
-first_at words seats n d None p few h =
+first_at words seats n d None p h =
     place_is (λ (s : Seat). has_serial n s.call) seats (length seats) false None
     (position_or_len_is (λ (s : Seat). has_serial n s.call) seats (length seats) d (omega arith)
-    (λ k less. is_false (has_serial n (get_or seats k d).call) (times n k words) (at_place words seats n k d less p) (h k (omega (arith, less, few))))
+    (λ k less. is_false (has_serial n (get_or seats k d).call) (times n k words) (at_place words seats n k d less p) (h k))
     (λ l. absurd (omega (arith, l))))
     (grind (arith, nat_tests)) refl
 
-pub first_out : (words : List Posted) (seats : List Seat) (n : ℕ) (r : Option ℕ) → AreOut words seats → length seats ≤ 4294967296 → IsFirstOf n words r
+pub first_out : (words : List Posted) (seats : List Seat) (n : ℕ) (r : Option ℕ) → AreOut words seats → IsFirstOf n words r
     → r ≡ position (λ (s : Seat). has_serial n s.call) seats
-first_out words [] n None p few h = refl
-first_out words [] n (Some b) p few h = absurd (let e = p.each n b in let some = h.0 in let none : one_of n b b (out_at [] b) ≡ 0 = refl in omega (arith, e, some, none))
-first_out words (x ∷ seats) n r p few h = first_at words (x ∷ seats) n x r p few h
+first_out words [] n None p h = refl
+first_out words [] n (Some b) p h = absurd (let e = p.each n b in let some = h.0 in let none : one_of n b b (out_at [] b) ≡ 0 = refl in omega (arith, e, some, none))
+first_out words (x ∷ seats) n r p h = first_at words (x ∷ seats) n x r p h

@@ -1,16 +1,52 @@
 -- Words in the order of their numbers: where one stands, and which is the first with a number.
-use Rattle.std.proofs.Common.{◌≡◌, ◌∙◌, refl, ap, sym, subst, ℕ, zero, suc, ◌+◌, ◌*◌, ◌<◌, ◌≤◌, ◌⊎◌, ⊎_elim, inl, inr, Bool, true, false, if◌then◌else◌, List, [], ◌∷◌, length, get_or, Option, Some, None, arith}
+use Rattle.std.proofs.Common.{◌≡◌, ◌∙◌, refl, ap, sym, subst, ℕ, zero, suc, ◌+◌, ◌<◌, ◌≤◌, ◌⊎◌, ⊎_elim, inl, inr, Bool, true, false, if◌then◌else◌, List, [], ◌∷◌, length, get_or, Option, Some, None, arith}
 use Rattle.std.specs.Prelude.{◌==◌, slice_get}
-use Rattle.std.specs.List.{SameBelow, ShiftedDown}
-use Rattle.std.specs.List.Sorted.{IsNonDecreasingBy}
+use Rattle.std.specs.List.{insert}
 use Rattle.std.proofs.lemmas.Bool.{cases_lt}
 use Rattle.std.proofs.lemmas.Bool.Decides.{nat_tests}
+use Rattle.std.proofs.lemmas.List.Edits.{get_or-insert_above, get_or-insert_at, get_or-insert_below, length-insert}
 use Rattle.std.proofs.lemmas.List.Sums.{sum_by-cons, get_or-le-sum_by}
 use Rattle.std.proofs.lemmas.Option.{slice_get-get_or, slice_get_past}
 use Rattle.std.proofs.lemmas.List.{get_or_default}
-use Rattle.family_rules.specs.Outs.{IsFirstOf, branch_in, one_at, rank, times}
-use Rattle.family_rules.specs.OutsInside.{AreShort}
+use Rattle.family_rules.specs.Outs.{IsFirstOf, StandInOrder, branch_in, comes_before, one_at, times}
 use Rattle.family_rules.specs.declared.outs.Posted.{Posted}
+
+-- ---- the order
+
+-- one that comes before another, which doesn't come behind a third
+pub before_later : (p q r : Posted) → comes_before q r ≡ true → comes_before q p ≡ false → comes_before p r ≡ true
+before_later p q r a b = grind (arith, nat_tests, a, b)
+
+pub not_before_itself : (p : Posted) → comes_before p p ≡ false
+not_before_itself p = grind (arith, nat_tests)
+
+neither : (p q : Posted) → comes_before p q ≡ false → comes_before q p ≡ false → p ≡ q
+neither p q a b = ap (λ (n : ℕ). record { serial = n; branch = p.branch }) serial ∙ ap (λ (n : ℕ). record { serial = q.serial; branch = n }) branch
+  where
+    serial : p.serial ≡ q.serial
+    serial = grind (arith, nat_tests, a, b)
+
+    branch : p.branch ≡ q.branch
+    branch = grind (arith, nat_tests, a, b)
+
+low_serial : (p q : Posted) → comes_before q p ≡ false → p.serial ≤ q.serial
+low_serial p q h = grind (arith, nat_tests, h)
+
+low_branch : (p q : Posted) → comes_before q p ≡ false → p.serial ≡ q.serial → p.branch ≤ q.branch
+low_branch p q h e = grind (arith, nat_tests, h, e)
+
+not_below : (p : Posted) (s c : ℕ) → p.serial ≡ s → comes_before p (record { serial = s; branch = 0 }) ≡ true → ⊥
+not_below p s c e h = grind (arith, nat_tests, h, e)
+
+not_both : {x : Bool} → x ≡ true → x ≡ false → ⊥
+not_both t f = absurd (cc (sym t ∙ f))
+
+-- those in order, whether or not they are one
+pub in_order : (xs : List Posted) → StandInOrder xs → (i j : ℕ) (d : Posted) → i ≤ j → j < length xs → comes_before (get_or xs j d) (get_or xs i d) ≡ false
+in_order xs order i j d up within = ⊎_elim
+    (λ less. order i j d less within)
+    (λ same. let e : j ≡ i = omega (arith, up, same) in subst (λ (k : ℕ). comes_before (get_or xs k d) (get_or xs i d) ≡ false) (sym e) (not_before_itself (get_or xs i d)))
+    (cases_lt i j)
 
 -- ---- where a word stands
 
@@ -28,16 +64,13 @@ is_one s b p e f = grind (arith, nat_tests, e, f)
 
 -- a place of it
 abbrev Stands : ℕ → ℕ → List Posted → Type 0
-Stands s b xs = (j : ℕ) × (j < length xs) × ((d : Posted) → rank (get_or xs j d) ≡ s * 4294967296 + b) × ((d : Posted) → (get_or xs j d).branch ≡ b)
-
-ranked : (s b : ℕ) (p : Posted) → (p.serial ≡ s) × (p.branch ≡ b) → rank p ≡ s * 4294967296 + b
-ranked s b p h = let e = h.0 in let f = h.1 in omega (arith, e, f)
+Stands s b xs = (j : ℕ) × (j < length xs) × ((d : Posted) → (get_or xs j d).serial ≡ s) × ((d : Posted) → (get_or xs j d).branch ≡ b)
 
 stands : (s b : ℕ) (xs : List Posted) → 0 < times s b xs → Stands s b xs
 stands s b [] h = absurd (omega (arith, h))
 stands s b (x ∷ xs) h = ⊎_elim
     (λ none. let r = stands s b xs none in (suc r.0, omega (arith, r.1), λ d. r.2 d, λ d. r.3 d))
-    (λ one. (zero, omega arith, λ d. ranked s b x (is_same s b x one), λ d. (is_same s b x one).1))
+    (λ one. (zero, omega arith, λ d. (is_same s b x one).0, λ d. (is_same s b x one).1))
     (either (times s b xs) (one_at s b x) (subst (λ (n : ℕ). 0 < n) (sum_by-cons (one_at s b) x xs) h))
   where
     either : (m n : ℕ) → 0 < n + m → (0 < m) ⊎ (0 < n)
@@ -49,44 +82,40 @@ zero_if : (n : ℕ) → (0 < n → ⊥) → n ≡ 0
 zero_if zero h = refl
 zero_if (suc n) h = absurd (h (omega arith))
 
--- these stand before the place, and those from it on
-abbrev pub AreBelow : List Posted → ℕ → ℕ → Type 0
-AreBelow xs at r = (k : ℕ) (d : Posted) → k < at → rank (get_or xs k d) < r
+-- these stand before the place of a word, and those from it on
+abbrev pub AreBelow : List Posted → ℕ → Posted → Type 0
+AreBelow xs at p = (k : ℕ) (d : Posted) → k < at → comes_before (get_or xs k d) p ≡ true
 
-abbrev pub AreAbove : List Posted → ℕ → ℕ → Type 0
-AreAbove xs at r = (k : ℕ) (d : Posted) → at ≤ k → k < length xs → r ≤ rank (get_or xs k d)
+abbrev pub AreAbove : List Posted → ℕ → Posted → Type 0
+AreAbove xs at p = (k : ℕ) (d : Posted) → at ≤ k → k < length xs → comes_before (get_or xs k d) p ≡ false
 
-none_past : (xs : List Posted) (at s c : ℕ) → length xs ≤ at → AreBelow xs at (s * 4294967296 + 0) → times s c xs ≡ 0
+-- the least with a number
+abbrev pub least : ℕ → Posted
+least s = record { serial = s; branch = 0 }
+
+none_past : (xs : List Posted) (at s c : ℕ) → length xs ≤ at → AreBelow xs at (least s) → times s c xs ≡ 0
 none_past xs at s c past below = zero_if (times s c xs) (λ some.
     let r = stands s c xs some in
-    let d : Posted = record { serial = 0; branch = 0 } in
-    let low = below r.0 d (omega (arith, r.1, past)) in
-    let is = r.2 d in
-    omega (arith, low, is))
+    not_below (get_or xs r.0 (least s)) s c (r.2 (least s)) (below r.0 (least s) (omega (arith, r.1, past))))
 
-other_serial : (p : Posted) (s c : ℕ) → p.branch < 4294967296 → c < 4294967296 → s * 4294967296 ≤ rank p → rank p ≤ s * 4294967296 + c → p.serial ≡ s
-other_serial p s c short low above below = omega (arith, short, low, above, below)
-
-none_other : (xs : List Posted) (at s c : ℕ) (e : Posted) → IsNonDecreasingBy rank xs → AreShort xs → at < length xs → e ≡ get_or xs at e → (e.serial == s) ≡ false
-    → AreBelow xs at (s * 4294967296 + 0) → AreAbove xs at (s * 4294967296 + 0) → c < 4294967296 → times s c xs ≡ 0
-none_other xs at s c e order short within is other below above small = zero_if (times s c xs) (λ some.
+none_other : (xs : List Posted) (at s c : ℕ) (e : Posted) → StandInOrder xs → at < length xs → e ≡ get_or xs at e → (e.serial == s) ≡ false
+    → AreBelow xs at (least s) → AreAbove xs at (least s) → times s c xs ≡ 0
+none_other xs at s c e order within is other below above = zero_if (times s c xs) (λ some.
     let r = stands s c xs some in
     let here = r.2 e in
     ⊎_elim
-    (λ before. let low = below r.0 e before in omega (arith, low, here))
+    (λ before. not_below (get_or xs r.0 e) s c here (below r.0 e before))
     (λ behind.
-    let same : rank (get_or xs at e) ≡ rank e = ap (λ (p : Posted). rank p) (sym is) in
-    let low = above at e (omega arith) within in
-    let high = order at r.0 e behind r.1 in
-    let few : e.branch < 4294967296 = subst (λ (p : Posted). p.branch < 4294967296) (sym is) (short at e within) in
-    no (other_serial e s c few small (omega (arith, low, same)) (omega (arith, high, same, here))) other)
+    let low : s ≤ e.serial = low_serial (least s) e (subst (λ (p : Posted). comes_before p (least s) ≡ false) (sym is) (above at e (omega arith) within)) in
+    let high : e.serial ≤ (get_or xs r.0 e).serial = low_serial e (get_or xs r.0 e) (subst (λ (p : Posted). comes_before (get_or xs r.0 e) p ≡ false) (sym is) (in_order xs order at r.0 e behind r.1)) in
+    no (omega (arith, low, high, here)) other)
     (cases_lt r.0 at))
   where
     no : e.serial ≡ s → (e.serial == s) ≡ false → ⊥
     no h other = grind (arith, nat_tests, h, other)
 
-first_some : (xs : List Posted) (at s : ℕ) (e : Posted) → IsNonDecreasingBy rank xs → at < length xs → e ≡ get_or xs at e → (e.serial == s) ≡ true
-    → AreBelow xs at (s * 4294967296 + 0) → IsFirstOf s xs (Some e.branch)
+first_some : (xs : List Posted) (at s : ℕ) (e : Posted) → StandInOrder xs → at < length xs → e ≡ get_or xs at e → (e.serial == s) ≡ true
+    → AreBelow xs at (least s) → IsFirstOf s xs (Some e.branch)
 first_some xs at s e order within is same below = (there, none)
   where
     serial : e.serial ≡ s
@@ -102,81 +131,112 @@ first_some xs at s e order within is same below = (there, none)
     none c less = zero_if (times s c xs) (λ some.
         let r = stands s c xs some in
         let here = r.2 e in
+        let mine = r.3 e in
         ⊎_elim
-        (λ before. let low = below r.0 e before in omega (arith, low, here))
+        (λ before. not_below (get_or xs r.0 e) s c here (below r.0 e before))
         (λ behind.
-        let mine : rank (get_or xs at e) ≡ rank e = ap (λ (p : Posted). rank p) (sym is) in
-        let high = order at r.0 e behind r.1 in
-        let eq = serial in
-        omega (arith, high, mine, here, less, eq))
+        let high = low_branch e (get_or xs r.0 e) (subst (λ (p : Posted). comes_before (get_or xs r.0 e) p ≡ false) (sym is) (in_order xs order at r.0 e behind r.1)) (serial ∙ sym here) in
+        omega (arith, high, mine, less))
         (cases_lt r.0 at))
 
-found : (xs : List Posted) (at s : ℕ) (e : Posted) (same : Bool) → (e.serial == s) ≡ same → IsNonDecreasingBy rank xs → AreShort xs → at < length xs → e ≡ get_or xs at e
-    → AreBelow xs at (s * 4294967296 + 0) → AreAbove xs at (s * 4294967296 + 0) → IsFirstOf s xs (if same then Some e.branch else None)
-found xs at s e true is order short within has below above = first_some xs at s e order within has is below
-found xs at s e false is order short within has below above = λ c small. none_other xs at s c e order short within has is below above small
+found : (xs : List Posted) (at s : ℕ) (e : Posted) (same : Bool) → (e.serial == s) ≡ same → StandInOrder xs → at < length xs → e ≡ get_or xs at e
+    → AreBelow xs at (least s) → AreAbove xs at (least s) → IsFirstOf s xs (if same then Some e.branch else None)
+found xs at s e true is order within has below above = first_some xs at s e order within has is below
+found xs at s e false is order within has below above = λ c. none_other xs at s c e order within has is below above
 
-pub first_is : (xs : List Posted) (at s : ℕ) (r : Option ℕ) → IsNonDecreasingBy rank xs → AreShort xs → AreBelow xs at (s * 4294967296 + 0) → AreAbove xs at (s * 4294967296 + 0)
-    → r ≡ branch_in s (slice_get xs at) → IsFirstOf s xs r
-first_is xs at s r order short below above is = subst (λ (o : Option ℕ). IsFirstOf s xs o) (sym is) (⊎_elim
+pub first_is : (xs : List Posted) (at s : ℕ) (r : Option ℕ) → StandInOrder xs → AreBelow xs at (least s) → AreAbove xs at (least s) → r ≡ branch_in s (slice_get xs at) → IsFirstOf s xs r
+first_is xs at s r order below above is = subst (λ (o : Option ℕ). IsFirstOf s xs o) (sym is) (⊎_elim
     (λ within.
-    let d : Posted = record { serial = 0; branch = 0 } in
-    let e : Posted = get_or xs at d in
-    subst (λ (o : Option Posted). IsFirstOf s xs (branch_in s o)) (sym (slice_get-get_or xs at d within))
-    (found xs at s e (e.serial == s) refl order short within (get_or_default xs at d e within) below above))
+    let e : Posted = get_or xs at (least s) in
+    subst (λ (o : Option Posted). IsFirstOf s xs (branch_in s o)) (sym (slice_get-get_or xs at (least s) within))
+    (found xs at s e (e.serial == s) refl order within (get_or_default xs at (least s) e within) below above))
     (λ past. subst (λ (o : Option Posted). IsFirstOf s xs (branch_in s o)) (sym (slice_get_past xs at past))
-    (λ c small. none_past xs at s c past below))
+    (λ c. none_past xs at s c past below))
     (cases_lt at (length xs)))
 
 -- ---- one is removed
 
-pub in_range : (xs : List Posted) (at : ℕ) (p : Posted) → 0 < times p.serial p.branch xs → AreBelow xs at (rank p) → at < length xs
+-- a place of a word isn't in front of the place for it
+not_before : (p : Posted) (xs : List Posted) (at k : ℕ) (d : Posted) → (get_or xs k d).serial ≡ p.serial → (get_or xs k d).branch ≡ p.branch → AreBelow xs at p → k < at → ⊥
+not_before p xs at k d serial branch below before = no (get_or xs k d) serial branch (below k d before)
+  where
+    no : (q : Posted) → q.serial ≡ p.serial → q.branch ≡ p.branch → comes_before q p ≡ true → ⊥
+    no q e f h = grind (arith, nat_tests, h, e, f)
+
+pub in_range : (xs : List Posted) (at : ℕ) (p : Posted) → 0 < times p.serial p.branch xs → AreBelow xs at p → at < length xs
 in_range xs at p some below =
     let r = stands p.serial p.branch xs some in
-    let here = r.2 p in
-    ⊎_elim (λ before. let low = below r.0 p before in absurd (omega (arith, low, here))) (λ behind. omega (arith, behind, r.1)) (cases_lt r.0 at)
+    ⊎_elim (λ before. absurd (not_before p xs at r.0 p (r.2 p) (r.3 p) below before)) (λ behind. omega (arith, behind, r.1)) (cases_lt r.0 at)
 
 -- what stands there is that word
-pub is_it : (xs : List Posted) (at : ℕ) (p e : Posted) → IsNonDecreasingBy rank xs → AreShort xs → 0 < times p.serial p.branch xs → AreBelow xs at (rank p) → AreAbove xs at (rank p)
-    → e ≡ get_or xs at e → e ≡ p
-is_it xs at p e order short some below above is =
+pub is_it : (xs : List Posted) (at : ℕ) (p e : Posted) → StandInOrder xs → 0 < times p.serial p.branch xs → AreBelow xs at p → AreAbove xs at p → e ≡ get_or xs at e → e ≡ p
+is_it xs at p e order some below above is =
     let r = stands p.serial p.branch xs some in
-    let here = r.2 e in
     let within = in_range xs at p some below in
+    let same : get_or xs r.0 e ≡ p = equal (get_or xs r.0 e) (r.2 e) (r.3 e) in
     ⊎_elim
-    (λ before. let low = below r.0 e before in absurd (omega (arith, low, here)))
-    (λ behind.
-    let same : rank (get_or xs at e) ≡ rank e = ap (λ (p : Posted). rank p) (sym is) in
-    let low = above at e (omega arith) within in
-    let high = order at r.0 e behind r.1 in
-    let few : e.branch < 4294967296 = subst (λ (p : Posted). p.branch < 4294967296) (sym is) (short at e within) in
-    let small : p.branch < 4294967296 = subst (λ (n : ℕ). n < 4294967296) (r.3 e) (short r.0 e r.1) in
-    equal e p few small (omega (arith, low, high, same, here)))
+    (λ before. absurd (not_before p xs at r.0 e (r.2 e) (r.3 e) below before))
+    (λ behind. neither e p
+    (subst (λ (q : Posted). comes_before q p ≡ false) (sym is) (above at e (omega arith) within))
+    (subst (λ (q : Posted). comes_before p q ≡ false) (sym is) (subst (λ (q : Posted). comes_before q (get_or xs at e) ≡ false) same (in_order xs order at r.0 e behind r.1))))
     (cases_lt r.0 at)
   where
-    equal : (e p : Posted) → e.branch < 4294967296 → p.branch < 4294967296 → rank e ≡ rank p → e ≡ p
-    equal e p few small h =
-        let serial : e.serial ≡ p.serial = omega (arith, few, small, h) in
-        let branch : e.branch ≡ p.branch = omega (arith, few, small, h) in
-        ap (λ (n : ℕ). record { serial = n; branch = e.branch }) serial ∙ ap (λ (n : ℕ). record { serial = p.serial; branch = n }) branch
+    equal : (q : Posted) → q.serial ≡ p.serial → q.branch ≡ p.branch → q ≡ p
+    equal q e f = ap (λ (n : ℕ). record { serial = n; branch = q.branch }) e ∙ ap (λ (n : ℕ). record { serial = p.serial; branch = n }) f
 
-pub order_removed : (xs ys : List Posted) (at : ℕ) → IsNonDecreasingBy rank xs → length ys + 1 ≡ length xs → SameBelow xs ys at → ShiftedDown xs ys at → IsNonDecreasingBy rank ys
-order_removed xs ys at order len low high = λ i j d up within.
+-- ---- one is put in
+
+pub order_inserted : (xs : List Posted) (at : ℕ) (p : Posted) → StandInOrder xs → at ≤ length xs → AreBelow xs at p → AreAbove xs at p → StandInOrder (insert xs at p)
+order_inserted xs at p order fits below above = λ i j d less within.
+    let len = length-insert xs at p fits in
+    let short : j < length xs + 1 = omega (arith, within, len) in
     ⊎_elim
-    (λ l. subst2 (ap (λ (p : Posted). rank p) (low i d l)) (⊎_elim
-    (λ m. let e = ap (λ (p : Posted). rank p) (low j d m) in let o = order i j d up (omega (arith, within, len)) in omega (arith, e, o))
-    (λ m. let e = ap (λ (p : Posted). rank p) (high j d m) in let o = order i (j + 1) d (omega (arith, up)) (omega (arith, within, len)) in omega (arith, e, o))
-    (cases_lt j at)))
-    (λ l. subst2 (ap (λ (p : Posted). rank p) (high i d l))
-    (let e = ap (λ (p : Posted). rank p) (high j d (omega (arith, l, up))) in let o = order (i + 1) (j + 1) d (omega (arith, up)) (omega (arith, within, len)) in omega (arith, e, o)))
+    (λ front. ⊎_elim
+    (λ m. subst (λ (q : Posted). comes_before q (get_or (insert xs at p) i d) ≡ false) (sym (get_or-insert_below xs at p d j m fits))
+    (subst (λ (q : Posted). comes_before (get_or xs j d) q ≡ false) (sym (get_or-insert_below xs at p d i front fits)) (order i j d less (omega (arith, m, fits)))))
+    (λ m. subst (λ (q : Posted). comes_before (get_or (insert xs at p) j d) q ≡ false) (sym (get_or-insert_below xs at p d i front fits))
+    (behind i d front j m short))
+    (cases_lt j at))
+    (λ back. past i j d back less short)
     (cases_lt i at)
   where
-    subst2 : {m n k : ℕ} → m ≡ n → n ≤ k → m ≤ k
-    subst2 e l = omega (arith, e, l)
+    no_later : (q r : Posted) → comes_before q r ≡ true → comes_before r q ≡ false
+    no_later q r h = grind (arith, nat_tests, h)
 
-pub short_removed : (xs ys : List Posted) (at : ℕ) → AreShort xs → length ys + 1 ≡ length xs → SameBelow xs ys at → ShiftedDown xs ys at → AreShort ys
-short_removed xs ys at short len low high = λ k d within.
-    ⊎_elim
-    (λ l. subst (λ (p : Posted). p.branch < 4294967296) (sym (low k d l)) (short k d (omega (arith, within, len))))
-    (λ l. subst (λ (p : Posted). p.branch < 4294967296) (sym (high k d l)) (short (k + 1) d (omega (arith, within, len))))
-    (cases_lt k at)
+    through : (q r s : Posted) → comes_before q r ≡ true → comes_before s r ≡ false → comes_before s q ≡ false
+    through q r s a b = grind (arith, nat_tests, a, b)
+
+    moved : (j : ℕ) (d : Posted) → at ≤ j → get_or (insert xs at p) (suc j) d ≡ get_or xs j d
+    moved j d up = let e : suc j ≡ j + 1 = omega arith in ap (λ (k : ℕ). get_or (insert xs at p) k d) e ∙ get_or-insert_above xs at p d j up fits
+
+    -- one in front of the place, and one from it on
+    behind : (i : ℕ) (d : Posted) → i < at → (j : ℕ) → at ≤ j → j < length xs + 1 → comes_before (get_or (insert xs at p) j d) (get_or xs i d) ≡ false
+    behind i d front zero m short = absurd (omega (arith, front, m))
+    behind i d front (suc j) m short = ⊎_elim
+        (λ here. let e : suc j ≡ at = omega (arith, here, m) in
+        subst (λ (q : Posted). comes_before q (get_or xs i d) ≡ false) (sym (ap (λ (k : ℕ). get_or (insert xs at p) k d) e ∙ get_or-insert_at xs at p d fits)) (no_later (get_or xs i d) p (below i d front)))
+        (λ up. subst (λ (q : Posted). comes_before q (get_or xs i d) ≡ false) (sym (moved j d up))
+        (through (get_or xs i d) p (get_or xs j d) (below i d front) (above j d up (omega (arith, short)))))
+        (cases_lt j at)
+
+    -- both from the place on
+    past : (i j : ℕ) (d : Posted) → at ≤ i → i < j → j < length xs + 1 → comes_before (get_or (insert xs at p) j d) (get_or (insert xs at p) i d) ≡ false
+    past i zero d back less short = absurd (omega (arith, less))
+    past i (suc j) d back less short =
+        subst (λ (q : Posted). comes_before q (get_or (insert xs at p) i d) ≡ false) (sym (moved j d (omega (arith, back, less)))) (first i back less)
+      where
+        first : (i : ℕ) → at ≤ i → i < suc j → comes_before (get_or xs j d) (get_or (insert xs at p) i d) ≡ false
+        first zero back less =
+            let e : zero ≡ at = omega (arith, back) in
+            subst (λ (q : Posted). comes_before (get_or xs j d) q ≡ false) (sym (ap (λ (k : ℕ). get_or (insert xs at p) k d) e ∙ get_or-insert_at xs at p d fits)) (above j d (omega (arith, back)) (omega (arith, short)))
+        first (suc i) back less = ⊎_elim
+            (λ here. let e : suc i ≡ at = omega (arith, here, back) in
+            subst (λ (q : Posted). comes_before (get_or xs j d) q ≡ false) (sym (ap (λ (k : ℕ). get_or (insert xs at p) k d) e ∙ get_or-insert_at xs at p d fits)) (above j d (omega (arith, less, e)) (omega (arith, short))))
+            (λ up. subst (λ (q : Posted). comes_before (get_or xs j d) q ≡ false) (sym (moved i d up))
+            (order i j d (omega (arith, less)) (omega (arith, short))))
+            (cases_lt i at)
+
+-- whether or not there was memory
+pub order_kept : (ok : Bool) (xs ys : List Posted) → StandInOrder xs → StandInOrder ys → StandInOrder (if ok then xs else ys)
+order_kept true xs ys a b = a
+order_kept false xs ys a b = b

@@ -1,5 +1,5 @@
 -- The words that are out, each with the branch whose call waits for its answer.
-use Rattle.std.specs.Prelude.{◌≡◌, ℕ, ◌+◌, ◌*◌, ◌<◌, ◌==◌, ◌&&◌, List, length, Option, Some, None, sum_by, if◌then◌else◌}
+use Rattle.std.specs.Prelude.{◌≡◌, ℕ, ◌+◌, ◌<◌, ◌==◌, ◌&&◌, ◌||◌, Bool, false, nat_lt, List, length, AllPairs, Option, Some, None, sum_by, if◌then◌else◌}
 use Rattle.std.specs.Option.{option_and_then}
 use Rattle.family_rules.specs.declared.call.Call.{Call as KeptCall}
 use Rattle.family_rules.specs.declared.call.Seat.{Seat}
@@ -11,9 +11,13 @@ pub record OutsParts : Type 0 where
   pub words : List Posted
   pub capacity : ℕ
 
--- the order of the words: by their serial numbers, and then by their branches
-abbrev pub rank : Posted → ℕ
-rank p = p.serial * 4294967296 + p.branch
+-- a word comes before those with a greater serial number, and before those with the same one and a greater branch
+abbrev pub comes_before : Posted → Posted → Bool
+comes_before p q = nat_lt p.serial q.serial || p.serial == q.serial && nat_lt p.branch q.branch
+
+-- none comes before one that stands in front of it
+abbrev pub StandInOrder : List Posted → Type 0
+StandInOrder words = AllPairs (λ (p q : Posted). comes_before q p ≡ false) words
 
 -- once, where a word has this number and is that of this branch
 abbrev pub one_at : ℕ → ℕ → Posted → ℕ
@@ -36,7 +40,7 @@ some_of None = 0
 -- the first branch that has a word out with this number
 abbrev pub IsFirstOf : ℕ → List Posted → Option ℕ → Type 0
 IsFirstOf serial words (Some b) = (0 < times serial b words) × ((c : ℕ) → c < b → times serial c words ≡ 0)
-IsFirstOf serial words None = (c : ℕ) → c < 4294967296 → times serial c words ≡ 0
+IsFirstOf serial words None = (c : ℕ) → times serial c words ≡ 0
 
 -- the branch of a word that may be there, where it has this number
 abbrev pub branch_in : ℕ → Option Posted → Option ℕ

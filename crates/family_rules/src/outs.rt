@@ -1,6 +1,5 @@
 // The words that are out, which are found by their serial numbers.
-ghost use Rattle.std.specs.Prelude.{◌≡◌, ◌+◌, ◌<◌, ◌≤◌, ℕ, [], length, nat_lt, slice_get, slice_index_or, Some, None, OnOk, IfOk};
-ghost use Rattle.std.specs.List.Sorted.{IsNonDecreasingBy};
+ghost use Rattle.std.specs.Prelude.{◌≡◌, ◌+◌, ◌<◌, ◌≤◌, ℕ, true, false, [], length, slice_get, slice_index_or, Some, None, OnOk, IfOk};
 ghost use Rattle.family_rules.specs.Outs as words;
 ghost use Rattle.family_rules.specs.declared.outs.Posted.{Posted as Word};
 
@@ -36,7 +35,7 @@ impl Model for Outs {
 impl Posted {
     /// Whether it comes before that one.
     fn is_before(self, other: Posted) -> bool
-        ensures { result ≡ nat_lt (words.rank self) (words.rank other) }
+        ensures { result ≡ words.comes_before self other }
     {
         self.serial < other.serial || self.serial == other.serial && self.branch < other.branch
     }
@@ -139,12 +138,12 @@ impl Outs {
 
 /// The place of the first of these words that doesn't come before this one.
 fn place_of(list: &[Posted], posted: Posted) -> usize
-    requires order { IsNonDecreasingBy words.rank list.now }
+    requires order { words.StandInOrder list.now }
     ensures bound { result ≤ length list.now }
     ensures below { (k : ℕ) (d : Word) → k < result
-        → words.rank (slice_index_or list.now k d) < words.rank posted }
+        → words.comes_before (slice_index_or list.now k d) posted ≡ true }
     ensures above { (k : ℕ) (d : Word) → result ≤ k → k < length list.now
-        → words.rank posted ≤ words.rank (slice_index_or list.now k d) }
+        → words.comes_before (slice_index_or list.now k d) posted ≡ false }
 {
     list.partition_point(|word| word.is_before(posted))
 }

@@ -81,7 +81,6 @@ impl State {
     fn waiting_at(&self, serial: u32) -> Option<u32>
         ensures { result ≡ position (families.has_out serial) (self.now.family).calls }
     {
-        let _ = self.tree.count();
         self.outs.first_of(serial)
     }
 

@@ -1,4 +1,4 @@
-use Rattle.std.proofs.Common.{◌≤◌, ◌∙◌, refl, ap, length, position, arith}
+use Rattle.std.proofs.Common.{◌∙◌, refl, ap, position}
 use Rattle.coordinator.specs.Family.{has_out}
 use Rattle.family_rules.specs.Room.{StateParts}
 use Rattle.family_rules.specs.StateInside.{shown}
@@ -11,7 +11,6 @@ returns c =
     let rs = c.self.inside.votes.ballots.registrations in
     let seats = c.self.inside.seats.items in
     let at = c.args.serial in
-    let few : length seats ≤ 4294967296 = omega (arith, c.self.inside.seats.ok.0, c.self.invariant.seats, c.count.ensures.count, c.count.ensures.few) in
-    first_out c.self.inside.outs.words seats at c.first_of.result c.self.invariant.outs few c.first_of.ensures
+    first_out c.self.inside.outs.words seats at c.first_of.result c.self.invariant.outs c.first_of.ensures
     ∙ (placed (shown c.self.inside).family rs at seats refl
     ∙ ap (λ (v : StateParts). position (has_out at) v.family.calls) c.self.view_is)
