@@ -1,6 +1,6 @@
 -- Each deed is made of steps.
-use Rattle.std.proofs.Common.{◌≡◌, ℕ, zero, suc, ◌+◌, ◌-◌, ◌&&◌, Bool, true, false, min, List, [], ◌∷◌, length, map, slice_get, slice_set, codes, Option, Some, None, Result, refl, sym, ap, subst, ◌∙◌, append_assoc, append-nil, not, ◌||◌, ◌≤◌, IsTrue, nat_le, arith, true≢false}
-use Rattle.std.specs.List.{AllByRecursion}
+use Rattle.std.proofs.Common.{◌≡◌, ℕ, zero, suc, ◌+◌, ◌-◌, ◌&&◌, Bool, true, false, min, List, [], ◌∷◌, length, map, slice_get, slice_set, codes, Option, Some, None, Result, refl, sym, ap, subst, ◌∙◌, append_assoc, append-nil, not, ◌||◌, ◌≤◌, nat_lt, arith, true≢false}
+use Rattle.std.specs.List.{AllByRecursion, list_all}
 use Rattle.std.proofs.lemmas.Option.{same_Some, get_or_from_slice_get}
 use Rattle.std.proofs.lemmas.Bool.{and_parts}
 use Rattle.std.specs.Option.{option_map, option_map_or, option_and_then}
@@ -52,7 +52,8 @@ use Rattle.nodes_world.proofs.Deeds.{MayBeDone, delivers_goes, down, mapped_of, 
 use Rattle.std.proofs.lemmas.List.Quantifiers.{position-Some}
 use Rattle.std.proofs.lemmas.Bool.Decides.{nat_tests}
 use Rattle.ots_model.specs.Limits.{name_limit}
-use Rattle.nodes_world.specs.Agreement.{GoesOnFrom, names_fit}
+use Rattle.ots_model.specs.Name.{IsName, is_letter, is_name_octet}
+use Rattle.nodes_world.specs.Agreement.{GivesName, GoesOnFrom}
 
 -- ---- one step after another
 
@@ -472,13 +473,22 @@ touched_go w may name make deed is then =
     = named.1 ∙ ap (λ (t : Thing). Some t) (resource_is named.0 up.0 named.2) ∙ ap (λ (key : ObjectKey). Some (things.Resource key)) (sym (so.1 ∙ also.1)) in
     subst (MayGo w) (sym made.2) (then made.0 is_thing)
 
-fits_at : (many limit : ℕ) → nat_le many limit ≡ true → many ≤ limit
-fits_at many limit is = grind (arith, nat_tests, is)
+last_of_both : (a b : Bool) → (a && b) ≡ true → b ≡ true
+last_of_both true b is = is
+last_of_both false b is = absurd cc
 
-may_go : (event : ScriptEvent) (deed : Deed) (w : World) → IsTrue (names_fit event) → resolve event w ≡ Some deed → MayGo w deed
+-- a name isn't long
+name_short : (name : List ℕ) → IsName name → length name ≤ name_limit
+name_short [] is = absurd cc
+name_short (b ∷ bs) is = low (length bs) (last_of_both (is_letter b && list_all is_name_octet bs) (nat_lt (length bs) name_limit) is)
+  where
+    low : (many : ℕ) → nat_lt many 12 ≡ true → suc many ≤ 12
+    low many less = grind (arith, nat_tests, less)
+
+may_go : (event : ScriptEvent) (deed : Deed) (w : World) → GivesName event → resolve event w ≡ Some deed → MayGo w deed
 unfolding resolve begins_named creates_named puts_named refuses_named commits_named relates_named
 may_go (events.Node name) deed w fit is = free_go w name (deeds.MakeNode name) deed is tt
-may_go (events.End name) deed w fit is = free_go w name (deeds.MakeEnd name) deed is (fits_at (length name) name_limit fit)
+may_go (events.End name) deed w fit is = free_go w name (deeds.MakeEnd name) deed is (name_short name fit)
 may_go (events.Begin node name seconds) deed w fit is =
     let at = some_of (λ (place : ℕ). if_free w name (deeds.Begin place name seconds)) (node_named w node) deed is in
     free_go w name (deeds.Begin at.0 name seconds) deed at.2 tt

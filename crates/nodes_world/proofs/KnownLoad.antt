@@ -3,7 +3,7 @@ use Rattle.std.proofs.Common.{◌≡◌, ◌⊎◌, inl, inr, ℕ, ◌+◌, ◌^
 use Rattle.std.specs.List.{AllByRecursion, flat_map, list_any}
 use Rattle.std.specs.Option.{option_map_or, option_and_then}
 use Rattle.std.proofs.lemmas.Bool.Decides.{nat_tests}
-use Rattle.std.proofs.lemmas.List.Elements.{Contains-push_cases}
+use Rattle.std.proofs.lemmas.List.Elements.{Contains-push_cases, filter_map-append}
 use Rattle.std.proofs.lemmas.List.Folds.{list_any-from_Any}
 use Rattle.ior_refs.specs.declared.key.ObjectKey.{ObjectKey}
 use Rattle.ots_model.specs.Safe.{Stands}
@@ -30,7 +30,7 @@ use Rattle.nodes_world.specs.Laws.{RecordsAreRead, IsInOrder}
 use Rattle.decision_journal.specs.Growing.{JournalsGrow}
 use Rattle.nodes_world.specs.Objects.{place_of, service_at}
 use Rattle.nodes_world.specs.Told as tell
-use Rattle.nodes_world.specs.Told.{Told, known}
+use Rattle.nodes_world.specs.Told.{Told, known, known_in}
 use Rattle.nodes_world.specs.World.{World, Seat, OfNode, end_in, family_at, node_at, node_in, thing, transaction_name, with_seat}
 use Rattle.nodes_world.specs.Nodes.{key_of_record}
 use Rattle.nodes_world.specs.Lives.{loads, standing_lines, up_lines}
@@ -50,7 +50,6 @@ use Rattle.nodes_world.proofs.LoadedNodes.{load_holds, load_whole, no_family, re
 use Rattle.nodes_world.proofs.LoadedDisks.{life_follows, load_leaves, next_found}
 use Rattle.nodes_world.proofs.LoadedLines.{IsTold, is_recorded_decision, name_is, standing_one, standing_told, stands_both, told_standing, transaction_found, stands_behind}
 use Rattle.nodes_world.proofs.KnownFrames.{known_phase}
-use Rattle.nodes_world.proofs.Reaching.{known_more}
 use Rattle.family_laws.specs.OwnDecisions.{NodesKeepDecisions}
 use Rattle.nodes_world.proofs.Deeds.{node_is_up}
 use Rattle.nodes_world.proofs.EffectsTold.{name_named}
@@ -194,7 +193,7 @@ module _ (grow : JournalsGrow) (safe : LoadsAreSafe) (read : RecordsAreRead) (so
       → Stands (lines.Decide name (told_outcomes.Commit Record)) (known told) ⊎ IsTold w (service_at place) n.recovered name
   decisions_told name stands =
       elim (stands_both (known told) (up_line ∷ known decides) (lines.Decide name (told_outcomes.Commit Record))
-      (subst (Stands (lines.Decide name (told_outcomes.Commit Record))) (known_more told (tell.Known up_line ∷ decides)) stands)) [
+      (subst (Stands (lines.Decide name (told_outcomes.Commit Record))) (filter_map-append known_in told (tell.Known up_line ∷ decides)) stands)) [
         | inl was ↦ inl was
         | inr (inl e) ↦ absurd (not_up name e)
         | inr (inr new) ↦ inr (standing_told w (service_at place) n.recovered name new)
@@ -264,7 +263,7 @@ module _ (grow : JournalsGrow) (safe : LoadsAreSafe) (read : RecordsAreRead) (so
       let line = told_standing w (service_at place) n.recovered h rests.name among so.0 named in (
         rests.name,
         rests.of_name,
-        subst (Stands (lines.Decide rests.name (told_outcomes.Commit Record))) (sym (known_more told (tell.Known up_line ∷ decides)))
+        subst (Stands (lines.Decide rests.name (told_outcomes.Commit Record))) (sym (filter_map-append known_in told (tell.Known up_line ∷ decides)))
             (stands_behind (known told) (up_line ∷ known decides) (lines.Decide rests.name (told_outcomes.Commit Record)) (inr line)),
       )
     where

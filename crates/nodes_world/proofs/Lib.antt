@@ -1,10 +1,9 @@
 mod Struck
-mod Played
 mod Going
 mod Deeds
 mod Delivered
 mod GoingOn
-mod NamesFit
+mod ReadNames
 mod NothingKnown
 mod ReferenceShort
 mod RetryFits

@@ -3,7 +3,7 @@ use Rattle.std.proofs.Common.{◌≡◌, ◌⊎◌, inl, inr, ℕ, ◌==◌, ◌
 use Rattle.std.specs.List.{AllByRecursion, flat_map}
 use Rattle.std.specs.Option.{option_map}
 use Rattle.std.proofs.lemmas.Bool.Decides.{nat_tests}
-use Rattle.std.proofs.lemmas.List.Elements.{Contains-append_right, Contains-append_cases}
+use Rattle.std.proofs.lemmas.List.Elements.{Contains-append_right, Contains-append_cases, filter_map-append}
 use Rattle.ior_refs.specs.declared.key.ObjectKey.{ObjectKey}
 use Rattle.ots_model.specs.Safe.{Stands}
 use Rattle.ots_model.specs.declared.completion.Ground.TheVariants.{Record}
@@ -16,7 +16,7 @@ use Rattle.nodes_world.specs.declared.thing.Thing.{Thing}
 use Rattle.nodes_world.specs.declared.thing.Thing.TheVariants as things
 use Rattle.nodes_world.specs.Objects.{same_transaction}
 use Rattle.nodes_world.specs.Told as tell
-use Rattle.nodes_world.specs.Told.{Told, known}
+use Rattle.nodes_world.specs.Told.{Told, known, known_in}
 use Rattle.nodes_world.specs.World.{World, NamedKey, thing, transaction_in, transaction_name, transactions, thing_in}
 use Rattle.nodes_world.specs.Happenings.{naming}
 use Rattle.nodes_world.specs.Nodes.{key_of_record}
@@ -25,7 +25,6 @@ use Rattle.nodes_world.specs.Agreement.{IsTransaction}
 use Rattle.nodes_world.specs.AgreementInside.{Known}
 use Rattle.nodes_world.proofs.KnownTelling.{IsOne}
 use Rattle.nodes_world.proofs.LoadedNodes.{one_of}
-use Rattle.nodes_world.proofs.Reaching.{known_more}
 use Rattle.std.proofs.lemmas.Slice.Eq.{bytes_eq-Decides}
 use Rattle.nodes_world.proofs.KnownLines.{in_front}
 
@@ -86,7 +85,7 @@ pub standing_told : (w : World) (service : ℕ) (some : List Held) (name : List 
 standing_told w service [] name s = absurd s
 standing_told w service (r ∷ others) name s =
     elim (stands_both (known (standing_lines w service r)) (known (flat_map (standing_lines w service) others)) _
-    (subst (Stands (lines.Decide name (outcomes.Commit Record))) (known_more (standing_lines w service r) (flat_map (standing_lines w service) others)) s)) [
+    (subst (Stands (lines.Decide name (outcomes.Commit Record))) (filter_map-append known_in (standing_lines w service r) (flat_map (standing_lines w service) others)) s)) [
       | inl here ↦ let so = told_named (is_decided r.kind) (transaction_name w (key_of_record service r)) name here in
           record { held = r; among = (0, omega arith, refl); decided = so.0; named = so.1 }
       | inr there ↦ let at = standing_told w service others name there in
@@ -224,7 +223,7 @@ pub told_standing : (w : World) (service : ℕ) (some : List Held) (h : Held) (n
     → Stands (lines.Decide name (outcomes.Commit Record)) (known (flat_map (standing_lines w service) some))
 told_standing w service [] h name (i, less, is) decided named = absurd (omega (arith, less))
 told_standing w service (r ∷ others) h name among decided named =
-    subst (Stands (lines.Decide name (outcomes.Commit Record))) (sym (known_more (standing_lines w service r) (flat_map (standing_lines w service) others)))
+    subst (Stands (lines.Decide name (outcomes.Commit Record))) (sym (filter_map-append known_in (standing_lines w service r) (flat_map (standing_lines w service) others)))
     (elim (Contains-append_cases (r ∷ []) others h among) [
       | inl first ↦ in_front (known (standing_lines w service r)) (known (flat_map (standing_lines w service) others)) _
           (subst (λ (x : Held). Stands (lines.Decide name (outcomes.Commit Record)) (known (standing_lines w service x))) (sym (one_of r h first))

@@ -4,7 +4,7 @@ use Rattle.std.proofs.Common.{◌≡◌, ◌⊎◌, inl, inr, ℕ, ◌<◌, ◌=
 use Rattle.std.specs.List.{AllByRecursion, list_any}
 use Rattle.std.specs.Option.{option_and_then, option_map, option_map_or}
 use Rattle.std.proofs.lemmas.Bool.Decides.{nat_tests}
-use Rattle.std.proofs.lemmas.List.Elements.{Contains-append_left}
+use Rattle.std.proofs.lemmas.List.Elements.{Contains-append_left, filter_map-append}
 use Rattle.std.proofs.lemmas.List.Folds.{list_any-append}
 use Rattle.ior_refs.specs.declared.key.ObjectKey.{ObjectKey}
 use Rattle.ots_model.specs.Safe.{Stands}
@@ -25,13 +25,13 @@ use Rattle.nodes_world.specs.Journals.{records_in, records_on}
 use Rattle.nodes_world.specs.Laws.{RecordsAreRead}
 use Rattle.nodes_world.specs.Objects.{place_of, service_at}
 use Rattle.nodes_world.specs.Step.{carried_out}
-use Rattle.nodes_world.specs.Told.{Told, known}
+use Rattle.nodes_world.specs.Told.{Told, known, known_in}
 use Rattle.nodes_world.specs.World.{World, Seat, OfNode, seat_name, thing}
 use Rattle.nodes_world.proofs.DisksGoOn.{DecidesIn, DisksGoOn, HearingsGoOn, RecordsGoOn, disks_go, more, same}
 use Rattle.nodes_world.proofs.Delivered.{reached_delivered}
 use Rattle.nodes_world.proofs.GoingOn.{deeds_go}
 use Rattle.nodes_world.proofs.KnownLines.{in_front}
-use Rattle.nodes_world.proofs.Reaching.{goes_known, known_more, known_reached}
+use Rattle.nodes_world.proofs.Reaching.{goes_known, known_reached}
 
 inner : {A : Type 0} {x y : A} → Some x ≡ Some y → x ≡ y
 inner e = cc
@@ -87,7 +87,7 @@ module _ (w v : World) (told more_told : List Told) (goes : DisksGoOn w v) (k : 
   all = told ++ more_told
 
   stands_on : (line : Line) → Stands line (known told) → Stands line (known all)
-  stands_on line s = subst (Stands line) (sym (known_more told more_told)) (in_front (known told) (known more_told) line s)
+  stands_on line s = subst (Stands line) (sym (filter_map-append known_in told more_told)) (in_front (known told) (known more_told) line s)
 
   back_on : (name : List ℕ) → IsRolledBack told name → IsRolledBack all name
   back_on name (by_known reason s) = by_known reason (stands_on _ s)

@@ -1,5 +1,6 @@
 -- A resource that has answered commit has stored its updates, as a line tells. So it stays.
 use Rattle.std.proofs.Common.{◌≡◌, inl, inr, ℕ, ◌+◌, IsTrue, is_some, List, ◌++◌, slice_get, Option, Some, None, refl, sym, ap, subst, ◌∙◌, append_assoc, append-nil, arith}
+use Rattle.std.proofs.lemmas.List.Elements.{filter_map-append}
 use Rattle.ots_model.specs.Safe.{Stands}
 use Rattle.ots_model.specs.declared.completion.Word.TheVariants as phase_words
 use Rattle.ots_model.specs.declared.line.Line.{Line}
@@ -18,7 +19,7 @@ use Rattle.nodes_world.specs.Ends.{obeys}
 use Rattle.nodes_world.specs.Happenings.{Done}
 use Rattle.nodes_world.specs.OverForGood.{AnsweredCommitsAreStored}
 use Rattle.nodes_world.specs.Step.{carried_out}
-use Rattle.nodes_world.specs.Told.{Told, known}
+use Rattle.nodes_world.specs.Told.{Told, known, known_in}
 use Rattle.nodes_world.specs.World.{World, NamedKey, referred, thing}
 use Rattle.nodes_world.proofs.CommitsStored.{stored}
 use Rattle.nodes_world.proofs.Delivered.{reached_delivered}
@@ -27,7 +28,7 @@ use Rattle.nodes_world.proofs.GoingOn.{deeds_go}
 use Rattle.nodes_world.proofs.KnownLines.{among_back, among_turned, in_front, lines_of, referred_named}
 use Rattle.nodes_world.proofs.KnownWords.{resource_of}
 use Rattle.nodes_world.proofs.MessagesGo.{HasContent, MessagesStep, goes, messages_step, obeys_answers, obeys_one}
-use Rattle.nodes_world.proofs.Reaching.{goes_known, known_more, known_reached}
+use Rattle.nodes_world.proofs.Reaching.{goes_known, known_reached}
 
 inner : {A : Type 0} {x y : A} → Some x ≡ Some y → x ≡ y
 inner e = cc
@@ -64,7 +65,7 @@ module _ (w v : World) (told more : List Told) (k : Known w told) (later : Known
 
   stands_on : (line : Line) → Stands line (lines_of told) → Stands line (lines_of all)
   stands_on line s = among_turned (known all) line
-      (subst (Stands line) (sym (known_more told more)) (in_front (known told) (known more) line (among_back (known told) line s)))
+      (subst (Stands line) (sym (filter_map-append known_in told more)) (in_front (known told) (known more) line (among_back (known told) line s)))
 
   -- the reference of a commit word leads to the same resource
   same_object : (nth place : ℕ) (o : Outward) (x : NamedKey) → IsWord w nth place o → o.word ≡ words.Phase phase_words.Commit → referred w o.to ≡ Some x

@@ -1,11 +1,11 @@
 -- Agreement: the lines of every world that a script can reach are safe, through crashes too (Transaction Service, the two phases of
 -- interfaces Terminator, Coordinator and Resource). What is known of a family is said by lines, and by the records that its node's
 -- disk holds: a family in memory is gone after a crash.
-use Rattle.std.specs.Prelude.{◌≡◌, ℕ, ◌+◌, ◌<◌, ◌⊎◌, ◌==◌, ◌&&◌, ◌||◌, ◌↔◌, Bool, true, false, not, nat_le, List, [], ◌∷◌, ◌++◌, map, bytes_eq, slice_get, Contains, Option, Some, None, is_some, IsTrue, ◌≤◌, length}
-use Rattle.std.specs.List.{AllByRecursion, list_any}
+use Rattle.std.specs.Prelude.{◌≡◌, ℕ, ◌+◌, ◌<◌, ◌⊎◌, ◌==◌, ◌&&◌, ◌||◌, ◌↔◌, Bool, false, not, List, [], ◌∷◌, ◌++◌, map, bytes_eq, slice_get, Contains, Option, Some, None, is_some, IfSome, IsTrue, ◌≤◌, length}
+use Rattle.std.specs.List.{list_any}
 use Rattle.std.specs.Option.{option_and_then, option_map_or}
 use Rattle.ior_refs.specs.declared.key.ObjectKey.{ObjectKey}
-use Rattle.ots_model.specs.Limits.{name_limit}
+use Rattle.ots_model.specs.Name.{IsName}
 use Rattle.ots_model.specs.Safe.{AreSafe, Stands, HasConsented, IsRegistered, IsSent, IsToldCommit, TakesPart}
 use Rattle.ots_model.specs.declared.completion.Ground.TheVariants.{Record}
 use Rattle.ots_model.specs.declared.completion.Outcome.TheVariants as outcomes
@@ -48,7 +48,6 @@ use Rattle.nodes_world.specs.Objects.{place_of, service_at}
 use Rattle.nodes_world.specs.Told.{Told, RolledBack, RolledBackBy, known}
 use Rattle.nodes_world.specs.World.{World, Seat, OfNode, FlatResource, NamedKey, empty, referred, resource_at, seat_name, thing}
 use Rattle.nodes_world.specs.Resolve.{resolve}
-use Rattle.nodes_world.specs.Run.{run}
 use Rattle.nodes_world.specs.Step.{carried_out, limit_before}
 use Rattle.nodes_world.specs.Limits.{message_limit}
 
@@ -58,30 +57,35 @@ use Rattle.nodes_world.specs.Limits.{message_limit}
 abbrev pub GoesOnFrom : World → Type 0
 GoesOnFrom w = length w.messages ≤ message_limit
 
--- the name of an end is no longer than names are, so a journal has room for a reference to an object of that end
-abbrev pub names_fit : ScriptEvent → Bool
-names_fit (script.End name) = nat_le (length name) name_limit
-names_fit _ = true
+-- the name that a line of a script gives, where it gives one
+abbrev pub given_name : ScriptEvent → Option (List ℕ)
+given_name (script.Node name) = Some name
+given_name (script.End name) = Some name
+given_name (script.Begin node name seconds) = Some name
+given_name (script.Sub parent name) = Some name
+given_name (script.Register transaction end name) = Some name
+given_name (script.Aware transaction end name) = Some name
+given_name (script.Double transaction end name) = Some name
+given_name _ = None
 
--- all that the grammar reads has names that fit
-abbrev pub ReadNamesFit : Type 0
-ReadNamesFit = (line : List ℕ) (event : ScriptEvent) → reading line ≡ Says event → IsTrue (names_fit event)
+-- it is a name: it can be read in the lines that tell it, and a journal has room for a reference to an object of an end
+abbrev pub GivesName : ScriptEvent → Type 0
+GivesName event = IfSome (given_name event) IsName
+
+-- all that the grammar reads does
+abbrev pub ReadNamesAreNames : Type 0
+ReadNamesAreNames = (line : List ℕ) (event : ScriptEvent) → reading line ≡ Says event → GivesName event
 
 -- a script can reach the world, and these are the lines that it has told. A line that sends too many messages counts too: of its
 -- lines some from the front are told.
 pub data Reaches : World → List Told → Type 0 where
   nothing : Reaches empty []
   further : (w : World) (told : List Told) (event : ScriptEvent) (deed : Deed) → Reaches w told → GoesOnFrom w
-      → IsTrue (names_fit event) → resolve event w ≡ Some deed → limit_before deed w ≡ None → Reaches (carried_out deed w).world (told ++ (carried_out deed w).lines)
+      → GivesName event → resolve event w ≡ Some deed → limit_before deed w ≡ None → Reaches (carried_out deed w).world (told ++ (carried_out deed w).lines)
 
 -- whatever a script does, the lines that are told are safe
 abbrev pub Agreement : Type 0
 Agreement = (w : World) (told : List Told) → Reaches w told → AreSafe (known told)
-
--- so all is safe that a script tells whose names fit
-abbrev pub RunsAreSafe : Type 0
-RunsAreSafe = (events : List ScriptEvent) → AllByRecursion (λ (event : ScriptEvent). IsTrue (names_fit event)) events
-    → AreSafe (known ((run events).lines ++ (run events).further))
 
 -- ---- families that are decided or closed for good
 
@@ -404,4 +408,4 @@ pub record OutcomesLast (w later : World) (told all : List Told) : Type 0 where
 -- so it is, whatever a script does
 abbrev pub ReachedOutcomesLast : Type 0
 ReachedOutcomesLast = (w : World) (told : List Told) (event : ScriptEvent) (deed : Deed) → Reaches w told → GoesOnFrom w
-    → IsTrue (names_fit event) → resolve event w ≡ Some deed → limit_before deed w ≡ None → OutcomesLast w (carried_out deed w).world told (told ++ (carried_out deed w).lines)
+    → GivesName event → resolve event w ≡ Some deed → limit_before deed w ≡ None → OutcomesLast w (carried_out deed w).world told (told ++ (carried_out deed w).lines)

@@ -1,6 +1,6 @@
 -- The steps of which all that a script does is made, each with the lines that it tells. What is known of a world is kept by each of
 -- them; so it is known of every world that a script reaches (our profile).
-use Rattle.std.specs.Prelude.{◌≡◌, ℕ, ◌+◌, ◌-◌, ◌&&◌, ◌≤◌, Bool, true, false, List, [], ◌∷◌, ◌++◌, map, slice_get, length, IsTrue, Some, None, is_some}
+use Rattle.std.specs.Prelude.{◌≡◌, ℕ, ◌+◌, ◌-◌, ◌&&◌, ◌≤◌, Bool, true, false, List, [], ◌∷◌, ◌++◌, map, slice_get, length, Some, None, is_some}
 use Rattle.std.specs.List.{AllByRecursion}
 use Rattle.ior_refs.specs.declared.key.ObjectKey.{ObjectKey}
 use Rattle.ots_model.specs.Limits.{name_limit}
@@ -30,7 +30,7 @@ use Rattle.nodes_world.specs.Deliveries.{hears_answer, is_waited_for}
 use Rattle.nodes_world.specs.Lives.{loads, makes_end, with_named_seat}
 use Rattle.nodes_world.specs.Resolve.{may_register, resolve}
 use Rattle.nodes_world.specs.Step.{carried_out, is_full, lacks_life, limit_before}
-use Rattle.nodes_world.specs.Agreement.{IsWord, GoesOnFrom, Reaches, names_fit}
+use Rattle.nodes_world.specs.Agreement.{GivesName, IsWord, GoesOnFrom, Reaches}
 use Rattle.nodes_world.specs.AgreementInside.{Known}
 use Rattle.nodes_world.specs.Changes.{CallsAreDelivered}
 
@@ -124,7 +124,7 @@ pub data GoesOn (w : World) : Done → Type 0 where
 
 -- where no call waits to be delivered, whatever a line does that passes no limit is made of these steps
 abbrev pub DeedsGo : Type 0
-DeedsGo = (event : ScriptEvent) (deed : Deed) (w : World) → CallsAreDelivered w → GoesOnFrom w → IsTrue (names_fit event)
+DeedsGo = (event : ScriptEvent) (deed : Deed) (w : World) → CallsAreDelivered w → GoesOnFrom w → GivesName event
     → resolve event w ≡ Some deed → limit_before deed w ≡ None → GoesOn w (carried_out deed w)
 
 -- and none waits in any world that a script reaches

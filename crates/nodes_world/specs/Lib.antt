@@ -12,7 +12,6 @@ pub mod Deliveries
 pub mod Lives
 pub mod Resolve
 pub mod Step
-pub mod Run
 pub mod Changes
 pub mod Agreement
 pub mod AgreementInside
@@ -21,5 +20,4 @@ pub mod StandingDecisions
 pub mod OverForGood
 pub mod Laws
 pub mod Asking
-pub mod Plays
 pub mod CompletionLaws

@@ -1,12 +1,11 @@
 // Laws of the definitions: these functions do nothing, and their contracts are the laws.
-ghost use Rattle.nodes_world.specs.Agreement.{Agreement, ReachedDonesAreComplete, ReachedIsKnown, ReachedOutcomesLast, ReadNamesFit, RunsAreSafe};
+ghost use Rattle.nodes_world.specs.Agreement.{Agreement, ReachedDonesAreComplete, ReachedIsKnown, ReachedOutcomesLast, ReadNamesAreNames};
 ghost use Rattle.nodes_world.specs.AgreementSteps.{DeedsGo, ReachedCallsAreDelivered, StepsStayKnown};
 ghost use Rattle.nodes_world.specs.Asking.{HearingsMayAsk};
 ghost use Rattle.nodes_world.specs.Changes.{DeedsAreChanges};
 ghost use Rattle.nodes_world.specs.CompletionLaws.{CompletionLaws};
 ghost use Rattle.nodes_world.specs.Laws.{AppendsGoThrough, AppendsStrike, AskedJournalsKeep, AskedJournalsStop, RecordsAreRead, StoppedAppendsAreSafe, WhatIsLeftIsAnImage};
 ghost use Rattle.nodes_world.specs.OverForGood.{AnsweredCommitsAreStored, ClosedFamiliesAreStored, CommitsAreStored, DonesAreStored, ResourcesStay, ToldParticipantsAreStored};
-ghost use Rattle.nodes_world.specs.Plays.{WorldsPlay};
 ghost use Rattle.nodes_world.specs.StandingDecisions.{RestartsTellAgain, StandingIsTold, ToldIsRecorded};
 
 use coordinator::{families_step_rightly, family_outcomes_stay, histories_grow_by_entries};
@@ -73,11 +72,6 @@ pub fn asked_journals_stay_in_order()
     stopped_appends_are_safe();
 }
 
-/// In a short script with a crash each line tells what it must.
-pub fn worlds_play()
-    ensures { WorldsPlay }
-{}
-
 /// Whatever a line does in a world is made of few kinds of change: a seat, a message or a name becomes another.
 pub fn deeds_are_changes()
     ensures { DeedsAreChanges }
@@ -97,9 +91,10 @@ pub fn resources_stay_over()
     ensures { ResourcesStay }
 {}
 
-/// What the grammar of scripts reads has names that fit, so the clause on runs speaks of every script that is read.
-pub fn names_that_are_read_fit()
-    ensures { ReadNamesFit }
+/// Where a line that the grammar of scripts reads gives a name, it is one. So what is said of each world that a script
+/// reaches is said of every script that is read.
+pub fn names_that_are_read_are_names()
+    ensures { ReadNamesAreNames }
 {}
 
 /// In each world that a script reaches, what a node asks of its journal when it hears an answer may be asked: a decision
@@ -142,10 +137,9 @@ pub fn steps_stay_known()
     same_octets_same_key();
 }
 
-/// The lines of every script are safe: those that are told on the way to each world that it reaches, and all those of a run.
+/// The lines of every script are safe: those that are told on the way to each world that it reaches.
 pub fn reached_lines_are_safe()
-    ensures agreement { Agreement }
-    ensures runs { RunsAreSafe }
+    ensures { Agreement }
 {
     allowed_lines_are_safe();
     steps_stay_known();

@@ -6,7 +6,7 @@ use Rattle.ots_world.specs.declared.script.ScriptEvent.{ScriptEvent}
 use Rattle.ots_world.specs.declared.script.ScriptEvent.TheVariants as events
 use Rattle.ots_world.specs.Limits.{flow_limit, line_limit}
 use Rattle.ots_world.specs.Script.{Bad, Blank, Says, decision, event_of, event_of_names, event_of_one, event_of_server, event_of_three, event_of_two, flag, image, is_blank, name, number, number_within, of_two, of_three, reading, relation, says, stop, whose, words}
-use Rattle.nodes_told.specs.Reached.{GivesName, ReadNamesAreNames}
+use Rattle.nodes_world.specs.Agreement.{GivesName, ReadNamesAreNames}
 
 -- where an event is read, its names fit
 abbrev Fit : Option ScriptEvent → Type 0
