@@ -1,10 +1,10 @@
 -- What a line of a script gives, by its deed, and what it keeps.
-use Rattle.std.proofs.Common.{◌≡◌, ◌⊎◌, inl, inr, ℕ, ◌≤◌, nat_lt, Bool, true, false, IsTrue, List, [], ◌++◌, length, Option, Some, None, refl, sym, ap, subst, ◌∙◌, append-nil, arith}
+use Rattle.std.proofs.Common.{◌≡◌, ◌⊎◌, inl, inr, ℕ, ◌≤◌, nat_lt, Bool, true, false, List, [], ◌++◌, length, Option, Some, None, refl, sym, ap, subst, ◌∙◌, append-nil, arith}
 use Rattle.std.proofs.lemmas.Bool.Decides.{nat_tests}
 use Rattle.ots_model.specs.Safe.{AreSafe}
 use Rattle.ots_world.specs.declared.script.ScriptEvent.{ScriptEvent}
 use Rattle.nodes_world.specs.declared.deed.Deed.{Deed}
-use Rattle.nodes_world.specs.Agreement.{Agreement, GoesOnFrom, Reaches, ReachedOutcomesLast, further, names_fit}
+use Rattle.nodes_world.specs.Agreement.{Agreement, GivesName, GoesOnFrom, Reaches, ReachedOutcomesLast, further}
 use Rattle.nodes_world.specs.Changes.{DeedsAreChanges}
 use Rattle.nodes_world.specs.Happenings.{Done}
 use Rattle.nodes_world.specs.Limits.{message_limit}
@@ -59,13 +59,13 @@ given event w s is = subst (Gives event w) is (gives event w)
 -- ---- what a line keeps
 
 module _ (agree : Agreement) (last : ReachedOutcomesLast) (changes : DeedsAreChanges) where
-  deed_reached : (event : ScriptEvent) (w : World) (told : List Told) (to : Done) → IsTrue (names_fit event) → CanGoOn w told → IsDone event w to
+  deed_reached : (event : ScriptEvent) (w : World) (told : List Told) (to : Done) → GivesName event → CanGoOn w told → IsDone event w to
       → Reaches to.world (told ++ to.lines)
   deed_reached event w told to fit h d =
       subst (λ (x : Done). Reaches x.world (told ++ x.lines)) (sym d.is)
       (further w told event d.deed h.reached h.few fit d.named d.unlimited)
 
-  deed_lasts : (event : ScriptEvent) (w : World) (told : List Told) (to : Done) → IsTrue (names_fit event) → CanGoOn w told → IsDone event w to
+  deed_lasts : (event : ScriptEvent) (w : World) (told : List Told) (to : Done) → GivesName event → CanGoOn w told → IsDone event w to
       → Lasts w to.world told (told ++ to.lines)
   deed_lasts event w told to fit h d =
       subst (λ (x : Done). Lasts w x.world told (told ++ x.lines)) (sym d.is) (record {
@@ -77,21 +77,22 @@ module _ (agree : Agreement) (last : ReachedOutcomesLast) (changes : DeedsAreCha
   still_safe w told some reached none =
       subst (λ (all : List Told). AreSafe (known all)) (sym (ap (λ ls. told ++ ls) none ∙ append-nil told)) (agree w told reached)
 
-  deed_safe : (event : ScriptEvent) (w : World) (told some : List Told) (to : Done) → IsTrue (names_fit event) → CanGoOn w told → IsDone event w to
+  deed_safe : (event : ScriptEvent) (w : World) (told some : List Told) (to : Done) → GivesName event → CanGoOn w told → IsDone event w to
       → some ≡ to.lines → AreSafe (known (told ++ some))
   deed_safe event w told some to fit h d same =
       subst (λ (ls : List Told). AreSafe (known (told ++ ls))) (sym same)
       (agree to.world (told ++ to.lines) (deed_reached event w told to fit h d))
 
-  given_safe : (event : ScriptEvent) (w : World) (told : List Told) (s : Stepped) → IsTrue (names_fit event) → CanGoOn w told → Gives event w s
+  given_safe : (event : ScriptEvent) (w : World) (told : List Told) (s : Stepped) → GivesName event → CanGoOn w told → Gives event w s
       → AreSafe (known (told ++ lines_by s))
   given_safe event w told (Moves to) fit h g = deed_safe event w told to.lines to fit h g.0 refl
   given_safe event w told (Passes limit lines) fit h (inl none) = still_safe w told lines h.reached none
   given_safe event w told (Passes limit lines) fit h (inr d) = deed_safe event w told lines d.0 fit h d.1 d.2
   given_safe event w told Names fit h g = still_safe w told [] h.reached refl
 
-  line_keeps : (event : ScriptEvent) (w : World) (told : List Told) → IsTrue (names_fit event) → CanGoOn w told → Keeps event w told
+  line_keeps : (event : ScriptEvent) (w : World) (told : List Told) → GivesName event → CanGoOn w told → Keeps event w told
   line_keeps event w told fit h = record {
+    reached = λ to d. deed_reached event w told to fit h d;
     goes_on = λ to is.
         let g = given event w (Moves to) is in record { reached = deed_reached event w told to fit h g.0; few = g.1 };
     lasts = λ to is. let g = given event w (Moves to) is in deed_lasts event w told to fit h g.0;

@@ -1,10 +1,10 @@
 -- What one line of a script does to what is known of its world (our profile).
-use Rattle.std.specs.Prelude.{◌≡◌, ◌⊎◌, ℕ, List, [], ◌++◌, Some, None, IsTrue}
+use Rattle.std.specs.Prelude.{◌≡◌, ◌⊎◌, ℕ, List, [], ◌++◌, Some, None}
 use Rattle.ots_model.specs.Safe.{AreSafe}
 use Rattle.ots_world.specs.declared.script.ScriptEvent.{ScriptEvent}
 use Rattle.nodes_world.specs.declared.deed.Deed.{Deed}
 use Rattle.nodes_world.specs.declared.thing.Thing.{Thing}
-use Rattle.nodes_world.specs.Agreement.{GoesOnFrom, OutcomesLast, Reaches, names_fit}
+use Rattle.nodes_world.specs.Agreement.{GivesName, GoesOnFrom, OutcomesLast, Reaches}
 use Rattle.nodes_world.specs.Happenings.{Done}
 use Rattle.nodes_world.specs.Lives.{last_lines}
 use Rattle.nodes_world.specs.Resolve.{resolve}
@@ -37,6 +37,8 @@ pub record Lasts (w later : World) (told all : List Told) : Type 0 where
 
 -- what a line keeps of what is known of its world, where these lines were told before
 pub record Keeps (event : ScriptEvent) (w : World) (told : List Told) : Type 0 where
+  -- what its deed comes to is reached, also where that passes a limit
+  pub reached : (to : Done) → IsDone event w to → Reaches to.world (told ++ to.lines)
   -- where it moves the world on, a script can go on behind it
   pub goes_on : (to : Done) → step event w ≡ Moves to → CanGoOn to.world (told ++ to.lines)
   -- and what was so for good is so there
@@ -52,7 +54,7 @@ pub record LinesKeepAgreement : Type 0 where
   pub passes : (event : ScriptEvent) (w : World) (limit : ℕ) (lines : List Told) → step event w ≡ Passes limit lines
       → (lines ≡ []) ⊎ ((to : Done) × IsDone event w to × (lines ≡ to.lines))
   -- in a world that a script can reach, and go on from, it keeps what is known
-  pub keeps : (event : ScriptEvent) (w : World) (told : List Told) → IsTrue (names_fit event) → CanGoOn w told → Keeps event w told
+  pub keeps : (event : ScriptEvent) (w : World) (told : List Told) → GivesName event → CanGoOn w told → Keeps event w told
   -- and where the script ends there, all lines are safe with the journals
   pub ends : (w : World) (told : List Told) → Reaches w told → AreSafe (known (told ++ last_lines w))
   -- some from the front of safe lines are safe
