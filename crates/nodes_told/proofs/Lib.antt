@@ -9,4 +9,3 @@ pub mod NodeSays
 pub mod LinesTold
 pub mod WorldTells
 pub mod Reaching
-pub mod ReadNames

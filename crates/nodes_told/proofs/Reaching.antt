@@ -11,12 +11,13 @@ use Rattle.nodes_world.specs.declared.deed.Deed.{Deed}
 use Rattle.nodes_world.specs.declared.deed.Deed.TheVariants as deeds
 use Rattle.nodes_world.specs.declared.deed.Manner.{Manner}
 use Rattle.nodes_world.specs.declared.deed.Manner.TheVariants as manners
+use Rattle.nodes_world.specs.Agreement.{GivesName, Reaches, further, nothing}
 use Rattle.nodes_world.specs.Lives.{last_lines}
 use Rattle.nodes_world.specs.Resolve.{asks_for, begins_named, calls_named, commits_as, commits_named, creates_named, end_named, ends_by, if_free, may_commit, may_register, node_named, only_if, puts_named, refuses_named, registers_named, registers_with, relates_named, relation_act, resolve, status_act, transaction_named}
 use Rattle.nodes_world.specs.Step.{carried_out}
 use Rattle.nodes_world.specs.Told.{Told}
 use Rattle.nodes_world.specs.World.{World, is_free}
-use Rattle.nodes_told.specs.Reached.{ComesTo, GivesName, ReachedLinesAreTold, further, nothing}
+use Rattle.nodes_told.specs.Reached.{ReachedLinesAreTold}
 use Rattle.nodes_told.specs.Reading.{IsTold}
 use Rattle.nodes_told.proofs.FamilySays.{append_all}
 use Rattle.nodes_told.proofs.LinesTold.{AllTold, WorldReads}
@@ -86,14 +87,14 @@ resolved _ deed w is named = absurd cc
 
 -- ---- worlds
 
-reached : (w : World) (told : List Told) → ComesTo w told → WorldReads w
+reached : (w : World) (told : List Told) → Reaches w told → WorldReads w
 reached w told nothing = empty_reads
-reached w told (further before earlier event deed there named is) =
+reached w told (further before earlier event deed there few named is limit) =
     carried_reads deed before (resolved event deed before is named) (reached before earlier there)
 
-told_well : (w : World) (told : List Told) → ComesTo w told → AllTold told
+told_well : (w : World) (told : List Told) → Reaches w told → AllTold told
 told_well w told nothing = tt
-told_well w told (further before earlier event deed there named is) =
+told_well w told (further before earlier event deed there few named is limit) =
     append_all IsTold earlier (carried_out deed before).lines (told_well before earlier there)
     (carried_told deed before (resolved event deed before is named) (reached before earlier there))
 

@@ -1,5 +1,5 @@
 // Laws of the definitions: these functions do nothing, and their contracts are the laws.
-ghost use Rattle.nodes_told.specs.Reached.{ReachedLinesAreTold, ReadNamesAreNames};
+ghost use Rattle.nodes_told.specs.Reached.{ReachedLinesAreTold};
 ghost use Rattle.nodes_told.specs.Reading.{PartsHaveNoFeed, ReadLinesAreSafe, ToldLinesAlike, ToldReadsBack};
 
 use ots_model::different_lines_differ;
@@ -16,9 +16,7 @@ pub fn told_lines_are_read()
     different_lines_differ();
 }
 
-/// Where a line that the grammar reads gives a name, it is one; and whatever a script of such lines does, each line that
-/// is told can be read so, and each of those that end the script.
+/// In each world that a script reaches, each line that was told can be read so, and each of those that end the script.
 pub fn reached_lines_are_told()
-    ensures named { ReadNamesAreNames }
-    ensures told { ReachedLinesAreTold }
+    ensures { ReachedLinesAreTold }
 {}
