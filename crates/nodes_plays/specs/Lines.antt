@@ -1,6 +1,6 @@
 -- The kinds of lines that these scripts tell, in the order of what is printed of each (our profile).
 use Rattle.std.specs.Prelude.{ℕ, true, false, List, codes}
-use Rattle.ots_model.specs.declared.completion.Ground.TheVariants.{Record}
+use Rattle.ots_model.specs.declared.completion.Ground.TheVariants.{Nobody, Record}
 use Rattle.ots_model.specs.declared.completion.Outcome.TheVariants as outcomes
 use Rattle.ots_model.specs.declared.completion.Reason.TheVariants as phase_reasons
 use Rattle.ots_model.specs.declared.completion.Vote.TheVariants.{VoteCommit, VoteRollback}
@@ -9,7 +9,7 @@ use Rattle.ots_model.specs.declared.line.Line.TheVariants as lines
 use Rattle.ots_model.specs.declared.line.ResourceState.TheVariants as states
 use Rattle.ots_model.specs.declared.service.Status.TheVariants as status
 use Rattle.coordinator.specs.declared.said.Said.TheVariants as said
-use Rattle.nodes_world.specs.Told.{Told, Known, Down, Called, Answered, Back}
+use Rattle.nodes_world.specs.Told.{Told, Known, Down, Called, Answered, Back, Journal}
 
 -- ---- nodes, transactions, and calls of the client
 
@@ -55,6 +55,9 @@ ans_status message = Answered message (said.State status.RolledBack)
 
 abbrev pub ans_rolled_back : ℕ → Told
 ans_rolled_back message = Answered message said.TransactionRolledBack
+
+abbrev pub ans_not_exist : ℕ → Told
+ans_not_exist message = Answered message said.ObjectNotExist
 
 -- ---- words, votes and outcomes
 
@@ -103,9 +106,18 @@ vote_rollback resource = Known (lines.Voted resource VoteRollback)
 abbrev pub decide_commit : List ℕ → Told
 decide_commit transaction = Known (lines.Decide transaction (outcomes.Commit Record))
 
+-- `decide .. commit nobody`, where no resource takes part
+abbrev pub decide_nobody : List ℕ → Told
+decide_nobody transaction = Known (lines.Decide transaction (outcomes.Commit Nobody))
+
 abbrev pub decide_rollback : List ℕ → List ℕ → Told
 decide_rollback transaction resource =
     Known (lines.Decide transaction (outcomes.Rollback (phase_reasons.Vote resource)))
 
 abbrev pub done : List ℕ → Told
 done transaction = Known (lines.Done transaction)
+
+-- ---- the end
+
+abbrev pub journal : List ℕ → List ℕ → Told
+journal node octets = Journal node octets

@@ -1,5 +1,5 @@
--- The scripts of `examples/`, event by event (our profile).
-use Rattle.std.specs.Prelude.{ℕ, false, List, [], ◌∷◌, codes}
+-- The scripts of `examples/` and a shorter one, event by event (our profile).
+use Rattle.std.specs.Prelude.{ℕ, true, false, List, [], ◌∷◌, codes}
 use Rattle.ots_world.specs.declared.script.Image.TheVariants.{New}
 use Rattle.ots_world.specs.declared.script.ScriptEvent.{ScriptEvent}
 use Rattle.ots_world.specs.declared.script.ScriptEvent.TheVariants as events
@@ -100,4 +100,15 @@ nested_script =
     ∷ events.Status t3 Own
     ∷ events.Commit t1 false
     ∷ events.Flow 100
+    ∷ []
+
+-- a transaction without participants is committed, its node crashes and comes up again, and a client calls it again
+abbrev pub short_script : List ScriptEvent
+short_script =
+    events.Node n1
+    ∷ events.Begin n1 t1 0
+    ∷ events.Commit t1 true
+    ∷ events.Crash n1
+    ∷ events.Restart n1
+    ∷ events.Commit t1 false
     ∷ []

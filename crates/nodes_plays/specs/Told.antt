@@ -1,7 +1,7 @@
--- What these scripts tell, line by line, up to the journals at their ends (our profile).
-use Rattle.std.specs.Prelude.{List, [], ◌∷◌, ◌++◌}
+-- What these scripts tell, line by line, up to the journals at their ends; and the journal of the short one (our profile).
+use Rattle.std.specs.Prelude.{ℕ, List, [], ◌∷◌, ◌++◌, codes}
 use Rattle.nodes_world.specs.Told.{Told}
-use Rattle.nodes_plays.specs.Lines.{up, down, top, sub, call_register, call_sub, call_status, call_commit, call_rollback, reg, ans, ans_made, ans_rolled_back, ans_status, subdone_committed, subdone_rolled_back, send_prepare, send_commit, send_rollback, recv, prepared, applied, undone, back, back_commit, back_rollback, vote_commit, vote_rollback, decide_commit, decide_rollback, done}
+use Rattle.nodes_plays.specs.Lines.{up, down, top, sub, call_register, call_sub, call_status, call_commit, call_rollback, reg, ans, ans_made, ans_not_exist, ans_rolled_back, ans_status, subdone_committed, subdone_rolled_back, send_prepare, send_commit, send_rollback, recv, prepared, applied, undone, back, back_commit, back_rollback, vote_commit, vote_rollback, decide_commit, decide_nobody, decide_rollback, done, journal}
 use Rattle.nodes_plays.specs.Scripts.{n1, e1, t1, t2, t3, g1, g2, g3}
 
 -- ---- of the first three scripts
@@ -173,3 +173,27 @@ nested_lines =
     ∷ done t1
     ∷ ans 11
     ∷ []
+
+-- ---- the short script
+
+-- the call that comes again finds no object
+abbrev pub short_lines : List Told
+short_lines =
+    up n1 1
+    ∷ top t1 n1
+    ∷ call_commit 1 t1
+    ∷ decide_nobody t1
+    ∷ ans 1
+    ∷ down n1
+    ∷ up n1 2
+    ∷ call_commit 2 t1
+    ∷ ans_not_exist 2
+    ∷ []
+
+-- its journal: the header, two lives, and a closed gate
+abbrev pub two_lives : List ℕ
+two_lives = codes "OTSJ" ++ 0 ∷ 0 ∷ 0 ∷ 1 ∷ 0 ∷ 0 ∷ 0 ∷ 0 ∷ 0 ∷ 0 ∷ 0 ∷ 1
+    ∷ 1 ∷ 0 ∷ 0 ∷ 0 ∷ 5 ∷ 1 ∷ 0 ∷ 0 ∷ 0 ∷ 1 ∷ 1 ∷ 0 ∷ 0 ∷ 0 ∷ 5 ∷ 1 ∷ 0 ∷ 0 ∷ 0 ∷ 2 ∷ 0 ∷ []
+
+abbrev pub short_journals : List Told
+short_journals = journal n1 two_lives ∷ []
