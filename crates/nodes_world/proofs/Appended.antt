@@ -36,10 +36,11 @@ use Rattle.coordinator.specs.NodeParts.{IsWhole}
 use Rattle.family_laws.specs.LawsOfTelling.{IsVoted}
 use Rattle.family_laws.specs.OwnDecisions.{KeepsDecisions}
 use Rattle.family_laws.specs.Sound.{IsSoundFamily}
+use Rattle.family_laws.specs.HeldRecords.{IsOfStanding}
 use Rattle.nodes_world.specs.declared.thing.Thing.TheVariants as things
 use Rattle.nodes_world.specs.Disks.{Stop}
 use Rattle.nodes_world.specs.Agreement as agreed
-use Rattle.nodes_world.specs.Agreement.{CommitsAreRecorded, DecisionsAreRecorded, FollowsDisk, HasSent, HoldsDecisions, IsAlone, IsClosed, IsCutOff, IsDecided, IsHeldWhole, IsRolledBack, IsTransaction, NoneIsBoth, OnePhaseIsAlone, RecordsRestOnVotes, RestsOnVotes, RollbacksAreClosed, VotesWereGiven, has_record, is_decision_of, names_object, recorded_key, records_at}
+use Rattle.nodes_world.specs.Agreement.{CommitsAreRecorded, DecisionsAreRecorded, FollowsDisk, HasSent, HoldsDecisions, IsAlone, IsClosed, IsCutOff, IsDecided, IsRolledBack, IsTransaction, NoneIsBoth, OnePhaseIsAlone, RecordsRestOnVotes, RestsOnVotes, RollbacksAreClosed, VotesWereGiven, has_record, is_decision_of, names_object, recorded_key, records_at}
 use Rattle.nodes_world.specs.AgreementInside.{Known, DisksAreKnown, EndsHaveCounted, FamiliesAreKnown, FamilyIsKnown, IsBack, IsBranch, IsHeldAs, IsMade, IsNamed, IsNamedBy, IsNumberedBy, NamesAreTold, NodeIsKnown, NodesAreKnown, OutcomeIsTold, ResourcesAreKnown, RollbacksAreOutcomes, RollbacksAreTold, ToldIsOpen, TransactionsAreKnown, WordsAreTold, is_prepared, journal_end, notice_out, placed}
 use Rattle.nodes_world.specs.Journals.{records_on}
 use Rattle.nodes_world.specs.Laws.{IsInOrder, RecordsAreRead}
@@ -830,10 +831,16 @@ module _ (grow : JournalsGrow) (read : RecordsAreRead) (w : World) (place : ℕ)
     m_service : m.service ≡ service_at place
     m_service = (k.disks.follows place s n there up).service
 
-    m_whole : (h : Held) → Contains m.recovered h → IsHeldWhole m h
+    m_whole : (h : Held) → Contains m.recovered h → IsOfStanding m.found.standing h
     m_whole h c =
         let was = (k.disks.decisions place s n there up).whole h c in
-        record { stood = was.stood; stands = still_stands was.stood was.stands; same_place = was.same_place; registrations = was.registrations }
+        record {
+          stood = was.stood;
+          there = still_stands was.stood was.there;
+          same_place = was.same_place;
+          numbers = was.numbers;
+          references = was.references;
+        }
 
     disks_then : DisksAreKnown v more
     disks_then = record {

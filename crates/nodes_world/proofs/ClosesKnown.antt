@@ -26,10 +26,10 @@ use Rattle.coordinator.specs.History.{has_room}
 use Rattle.coordinator.specs.Node.{Node, family_in, family_of, is_of, with_family}
 use Rattle.coordinator.specs.NodeCalls.{Applied, answer_of, applies, call_wants, family_for, journaled, steps_to}
 use Rattle.coordinator.specs.Step.{Stepped, Wanted, Appends, WritesDone, Rereads, family_step, hears, wanted}
-use Rattle.family_laws.specs.HeldRecords.{WasHeld}
+use Rattle.family_laws.specs.HeldRecords.{IsOfStanding, WasHeld}
 use Rattle.family_laws.specs.LawsOfTelling.{decided_in}
 use Rattle.family_laws.specs.OwnDecisions.{HasDecision, KeepsDecisions, NodesKeepDecisions}
-use Rattle.nodes_world.specs.Agreement.{IsHeldWhole, records_at}
+use Rattle.nodes_world.specs.Agreement.{records_at}
 use Rattle.nodes_world.specs.AgreementInside.{Known, FamilyIsKnown, HasMessage, edge_at, journal_end}
 use Rattle.nodes_world.specs.Deliveries.{answer_event, heard_in}
 use Rattle.nodes_world.specs.Disks.{Stop}
@@ -195,7 +195,7 @@ module _ (laws : FamilyLaws) (journals : JournalLaws) (nodes : NodesKeepDecision
     found_then : m.found ≡ found_in (rs ++ added more.0)
     found_then = ap (journaled asked stood) comes.found ∙ leaves.found ∙ ap (λ (x : List JournalRecord). found_in (rs ++ x)) more.1
 
-    whole : (h : Held) → Contains n.recovered h → IsHeldWhole n h
+    whole : (h : Held) → Contains n.recovered h → IsOfStanding n.found.standing h
     whole h c = (k.disks.decisions place s n there up).whole h c
 
     was : (h : Held) → Contains n.recovered h → WasHeld n.recovered h
@@ -226,14 +226,15 @@ module _ (laws : FamilyLaws) (journals : JournalLaws) (nodes : NodesKeepDecision
     abbrev m1 : Node
     m1 = record n1 { found = journaled asked stood n.found }
 
-    whole_now : (h : Held) → Contains n.recovered h → IsHeldWhole m1 h
+    whole_now : (h : Held) → Contains n.recovered h → IsOfStanding m1.found.standing h
     whole_now h c =
         let old = whole h c in
         record {
           stood = old.stood;
-          stands = is_standing done stood n.found old.stood (λ same. decision.untold h c (sym old.same_place ∙ same)) old.stands;
+          there = is_standing done stood n.found old.stood (λ same. decision.untold h c (sym old.same_place ∙ same)) old.there;
           same_place = old.same_place;
-          registrations = old.registrations;
+          numbers = old.numbers;
+          references = old.references;
         }
 
     goes : (c : Node) → Some m1 ≡ Some c → GoesOn n1 c rs more.0

@@ -33,9 +33,9 @@ use Rattle.coordinator.specs.Family.{Family}
 use Rattle.coordinator.specs.Node.{Node, family_of, life}
 use Rattle.coordinator.specs.NodeCalls.{Applied, RetoldAnswer, answers_recovered, applied_by, applies, by_records, call_wants, done_told, done_wanted, family_for, hears_record, journaled, records_hear, records_want, records_with, refuses, retold_answer, wanted_by}
 use Rattle.coordinator.specs.Step.{Wanted, Appends, WritesDone, Rereads}
-use Rattle.family_laws.specs.HeldRecords.{HeldRecordsStood, WasHeld}
+use Rattle.family_laws.specs.HeldRecords.{HeldRecordsStood, IsOfStanding, WasHeld}
 use Rattle.family_laws.specs.OwnDecisions.{KeepsDecisions, NodesKeepDecisions}
-use Rattle.nodes_world.specs.Agreement.{FollowsDisk, IsHeldWhole, records_at}
+use Rattle.nodes_world.specs.Agreement.{FollowsDisk, records_at}
 use Rattle.nodes_world.specs.AgreementInside.{Known, edge_at, journal_end}
 use Rattle.nodes_world.specs.AgreementSteps.{StaysKnown}
 use Rattle.nodes_world.specs.Deliveries.{answer_event, heard_in}
@@ -225,15 +225,15 @@ module _ (laws : JournalLaws) (nodes : NodesKeepDecisions) (stood_law : HeldReco
   is_there = list_any-from_Any (λ (x : Held). x.place == o.number.generation) n.recovered
       (turns.0, r, turns.2, turns.3, own_number o.number (heard_in answer) r turns.4.1 turns.4.2)
 
-  whole : (h : Held) → Contains n.recovered h → IsHeldWhole n h
+  whole : (h : Held) → Contains n.recovered h → IsOfStanding n.found.standing h
   whole h c = (k.disks.decisions place s n there up).whole h c
 
-  stands : IsHeldWhole n r
+  stands : IsOfStanding n.found.standing r
   stands = whole r among
 
   decision : is_decision stands.stood.item ≡ true
   decision = decision_named stands.stood.item (λ none. some_party o.number (heard_in answer) r turns.4.1 turns.4.2
-      (none_mapped (λ (p : Party). p.to) r.parties (stands.registrations ∙ ap (map (λ (g : Registration). g.reference)) none)))
+      (none_mapped (λ (p : Party). p.to) r.parties (stands.references ∙ ap (map (λ (g : Registration). g.reference)) none)))
 
   at_done : stands.stood.place ≡ done
   at_done = stands.same_place ∙ turns.4.0
@@ -259,7 +259,7 @@ module _ (laws : JournalLaws) (nodes : NodesKeepDecisions) (stood_law : HeldReco
   found = disk_follows.found
 
   can : CanAsk wanted (found_in rs)
-  can = can_close place rs s.disk order stands.stood (subst (λ (f : Found). Contains f.standing stands.stood) found stands.stands) decision done at_done
+  can = can_close place rs s.disk order stands.stood (subst (λ (f : Found). Contains f.standing stands.stood) found stands.there) decision done at_done
 
   pub can_now : CanAsk wanted n.found
   can_now = subst (CanAsk wanted) (sym found) can
@@ -311,16 +311,17 @@ module _ (laws : JournalLaws) (nodes : NodesKeepDecisions) (stood_law : HeldReco
     was_held : (h : Held) → Contains m.recovered h → WasHeld n.recovered h
     was_held h c = stood_law.called key e stood n h (subst (λ (a : Applied). Contains a.node.recovered h) (sym applied_is) c)
 
-    whole_by : (x : Option Stood) (h : Held) → m.found ≡ journaled wanted x n.found → Contains (records_with (Some done) x after) h → WasHeld n.recovered h → IsHeldWhole m h
+    whole_by : (x : Option Stood) (h : Held) → m.found ≡ journaled wanted x n.found → Contains (records_with (Some done) x after) h → WasHeld n.recovered h → IsOfStanding m.found.standing h
     whole_by (Some (answers.Stands at)) h is c was =
         let old = whole was.before was.there in
         let same : old.stood.place ≡ h.place = old.same_place ∙ was.same_place in
         record {
           stood = old.stood;
-          stands = subst (λ (f : Found). Contains f.standing old.stood) (sym is)
-              (stands_still done n.found.standing old.stood old.stands (λ e. not_left done after h c (sym same ∙ e)));
+          there = subst (λ (f : Found). Contains f.standing old.stood) (sym is)
+              (stands_still done n.found.standing old.stood old.there (λ e. not_left done after h c (sym same ∙ e)));
           same_place = same;
-          registrations = was.references ∙ old.registrations;
+          numbers = was.numbers ∙ old.numbers;
+          references = was.references ∙ old.references;
         }
     whole_by (Some (answers.Full used need)) h is c was = held_whole n m is whole h (inl was)
     whole_by (Some (answers.Unsure doubt)) h is c was = held_whole n m is whole h (inl was)

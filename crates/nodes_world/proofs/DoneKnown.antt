@@ -25,10 +25,10 @@ use Rattle.recovery_coord.specs.declared.held.Held.{Held}
 use Rattle.coordinator.specs.Family.{Family}
 use Rattle.coordinator.specs.Node.{Node, family_in, family_of, life, only_of}
 use Rattle.coordinator.specs.NodeParts.{IsWhole}
-use Rattle.family_laws.specs.HeldRecords.{WasHeld}
+use Rattle.family_laws.specs.HeldRecords.{IsOfStanding, WasHeld}
 use Rattle.family_laws.specs.OwnDecisions.{KeepsDecisions}
 use Rattle.nodes_world.specs.Disks.{Stop}
-use Rattle.nodes_world.specs.Agreement.{FollowsDisk, HasSent, HoldsDecisions, IsHeldWhole, has_record, records_at}
+use Rattle.nodes_world.specs.Agreement.{FollowsDisk, HasSent, HoldsDecisions, has_record, records_at}
 use Rattle.nodes_world.specs.AgreementInside.{Known, DisksAreKnown, IsHeldAs, IsNamedBy, NodeIsKnown, is_prepared, placed, journal_end}
 use Rattle.nodes_world.specs.Journals.{records_on}
 use Rattle.nodes_world.specs.Laws.{IsInOrder, RecordsAreRead}
@@ -163,7 +163,7 @@ pub record GoesOn (n m : Node) (rs : List JournalRecord) (more : Option ℕ) : T
   pub found : m.found ≡ found_in (rs ++ added more)
   pub sound : KeepsDecisions (journal_end (rs ++ added more)) m
   pub was : (h : Held) → Contains m.recovered h → WasHeld n.recovered h
-  pub whole : (h : Held) → Contains m.recovered h → IsHeldWhole m h
+  pub whole : (h : Held) → Contains m.recovered h → IsOfStanding m.found.standing h
 
 module _ (grow : JournalsGrow) (read : RecordsAreRead) (w : World) (place : ℕ) (s : Seat) (n : Node) (told : List Told) (there : slice_get w.seats place ≡ Some s)
     (up : s.server ≡ OfNode (Some n)) (k : Known w told) (rs : List JournalRecord) (held : records_at w place ≡ Some rs) (more : Option ℕ) (disk : DiskState)

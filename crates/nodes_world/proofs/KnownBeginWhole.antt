@@ -17,7 +17,7 @@ use Rattle.nodes_world.specs.Clients.{begins_at, begun_by, begun_with}
 use Rattle.nodes_world.specs.Told as tell
 use Rattle.nodes_world.specs.Told.{Told}
 use Rattle.nodes_world.specs.World.{World, Seat, OfNode, thing, with_name, with_seat}
-use Rattle.nodes_world.specs.Agreement.{FollowsDisk, IsHeldWhole, IsTransaction}
+use Rattle.nodes_world.specs.Agreement.{FollowsDisk, IsTransaction}
 use Rattle.nodes_world.specs.AgreementInside.{Known, edge_at}
 use Rattle.nodes_world.specs.AgreementSteps.{StaysKnown}
 use Rattle.nodes_world.proofs.Going.{on_seat_there}
@@ -64,7 +64,7 @@ module _ (stays : NodesKeepDecisions) (stood : HeldRecordsStood) (w : World) (pl
     holds : (h : Held) → Contains c.recovered h → WasHeld n.recovered h ⊎ IsOfStanding n.found.standing h
     holds h among = stood.made s.clock seconds n h (subst (λ (x : Created). Contains x.node.recovered h) (sym is) among)
 
-    whole : (h : Held) → Contains c.recovered h → IsHeldWhole c h
+    whole : (h : Held) → Contains c.recovered h → IsOfStanding c.found.standing h
     whole h among = held_whole n c refl (λ x old. (k.disks.decisions place s n there up).whole x old) h (holds h among)
 
     follows : FollowsDisk place left c

@@ -17,7 +17,7 @@ use Rattle.coordinator.specs.Node.{Node, family_in, family_of, life, only_of}
 use Rattle.coordinator.specs.NodeParts.{IsWhole}
 use Rattle.family_laws.specs.HeldRecords.{IsOfStanding, WasHeld}
 use Rattle.family_laws.specs.OwnDecisions.{KeepsDecisions}
-use Rattle.nodes_world.specs.Agreement.{FollowsDisk, HasSent, HoldsDecisions, IsHeldWhole, records_at}
+use Rattle.nodes_world.specs.Agreement.{FollowsDisk, HasSent, HoldsDecisions, records_at}
 use Rattle.nodes_world.specs.AgreementInside.{Known, DisksAreKnown, NodeIsKnown, edge_at}
 use Rattle.nodes_world.specs.Laws.{IsInOrder}
 use Rattle.nodes_world.specs.Objects.{place_of, service_at}
@@ -143,7 +143,7 @@ module _ (w : World) (place : ℕ) (s : Seat) (n m : Node) (told : List Told) (t
 
   -- ---- its disk
 
-  whole : (h : Held) → Contains m.recovered h → IsHeldWhole m h
+  whole : (h : Held) → Contains m.recovered h → IsOfStanding m.found.standing h
   whole h among = held_whole n m found (λ x old. (k.disks.decisions place s n there up).whole x old) h (holds h among)
 
   follows : FollowsDisk place left m

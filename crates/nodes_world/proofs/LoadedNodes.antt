@@ -201,7 +201,7 @@ load_holds place service rs = record {
   whole = λ h c.
       let at = recovered_of (found_in (in_next_life rs)).standing h c in
       let so = held_so at.0.place at.0.item h at.2 in
-      record { stood = at.0; stands = at.1; same_place = so.0; registrations = so.1 };
+      record { stood = at.0; there = at.1; same_place = so.0; numbers = so.2; references = so.1 };
   held = λ stood life slot generation retry asked regs c is.
       let at = decision_held stood life slot generation retry asked regs is in
       let there = recovered_in (found_in (in_next_life rs)).standing stood at.0 c at.1 in

@@ -15,7 +15,7 @@ use Rattle.coordinator.specs.Node.{Node, family_in, family_of, is_of, only_of}
 use Rattle.coordinator.specs.NodeParts.{IsWhole}
 use Rattle.family_laws.specs.HeldRecords.{IsOfStanding, WasHeld}
 use Rattle.family_laws.specs.SoundNode.{HasFamilyOf, IsDecisionOf, IsSoundNode, is_family_decision}
-use Rattle.nodes_world.specs.Agreement.{HoldsDecisions, IsHeldWhole, recorded_key}
+use Rattle.nodes_world.specs.Agreement.{HoldsDecisions, recorded_key}
 use Rattle.nodes_world.specs.Objects.{service_at}
 
 -- what holds of each element
@@ -27,25 +27,21 @@ pub any_among : {A : Type 0} (P : A → Type 0) (xs : List A) (x : A) → Contai
 any_among P xs x among is = (among.0, x, among.1, among.2, is)
 
 -- what was held before, or stands, is of a record that stands
-pub held_whole : (n c : Node) → c.found ≡ n.found → ((h : Held) → Contains n.recovered h → IsHeldWhole n h) → (h : Held)
-    → WasHeld n.recovered h ⊎ IsOfStanding n.found.standing h → IsHeldWhole c h
+pub held_whole : (n c : Node) → c.found ≡ n.found → ((h : Held) → Contains n.recovered h → IsOfStanding n.found.standing h) → (h : Held)
+    → WasHeld n.recovered h ⊎ IsOfStanding n.found.standing h → IsOfStanding c.found.standing h
 held_whole n c same whole h (inl was) =
     let old = whole was.before was.there in
     record {
       stood = old.stood;
-      stands = subst (λ (found : _). Contains found.standing old.stood) (sym same) old.stands;
+      there = subst (λ (found : _). Contains found.standing old.stood) (sym same) old.there;
       same_place = old.same_place ∙ was.same_place;
-      registrations = was.references ∙ old.registrations;
+      numbers = was.numbers ∙ old.numbers;
+      references = was.references ∙ old.references;
     }
-held_whole n c same whole h (inr stands) = record {
-  stood = stands.stood;
-  stands = subst (λ (found : _). Contains found.standing stands.stood) (sym same) stands.there;
-  same_place = stands.same_place;
-  registrations = stands.references;
-}
+held_whole n c same whole h (inr stands) = subst (λ (found : _). IsOfStanding found.standing h) (sym same) stands
 
 module _ (place : ℕ) (c : Node) (service : c.service ≡ service_at place) (sound : IsSoundNode c)
-    (whole : (h : Held) → Contains c.recovered h → IsHeldWhole c h) where
+    (whole : (h : Held) → Contains c.recovered h → IsOfStanding c.found.standing h) where
   in_slot : (key : ObjectKey) (slot : ℕ) (f : Family) → family_in c.families slot ≡ Some f → key.slot ≡ slot → is_of key f ≡ true → family_of key c ≡ Some f
   unfolding family_of
   in_slot key slot f at same is =
@@ -84,5 +80,5 @@ module _ (place : ℕ) (c : Node) (service : c.service ≡ service_at place) (so
     last = sound.last;
     numbers = sound.numbers;
     held = all_of (λ (r : Held). Any (λ (s : Standing). s.place ≡ r.place) c.found.standing) c.recovered
-        (λ h among. let is = whole h among in any_among (λ (s : Standing). s.place ≡ h.place) c.found.standing is.stood is.stands is.same_place);
+        (λ h among. let is = whole h among in any_among (λ (s : Standing). s.place ≡ h.place) c.found.standing is.stood is.there is.same_place);
   }

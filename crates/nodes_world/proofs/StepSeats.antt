@@ -105,7 +105,7 @@ module _ (n : Node) (f g : Family) (same : g.key ≡ f.key) (slotted : family_in
 
   pub holds_now : (place : ℕ) → HoldsDecisions place n → HoldsDecisions place m
   holds_now place holds = record {
-    whole = λ h among. let was = holds.whole h among in record { stood = was.stood; stands = was.stands; same_place = was.same_place; registrations = was.registrations };
+    whole = holds.whole;
     held = λ stood life slot generation by asked regs among is.
         ap (λ (b : Bool). is_held stood.place n.recovered || b) (of_now _) ∙ holds.held stood life slot generation by asked regs among is;
   }

@@ -1,7 +1,7 @@
 -- Agreement: the lines of every world that a script can reach are safe, through crashes too (Transaction Service, the two phases of
 -- interfaces Terminator, Coordinator and Resource). What is known of a family is said by lines, and by the records that its node's
 -- disk holds: a family in memory is gone after a crash.
-use Rattle.std.specs.Prelude.{◌≡◌, ℕ, ◌+◌, ◌<◌, ◌⊎◌, ◌==◌, ◌&&◌, ◌||◌, ◌↔◌, Bool, false, not, List, [], ◌∷◌, ◌++◌, map, bytes_eq, slice_get, Contains, Option, Some, None, is_some, IfSome, IsTrue, ◌≤◌, length}
+use Rattle.std.specs.Prelude.{◌≡◌, ℕ, ◌+◌, ◌<◌, ◌⊎◌, ◌==◌, ◌&&◌, ◌||◌, ◌↔◌, Bool, false, not, List, [], ◌∷◌, ◌++◌, bytes_eq, slice_get, Contains, Option, Some, None, is_some, IfSome, IsTrue, ◌≤◌, length}
 use Rattle.std.specs.List.{list_any}
 use Rattle.std.specs.Option.{option_and_then, option_map_or}
 use Rattle.ior_refs.specs.declared.key.ObjectKey.{ObjectKey}
@@ -29,15 +29,14 @@ use Rattle.decision_journal.specs.declared.record.JournalRecord.{JournalRecord}
 use Rattle.decision_journal.specs.declared.record.JournalRecord.TheVariants.{Life, Decision, Done, Prepared, CellsPrepared, CellsOutcome, CellsOnePhase}
 use Rattle.decision_journal.specs.declared.record.Registration.{Registration}
 use Rattle.recovery_coord.specs.Held.{is_held}
-use Rattle.recovery_coord.specs.Laws.{registrations_of}
 use Rattle.recovery_coord.specs.Limits.{retold_slot}
 use Rattle.recovery_coord.specs.declared.held.Held.{Held}
-use Rattle.recovery_coord.specs.declared.held.Party.{Party}
 use Rattle.resource_end.specs.declared.state.State.{State}
 use Rattle.resource_end.specs.declared.state.State.TheVariants as states
 use Rattle.coordinator.specs.Names.{coordinator_kind}
 use Rattle.coordinator.specs.Node.{Node, family_of}
 use Rattle.coordinator.specs.declared.said.Said.TheVariants as said
+use Rattle.family_laws.specs.HeldRecords.{IsOfStanding}
 use Rattle.nodes_world.specs.declared.deed.Deed.{Deed}
 use Rattle.nodes_world.specs.declared.message.Content.TheVariants as contents
 use Rattle.nodes_world.specs.declared.message.Message.{Message}
@@ -232,16 +231,10 @@ RecordsRestOnVotes w told = (place life slot generation : ℕ) (by : Option Retr
     (rs : List JournalRecord) → records_at w place ≡ Some rs → Contains rs (Decision life slot generation by asked regs)
     → RestsOnVotes w told (recorded_key place life slot generation) regs
 
--- what a node tells again is a record that stands, to all whom it names
-pub record IsHeldWhole (n : Node) (h : Held) : Type 0 where
-  pub stood : Standing
-  pub stands : Contains n.found.standing stood
-  pub same_place : stood.place ≡ h.place
-  pub registrations : map (λ (p : Party). p.to) h.parties ≡ map (λ (r : Registration). r.reference) (registrations_of stood.item)
-
--- each decision that stands is told again, or its family is there
+-- what a node tells again is a record that stands, to all whom it names; each decision that stands is told again, or its family is
+-- there
 pub record HoldsDecisions (place : ℕ) (n : Node) : Type 0 where
-  pub whole : (h : Held) → Contains n.recovered h → IsHeldWhole n h
+  pub whole : (h : Held) → Contains n.recovered h → IsOfStanding n.found.standing h
   pub held : (stood : Standing) (life slot generation : ℕ) (by : Option RetryKey) (asked : Bool) (regs : List Registration)
       → Contains n.found.standing stood → stood.item ≡ Decision life slot generation by asked regs
       → IsTrue (is_held stood.place n.recovered || is_some (family_of (recorded_key place life slot generation) n))
