@@ -473,14 +473,10 @@ touched_go w may name make deed is then =
     = named.1 ∙ ap (λ (t : Thing). Some t) (resource_is named.0 up.0 named.2) ∙ ap (λ (key : ObjectKey). Some (things.Resource key)) (sym (so.1 ∙ also.1)) in
     subst (MayGo w) (sym made.2) (then made.0 is_thing)
 
-last_of_both : (a b : Bool) → (a && b) ≡ true → b ≡ true
-last_of_both true b is = is
-last_of_both false b is = absurd cc
-
 -- a name isn't long
 name_short : (name : List ℕ) → IsName name → length name ≤ name_limit
 name_short [] is = absurd cc
-name_short (b ∷ bs) is = low (length bs) (last_of_both (is_letter b && list_all is_name_octet bs) (nat_lt (length bs) name_limit) is)
+name_short (b ∷ bs) is = low (length bs) (and_parts (is_letter b && list_all is_name_octet bs) (nat_lt (length bs) name_limit) is).1
   where
     low : (many : ℕ) → nat_lt many 12 ≡ true → suc many ≤ 12
     low many less = grind (arith, nat_tests, less)
