@@ -2,6 +2,7 @@
 use Rattle.std.proofs.Common.{◌≡◌, ◌≢◌, ℕ, ◌<◌, ◌≤◌, Bool, true, false, List, [], ◌∷◌, ◌++◌, length, take, refl, sym, ap, subst, ◌∙◌, append_assoc, arith, leb-true}
 use Rattle.std.specs.Prelude.{◌&&◌, ◌||◌, nat_eq, nat_lt, nat_le}
 use Rattle.std.specs.List.{join_with_byte, slice_split, list_all, flat_map, All, AllByRecursion}
+use Rattle.std.proofs.lemmas.Bool.{and_parts}
 use Rattle.std.proofs.lemmas.List.{append_cancel_left, length-append, take-append-le}
 use Rattle.std.proofs.lemmas.List.Elements.{All-from_recursion, All-append, All-cons, All-take, All-weaker}
 use Rattle.std.proofs.lemmas.List.Splits.{slice_split_none, slice_split_at, length-slice_split}
@@ -14,14 +15,6 @@ use Rattle.nodes_told.proofs.Numbers.{high_is_plain}
 
 -- ---- words that are plain
 
-first_of_both : (a b : Bool) → (a && b) ≡ true → a ≡ true
-first_of_both true b h = refl
-first_of_both false b h = cc
-
-last_of_both : (a b : Bool) → (a && b) ≡ true → b ≡ true
-last_of_both true b h = h
-last_of_both false b h = cc
-
 either_of : {X : Type 0} (a b : Bool) → (a || b) ≡ true → (a ≡ true → X) → (b ≡ true → X) → X
 either_of true b h f g = f refl
 either_of false b h f g = g h
@@ -33,29 +26,29 @@ is_plain word = list_all (nat_lt 32) word
 pub fixed_is_plain : (word : List ℕ) → is_plain word ≡ true → IsPlain word
 fixed_is_plain [] h = tt
 fixed_is_plain (b ∷ word) h = (
-  high_is_plain b (ltb-true 32 b (first_of_both (nat_lt 32 b) (is_plain word) h)),
-  fixed_is_plain word (last_of_both (nat_lt 32 b) (is_plain word) h),
+  high_is_plain b (ltb-true 32 b (and_parts (nat_lt 32 b) (is_plain word) h).0),
+  fixed_is_plain word (and_parts (nat_lt 32 b) (is_plain word) h).1,
 )
 
 letter_is_plain : (b : ℕ) → is_letter b ≡ true → IsPlainOctet b
-letter_is_plain b h = high_is_plain b (omega (arith, leb-true 97 b (first_of_both (nat_le 97 b) (nat_le b 122) h)))
+letter_is_plain b h = high_is_plain b (omega (arith, leb-true 97 b (and_parts (nat_le 97 b) (nat_le b 122) h).0))
 
 digit_is_plain : (b : ℕ) → is_digit b ≡ true → IsPlainOctet b
-digit_is_plain b h = high_is_plain b (omega (arith, leb-true 48 b (first_of_both (nat_le 48 b) (nat_le b 57) h)))
+digit_is_plain b h = high_is_plain b (omega (arith, leb-true 48 b (and_parts (nat_le 48 b) (nat_le b 57) h).0))
 
 name_octets_are_plain : (bs : List ℕ) → list_all is_name_octet bs ≡ true → IsPlain bs
 name_octets_are_plain [] h = tt
 name_octets_are_plain (b ∷ bs) h = (
-  either_of (is_letter b) (is_digit b) (first_of_both (is_name_octet b) (list_all is_name_octet bs) h) (letter_is_plain b) (digit_is_plain b),
-  name_octets_are_plain bs (last_of_both (is_name_octet b) (list_all is_name_octet bs) h),
+  either_of (is_letter b) (is_digit b) (and_parts (is_name_octet b) (list_all is_name_octet bs) h).0 (letter_is_plain b) (digit_is_plain b),
+  name_octets_are_plain bs (and_parts (is_name_octet b) (list_all is_name_octet bs) h).1,
 )
 
 pub name_is_plain : (word : List ℕ) → IsName word → IsPlain word
 name_is_plain [] h = cc
 name_is_plain (b ∷ bs) h =
-    let inner : (is_letter b && list_all is_name_octet bs) ≡ true = first_of_both (is_letter b && list_all is_name_octet bs) (nat_lt (length bs) name_limit) h in (
-      letter_is_plain b (first_of_both (is_letter b) (list_all is_name_octet bs) inner),
-      name_octets_are_plain bs (last_of_both (is_letter b) (list_all is_name_octet bs) inner),
+    let inner : (is_letter b && list_all is_name_octet bs) ≡ true = (and_parts (is_letter b && list_all is_name_octet bs) (nat_lt (length bs) name_limit) h).0 in (
+      letter_is_plain b (and_parts (is_letter b) (list_all is_name_octet bs) inner).0,
+      name_octets_are_plain bs (and_parts (is_letter b) (list_all is_name_octet bs) inner).1,
     )
 
 -- ---- lines of such words
