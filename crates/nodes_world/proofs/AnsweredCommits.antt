@@ -9,21 +9,10 @@ use Rattle.nodes_world.specs.declared.message.Content.TheVariants as contents
 use Rattle.nodes_world.specs.Agreement.{IsWord}
 use Rattle.nodes_world.specs.Told.{Told}
 use Rattle.nodes_world.specs.World.{World}
+pub use Rattle.nodes_world.specs.ToldAgain.{HasAnsweredCommit}
 use Rattle.nodes_world.proofs.MessagesGo.{HasContent}
 use Rattle.nodes_world.proofs.StoredAnswers.{AreStored, IsStored}
 use Rattle.nodes_world.proofs.ToldReplied.{IsReplied}
-
--- the object of a reference has replied to a commit word
-pub record HasAnsweredCommit (w : World) (to : List ℕ) : Type 0 where
-  pub nth : ℕ
-  pub place : ℕ
-  pub reply : ℕ
-  pub word : Outward
-  pub answer : Said
-  pub sent : IsWord w nth place word
-  pub own : word.to ≡ to
-  pub commit : word.word ≡ words.Phase phase_words.Commit
-  pub replied : HasContent w reply (contents.Reply (nth + 1) answer)
 
 -- what was sent stays, so it has done so for good
 pub answered_on : (w v : World) → ((nth : ℕ) (content : Content) → HasContent w nth content → HasContent v nth content) → (to : List ℕ)

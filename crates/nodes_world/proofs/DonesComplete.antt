@@ -19,13 +19,16 @@ use Rattle.nodes_world.specs.Laws.{AskedJournalsKeep, AskedJournalsStop, Records
 use Rattle.nodes_world.specs.OverForGood.{DonesAreStored, IsAt}
 use Rattle.nodes_world.specs.Step.{carried_out}
 use Rattle.nodes_world.specs.Told.{Told}
+use Rattle.nodes_world.specs.ToldAgain.{HasAnsweredCommit, HeldWaitOrAnswered}
 use Rattle.nodes_world.specs.World.{World, FlatResource, empty, node_at}
 use Rattle.nodes_world.proofs.AnsweredCommits.{answered_stored}
 use Rattle.nodes_world.proofs.Delivered.{reached_delivered}
 use Rattle.nodes_world.proofs.DonesAnswered.{DonesAnswered, dones_step}
+use Rattle.nodes_world.proofs.DuesHeard.{AreDueOr, IsDueOr}
 use Rattle.nodes_world.proofs.GoingOn.{deeds_go}
 use Rattle.nodes_world.proofs.HearingsMay.{KnownMayAsk}
 use Rattle.nodes_world.proofs.HeldAnswered.{HeldAnswered, RetoldAnswered, held_step}
+use Rattle.nodes_world.proofs.KnownFamilies.{all_at}
 use Rattle.nodes_world.proofs.MessagesGo.{HasContent, messages_step}
 use Rattle.nodes_world.proofs.NamedParties.{RecordsNameParties, named_step}
 use Rattle.nodes_world.proofs.NodesGo.{NodesGo, nodes_go}
@@ -143,3 +146,9 @@ module _ (laws : DoneLaws) where
 
       at : IsAt (λ (s : State). s ≡ states.Applied) w name.key
       at = dones_are_stored w told place rs key to name reached held named done refers
+
+  -- a registration that a node holds waits for commit, or has answered one
+  pub held_wait_or_answered : HeldWaitOrAnswered
+  held_wait_or_answered w told place n h p reached up among one =
+      all_at (IsDueOr (HasAnsweredCommit w)) h.parties p
+      (all_at (AreDueOr (HasAnsweredCommit w)) n.recovered h ((answered_reached w told reached).held place n up) among) one

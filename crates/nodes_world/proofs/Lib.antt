@@ -150,3 +150,5 @@ mod SentWords
 mod RetoldAnswered
 mod DonesAnswered
 mod DonesComplete
+mod RetoldTicks
+mod ToldAgain

@@ -17,6 +17,7 @@ pub mod Agreement
 pub mod AgreementInside
 pub mod AgreementSteps
 pub mod StandingDecisions
+pub mod ToldAgain
 pub mod OverForGood
 pub mod Laws
 pub mod Asking

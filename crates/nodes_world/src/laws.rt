@@ -7,6 +7,7 @@ ghost use Rattle.nodes_world.specs.CompletionLaws.{CompletionLaws};
 ghost use Rattle.nodes_world.specs.Laws.{AppendsGoThrough, AppendsStrike, AskedJournalsKeep, AskedJournalsStop, RecordsAreRead, StoppedAppendsAreSafe, WhatIsLeftIsAnImage};
 ghost use Rattle.nodes_world.specs.OverForGood.{AnsweredCommitsAreStored, ClosedFamiliesAreStored, CommitsAreStored, DonesAreStored, ResourcesStay, ToldParticipantsAreStored};
 ghost use Rattle.nodes_world.specs.StandingDecisions.{RestartsTellAgain, StandingIsTold, ToldIsRecorded};
+ghost use Rattle.nodes_world.specs.ToldAgain.{HeldWaitOrAnswered, ReachedTellAgain};
 
 use coordinator::{families_step_rightly, family_outcomes_stay, histories_grow_by_entries};
 use decision_journal::{appends_are_safe, bodies_are_read, journals_grow, loads_are_safe};
@@ -198,10 +199,12 @@ pub fn commits_are_stored()
 }
 
 /// In each world that a script reaches, where a Done names the decision of a family, it is over for each resource that
-/// this decision names: each has stored its updates.
+/// this decision names: each has stored its updates. Each registration of a record that a node holds waits for its commit
+/// word, or has answered one.
 pub fn dones_are_complete()
     ensures complete { ReachedDonesAreComplete }
     ensures stored { DonesAreStored }
+    ensures held { HeldWaitOrAnswered }
 {
     journals_grow();
     loads_are_safe();
@@ -216,4 +219,16 @@ pub fn dones_are_complete()
     families_close_last();
     laws_of_completions();
     steps_stay_known();
+}
+
+/// In each world that a script reaches a restart brings its node up, and leaves each decision that stands on the disk owed
+/// to all whom it names, and told by a line. Each tick of a node tells commit to all to whom such a decision is owed, but
+/// to those that have answered.
+pub fn decisions_are_told_again()
+    ensures { ReachedTellAgain }
+{
+    journals_grow();
+    steps_stay_known();
+    decisions_outlive_crashes();
+    dones_are_complete();
 }

@@ -1,4 +1,4 @@
-use Rattle.nodes_world.proofs.DonesComplete.{DoneLaws, dones_are_complete, dones_are_stored}
+use Rattle.nodes_world.proofs.DonesComplete.{DoneLaws, dones_are_complete, dones_are_stored, held_wait_or_answered}
 use Rattle.nodes_world.proofs.HearingsMay.{known_may_ask}
 use Rattle.nodes_world.proofs.laws.dones_are_complete.Goals as goal
 
@@ -33,3 +33,6 @@ returns-clause-complete c = dones_are_complete (the_laws c)
 
 pub returns-clause-stored : goal.returns-clause-stored
 returns-clause-stored c = dones_are_stored (the_laws c)
+
+pub returns-clause-held : goal.returns-clause-held
+returns-clause-held c = held_wait_or_answered (the_laws c)
