@@ -1,8 +1,7 @@
-ghost use Rattle.std.specs.Prelude.{◌≡◌, ◌<◌, ◌≤◌, ◌↔◌, ◌++◌, length, None, Some, true, false, IfOk, OnOk, OnErr, IsErr, IsErrOf, IsSome, IfSome};
+ghost use Rattle.std.specs.Prelude.{◌≡◌, ◌<◌, ◌≤◌, ◌↔◌, ◌++◌, None, Some, true, false, IfOk, OnOk, OnErr, IsErr, IsErrOf, IsSome, IfSome};
 ghost use Rattle.std.specs.Option.{option_copied};
 ghost use Rattle.coordinator.specs.Family.{new_family};
 ghost use Rattle.coordinator.specs.History as history;
-ghost use Rattle.coordinator.specs.Names as names;
 ghost use Rattle.coordinator.specs.NodeCalls.{answer_of};
 ghost use Rattle.coordinator.specs.Phases as phases;
 ghost use Rattle.coordinator.specs.Step as steps;
@@ -21,7 +20,7 @@ use decision_journal::Journal;
 use family_laws::{families_number_words, families_stay_sound};
 use family_rules::State;
 use ior_refs::ObjectKey;
-use ots_model::{Octets, RetryKey, Status, Stood};
+use ots_model::{RetryKey, Stood};
 use ots_outside::Disk;
 use recovery_coord::Outbox;
 use resource_votes::{Registration, Walk};
@@ -128,27 +127,6 @@ impl Family {
         self.state.phase()
     }
 
-    /// The status of a transaction (`get_status`), where there is one.
-    pub fn status(&self, branch: u32) -> Option<Status>
-        ensures status { result ≡ phases.status_of self.now.family branch }
-    {
-        self.state.status_of(branch)
-    }
-
-    /// The status of its parent (`get_parent_status`), where there is one. The top-level transaction counts as its own.
-    pub fn parent_status(&self, branch: u32) -> Option<Status>
-        ensures status { result ≡ phases.parent_status_of self.now.family branch }
-    {
-        self.state.parent_status_of(branch)
-    }
-
-    /// The status of the top-level transaction (`get_top_level_status`).
-    pub fn top_status(&self) -> Status
-        ensures status { result ≡ phases.top_status self.now.family }
-    {
-        self.state.top_status()
-    }
-
     /// Whether the top-level transaction has ended, and no call is under way.
     pub fn finished(&self) -> bool
         ensures finished { result ≡ steps.is_finished self.now.family }
@@ -225,52 +203,6 @@ impl Family {
         ensures kept { option_copied result ≡ history.kept (self.now.family).entries key.now }
     {
         kept(&self.state, &self.callers, key)
-    }
-
-    /// The name of a transaction (`get_transaction_name`).
-    pub fn name(&self, alloc: Global, branch: u32) -> Result<Octets, AllocError>
-        ensures name { IfOk result (λ octets. octets ≡ names.name_of self.now.family branch) }
-    {
-        self.state.name_of(alloc, branch)
-    }
-
-    /// The hash of a transaction (`hash_transaction`). It needs no memory.
-    pub fn hash(&self, branch: u32) -> u32
-        ensures hash { result ≡ names.hash_of self.now.family branch }
-    {
-        self.state.hash_of(branch)
-    }
-
-    /// What `is_same_transaction` is answered, where this is the key of the other coordinator. To another service's it is
-    /// NoImplement.
-    pub fn is_same(&self, branch: u32, other: Option<ObjectKey>) -> Said
-        ensures same { result ≡ names.is_same self.now.family branch other }
-    {
-        self.state.is_same(branch, other)
-    }
-
-    /// What `is_related_transaction` is answered.
-    pub fn is_related(&self, branch: u32, other: Option<ObjectKey>) -> Said
-        requires there { branch < length (self.now.family).rows }
-        ensures related { result ≡ names.is_related self.now.family branch other }
-    {
-        self.state.is_related(branch, other)
-    }
-
-    /// What `is_ancestor_transaction` is answered.
-    pub fn is_ancestor(&self, branch: u32, other: Option<ObjectKey>) -> Said
-        requires there { branch < length (self.now.family).rows }
-        ensures ancestor { result ≡ names.is_ancestor_of self.now.family branch other }
-    {
-        self.state.is_ancestor(branch, other)
-    }
-
-    /// What `is_descendant_transaction` is answered.
-    pub fn is_descendant(&self, branch: u32, other: Option<ObjectKey>) -> Said
-        requires there { branch < length (self.now.family).rows }
-        ensures descendant { result ≡ names.is_descendant_of self.now.family branch other }
-    {
-        self.state.is_descendant(branch, other)
     }
 
     /// The step of an event for which memory was taken, where it asks the journal for nothing. It takes no memory.
