@@ -1,9 +1,10 @@
 -- The Done is wanted once all have completed, and is told where it stands.
-use Rattle.std.proofs.Common.{◌≡◌, ◌⊎◌, ◌&&◌, ◌||◌, not, inl, inr, ℕ, List, [], ◌∷◌, ◌++◌, Bool, true, false, if◌then◌else◌, Option, Some, None, is_some, is_none, Contains, refl, ap, sym, subst, ◌∙◌, arith}
+use Rattle.std.proofs.Common.{◌≡◌, ◌⊎◌, ◌&&◌, ◌||◌, not, inl, inr, ℕ, suc, List, [], ◌∷◌, ◌++◌, Bool, true, false, if◌then◌else◌, Option, Some, None, is_some, is_none, Contains, refl, ap, sym, subst, ◌∙◌, arith}
 use Rattle.std.proofs.lemmas.List.Elements.{Contains-append_left, Contains-append_right}
-use Rattle.std.specs.List.{AllByRecursion, list_all, list_any}
+use Rattle.std.specs.List.{AllByRecursion, slice_get}
 use Rattle.std.specs.Option.{option_map, option_map_or}
 use Rattle.ots_model.specs.declared.completion.CallNumber.{CallNumber}
+use Rattle.ots_model.specs.declared.completion.Disposition.{Disposition}
 use Rattle.ots_model.specs.declared.completion.Ground.TheVariants.{Nobody}
 use Rattle.ots_model.specs.declared.completion.Heard.{Heard as ParticipantHeard}
 use Rattle.ots_model.specs.declared.completion.Heard.TheVariants as phase_hears
@@ -19,14 +20,14 @@ use Rattle.two_phase.specs.Course.{Course}
 use Rattle.two_phase.specs.LawsOfReached.{IsReached, TreeBecomes}
 use Rattle.two_phase.specs.LawsOfReached.IsReached.{begins, rolls_back, goes_on}
 use Rattle.two_phase.specs.LawsOfReached.TreeBecomes.{by_word, by_answer, by_record, by_reread, by_rollback}
-use Rattle.two_phase.specs.Parties.{has_completed, completes, is_told, is_through, is_owed, lets_go, is_heuristic}
+use Rattle.two_phase.specs.LawsOfSettling.{IsThrough}
+use Rattle.two_phase.specs.Parties.{completes, has_raised, is_told, lets_go, is_heuristic}
 use Rattle.two_phase.specs.Course.{same_number}
 use Rattle.two_phase.specs.Reports as reports
 use Rattle.two_phase.specs.Stages as stages
 use Rattle.two_phase.specs.Stages.{Standing, Waiting, Going as UnderWay}
 use Rattle.two_phase.specs.declared.party.Errand.{Errand}
 use Rattle.two_phase.specs.declared.party.Party.{Party}
-use Rattle.two_phase.specs.declared.party.Stage.TheVariants as asks
 use Rattle.coordinator.specs.declared.effect.Effect.{Effect}
 use Rattle.coordinator.specs.declared.effect.Effect.TheVariants as effects
 use Rattle.coordinator.specs.declared.event.Act.{Act}
@@ -46,7 +47,7 @@ use Rattle.family_laws.specs.LawsBelow.{Laws}
 use Rattle.family_laws.proofs.Telling.{either_course, IsOther, IsKept}
 use Rattle.family_laws.proofs.Votes.{answered_alone, IsNoDone, other_no_done}
 use Rattle.family_laws.proofs.Hearing.{hears_calm}
-use Rattle.family_laws.proofs.Lists.{all_map, all_both, has_at}
+use Rattle.family_laws.proofs.Lists.{all_map, has_at}
 use Rattle.family_laws.proofs.StepsTell.{answered_is, IsStep, IsAnswer, step_is, no_done_among}
 use Rattle.family_laws.proofs.Journal.{IsWantedBy, wanted_is, wanted_step, both_left, both_right}
 
@@ -133,21 +134,10 @@ known law c a h = go c.overtaken refl
 
 -- ---- all have completed
 
-all_true : (test : Party → Bool) (ps : List Party) → list_all test ps ≡ true → AllByRecursion (λ p. test p ≡ true) ps
-all_true test [] h = tt
-all_true test (p ∷ ps) h = (both_left (test p) (list_all test ps) h, all_true test ps (both_right (test p) (list_all test ps) h))
-
-all_false : (test : Party → Bool) (ps : List Party) → list_any test ps ≡ false → AllByRecursion (λ p. test p ≡ false) ps
-all_false test [] h = tt
-all_false test (p ∷ ps) h = (one (test p) (list_any test ps) h, all_false test ps (rest (test p) (list_any test ps) h))
-  where
-    one : (a b : Bool) → (a || b) ≡ false → a ≡ false
-    one true b h = absurd (cc h)
-    one false b h = refl
-
-    rest : (a b : Bool) → (a || b) ≡ false → b ≡ false
-    rest true b h = absurd (cc h)
-    rest false b h = h
+-- each of these, by its place
+each_at : (P : Party → Type 0) (ps : List Party) → ((place : ℕ) (p : Party) → slice_get ps place ≡ Some p → P p) → AllByRecursion P ps
+each_at P [] each = tt
+each_at P (p ∷ ps) each = (each 0 p refl, each_at P ps (λ place q there. each (suc place) q there))
 
 let_go : (o : Option ParticipantHeard) → option_map_or lets_go o false ≡ true → HasForgotten o
 let_go None h = absurd (cc h)
@@ -161,58 +151,44 @@ let_go (Some phase_hears.Other) h = absurd (cc h)
 let_go (Some phase_hears.Lost) h = absurd (cc h)
 let_go (Some phase_hears.Starved) h = absurd (cc h)
 
--- one that is owed no forget, and has raised a heuristic exception, has let go of it
-forgotten : (p : Party) → is_owed asks.Forgetting p ≡ false → option_map_or is_heuristic p.told false ≡ true → HasForgotten p.forgot
-forgotten p owed raised = let_go p.forgot (go (option_map_or is_heuristic p.ballot false) (option_map_or is_heuristic p.told false) (option_map_or lets_go p.forgot false) raised owed)
+-- one that has raised a heuristic exception has let go of it
+abbrev LetsGo : Party → Type 0
+LetsGo p = has_raised p ≡ true → option_map_or lets_go p.forgot false ≡ true
+
+forgotten : (p : Party) (d : Disposition) → p.told ≡ Some (phase_hears.Heuristic d) → LetsGo p → HasForgotten p.forgot
+forgotten p d e lets = let_go p.forgot (lets (ap (λ (o : Option ParticipantHeard). option_map_or is_heuristic p.ballot false || option_map_or is_heuristic o false) e ∙ or_true (option_map_or is_heuristic p.ballot false)))
   where
-    go : (a b l : Bool) → b ≡ true → ((a || b) && not l) ≡ false → l ≡ true
-    go a b true e h = refl
-    go true b false e h = absurd (cc h)
-    go false true false e h = absurd (cc h)
-    go false false false e h = absurd (cc e)
+    or_true : (a : Bool) → (a || true) ≡ true
+    or_true true = refl
+    or_true false = refl
 
-completed_by : (p : Party) (o : Option ParticipantHeard) → p.told ≡ o → option_map_or completes o false ≡ true → is_owed asks.Forgetting p ≡ false → HasCompleted p
-completed_by p None e h owed = absurd (cc h)
-completed_by p (Some phase_hears.Done) e h owed = inl e
-completed_by p (Some phase_hears.NoObject) e h owed = inr (inl e)
-completed_by p (Some (phase_hears.Heuristic d)) e h owed = inr (inr (d, e, forgotten p owed (rw e refl)))
-completed_by p (Some (phase_hears.Voted vote)) e h owed = absurd (cc h)
-completed_by p (Some phase_hears.RolledBack) e h owed = absurd (cc h)
-completed_by p (Some phase_hears.NotPrepared) e h owed = absurd (cc h)
-completed_by p (Some phase_hears.Other) e h owed = absurd (cc h)
-completed_by p (Some phase_hears.Lost) e h owed = absurd (cc h)
-completed_by p (Some phase_hears.Starved) e h owed = absurd (cc h)
-
-through_is : (told done : Bool) → told ≡ true → (not told || done) ≡ true → done ≡ true
-through_is true done e h = h
-through_is false done e h = absurd (cc e)
+completed_by : (p : Party) (o : Option ParticipantHeard) → p.told ≡ o → option_map_or completes o false ≡ true → LetsGo p → HasCompleted p
+completed_by p None e h lets = absurd (cc h)
+completed_by p (Some phase_hears.Done) e h lets = inl e
+completed_by p (Some phase_hears.NoObject) e h lets = inr (inl e)
+completed_by p (Some (phase_hears.Heuristic d)) e h lets = inr (inr (d, e, forgotten p d e lets))
+completed_by p (Some (phase_hears.Voted vote)) e h lets = absurd (cc h)
+completed_by p (Some phase_hears.RolledBack) e h lets = absurd (cc h)
+completed_by p (Some phase_hears.NotPrepared) e h lets = absurd (cc h)
+completed_by p (Some phase_hears.Other) e h lets = absurd (cc h)
+completed_by p (Some phase_hears.Lost) e h lets = absurd (cc h)
+completed_by p (Some phase_hears.Starved) e h lets = absurd (cc h)
 
 told_commit : (fixed : Outcome) (p : Party) → (fixed ≡ outcomes.Unknown → ⊥) → p.ballot ≡ Some (phase_hears.Voted VoteCommit) → is_told false fixed p ≡ true
 told_commit (outcomes.Commit basis) p n e = rw e refl
 told_commit (outcomes.Rollback reason) p n e = rw e refl
 told_commit outcomes.Unknown p n e = absurd (n refl)
 
-has_completed_all : (alone : Bool) (fixed : Outcome) (p : Party) → alone ≡ false → (fixed ≡ outcomes.Unknown → ⊥) → is_through alone fixed p ≡ true → is_owed asks.Forgetting p ≡ false
-    → p.ballot ≡ Some (phase_hears.Voted VoteCommit) → HasCompleted p
-has_completed_all alone fixed p a n through owed e =
-    completed_by p p.told refl (through_is (is_told false fixed p) (has_completed p) (told_commit fixed p n e) (rw a at through)) owed
-
-not_true : (b : Bool) → not b ≡ true → b ≡ false
-not_true true h = absurd (cc h)
-not_true false h = refl
-
+-- a settled completion is through with each that has voted commit
 settled_all : Laws → (c : Course) → course.decides_alone c ≡ false → reports.is_settled c ≡ true → CompletesAll (UnderWay c)
-unfolding reports.all_through reports.some_owed
-settled_all law c a h = go (course.outcome c) refl (both_left (reports.all_completed c) (not (reports.some_owed asks.Forgetting c.parties)) h)
+settled_all law c a h = through ((law.settled c).0 h)
   where
-    owed : AllByRecursion (λ (p : Party). is_owed asks.Forgetting p ≡ false) c.parties
-    owed = all_false (is_owed asks.Forgetting) c.parties (not_true (list_any (is_owed asks.Forgetting) c.parties) (both_right (reports.all_completed c) (not (reports.some_owed asks.Forgetting c.parties)) h))
-
-    go : (o : Option Outcome) → course.outcome c ≡ o → (elim o as (λ x. Bool) [ Some fixed ↦ reports.all_through (course.decides_alone c) fixed c.parties | None ↦ false ]) ≡ true → CompletesAll (UnderWay c)
-    go None e x = absurd (cc x)
-    go (Some fixed) e x =
-        all_both (λ (p : Party). is_through (course.decides_alone c) fixed p ≡ true) (λ (p : Party). is_owed asks.Forgetting p ≡ false) (λ (p : Party). p.ballot ≡ Some (phase_hears.Voted VoteCommit) → HasCompleted p)
-        (λ p t w. has_completed_all (course.decides_alone c) fixed p a (λ u. known law c a (rw u at e)) t w) c.parties (all_true (is_through (course.decides_alone c) fixed) c.parties x) owed
+    through : IsThrough c → CompletesAll (UnderWay c)
+    through (fixed, is, complete, lets) =
+        each_at (λ (p : Party). p.ballot ≡ Some (phase_hears.Voted VoteCommit) → HasCompleted p) c.parties
+        (λ place p there voted. completed_by p p.told refl
+        (complete place p there (ap (λ (alone : Bool). is_told alone fixed p) a ∙ told_commit fixed p (λ u. known law c a (rw u at is)) voted))
+        (lets place p there))
 
 -- ---- the Done is wanted
 

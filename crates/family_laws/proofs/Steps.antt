@@ -58,7 +58,7 @@ use Rattle.family_laws.proofs.Listed.{registered_listed, aware_listed}
 use Rattle.family_laws.proofs.Lists.{aware_same, registered_elsewhere}
 use Rattle.family_laws.proofs.Seats.{IsBut, But, Takes, taken_up, call_kept, due_kept, none_live_kept}
 use Rattle.family_laws.proofs.Sweeping.{runs_fine, positive}
-use Rattle.family_laws.proofs.Trees.{same_or_not, live_other, live_before, live_within, cut_stays, cut_here, grown_live, grown_cut}
+use Rattle.family_laws.proofs.Trees.{same_or_not, live_other, live_before, live_within, cut_stays, cut_here, grown_live, grown_cut, up_to_is_committed_up}
 use Rattle.family_laws.proofs.Turns.{IsFine, Fine, chained, either, only_fine, fine_of}
 use Rattle.std.proofs.lemmas.Bool.Decides.{nat_tests}
 use Rattle.txn_tree.specs.Limits.{depth_limit}
@@ -534,7 +534,7 @@ new_sound law key deadline = record {
 }
 
 pub families_stay_sound : Laws → FamiliesStaySound
-families_stay_sound law = record { new = new_sound law; steps = λ f e stood h. (steps_fine law f e stood h).sound }
+families_stay_sound law = record { new = new_sound law; steps = λ f e stood h. (steps_fine law f e stood h).sound; chains = up_to_is_committed_up law }
 
 pub families_end_in_turn : Laws → FamiliesEndInTurn
 families_end_in_turn law f e stood h = (steps_fine law f e stood h).turn

@@ -1,15 +1,15 @@
 -- What a commit, a rollback, a mark and a new subtransaction make of a tree.
-use Rattle.std.proofs.Common.{◌≡◌, ◌≢◌, ◌⊎◌, inl, inr, ℕ, ◌+◌, ◌<◌, ◌≤◌, ◌==◌, ◌&&◌, ◌||◌, not, Bool, true, false, zero, suc, List, [], ◌∷◌, ◌++◌, length, Option, Some, None, MatchOption, if◌then◌else◌, refl, ap, sym, ◌∙◌, arith}
+use Rattle.std.proofs.Common.{◌≡◌, ◌≢◌, ◌⊎◌, inl, inr, ℕ, ◌+◌, ◌<◌, ◌≤◌, ◌==◌, ◌&&◌, ◌||◌, not, Bool, true, false, zero, suc, List, [], ◌∷◌, ◌++◌, length, Option, Some, None, MatchOption, if◌then◌else◌, refl, ap, sym, subst, ◌∙◌, arith}
 use Rattle.std.proofs.lemmas.Grind.{common_steps}
-use Rattle.std.specs.List.{slice_get, list_any}
+use Rattle.std.specs.List.{slice_get}
 use Rattle.std.specs.Option.{option_map, option_map_or, option_and_then}
-use Rattle.txn_tree.specs.Rows.{parent, state, IsTree, IsParent, is_live, is_live_branch, is_ancestor, ancestors, lineage}
+use Rattle.txn_tree.specs.Rows.{parent, state, IsTree, IsParent, is_live, is_live_branch, is_ancestor, is_committed, is_committed_up}
 use Rattle.txn_tree.specs.Calls.{created, ended, marked, with_state, end_state, live_under, is_live_below}
 use Rattle.txn_tree.specs.declared.row.Row.{Row}
 use Rattle.txn_tree.specs.declared.row.State.{State}
 use Rattle.txn_tree.specs.declared.row.State.TheVariants.{Active, Marked, Committed, RolledBack}
 use Rattle.txn_tree.specs.Laws.{IsNext}
-use Rattle.family_laws.specs.Trees.{IsUpTo, IsCutOff}
+use Rattle.family_laws.specs.Trees.{IsUpTo, IsCutOff, UpToIsCommittedUp}
 use Rattle.family_laws.specs.Trees.IsUpTo.{same, further}
 use Rattle.family_laws.specs.Trees.IsCutOff.{itself, above}
 use Rattle.family_laws.specs.LawsBelow.{Laws}
@@ -92,6 +92,48 @@ up_top rs a b n u = go b u n
     go : (c : ℕ) → IsUpTo rs a c → parent rs c ≡ None → c ≡ a
     go _ same n = refl
     go _ (further c p s e v) n = absurd (cc (sym n ∙ e))
+
+-- ---- chains are those of the definition of trees
+
+up_committed : Laws → (rs : List Row) → IsTree rs → (b c : ℕ) → c < length rs → IsUpTo rs b c → is_committed_up rs b c ≡ true
+up_committed law rs t b _ k same = law.commits rs t b b k ∙ by_itself (b == b) (grind arith)
+  where
+    by_itself : (x : Bool) → x ≡ true → (x || (option_map_or is_committed (state rs b) false && option_map_or (λ p. is_committed_up rs b p) (parent rs b) false)) ≡ true
+    by_itself true e = refl
+    by_itself false e = absurd (cc e)
+up_committed law rs t b _ k (further c p s e u) =
+    let under : p < c = law.earlier rs t c p k e in
+    law.commits rs t b c k ∙ by_parent (c == b) (state rs c) (parent rs c) s e (up_committed law rs t b p (omega (arith, under, k)) u)
+  where
+    by_parent : (x : Bool) (o : Option State) (above_it : Option ℕ) → o ≡ Some Committed → above_it ≡ Some p → is_committed_up rs b p ≡ true
+        → (x || (option_map_or is_committed o false && option_map_or (λ q. is_committed_up rs b q) above_it false)) ≡ true
+    by_parent true o above_it i j h = refl
+    by_parent false o above_it i j h = rw (i, j) h
+
+same_place : (c b : ℕ) → (c == b) ≡ true → c ≡ b
+same_place c b e = grind (arith, e)
+
+committed_up : Laws → (rs : List Row) → IsTree rs → (b n c : ℕ) → c < n → c < length rs → is_committed_up rs b c ≡ true → IsUpTo rs b c
+committed_up law rs t b zero c i k h = absurd (omega (arith, i))
+committed_up law rs t b (suc n) c i k h =
+    by_step (λ p (under : p < c). committed_up law rs t b n p (omega (arith, under, i)) (omega (arith, under, k))) (c == b) refl (sym (law.commits rs t b c k) ∙ h)
+  where
+    by_parent : ((p : ℕ) → p < c → is_committed_up rs b p ≡ true → IsUpTo rs b p) → (o : Option State) → state rs c ≡ o → (above_it : Option ℕ) → parent rs c ≡ above_it
+        → (option_map_or is_committed o false && option_map_or (λ p. is_committed_up rs b p) above_it false) ≡ true → IsUpTo rs b c
+    by_parent higher (Some Committed) s (Some p) e g = further c p s e (higher p (law.earlier rs t c p k e) g)
+    by_parent higher (Some Committed) s None e g = absurd (cc g)
+    by_parent higher (Some Active) s o e g = absurd (cc g)
+    by_parent higher (Some Marked) s o e g = absurd (cc g)
+    by_parent higher (Some RolledBack) s o e g = absurd (cc g)
+    by_parent higher None s o e g = absurd (cc g)
+
+    by_step : ((p : ℕ) → p < c → is_committed_up rs b p ≡ true → IsUpTo rs b p) → (x : Bool) → (c == b) ≡ x
+        → (x || (option_map_or is_committed (state rs c) false && option_map_or (λ p. is_committed_up rs b p) (parent rs c) false)) ≡ true → IsUpTo rs b c
+    by_step higher true e g = subst (IsUpTo rs b) (sym (same_place c b e)) same
+    by_step higher false e g = by_parent higher (state rs c) refl (parent rs c) refl g
+
+pub up_to_is_committed_up : Laws → UpToIsCommittedUp
+up_to_is_committed_up law rs t b c k = (up_committed law rs t b c k, committed_up law rs t b (suc c) c (omega arith) k)
 
 -- ---- a live branch is marked or rolled back: chains stay, and what is cut off
 
@@ -245,36 +287,34 @@ and_right : (a b : Bool) → (a && b) ≡ true → b ≡ true
 and_right true b h = h
 and_right false b h = absurd (cc h)
 
-lineage_above : (rs : List Row) (a n b : ℕ) (o : Option ℕ) → IsParent b o → ((p : ℕ) → p < b → list_any (λ c. c == a) (lineage n rs p) ≡ false)
-    → (x : Bool) → x ≡ false → (x || list_any (λ c. c == a) (option_map_or (λ p. lineage n rs p) o [])) ≡ false
-lineage_above rs a n b o h all true e = absurd (cc e)
-lineage_above rs a n b None h all false e = refl
-lineage_above rs a n b (Some p) h all false e = all p h
-
-lineage_none : (rs : List Row) → IsTree rs → (a n b : ℕ) → b < length rs → b < a → list_any (λ c. c == a) (lineage n rs b) ≡ false
-lineage_none rs t a zero b k l = refl
-lineage_none rs t a (suc n) b k l =
-    lineage_above rs a n b (parent rs b) (t.parents b k)
-    (λ p (under : p < b). lineage_none rs t a n p (omega (arith, under, k)) (omega (arith, under, l))) (b == a) (grind arith)
-
-no_later_ancestor : (rs : List Row) → IsTree rs → (a b : ℕ) → b < length rs → b < a → is_ancestor rs a b ≡ false
-unfolding is_ancestor ancestors
-no_later_ancestor rs t a b k l = lineage_none rs t a (suc b) b k l
+-- a branch lies above none that was made before it
+no_later_ancestor : Laws → (rs : List Row) → IsTree rs → (a n b : ℕ) → b < n → b < length rs → b < a → is_ancestor rs a b ≡ false
+no_later_ancestor law rs t a zero b i k l = absurd (omega (arith, i))
+no_later_ancestor law rs t a (suc n) b i k l =
+    law.ancestry rs t a b k
+    ∙ neither (λ p (under : p < b). no_later_ancestor law rs t a n p (omega (arith, under, i)) (omega (arith, under, k)) (omega (arith, under, l)))
+    (b == a) (grind arith) (parent rs b) (t.parents b k)
+  where
+    neither : ((p : ℕ) → p < b → is_ancestor rs a p ≡ false) → (x : Bool) → x ≡ false → (o : Option ℕ) → IsParent b o
+        → (x || option_map_or (λ p. is_ancestor rs a p) o false) ≡ false
+    neither higher true e o h = absurd (cc e)
+    neither higher false e None h = refl
+    neither higher false e (Some p) h = higher p h
 
 -- the one that is found is live, and was made later
 pub record IsLaterLive (rs : List Row) (b d : ℕ) : Type 0 where
   pub live : is_live_branch rs d ≡ true
   pub later : b < d
 
-later_live : (rs : List Row) → IsTree rs → (b d : ℕ) → is_live_below rs b d ≡ true → IsLaterLive rs b d
-later_live rs t b d h =
+later_live : Laws → (rs : List Row) → IsTree rs → (b d : ℕ) → is_live_below rs b d ≡ true → IsLaterLive rs b d
+later_live law rs t b d h =
     let first : (is_live_branch rs d && not (d == b)) ≡ true = and_left _ _ h in
     let rest : is_ancestor rs b d ≡ true = and_right (is_live_branch rs d && not (d == b)) (is_ancestor rs b d) h in
     let live : is_live_branch rs d ≡ true = and_left _ _ first in
     let within : d < length rs = live_within rs d live in
     record {
       live = live;
-      later = order b d (and_right _ _ first) (λ l. absurd (cc (sym (no_later_ancestor rs t b d within l) ∙ rest)));
+      later = order b d (and_right _ _ first) (λ l. absurd (cc (sym (no_later_ancestor law rs t b (suc d) d (omega arith) within l) ∙ rest)));
     }
   where
     order : (b d : ℕ) → not (d == b) ≡ true → (d < b → ⊥) → b < d
@@ -292,7 +332,7 @@ later_live rs t b d h =
         place b d n k (inr (inr e)) = absurd (n e)
 
 pub next_live : Laws → (rs : List Row) → IsTree rs → (b d : ℕ) → live_under rs b ≡ Some d → IsLaterLive rs b d
-next_live law rs t b d is = later_live rs t b d (found (live_under rs b) is (law.next rs b)).live
+next_live law rs t b d is = later_live law rs t b d (found (live_under rs b) is (law.next rs b)).live
   where
     found : (o : Option ℕ) → o ≡ Some d → MatchOption o ((q : ℕ) → q < length rs → is_live_below rs b q ≡ false) (IsNext rs b) → IsNext rs b d
     found None e h = absurd (cc e)

@@ -27,12 +27,14 @@ use Rattle.coordinator.specs.Phases.{is_before}
 use Rattle.coordinator.specs.Step.{family_step}
 use Rattle.family_laws.specs.LawsOfTelling.{IsVoted}
 use Rattle.family_laws.specs.Sound.{IsListed, IsSoundFamily}
-use Rattle.family_laws.specs.Trees.{IsCutOff}
+use Rattle.family_laws.specs.Trees.{IsCutOff, UpToIsCommittedUp}
 
--- a new family is sound, and so is each one that a step leaves of a sound one
+-- a new family is sound, and so is each one that a step leaves of a sound one; and what its lists go by is the relation that
+-- trees have
 pub record FamiliesStaySound : Type 0 where
   pub new : (key : ObjectKey) (deadline : Option ℕ) → IsSoundFamily (new_family key deadline)
   pub steps : (f : Family) (e : Event) (stood : Option Stood) → IsSoundFamily f → IsSoundFamily (family_step f e stood).family
+  pub chains : UpToIsCommittedUp
 
 -- a parent has not ended, where this tells whether the top-level transaction hasn't
 abbrev pub IsOpenParent : Bool → List Row → Option ℕ → Type 0

@@ -9,9 +9,12 @@ ghost use Rattle.family_laws.specs.OwnDecisions.{NodesKeepDecisions};
 ghost use Rattle.family_laws.specs.SoundNode.{NodesStaySound};
 
 use coordinator::nodes_keep_numbers;
-use two_phase::{a_tree_outcome_stays, tree_words_go_rightly, votes_decide};
+use two_phase::{
+    a_settled_one_is_through, a_tree_outcome_stays, tree_words_go_rightly, votes_decide,
+};
 use txn_tree::{
-    all_are_related, calls_keep_parents, next_is_first, parents_come_first, trees_stay_trees,
+    all_are_related, ancestry_follows_parents, calls_keep_parents, commit_follows_parents,
+    next_is_first, parents_come_first, trees_stay_trees,
 };
 
 /// The laws of trees and of their completions that the laws here follow from.
@@ -22,9 +25,12 @@ fn laws_below()
     calls_keep_parents();
     trees_stay_trees();
     all_are_related();
+    ancestry_follows_parents();
+    commit_follows_parents();
     next_is_first();
     tree_words_go_rightly();
     votes_decide();
+    a_settled_one_is_through();
 }
 
 /// A new family is sound, and so is each one that a step leaves of a sound one: its lists have what was committed up to their

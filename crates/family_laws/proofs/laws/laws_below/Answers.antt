@@ -8,7 +8,10 @@ returns c = record {
   grow = c.trees_stay_trees.ensures;
   stands = c.parents_come_first.ensures.stands;
   related = c.all_are_related.ensures;
+  ancestry = c.ancestry_follows_parents.ensures;
+  commits = c.commit_follows_parents.ensures;
   next = c.next_is_first.ensures;
   words = c.tree_words_go_rightly.ensures;
   votes = c.votes_decide.ensures;
+  settled = c.a_settled_one_is_through.ensures.through;
 }
