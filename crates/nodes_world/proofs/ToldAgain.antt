@@ -1,11 +1,13 @@
 -- What a decision of an earlier life owes goes out at each tick of its node; and a restart leaves it owed.
 use Rattle.std.proofs.Common.{◌≡◌, ◌⊎◌, inl, inr, ℕ, ◌+◌, ◌<◌, ◌≤◌, ◌==◌, min, Bool, true, false, is_some, IsTrue, List, [], ◌∷◌, ◌++◌, length, map, slice_get, slice_set, reverse, Contains, Option, Some, None, refl, sym, ap, subst, ◌∙◌, arith}
+use Rattle.std.specs.Prelude.{◌&&◌}
 use Rattle.std.specs.List.{AllByRecursion}
 use Rattle.std.specs.Option.{option_and_then, option_map_or}
 use Rattle.std.proofs.lemmas.Bool.Decides.{nat_tests}
 use Rattle.std.proofs.lemmas.List.Elements.{Contains-append_cases, Contains-append_right}
 use Rattle.std.proofs.lemmas.List.Folds.{Any-from_list_any}
 use Rattle.ots_outside.specs.Disk.{DiskState}
+use Rattle.ior_refs.specs.declared.key.ObjectKey.{ObjectKey}
 use Rattle.ots_model.specs.Safe.{Stands}
 use Rattle.ots_model.specs.declared.completion.Word.TheVariants as phase_words
 use Rattle.ots_model.specs.declared.line.Line.TheVariants as lines
@@ -31,10 +33,13 @@ use Rattle.coordinator.specs.NodeTick as node_tick
 use Rattle.coordinator.specs.NodeTick.{Happening, Ticked}
 use Rattle.family_laws.specs.SoundNode.{HasFamilyOf, IsDecisionOf, IsSoundNode, is_family_decision}
 use Rattle.recovery_coord.specs.Held.{is_held}
+use Rattle.nodes_world.specs.declared.deed.Deed.{Deed}
 use Rattle.nodes_world.specs.declared.deed.Deed.TheVariants as deeds
+use Rattle.nodes_world.specs.declared.deed.Manner.{Manner}
+use Rattle.nodes_world.specs.declared.deed.Manner.TheVariants as manners
 use Rattle.nodes_world.specs.declared.message.Content.TheVariants as contents
 use Rattle.nodes_world.specs.declared.message.Message.{Message}
-use Rattle.nodes_world.specs.Agreement.{GoesOnFrom, IsWord, Reaches, further, names_fit, recorded_key, records_at}
+use Rattle.nodes_world.specs.Agreement.{GivesName, GoesOnFrom, IsWord, Reaches, further, recorded_key, records_at}
 use Rattle.nodes_world.specs.AgreementInside.{IsHeldAs, Known}
 use Rattle.nodes_world.specs.AgreementSteps.{StepsStayKnown}
 use Rattle.nodes_world.specs.Happenings.{Done, new_message, nothing, requests, requests_all}
@@ -42,7 +47,7 @@ use Rattle.nodes_world.specs.Journals.{records_on}
 use Rattle.nodes_world.specs.Lives.{loads, restarts, ticks, ticks_seat, ticks_to}
 use Rattle.nodes_world.specs.Nodes.{happens, happens_all, ticks_node}
 use Rattle.nodes_world.specs.Objects.{place_of, service_at}
-use Rattle.nodes_world.specs.Resolve.{is_down_node, only_if, resolve}
+use Rattle.nodes_world.specs.Resolve.{begins_named, creates_named, end_named, if_free, is_down_node, may_register, node_named, only_if, registers_named, registers_with, resolve, transaction_named}
 use Rattle.nodes_world.specs.StandingDecisions.{AreToldDecided, RestartsTellAgain}
 use Rattle.nodes_world.specs.Step.{carried_out}
 use Rattle.nodes_world.specs.ToldAgain.{ComesUpOwing, HasAnsweredCommit, HeldWaitOrAnswered, Owes, ReachedTellAgain, TellsAgain, TellsCommit}
@@ -234,14 +239,53 @@ module _ (w : World) (told : List Told) (k : Known w told) (place : ℕ) (n : No
 
 -- ---- a tick
 
-fits_tick : (event : ScriptEvent) (w : World) (place seconds : ℕ) → resolve event w ≡ Some (deeds.Tick place seconds) → IsTrue (names_fit event)
-unfolding resolve
-fits_tick (script.End name) w place seconds is = absurd (by (is_free w name) is)
+free_alone : (free : Bool) (deed : Deed) (place seconds : ℕ) → only_if free deed ≡ Some (deeds.Tick place seconds) → deed ≡ deeds.Tick place seconds
+free_alone true deed place seconds is = cc
+free_alone false deed place seconds is = absurd cc
+
+none_then : {A : Type 0} (make : A → Option Deed) (found : Option A) (deed : Deed) → option_and_then make found ≡ Some deed
+    → ((x : A) → make x ≡ Some deed → ⊥) → ⊥
+none_then make (Some x) deed is none = none x is
+none_then make None deed is none = absurd cc
+
+none_registers : (w : World) (manner : Manner) (transaction end name : List ℕ) (place seconds : ℕ)
+    → registers_named w manner transaction end name ≡ Some (deeds.Tick place seconds) → ⊥
+unfolding registers_named
+none_registers w manner transaction end name place seconds is =
+    none_then (λ (key : ObjectKey). option_and_then (registers_with w manner name key) (end_named w end)) (transaction_named w transaction) _ is
+    (λ key at. none_then (registers_with w manner name key) (end_named w end) _ at
+    (λ of_end there. differs (free_alone (is_free w name && may_register manner w key) (deeds.Register manner key of_end name) place seconds there)))
   where
-    by : (free : Bool) → only_if free (deeds.MakeEnd name) ≡ Some (deeds.Tick place seconds) → ⊥
-    by true e = cc
-    by false e = cc
-fits_tick _ w place seconds is = refl
+    differs : {key : ObjectKey} {of_end : ℕ} → deeds.Register manner key of_end name ≡ deeds.Tick place seconds → ⊥
+    differs is = cc
+
+-- only a line that gives no name ticks
+ticks_name_none : (event : ScriptEvent) (w : World) (place seconds : ℕ) → resolve event w ≡ Some (deeds.Tick place seconds) → GivesName event
+unfolding resolve begins_named creates_named
+ticks_name_none (script.Node name) w place seconds is = absurd (by (free_alone (is_free w name) (deeds.MakeNode name) place seconds is))
+  where
+    by : deeds.MakeNode name ≡ deeds.Tick place seconds → ⊥
+    by is = cc
+ticks_name_none (script.End name) w place seconds is = absurd (by (free_alone (is_free w name) (deeds.MakeEnd name) place seconds is))
+  where
+    by : deeds.MakeEnd name ≡ deeds.Tick place seconds → ⊥
+    by is = cc
+ticks_name_none (script.Begin node name timeout) w place seconds is =
+    absurd (none_then (λ (at : ℕ). if_free w name (deeds.Begin at name timeout)) (node_named w node) _ is
+    (λ at there. by (free_alone (is_free w name) (deeds.Begin at name timeout) place seconds there)))
+  where
+    by : {at : ℕ} → deeds.Begin at name timeout ≡ deeds.Tick place seconds → ⊥
+    by is = cc
+ticks_name_none (script.Sub parent name) w place seconds is =
+    absurd (none_then (λ (key : ObjectKey). if_free w name (deeds.Create key name)) (transaction_named w parent) _ is
+    (λ key there. by (free_alone (is_free w name) (deeds.Create key name) place seconds there)))
+  where
+    by : {key : ObjectKey} → deeds.Create key name ≡ deeds.Tick place seconds → ⊥
+    by is = cc
+ticks_name_none (script.Register transaction end name) w place seconds is = absurd (none_registers w manners.Resource transaction end name place seconds is)
+ticks_name_none (script.Aware transaction end name) w place seconds is = absurd (none_registers w manners.Aware transaction end name place seconds is)
+ticks_name_none (script.Double transaction end name) w place seconds is = absurd (none_registers w manners.Double transaction end name place seconds is)
+ticks_name_none _ w place seconds is = tt
 
 module _ (keeps : StepsStayKnown) (waits : HeldWaitOrAnswered) (w : World) (told : List Told) (reached : Reaches w told) (few : GoesOnFrom w) where
   k : Known w told
@@ -254,7 +298,7 @@ module _ (keeps : StepsStayKnown) (waits : HeldWaitOrAnswered) (w : World) (told
 
     later : Known d.world (told ++ d.lines)
     later = known_reached keeps d.world (told ++ d.lines)
-        (further w told event (deeds.Tick place seconds) reached few (fits_tick event w place seconds named) named refl)
+        (further w told event (deeds.Tick place seconds) reached few (ticks_name_none event w place seconds named) named refl)
 
     at : IsHeldTo n stood r
     at = held_to w told k place n up stood r owes
