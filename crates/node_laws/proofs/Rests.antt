@@ -47,7 +47,7 @@ use Rattle.family_laws.specs.OwnDecisions.{HasDecision}
 use Rattle.family_laws.specs.Sound.{IsSoundFamily}
 use Rattle.family_laws.specs.SoundNode.{IsDecisionOf}
 use Rattle.node_laws.specs.Commits.{CommitRests, CommitsRest, GoesByDecision, IsOfStanding, RestsOnOwn}
-use Rattle.node_laws.specs.Rules.{HasToldAll, IsOfRecord, IsToldOf, KeepsRules, NamesVoters, NamesVotersOf, NodesKeepRules, named_as}
+use Rattle.node_laws.specs.Rules.{HasToldAll, IsOfRecord, IsToldOf, KeepsRules, NamesVoters, NamesVotersOf, NodesKeepRules, TellsStanding, named_as}
 use Rattle.node_laws.proofs.Families.{voters_named}
 use Rattle.node_laws.proofs.Lists.{all_at, all_each, all_joined, behind_one, inner}
 use Rattle.node_laws.proofs.Rules.{now_there}
@@ -336,12 +336,12 @@ retold_of standing lives h (CellsPrepared l number recovery puts) there told = a
 retold_of standing lives h (CellsOutcome named end) there told = absurd told
 retold_of standing lives h (CellsOnePhase l number puts) there told = absurd told
 
-retold_rest : (edge now : ℕ) (n : Node) → KeepsRules edge (ticks now n).node → AllByRecursion (IsOfStanding (life n) n.found.standing) (ticks now n).words
+retold_rest : (now : ℕ) (n : Node) → TellsStanding (ticks now n).node → AllByRecursion (IsOfStanding (life n) n.found.standing) (ticks now n).words
 unfolding ticks
-retold_rest edge now n r =
+retold_rest now n held =
     let later : Node = tells_again (passes_time now n) in
     words_all (IsOfStanding (life n) n.found.standing) (life later) later.recovered (λ h c.
-    let x : IsOfRecord n.found.standing h = r.held h c in
+    let x : IsOfRecord n.found.standing h = held h c in
     retold_of n.found.standing (life later) h x.stood.item
     (subst (λ (p : ℕ). Contains n.found.standing (record { place = p; item = x.stood.item })) x.same_place x.there) x.told)
 
@@ -350,5 +350,5 @@ commits_rest nodes law = record {
   called = λ edge later k e stood n grows appends finds h.
       called_rest law edge later n k e stood (call_wants k e n) (applies k e stood n).node (applies k e stood n).words (called_is n k e stood) h (nodes.called edge later k e stood n grows appends finds h);
   ticked = λ edge now n h. ticked_rest law edge now n h (nodes.ticked edge now n h);
-  told_again = λ edge now n h. retold_rest edge now n (nodes.ticked edge now n h);
+  told_again = retold_rest;
 }

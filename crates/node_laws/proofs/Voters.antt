@@ -183,12 +183,12 @@ told_named lives standing item place same o x at =
     let is : d.place ≡ place = sym (ap (λ (n : CallNumber). n.generation) x.number) ∙ at in
     subst (λ (r : JournalRecord). Contains (registrations_of r) (named_as o.registration o.to)) (same _ d.stands is) d.names
 
-is_kept : CommitsRest → (edge : ℕ) (m : Node) (item : JournalRecord) (place : ℕ) → KeepsRules edge m → IsThere edge m item place → IsKept m item place
-is_kept rest edge m item place h there = record {
+is_kept : NodesKeepRules → CommitsRest → (edge : ℕ) (m : Node) (item : JournalRecord) (place : ℕ) → KeepsRules edge m → IsThere edge m item place → IsKept m item place
+is_kept nodes rest edge m item place h there = record {
   same = there.same;
   told = λ now.
       all_on (IsOfStanding (life m) m.found.standing) (λ (o : Outward). o.number.generation ≡ place → Contains (registrations_of item) (named_as o.registration o.to))
-      (told_named (life m) m.found.standing item place there.same) (ticks now m).words (rest.told_again edge now m h);
+      (told_named (life m) m.found.standing item place there.same) (ticks now m).words (rest.told_again now m (nodes.ticked edge now m h).held);
 }
 
 same_place : {a b : ℕ} → Some (answers.Stands a) ≡ Some (answers.Stands b) → a ≡ b
@@ -205,7 +205,7 @@ keeps_decision law edge more place k e n item h wants behind low reached m on =
       low = low;
       same = λ s c at. ap (λ (t : Standing). t.item) (once later.found.standing s (record { place = place; item = item }) rules.decisions.sound.order c x.stands at);
     } in
-    is_kept law.rest reached m item place (law.nodes.goes_on more reached later m rules on) (there_on more later item place there reached m on)
+    is_kept law.nodes law.rest reached m item place (law.nodes.goes_on more reached later m rules on) (there_on more later item place there reached m on)
   where
     later : Node
     later = (applies k e (Some (answers.Stands place)) n).node

@@ -19,7 +19,7 @@ use Rattle.coordinator.specs.Node.{Node, life}
 use Rattle.coordinator.specs.NodeCalls.{applies, call_wants, family_for}
 use Rattle.coordinator.specs.NodeTick.{Happening, ticks}
 use Rattle.family_laws.specs.OwnDecisions.{AppendsBetween, FindsOwn}
-use Rattle.node_laws.specs.Rules.{KeepsRules, named_as}
+use Rattle.node_laws.specs.Rules.{KeepsRules, TellsStanding, named_as}
 
 -- A decision stands. It names the registration and the reference that a word goes to.
 pub record GoesByDecision (standing : List Standing) (o : Outward) : Type 0 where
@@ -67,5 +67,6 @@ pub record CommitsRest : Type 0 where
   -- one that a family hands out at a tick
   pub ticked : (edge now : ℕ) (n : Node) → KeepsRules edge n
       → AllByRecursion (λ (h : Happening). AllByRecursion (CommitRests n.found.standing) h.words) (ticks now n).happened
-  -- each word that is told again at a tick belongs to such a decision, after a load too
-  pub told_again : (edge now : ℕ) (n : Node) → KeepsRules edge n → AllByRecursion (IsOfStanding (life n) n.found.standing) (ticks now n).words
+  -- each word that is told again at a tick belongs to such a decision, after a load too. Of the rules this asks for one alone, of the
+  -- node that the tick leaves, which keeps them where the one before does
+  pub told_again : (now : ℕ) (n : Node) → TellsStanding (ticks now n).node → AllByRecursion (IsOfStanding (life n) n.found.standing) (ticks now n).words

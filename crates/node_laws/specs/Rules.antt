@@ -76,6 +76,10 @@ pub record IsOfRecord (standing : List Standing) (h : Held) : Type 0 where
   pub same_place : stood.place ≡ h.place
   pub told : IsToldOf stood.item h
 
+-- what a node tells again is told of records that stand
+abbrev pub TellsStanding : Node → Type 0
+TellsStanding n = (h : Held) → Contains n.recovered h → IsOfRecord n.found.standing h
+
 -- a node that keeps its rules; all records that stand, and by which families are decided, are before this edge
 pub record KeepsRules (edge : ℕ) (n : Node) : Type 0 where
   -- what families go on with stands, and isn't told again
@@ -90,8 +94,8 @@ pub record KeepsRules (edge : ℕ) (n : Node) : Type 0 where
       → stages.record_place f.completion ≡ Some s.place → NamesVotersOf s.item f.completion
   -- once a family has asked for its Done, each of these has answered the word that told it the outcome
   pub through : (slot : ℕ) (f : Family) → family_in n.families slot ≡ Some f → f.closed ≢ None → HasToldAll f.completion
-  -- what is told again is told of a record that stands
-  pub held : (h : Held) → Contains n.recovered h → IsOfRecord n.found.standing h
+  -- what is told again is told of records that stand
+  pub held : TellsStanding n
 
 -- the decisions of these records are of lives that they have begun
 abbrev pub AreOfPast : List JournalRecord → Type 0
