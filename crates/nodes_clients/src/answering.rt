@@ -17,24 +17,17 @@ use ior_refs::ObjectKey;
 use nodes_lines::tell_down;
 use nodes_lives::LiveNode;
 use nodes_parts::Directory;
-use nodes_state::{Cast, Roster, Seat, tell_effects, tell_finished};
+use nodes_state::{Cast, Roster, Seat, key_of_record, tell_effects, tell_finished};
 use ots_model::{CallNumber, Name};
-use recovery_coord::Held;
 use std::alloc::{AllocError, Global};
-
-/// The letter of a transaction's key.
-const COORDINATOR_KIND: u8 = b'K';
-
-/// The slot in the numbers of words that are told again.
-const RETOLD_SLOT: u32 = u32::MAX;
 
 /// The number of the word that was told again, where this is the answer to one.
 fn retold_number(act: &Act) -> Option<&CallNumber>
     ensures { option_copied result ≡ option_map (λ (a : calls.RetoldAnswer). a.number) (calls.retold_answer act.now) }
 {
-    match act {
-        Act::Answer(number, _) if number.slot == RETOLD_SLOT => Some(number),
-        _ => None,
+    match act.retold_answer() {
+        Some((number, _)) => Some(number),
+        None => None,
     }
 }
 
@@ -50,20 +43,6 @@ pub(crate) fn family_for<'a>(
         return None;
     }
     node.family(key)
-}
-
-/// The key of the family of a record.
-fn key_of_record(service: u64, held: &Held) -> ObjectKey
-    ensures { result ≡ nodes.key_of_record service held.now }
-{
-    ObjectKey {
-        kind: COORDINATOR_KIND,
-        service,
-        life: held.life,
-        slot: held.slot,
-        generation: held.generation,
-        index: 0,
-    }
 }
 
 /// The key of the family of the record at a seat for which an answer comes, where it is one to a word that was told

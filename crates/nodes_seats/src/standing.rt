@@ -2,17 +2,15 @@
 ghost use Rattle.std.specs.Prelude.{◌≡◌};
 ghost use Rattle.std.specs.List.{flat_map};
 ghost use Rattle.nodes_world.specs.Lives as lives;
-ghost use Rattle.nodes_world.specs.Nodes as nodes;
 ghost use Rattle.nodes_world.specs.World.{World};
 ghost use Rattle.nodes_state.specs.Shown.{HasNames, shown};
 ghost use Rattle.nodes_state.specs.Telling.{AreNamesOf, TellsOne, TellsSome};
 ghost use Rattle.nodes_seats.specs.Placed.{up_lines_at};
 
-use ior_refs::ObjectKey;
 use nodes_lines::tell_known;
 use nodes_lives::LiveNode;
-use nodes_parts::{COORDINATOR_KIND, Directory};
-use nodes_state::State;
+use nodes_parts::Directory;
+use nodes_state::{State, key_of_record};
 use ots_model::{Ground, Line, Name, Outcome};
 use recovery_coord::Held;
 use std::alloc::AllocError;
@@ -84,19 +82,5 @@ fn tell_standing(
             },
         ),
         None => Ok(()),
-    }
-}
-
-/// The key of the family of a record.
-fn key_of_record(service: u64, held: &Held) -> ObjectKey
-    ensures { result ≡ nodes.key_of_record service held.now }
-{
-    ObjectKey {
-        kind: COORDINATOR_KIND,
-        service,
-        life: held.life,
-        slot: held.slot,
-        generation: held.generation,
-        index: 0,
     }
 }

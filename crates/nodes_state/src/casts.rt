@@ -3,13 +3,15 @@ ghost use Rattle.std.specs.Prelude.{◌≡◌, IfOk, map};
 ghost use Rattle.std.specs.Option.{option_map};
 ghost use Rattle.coordinator.specs.Family.{Family as FamilyState};
 ghost use Rattle.nodes_world.specs.Happenings as happenings;
+ghost use Rattle.nodes_world.specs.Nodes as nodes;
 ghost use Rattle.nodes_world.specs.World as world;
 ghost use Rattle.nodes_state.specs.Telling.{AreNamesOf, kept_name, name_in};
 
 use family_step::Family;
 use ior_refs::ObjectKey;
-use nodes_parts::{Directory, branch_of};
+use nodes_parts::{COORDINATOR_KIND, Directory, branch_of};
 use ots_model::{Name, RefBytes};
+use recovery_coord::Held;
 use std::alloc::{AllocError, Global};
 
 /// The key of a family, and who is registered with it.
@@ -36,6 +38,20 @@ pub struct Roster {
     key: ObjectKey,
     registered: Vec<Option<Name>>,
     synchronized: Vec<Option<Name>>,
+}
+
+/// The key of the family of a record.
+pub fn key_of_record(service: u64, held: &Held) -> ObjectKey
+    ensures { result ≡ nodes.key_of_record service held.now }
+{
+    ObjectKey {
+        kind: COORDINATOR_KIND,
+        service,
+        life: held.life,
+        slot: held.slot,
+        generation: held.generation,
+        index: 0,
+    }
 }
 
 impl Roster {

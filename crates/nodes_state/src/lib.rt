@@ -2,7 +2,7 @@
 //! lines that tell what happened to a family.
 #![tactic(auto)]
 
-pub use casts::{Cast, Roster};
+pub use casts::{Cast, Roster, key_of_record};
 pub use seats::{Seat, Server};
 pub use state::State;
 pub use telling::{tell_effects, tell_finished};

@@ -1,6 +1,6 @@
 // What a node answers by its records alone.
 ghost use Rattle.std.specs.Prelude.{◌≡◌, ◌≤◌};
-ghost use Rattle.std.specs.Option.{option_copied, option_map};
+ghost use Rattle.std.specs.Option.{option_copied};
 ghost use Rattle.coordinator.specs.NodeCalls as calls;
 ghost use Rattle.coordinator.specs.NodeRecords as records;
 ghost use Rattle.recovery_coord.specs.Held.{is_held};
@@ -10,16 +10,13 @@ ghost use Rattle.service_node.specs.Journaling.{IsAnsweredOrStarved, completed_b
 use crate::hearing::conclude;
 use crate::node::Node;
 use crate::says::record_says;
-use coordinator::{Act, Answers, Effect, Effects, Event, NodeFault, Said, StepAnswer};
+use coordinator::{Answers, Effect, Effects, Event, NodeFault, Said, StepAnswer};
 use ior_refs::ObjectKey;
 use ots_model::CallNumber;
 use ots_model::tree::Heard;
 use ots_outside::Disk;
 use recovery_coord::Held;
 use std::alloc::Global;
-
-/// The slot in the number of a call that tells the word of a record again: that of no family.
-const RETOLD_SLOT: u32 = u32::MAX;
 
 impl<D: Disk> Node<D> {
     /// Answers a call by the records alone, as one whose family is gone. An answer to a word that was told again goes
@@ -52,7 +49,7 @@ impl<D: Disk> Node<D> {
             (calls.answers_recovered key.now event.entry.now) }
         ensures later { D.faults self.old.journal.disk ≤ D.faults self.new.journal.disk }
     {
-        match retold_answer(&event.act) {
+        match event.act.retold_answer() {
             Some((number, heard)) => self.hear_record(number, heard),
             None => self.say(key, event),
         }
@@ -99,16 +96,6 @@ impl<D: Disk> Node<D> {
             &mut happened,
         );
         Ok(alone(self.alloc, Said::Plain, happened))
-    }
-}
-
-/// The number of a word that was told again, and what was heard of it, where this is the answer to one.
-pub(crate) fn retold_answer(act: &Act) -> Option<(&CallNumber, &Heard)>
-    ensures { option_map (λ a. record { number = a.0.now; heard = a.1.now }) result ≡ calls.retold_answer act.now }
-{
-    match act {
-        Act::Answer(number, heard) if number.slot == RETOLD_SLOT => Some((number, heard)),
-        _ => None,
     }
 }
 

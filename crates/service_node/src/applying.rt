@@ -14,7 +14,6 @@ ghost use Rattle.service_node.specs.Crashes.{IsCrashSafe};
 ghost use Rattle.service_node.specs.Given.{node_makes};
 ghost use Rattle.service_node.specs.NodeState.{shown};
 
-use crate::answers::retold_answer;
 use crate::hearing::keep_where;
 use crate::node::Node;
 use coordinator::{Effect, Entry, Event, NodeFault, StepAnswer};
@@ -75,7 +74,7 @@ impl<D: Disk> Node<D> {
     fn hears(&self, key: &ObjectKey, event: &Event) -> bool
         ensures { result ≡ is_some (calls.family_for key.now event.entry.now self.now.node) }
     {
-        retold_answer(&event.act).is_none() && self.family(key).is_some()
+        event.act.retold_answer().is_none() && self.family(key).is_some()
     }
 
     /// The step of the family that hears a call.
