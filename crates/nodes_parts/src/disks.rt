@@ -4,7 +4,6 @@ ghost use Rattle.nodes_world.specs.Disks as disks;
 ghost use Rattle.nodes_parts.specs.Filling.{PutsNext, cycled};
 
 use crate::journals::Gates;
-use ots_model::Octets;
 use ots_world::Image;
 use std::alloc::{AllocError, Global};
 
@@ -131,15 +130,4 @@ fn put_next(place: &mut u8, octets: &[u8], next: usize) -> usize
         }
         None => next,
     }
-}
-
-/// A copy of an image.
-pub fn copy_image(alloc: Global, image: &Image) -> Result<Image, AllocError>
-    ensures { IfOk result (λ copy. copy ≡ image.now) }
-{
-    Ok(match image {
-        Image::Old => Image::Old,
-        Image::New => Image::New,
-        Image::Octets(octets) => Image::Octets(Octets::new(alloc, octets.bytes())?),
-    })
 }

@@ -2,7 +2,7 @@
 //! leaves of a disk.
 #![tactic(auto)]
 
-pub use disks::{Appended, Stop, copy_image};
+pub use disks::{Appended, Stop};
 pub use ends::{End, Resource, answer_of_row, closed_by, shown_state, told_word};
 pub use journals::{Gates, last_gates, next_gate};
 pub use messages::Messages;
