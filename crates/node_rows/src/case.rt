@@ -1,7 +1,7 @@
 use crate::client::Client;
 use crate::commands::{number, play};
 use crate::crashes::tell_crashes;
-use crate::node_calls::{MemNode, crash, disk_of, load};
+use crate::node_calls::{MemNode, crash, disk_of, load, rebuilt};
 use crate::tell::tell_records;
 use coordinator::NodeFault;
 use ots_outside::{Back, MemDisk};
@@ -241,36 +241,31 @@ fn live_on(
     between: &str,
     told: &mut Vec<u8>,
 ) -> io::Result<MemDisk> {
+    tell_records(&node, told)?;
     let mut node = node;
-    play_lines(alloc, &mut node, lines, between, told)?;
+    let mut client = Client::new(alloc);
+    for line in lines {
+        node = play_line(alloc, node, &mut client, between, line, told)?;
+    }
     Ok(crash(node))
 }
 
-fn play_lines(
-    alloc: Global,
-    node: &mut MemNode,
-    lines: &[&str],
-    between: &str,
-    told: &mut Vec<u8>,
-) -> io::Result<()> {
-    tell_records(node, told)?;
-    let mut client = Client::new(alloc);
-    for line in lines {
-        play_line(alloc, node, &mut client, between, line, told)?;
-    }
-    Ok(())
-}
-
+/// Plays a line. Gives the node back.
 fn play_line(
     alloc: Global,
-    node: &mut MemNode,
+    node: MemNode,
     client: &mut Client,
     between: &str,
     line: &str,
     told: &mut Vec<u8>,
-) -> io::Result<()> {
+) -> io::Result<MemNode> {
     write!(told, "{between}{line}:")?;
-    play(alloc, node, client, line, told)
+    if line == "apart" {
+        return Ok(rebuilt(alloc, node));
+    }
+    let mut node = node;
+    play(alloc, &mut node, client, line, told)?;
+    Ok(node)
 }
 
 /// Tells the last of lines.

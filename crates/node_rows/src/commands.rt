@@ -6,7 +6,7 @@
 //! - `tick`: the clock of the node goes on.
 //! - `hear HEARD`: the word that has waited longest is answered so.
 //! - `answer SERIAL HEARD`: the word of the family with this number is.
-//! - `records`: what is held and what stands.
+//! - `records`: what is held and what stands. `kept N`: what the family has answered the call with this key.
 //! - `times N CALL`: a call so many times, of which the last answer is told.
 //! - Each other is a call, as `acts` says.
 ghost use Rattle.std.specs.Prelude.{◌≡◌};
@@ -15,7 +15,7 @@ ghost use Rattle.service_node.specs.Given.{node_makes};
 use crate::acts::{act_of, heard_of};
 use crate::client::Client;
 use crate::node_calls::{MemNode, create, tick};
-use crate::tell::{tell_answer, tell_phase, tell_records, tell_tick, tell_words};
+use crate::tell::{tell_answer, tell_kept, tell_phase, tell_records, tell_tick, tell_words};
 use coordinator::{Act, Event, NodeFault, StepAnswer};
 use ior_refs::ObjectKey;
 use ots_model::{CallNumber, RetryKey};
@@ -116,6 +116,7 @@ fn carry_out_with(
         "branch" | "at" | "retry" | "service" => set(client, word, number(rest)?),
         "create" => begin(node, client, number(rest)?, told),
         "hear" => hear(alloc, node, client, rest, told),
+        "kept" => tell_kept(node, &client.key, &retry_key(number(rest)?), told),
         _ => apply(node, client, act_of(alloc, &[word, rest])?, told),
     }
 }

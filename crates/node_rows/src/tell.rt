@@ -6,7 +6,7 @@ use coordinator::{Effect, Finished, Said, StepAnswer};
 use decision_journal::Standing;
 use ior_refs::ObjectKey;
 use ots_model::tree::{Outward, Parent, Word};
-use ots_model::{CallNumber, PhaseWord};
+use ots_model::{CallNumber, PhaseWord, RetryKey};
 use recovery_coord::Held;
 use service_node::{Happening, Happenings};
 use std::io;
@@ -137,6 +137,24 @@ pub fn tell_phase(node: &MemNode, key: &ObjectKey, told: &mut Vec<u8>) -> io::Re
         Some(family) => write!(told, " | {:?}", family.phase()),
         None => Ok(()),
     }
+}
+
+/// Tells what the call with this key was answered, by the family that is called.
+pub fn tell_kept(
+    node: &MemNode,
+    key: &ObjectKey,
+    call: &RetryKey,
+    told: &mut Vec<u8>,
+) -> io::Result<()> {
+    write!(told, " ")?;
+    match kept(node, key, call) {
+        Some(said) => tell_said(said, told),
+        None => write!(told, "no such call"),
+    }
+}
+
+fn kept<'a>(node: &'a MemNode, key: &ObjectKey, call: &RetryKey) -> Option<&'a Said> {
+    node.family(key)?.kept(call)
 }
 
 /// Tells the life, the records that are told again, with what each registration waits for, and those that stand.
