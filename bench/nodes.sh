@@ -1,12 +1,15 @@
 #!/usr/bin/env bash
 # Makes calls to a node: questions to 256 families of 64 registrations each, to one family of 64, and to 256 families of
-# 1, in turn; a further registration, which is refused, with 256 families of 64 registrations and with one; and
-# questions, each under a new key, behind a history of 1,000 and of 10,000 entries. And has the clock of a node go on
-# whose journal holds 1,024 and 8,192 decisions with two registrations, for the first time and then again, so that each
-# word goes out. Prints the time per call, how it grows with the families, the registrations and the history, and how
-# that per decision grows with the decisions. The load isn't counted. Run it anywhere; it builds the program first. How
-# many questions and refused registrations a row makes may be given as an argument: up to 12,000, for which a history
-# has room. Each time is the least of five.
+# 1, in turn; a further registration, which is refused, with 256 families of 64 registrations and with one; questions,
+# each under a new key, and a commit that was answered later and comes again, behind a history of 1,000 and of 10,000
+# entries; answers to the words of a family of which 17 are out, and of one of which 1,023 are; and commits of further
+# transactions beside none and beside 255. And has the clock of a node go on whose journal holds 1,024 and 8,192 decisions
+# with two registrations, for the first time and then again, so that each word goes out; whose journal holds 1,024
+# prepared records, which have no word to tell, of 2 and of 64 registrations; and which has 16 and 256 finished families,
+# of which each has a word to tell. Prints the time per call, how it grows with the families, the registrations, the
+# history and the words, and how that per record and per family grows. The load isn't counted. Run it anywhere; it builds
+# the program first. How many questions and refused registrations a row makes may be given as an argument: up to 12,000,
+# for which a history has room. Each time is the least of five.
 set -euo pipefail
 . "$(dirname "$0")/timing.sh"
 count=${1:-10000}
@@ -22,18 +25,21 @@ least() {
   done | sort -n | head -1
 }
 
-# journal COUNT: a journal of so many decisions, each with two registrations of 40 octets.
+# journal KIND COUNT REGISTRATIONS: a journal of so many decisions or prepared records, each with so many registrations
+# of 40 octets.
 journal() {
-  python3 - "$1" <<'PY'
+  python3 - "$@" <<'PY'
 import struct, sys
 
 def record(payload):
     return b"\1" + struct.pack(">I", len(payload)) + payload
 
+kind, count, each = sys.argv[1], int(sys.argv[2]), int(sys.argv[3])
+number, before = (b"\2", bytes(18)) if kind == "decisions" else (b"\4", struct.pack(">H", 40) + bytes(40))
+named = b"".join(struct.pack(">IH", index, 40) + bytes(40) for index in range(1, each + 1))
 octets = bytearray(b"OTSJ" + struct.pack(">IQ", 1, 1) + record(b"\1" + struct.pack(">I", 1)))
-for generation in range(1, int(sys.argv[1]) + 1):
-    tree = b"\2" + struct.pack(">IIQ", 1, 0, generation) + bytes(18) + struct.pack(">H", 2)
-    octets += record(tree + b"".join(struct.pack(">IH", index, 40) + bytes(40) for index in (1, 2)))
+for generation in range(1, count + 1):
+    octets += record(number + struct.pack(">IIQ", 1, 0, generation) + before + struct.pack(">H", each) + named)
 sys.stdout.buffer.write(octets + b"\0")
 PY
 }
@@ -55,7 +61,7 @@ for name, each in per[1:]:
 # row NAME KIND COUNT FAMILIES BEFORE.
 row() { printf '%s\t%s\t%s\n' "$1" "$3" "$(least "$2" "$3" "$4" "$5")"; }
 
-journal 0 >"$work/octets"
+journal decisions 0 0 >"$work/octets"
 {
   row "1 family of 64 registrations" questions "$count" 1 64
   row "256 families of 64 registrations" questions "$count" 256 64
@@ -76,11 +82,26 @@ ratio "refused registration" "$work/refusals"
   row "10,000 entries" keyed 1000 1 10000
 } >"$work/keyed"
 ratio "question under a new key" "$work/keyed"
+{
+  row "1,000 entries" repeats 10000 1 1000
+  row "10,000 entries" repeats 10000 1 10000
+} >"$work/repeats"
+ratio "repeated commit" "$work/repeats"
+{
+  row "17 words out" answers 1000 64 17
+  row "1,023 words out" answers 1000 1 1023
+} >"$work/answers"
+ratio answer "$work/answers"
+{
+  row "no other transaction" commits 500 0 0
+  row "255 others of 2 registrations" commits 500 255 2
+} >"$work/commits"
+ratio commit "$work/commits"
 
 # ticks BEFORE COUNT: so many ticks behind others, of the decisions of each journal.
 ticks() {
   for decisions in 1024 8192; do
-    journal "$decisions" >"$work/octets"
+    journal decisions "$decisions" 2 >"$work/octets"
     printf '%d,%03d decisions\t' "$((decisions / 1000))" "$((decisions % 1000))"
     printf '%s\t%s\n' "$((decisions * $2))" "$(least ticks "$2" 0 "$1")"
   done
@@ -90,3 +111,27 @@ ticks 0 1 >"$work/first"
 ratio "decision of a first tick" "$work/first"
 ticks 1 5 >"$work/further"
 ratio "decision of a further tick" "$work/further"
+
+# prepared REGISTRATIONS: a row of ticks over prepared records.
+prepared() {
+  journal prepared 1024 "$1" >"$work/octets"
+  printf '%d registrations\t%d\t%s\n' "$1" $((1024 * 20)) "$(least ticks 20 0 1)"
+}
+
+{
+  prepared 2
+  prepared 64
+} >"$work/prepared"
+ratio "prepared record of a tick" "$work/prepared"
+
+# finished FAMILIES: a row of ticks over finished families.
+finished() {
+  journal decisions 0 0 >"$work/octets"
+  printf '%d finished families\t%d\t%s\n' "$1" $(($1 * 100)) "$(least finished 100 "$1" 1)"
+}
+
+{
+  finished 16
+  finished 256
+} >"$work/finished"
+ratio "finished family of a tick" "$work/finished"

@@ -18,6 +18,16 @@ pub enum Step {
     Ask,
     /// A question is asked under a new key.
     AskByKey,
+    /// A commit is called under one key, and its words are answered.
+    CommitByKey,
+    /// A subtransaction with a resource is made, and its rollback is begun, whose word waits for an answer.
+    BeginRollback,
+    /// The word that has waited longest is answered.
+    Answer,
+    /// A transaction is made and committed, with two resources.
+    Commit,
+    /// A family is committed, with two resources, of which the second is still to be told.
+    Finish,
     /// The clock of the node goes on.
     Tick,
 }
@@ -28,6 +38,7 @@ pub fn call(alloc: Global, step: Step, number: u64, key: &ObjectKey) -> Result<E
 {
     let act = match step {
         Step::Register | Step::Exceed => registration(alloc)?,
+        Step::CommitByKey => Act::Commit(false),
         _ => question(number, key),
     };
     Ok(Event {
@@ -39,7 +50,7 @@ pub fn call(alloc: Global, step: Step, number: u64, key: &ObjectKey) -> Result<E
 }
 
 /// A registration of a resource whose reference has 116 octets.
-fn registration(alloc: Global) -> Result<Act, AllocError>
+pub fn registration(alloc: Global) -> Result<Act, AllocError>
     ensures { IfOk result (λ act. node_makes act ≡ false) }
 {
     let resource = RefBytes::from_vec(vec![in alloc; 0; 116]?);
@@ -61,6 +72,10 @@ fn question(number: u64, key: &ObjectKey) -> Act
 fn retry_key(step: Step, number: u64) -> Option<RetryKey> {
     match step {
         Step::AskByKey => Some(RetryKey { client: 7, number }),
+        Step::CommitByKey => Some(RetryKey {
+            client: 8,
+            number: 0,
+        }),
         _ => None,
     }
 }
@@ -70,6 +85,7 @@ pub fn is_right(step: Step, said: &Said) -> bool {
     match step {
         Step::Register => matches!(said, Said::Made(_)),
         Step::Exceed => matches!(said, Said::NoResources),
+        Step::CommitByKey => matches!(said, Said::Later | Said::Plain),
         _ => matches!(said, Said::State(_) | Said::Flag(true) | Said::Number(_)),
     }
 }

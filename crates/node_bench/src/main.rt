@@ -6,6 +6,12 @@
 //! - `questions`: behind registrations, `get_status`, `is_same_transaction` and `hash_transaction`.
 //! - `refusals`: behind as many registrations as a family takes, further ones.
 //! - `keyed`: behind questions, further ones, each under a new key.
+//! - `repeats`: behind questions, each under a new key, and a commit that was answered later, this commit again and again,
+//!   under its key.
+//! - `answers`: behind subtransactions whose rollback is under way, answers to their words, one after another.
+//! - `commits`: behind registrations, further transactions are made and committed, each with two resources.
+//! - `finished`: behind commits of two resources, of which one is still to be told, the clock of the node goes on. BEFORE
+//!   is 1 then.
 //! - `ticks`: the clock of the node goes on, and each word of the records in the file goes out again.
 #![tactic(auto)]
 
@@ -16,6 +22,7 @@ use std::io::{ErrorKind, Write};
 use std::{env, io};
 
 mod calls;
+mod completions;
 mod nodes;
 
 fn main(rt: HostRuntime) -> io::Result<()> {

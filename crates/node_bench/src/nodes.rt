@@ -1,5 +1,7 @@
 use crate::calls::{Step, call, is_right};
+use crate::completions::{answer_all, answer_next, begin_rollback, commit, commit_new};
 use ior_refs::ObjectKey;
+use ots_model::PhaseHeard;
 use ots_outside::FileDisk;
 use recovery_coord::Outbox;
 use service_node::Node;
@@ -22,14 +24,22 @@ pub struct Sizes {
     pub before: u32,
 }
 
-/// The families that are called.
+/// The families that are called, and the words that go out.
 #[derive(Drop)]
-struct Client {
-    alloc: Global,
+pub struct Client {
+    pub alloc: Global,
     keys: Vec<ObjectKey>,
     /// How many calls were made. It is their number, and that of the key under which one is made.
     calls: u64,
-    out: Outbox,
+    pub out: Outbox,
+}
+
+/// What is done before the time begins, once with each family and then again and again, and what then.
+#[derive(Clone, Copy)]
+struct Course {
+    once: Option<Step>,
+    before: Step,
+    then: Step,
 }
 
 /// How long the calls of a kind take to the node that a disk holds.
@@ -46,28 +56,51 @@ fn took_in(
     kind: &str,
     sizes: &Sizes,
 ) -> io::Result<u128> {
-    let (first, then) = steps(kind)?;
+    let course = course(kind)?;
     let mut client = created(rt.alloc(), node, sizes.families)?;
-    let each = match first {
-        Step::Tick => 1,
-        _ => sizes.families,
-    };
-    repeat(node, &mut client, first, sizes.before.saturating_mul(each))?;
-    repeat(node, &mut client, then, sizes.families)?;
+    prepare(node, &mut client, &course, sizes)?;
     let start = Instant::now(rt)?;
-    repeat(node, &mut client, then, sizes.count)?;
+    repeat(node, &mut client, course.then, sizes.count)?;
     Ok(start.elapsed(rt)?.as_nanos())
 }
 
-/// What is done before the time begins, and what then.
-fn steps(kind: &str) -> io::Result<(Step, Step)> {
-    match kind {
-        "questions" => Ok((Step::Register, Step::Ask)),
-        "refusals" => Ok((Step::Register, Step::Exceed)),
-        "keyed" => Ok((Step::AskByKey, Step::AskByKey)),
-        "ticks" => Ok((Step::Tick, Step::Tick)),
-        _ => Err(ErrorKind::InvalidInput.into()),
+/// Does what is done before the time begins.
+fn prepare(
+    node: &mut Node<FileDisk>,
+    client: &mut Client,
+    course: &Course,
+    sizes: &Sizes,
+) -> io::Result<()> {
+    if let Some(once) = course.once {
+        repeat(node, client, once, sizes.families)?;
     }
+    let each = match course.before {
+        Step::Tick => 1,
+        _ => sizes.families,
+    };
+    repeat(
+        node,
+        client,
+        course.before,
+        sizes.before.saturating_mul(each),
+    )?;
+    repeat(node, client, course.then, sizes.families)
+}
+
+/// What is done for the calls of this kind.
+fn course(kind: &str) -> io::Result<Course> {
+    let (once, before, then) = match kind {
+        "questions" => (None, Step::Register, Step::Ask),
+        "refusals" => (None, Step::Register, Step::Exceed),
+        "keyed" => (None, Step::AskByKey, Step::AskByKey),
+        "repeats" => (Some(Step::Register), Step::AskByKey, Step::CommitByKey),
+        "answers" => (None, Step::BeginRollback, Step::Answer),
+        "commits" => (None, Step::Register, Step::Commit),
+        "finished" => (None, Step::Finish, Step::Tick),
+        "ticks" => (None, Step::Tick, Step::Tick),
+        _ => return Err(ErrorKind::InvalidInput.into()),
+    };
+    Ok(Course { once, before, then })
 }
 
 /// Makes so many families.
@@ -97,6 +130,8 @@ fn repeat(
     for _ in 0..count {
         match step {
             Step::Tick => tick(node, &mut client.out)?,
+            Step::Commit => commit_new(node, client)?,
+            Step::Answer => answer_next(node, client)?,
             step => call_next(node, client, step)?,
         }
     }
@@ -119,14 +154,30 @@ fn tick(node: &mut Node<FileDisk>, out: &mut Outbox) -> io::Result<()> {
 /// Calls the family whose turn it is.
 fn call_next(node: &mut Node<FileDisk>, client: &mut Client, step: Step) -> io::Result<()> {
     let turn = client.calls.checked_rem(client.keys.len() as u64);
-    let Some(key) = turn.and_then(|turn| client.keys.get(turn as usize)) else {
-        return Err(ErrorKind::InvalidInput.into());
+    let key = match turn.and_then(|turn| client.keys.get(turn as usize)) {
+        Some(key) => *key,
+        None => return Err(ErrorKind::InvalidInput.into()),
     };
+    match step {
+        Step::BeginRollback => begin_rollback(node, client, &key)?,
+        Step::Finish => commit(node, client, &key, PhaseHeard::Lost)?,
+        step => call_family(node, client, step, &key)?,
+    }
+    client.calls = client.calls.saturating_add(1);
+    Ok(())
+}
+
+/// Calls a family. The words that then go out are answered.
+fn call_family(
+    node: &mut Node<FileDisk>,
+    client: &mut Client,
+    step: Step,
+    key: &ObjectKey,
+) -> io::Result<()> {
     let event = call(client.alloc, step, client.calls, key)?;
     match node.apply(key, &event, &mut client.out) {
         Ok(answer) if is_right(step, &answer.said) => {
-            client.calls = client.calls.saturating_add(1);
-            Ok(())
+            answer_all(node, client, key, PhaseHeard::Done)
         }
         _ => Err(ErrorKind::Other.into()),
     }
