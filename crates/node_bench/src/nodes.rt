@@ -56,7 +56,7 @@ fn took_in(
     kind: &str,
     sizes: &Sizes,
 ) -> io::Result<u128> {
-    let course = course(kind)?;
+    let course = course_of(kind)?;
     let mut client = created(rt.alloc(), node, sizes.families)?;
     prepare(node, &mut client, &course, sizes)?;
     let start = Instant::now(rt)?;
@@ -88,7 +88,7 @@ fn prepare(
 }
 
 /// What is done for the calls of this kind.
-fn course(kind: &str) -> io::Result<Course> {
+fn course_of(kind: &str) -> io::Result<Course> {
     let (once, before, then) = match kind {
         "questions" => (None, Step::Register, Step::Ask),
         "refusals" => (None, Step::Register, Step::Exceed),
