@@ -1,9 +1,9 @@
 -- Records that stand no more are let go, one after another.
-use Rattle.std.proofs.Common.{◌≡◌, ◌∙◌, ℕ, zero, suc, ◌+◌, ◌<◌, ◌≤◌, Bool, true, false, cond, not, ◌||◌, List, [], ◌∷◌, length, get_or, take, Option, Some, None, refl, sym, ap, subst, arith}
+use Rattle.std.proofs.Common.{◌≡◌, ◌∙◌, ℕ, zero, suc, ◌+◌, ◌<◌, ◌≤◌, Bool, true, false, cond, not, ◌||◌, List, [], ◌∷◌, length, get_or, take, Some, None, refl, sym, ap, subst, arith}
 use Rattle.std.specs.Prelude.{find, ◌==◌}
 use Rattle.std.specs.List.{filter, list_any}
-use Rattle.std.specs.Option.{option_map, option_or}
-use Rattle.std.proofs.lemmas.List.{take_more}
+use Rattle.std.specs.Option.{option_or}
+use Rattle.std.proofs.lemmas.List.{length-take, take_more}
 use Rattle.std.proofs.lemmas.List.Folds.{find-append}
 use Rattle.std.proofs.lemmas.Bool.Decides.{nat_tests}
 use Rattle.decision_journal.specs.Journal.{is_decision_at}
@@ -16,6 +16,28 @@ same_number a b e = grind (arith, nat_tests, e)
 
 is_itself : (a : ℕ) → (a == a) ≡ true
 is_itself a = grind (arith, nat_tests)
+
+-- ---- the first that passes a test
+
+pub find_next : {X : Type 0} (q : X → Bool) (xs : List X) (i : ℕ) (x : X) → i < length xs → x ≡ get_or xs i x → find q (take i xs) ≡ None → q x ≡ true → find q xs ≡ Some x
+find_next q [] i x lt is none passes = absurd (omega (arith, lt))
+find_next q (y ∷ ys) zero x lt is none passes =
+    ap (λ (z : _). cond (q z) (Some z) (find q ys)) (sym is) ∙ ap (λ (b : Bool). cond b (Some x) (find q ys)) passes
+find_next q (y ∷ ys) (suc i) x lt is none passes = by_test (find_next q ys i x (omega (arith, lt)) is) (q y) none
+  where
+    by_test : (find q (take i ys) ≡ None → q x ≡ true → find q ys ≡ Some x) → (b : Bool) → cond b (Some y) (find q (take i ys)) ≡ None → cond b (Some y) (find q ys) ≡ Some x
+    by_test rest true e = absurd cc
+    by_test rest false e = rest e passes
+
+pub find_more : {X : Type 0} (q : X → Bool) (xs : List X) (i : ℕ) (x : X) → i < length xs → x ≡ get_or xs i x → find q (take i xs) ≡ None → q x ≡ false → find q (take (i + 1) xs) ≡ None
+find_more q xs i x lt is none fails =
+    ap (find q) (take_more xs i x lt)
+    ∙ find-append q (take i xs) (get_or xs i x ∷ [])
+    ∙ ap (λ o. option_or o (find q (get_or xs i x ∷ []))) none
+    ∙ ap (λ z. cond (q z) (Some z) None) (sym is)
+    ∙ ap (λ (b : Bool). cond b (Some x) None) fails
+
+-- ---- records that stand
 
 module _ (standing : List Standing) where
   abbrev pub is_there : ℕ → Bool
@@ -49,7 +71,7 @@ module _ (standing : List Standing) where
       by_place rest true = omega (arith, rest)
       by_place rest false = omega (arith, rest)
 
-  pub fewer : (rs : List Held) (r : Held) → find loses rs ≡ Some r → length (without r.place rs) < length rs
+  fewer : (rs : List Held) (r : Held) → find loses rs ≡ Some r → length (without r.place rs) < length rs
   fewer [] r e = absurd cc
   fewer (x ∷ rs) r e = by_test (fewer rs r) (loses x) e
     where
@@ -66,14 +88,6 @@ module _ (standing : List Standing) where
       by_test rest true e = let is : x ≡ r = cc in itself is
       by_test rest false e = passed (rest e) (not (x.place == r.place))
 
-  pub is_lost : (rs : List Held) (r : Held) → find loses rs ≡ Some r → is_there r.place ≡ false
-  is_lost [] r e = absurd cc
-  is_lost (x ∷ rs) r e = by_test (is_lost rs r) (keeps x) refl e
-    where
-      by_test : (find loses rs ≡ Some r → is_there r.place ≡ false) → (b : Bool) → keeps x ≡ b → cond (not b) (Some x) (find loses rs) ≡ Some r → is_there r.place ≡ false
-      by_test rest false lost e = let is : x ≡ r = cc in ap keeps (sym is) ∙ lost
-      by_test rest true kept e = rest e
-
   pub all_kept : (rs : List Held) → find loses rs ≡ None → filter keeps rs ≡ rs
   all_kept [] e = refl
   all_kept (x ∷ rs) e = by_test (all_kept rs) (keeps x) e
@@ -82,40 +96,33 @@ module _ (standing : List Standing) where
       by_test rest true e = ap (λ (xs : List Held). x ∷ xs) (rest e)
       by_test rest false e = absurd cc
 
-  -- the place of the first that stands no more
-  pub first_place : (rs : List Held) (place : ℕ) → option_map (λ (r : Held). r.place) (find loses rs) ≡ Some place → (r : Held) × (find loses rs ≡ Some r) × (r.place ≡ place)
-  first_place rs place e = by_found (find loses rs) refl e
+  -- the first records stay where all of them stand
+  pub front_stays : (place : ℕ) → is_there place ≡ false → (i : ℕ) (rs : List Held) → find loses (take i rs) ≡ None → take i (without place rs) ≡ take i rs
+  front_stays place gone zero rs e = refl
+  front_stays place gone (suc i) [] e = refl
+  front_stays place gone (suc i) (r ∷ rs) e = by_keep (front_stays place gone i rs) (keeps r) refl e
     where
-      by_found : (o : Option Held) → find loses rs ≡ o → option_map (λ (r : Held). r.place) o ≡ Some place → (r : Held) × (find loses rs ≡ Some r) × (r.place ≡ place)
-      by_found None is e = absurd cc
-      by_found (Some r) is e = (r, is, cc)
+      by_place : take i (without place rs) ≡ take i rs → keeps r ≡ true → (b : Bool) → (r.place == place) ≡ b → take (suc i) (cond (not b) (r ∷ without place rs) (without place rs)) ≡ r ∷ take i rs
+      by_place rest kept false e = ap (λ (xs : List Held). r ∷ xs) rest
+      by_place rest kept true e = let lost : is_there r.place ≡ false = ap is_there (same_number r.place place e) ∙ gone in absurd (cc (lost, kept))
 
-  pub none_first : (rs : List Held) → ((place : ℕ) → option_map (λ (r : Held). r.place) (find loses rs) ≡ Some place → ⊥) → find loses rs ≡ None
-  none_first rs never = by_found (find loses rs) never
-    where
-      by_found : (o : Option Held) → ((place : ℕ) → option_map (λ (r : Held). r.place) o ≡ Some place → ⊥) → o ≡ None
-      by_found None never = refl
-      by_found (Some r) never = absurd (never r.place refl)
+      by_keep : (find loses (take i rs) ≡ None → take i (without place rs) ≡ take i rs) → (b : Bool) → keeps r ≡ b → cond (not b) (Some r) (find loses (take i rs)) ≡ None → take (suc i) (without place (r ∷ rs)) ≡ r ∷ take i rs
+      by_keep rest true kept e = by_place (rest e) kept (r.place == place) refl
+      by_keep rest false kept e = absurd cc
 
--- ---- the first that passes a test
+  -- one of them that stands no more is let go, and all before it stand
+  module _ (rs : List Held) (i : ℕ) (x : Held) (lt : i < length rs) (is : x ≡ get_or rs i x) (none : find loses (take i rs) ≡ None) (lost : is_there x.place ≡ false) where
+    found : find loses rs ≡ Some x
+    found = find_next loses rs i x lt is none (ap not lost)
 
-pub find_next : {X : Type 0} (q : X → Bool) (xs : List X) (i : ℕ) (x : X) → i < length xs → x ≡ get_or xs i x → find q (take i xs) ≡ None → q x ≡ true → find q xs ≡ Some x
-find_next q [] i x lt is none passes = absurd (omega (arith, lt))
-find_next q (y ∷ ys) zero x lt is none passes =
-    ap (λ (z : _). cond (q z) (Some z) (find q ys)) (sym is) ∙ ap (λ (b : Bool). cond b (Some x) (find q ys)) passes
-find_next q (y ∷ ys) (suc i) x lt is none passes = by_test (find_next q ys i x (omega (arith, lt)) is) (q y) none
-  where
-    by_test : (find q (take i ys) ≡ None → q x ≡ true → find q ys ≡ Some x) → (b : Bool) → cond b (Some y) (find q (take i ys)) ≡ None → cond b (Some y) (find q ys) ≡ Some x
-    by_test rest true e = absurd cc
-    by_test rest false e = rest e passes
+    pub fewer_left : length (without x.place rs) < length rs
+    fewer_left = fewer rs x found
 
-pub find_more : {X : Type 0} (q : X → Bool) (xs : List X) (i : ℕ) (x : X) → i < length xs → x ≡ get_or xs i x → find q (take i xs) ≡ None → q x ≡ false → find q (take (i + 1) xs) ≡ None
-find_more q xs i x lt is none fails =
-    ap (find q) (take_more xs i x lt)
-    ∙ find-append q (take i xs) (get_or xs i x ∷ [])
-    ∙ ap (λ o. option_or o (find q (get_or xs i x ∷ []))) none
-    ∙ ap (λ z. cond (q z) (Some z) None) (sym is)
-    ∙ ap (λ (b : Bool). cond b (Some x) None) fails
+    pub front_left : take i (without x.place rs) ≡ take i rs
+    front_left = front_stays x.place lost i rs none
+
+    pub still_within : i ≤ length (without x.place rs)
+    still_within = omega (arith, lt, ap length front_left, length-take i rs, length-take i (without x.place rs))
 
 -- ---- a record is there where it is found
 

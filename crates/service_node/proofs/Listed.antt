@@ -1,8 +1,8 @@
 -- What holds of lists of slots.
-use Rattle.std.proofs.Common.{◌≡◌, ◌∙◌, ℕ, zero, suc, ◌+◌, ◌<◌, Bool, cond, not, ltb, List, [], ◌∷◌, ◌++◌, length, get_or, set, take, map, replicate, Some, None, refl, sym, ap, arith}
+use Rattle.std.proofs.Common.{◌≡◌, ◌∙◌, ℕ, zero, suc, ◌+◌, ◌<◌, Bool, cond, not, ltb, List, [], ◌∷◌, length, set, map, replicate, Some, None, refl, ap, arith}
 use Rattle.std.specs.Prelude.{position}
 use Rattle.std.specs.List.{position_or_len, slice_get}
-use Rattle.std.proofs.lemmas.List.{length-map, map-append, take-map, take_more}
+use Rattle.std.proofs.lemmas.List.{length-map}
 
 -- ---- the first that passes a test, of a list that is shown by another
 
@@ -32,13 +32,3 @@ get_other (x ∷ xs) zero zero a differs = absurd (differs refl)
 get_other (x ∷ xs) zero (suc j) a differs = refl
 get_other (x ∷ xs) (suc i) zero a differs = refl
 get_other (x ∷ xs) (suc i) (suc j) a differs = get_other xs i j a (λ e. differs (ap suc e))
-
--- the first elements of a list that is shown by another, and one more
-pub take_map_more : {X Y : Type 0} (f : X → Y) (xs : List X) (i : ℕ) (x : X) → i < length xs → x ≡ get_or xs i x
-    → take (i + 1) (map f xs) ≡ take i (map f xs) ++ f x ∷ []
-take_map_more f xs i x lt is =
-    take-map f (i + 1) xs
-    ∙ ap (map f) (take_more xs i x lt)
-    ∙ map-append f (take i xs) (get_or xs i x ∷ [])
-    ∙ ap (λ ys. ys ++ f (get_or xs i x) ∷ []) (sym (take-map f i xs))
-    ∙ ap (λ y. take i (map f xs) ++ f y ∷ []) (sym is)

@@ -1,8 +1,8 @@
 -- Time that passes for families: what is done of it, slot by slot.
-use Rattle.std.proofs.Common.{◌≡◌, ◌∙◌, ℕ, zero, suc, ◌+◌, ◌<◌, Bool, true, false, cond, List, [], ◌∷◌, ◌++◌, length, get_or, set, map, take, drop, Option, Some, None, Result, Ok, Err, OnOk, OnErr, refl, sym, ap, subst, arith}
+use Rattle.std.proofs.Common.{◌≡◌, ◌∙◌, ◌⊎◌, inl, inr, ℕ, zero, suc, ◌+◌, ◌<◌, Bool, true, false, cond, List, [], ◌∷◌, ◌++◌, length, get_or, set, map, take, drop, Option, Some, None, Result, Ok, Err, OnOk, OnErr, refl, sym, ap, subst, arith}
 use Rattle.std.specs.List.{cons_option, filter_map}
 use Rattle.std.specs.Option.{option_map, option_to_list}
-use Rattle.std.proofs.lemmas.List.{append-nil, drop_all, get_or-drop, get_or-map, length-map, length-take-le, map-append, map-set, take_all, take_more}
+use Rattle.std.proofs.lemmas.List.{append-nil, append_assoc, drop_all, get_or-drop, get_or-map, length-map, length-take-le, map-append, map-set, take_all, take_more}
 use Rattle.std.proofs.lemmas.List.Concat.{flat_map-append}
 use Rattle.std.proofs.lemmas.List.Edits.{map_over_more}
 use Rattle.std.proofs.lemmas.List.Elements.{filter_map-append}
@@ -14,13 +14,15 @@ use Rattle.coordinator.specs.History.{has_room}
 use Rattle.coordinator.specs.Node.{Node, family_in}
 use Rattle.coordinator.specs.NodeParts.{IsWhole}
 use Rattle.coordinator.specs.NodeTick as ticks
-use Rattle.coordinator.specs.NodeTick.{happens_in, happens_to, tick_at, tick_of, ticked}
+use Rattle.coordinator.specs.NodeTick.{happens_in, happens_to, takes_all_over, tick_at, tick_of, ticked}
 use Rattle.coordinator.specs.Step.{acted, entered, family_step, is_silent, quiet, wanted, wants_journal}
 use Rattle.coordinator.specs.declared.said.Said.TheVariants as said
+use Rattle.decision_journal.specs.Journal.{Found}
 use Rattle.decision_journal.specs.State.{JournalState}
 use Rattle.recovery_coord.specs.Held.{Recoveries}
+use Rattle.recovery_coord.specs.declared.held.Held.{Held}
 use Rattle.service_node.specs.NodeState.{BelongTogether, node_of, shown}
-use Rattle.service_node.specs.Ticking.{HasPassed, HasPassedInPart, told, words_in, words_of}
+use Rattle.service_node.specs.Ticking.{AreTaken, HasPassed, HasPassedIn, HasPassedInPart, IsStill, told, words_in, words_of}
 use Rattle.service_node.proofs.Keyed.{tick_key}
 
 -- ---- one family
@@ -123,6 +125,35 @@ module _ (now : ℕ) (xs ys : List (Option FamilyParts)) (i : ℕ) (x : Option F
       → map shown (set ys i y) ≡ map (ticked now) (take i (map shown xs)) ++ drop i (map shown xs)
   passed_not y same = map-set_same shown ys i y x (same ∙ ap shown is) ∙ so_far
 
+-- memory was wanted in a slot, behind those that have passed
+module _ (now : ℕ) (found : Found) (xs ys : List (Option FamilyParts)) (i : ℕ) (x y : Option FamilyParts) (lt : i < length xs) (lt_ys : i < length ys)
+    (so_far : map shown ys ≡ map (ticked now) (take i (map shown xs)) ++ drop i (map shown xs)) (is : x ≡ get_or ys i x) (records later : List Held)
+    (taken : AreTaken found now i (map shown xs) records later) (words mid more : List Outward)
+    (said : mid ≡ words ++ words_in (filter_map (happens_in now) (take i (map shown xs)))) where
+  part_said : more ≡ mid ++ words_of (happens_in now (shown x)) → more ≡ words ++ words_in (filter_map (happens_in now) (take (i + 1) (map shown xs)))
+  part_said e =
+      e
+      ∙ ap (λ (ws : List Outward). ws ++ words_of (happens_in now (shown x))) said
+      ∙ append_assoc words (words_in (filter_map (happens_in now) (take i (map shown xs)))) (words_of (happens_in now (shown x)))
+      ∙ ap (λ (ws : List Outward). words ++ ws)
+      (sym (words_more now (map shown xs) i (shown x) (shown_within now xs ys i x lt lt_ys so_far is) (there now xs ys i x lt lt_ys so_far is)))
+
+  pub part_passed : HasPassedIn now (shown x) (shown y) mid more ⊎ IsStill (shown x) (shown y) mid more → HasPassedInPart now found (map shown xs) (map shown (set ys i y)) records later words more
+  part_passed (inl passed) = record {
+    count = i + 1;
+    passed = record { families = passed_more now xs ys i x lt lt_ys so_far is y passed.family; words_are = part_said passed.words_are };
+    handed = i;
+    behind = inr refl;
+    taken = taken;
+  }
+  part_passed (inr still) = record {
+    count = i;
+    passed = record { families = passed_not now xs ys i x lt lt_ys so_far is y still.family; words_are = still.words_are ∙ said };
+    handed = i;
+    behind = inl refl;
+    taken = taken;
+  }
+
 -- ---- the node stays whole
 
 module _ (now : ℕ) where
@@ -168,11 +199,29 @@ module _ (now : ℕ) (fs gs : List (Option Family)) where
       ∙ ap (λ (xs : List (Option Family)). map (ticked now) fs ++ xs) (drop_all (length fs) fs (omega arith))
       ∙ append-nil (map (ticked now) fs)
 
-  -- so far as time has passed, whether or not memory was wanted
-  pub passed_some : {E : Type 0} (r : Result (Unit {0}) E) (words more : List Outward) → OnOk r (HasPassed now (length fs) fs gs words more) → OnErr r (HasPassedInPart now fs gs words more)
-      → (k : ℕ) × (gs ≡ map (ticked now) (take k fs) ++ drop k fs)
-  passed_some (Ok u) words more whole part = (length fs, whole.families)
-  passed_some (Err e) words more whole part = (part.0, part.1.families)
+  module _ {E : Type 0} (r : Result (Unit {0}) E) (found : Found) (records later : List Held) (words more : List Outward)
+      (part : OnErr r (HasPassedInPart now found fs gs records later words more)) where
+    -- so far as time has passed, whether or not memory was wanted
+    pub passed_some : OnOk r (HasPassed now (length fs) fs gs words more) → (k : ℕ) × (gs ≡ map (ticked now) (take k fs) ++ drop k fs)
+    passed_some whole = by_answer r whole part
+      where
+        by_answer : (r : Result (Unit {0}) E) → OnOk r (HasPassed now (length fs) fs gs words more) → OnErr r (HasPassedInPart now found fs gs records later words more)
+            → (k : ℕ) × (gs ≡ map (ticked now) (take k fs) ++ drop k fs)
+        by_answer (Ok u) whole part = (length fs, whole.families)
+        by_answer (Err e) whole part = (part.count, part.passed.families)
+
+    -- and the records that go on
+    pub taken_some : OnOk r (AreTaken found now (length fs) fs records later) → (k : ℕ) × AreTaken found now k fs records later
+    taken_some whole = by_answer r whole part
+      where
+        by_answer : (r : Result (Unit {0}) E) → OnOk r (AreTaken found now (length fs) fs records later) → OnErr r (HasPassedInPart now found fs gs records later words more)
+            → (k : ℕ) × AreTaken found now k fs records later
+        by_answer (Ok u) whole part = (length fs, whole)
+        by_answer (Err e) whole part = (part.handed, part.taken)
+
+pub all_taken : (found : Found) (now : ℕ) (fs : List (Option Family)) (records later : List Held) → AreTaken found now (length fs) fs records later
+    → later ≡ takes_all_over found (map (ticked now) fs) records
+all_taken found now fs records later e = e ∙ ap (λ (xs : List (Option Family)). takes_all_over found (map (ticked now) xs) records) (take_all (length fs) fs (omega arith))
 
 pub all_words : (now : ℕ) (fs : List (Option Family)) (words more : List Outward) → more ≡ words ++ words_in (filter_map (happens_in now) (take (length fs) fs))
     → more ≡ words ++ words_in (filter_map (happens_in now) fs)

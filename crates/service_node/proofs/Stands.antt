@@ -1,23 +1,23 @@
 -- What a node holds of records is of those that stand.
 use Rattle.std.proofs.Common.{◌≡◌, ◌∙◌, ℕ, zero, suc, ◌+◌, ◌<◌, Bool, true, false, cond, List, [], ◌∷◌, ◌++◌, length, get_or, map, take, Option, Some, None, refl, sym, ap, subst, arith}
-use Rattle.std.specs.Prelude.{find}
+use Rattle.std.specs.Prelude.{find, ◌==◌, ◌&&◌}
 use Rattle.std.specs.List.{AllByRecursion, Any, cons_option, filter, filter_map}
 use Rattle.std.specs.Option.{option_and_then}
-use Rattle.std.proofs.lemmas.List.{get_or_default}
-use Rattle.decision_journal.specs.Journal.{Found, is_decision_at}
+use Rattle.std.proofs.lemmas.List.{get_or_default, map_more}
+use Rattle.std.proofs.lemmas.Bool.Decides.{nat_tests}
+use Rattle.decision_journal.specs.Journal.{Found, is_decision, is_decision_at}
 use Rattle.decision_journal.specs.declared.record.JournalRecord.{JournalRecord}
 use Rattle.decision_journal.specs.declared.record.JournalRecord.TheVariants.{Life, Decision, Done, Prepared, CellsPrepared, CellsOutcome, CellsOnePhase}
 use Rattle.decision_journal.specs.declared.journal.Standing.{Standing}
 use Rattle.recovery_coord.specs.declared.held.Held.{Held}
 use Rattle.recovery_coord.specs.Held.{before, behind, held_of, is_complete, is_held, loaded, taken}
 use Rattle.recovery_coord.specs.Telling.{recalled, retold}
-use Rattle.coordinator.specs.Family.{Family, FamilyParts}
+use Rattle.coordinator.specs.Family.{Family}
 use Rattle.coordinator.specs.Hearing.{record_place}
 use Rattle.coordinator.specs.NodeSlots.{held_for, left_record, takes_over}
-use Rattle.coordinator.specs.NodeTick.{takes_all_over}
+use Rattle.coordinator.specs.NodeTick.{takes_all_over, ticked}
 use Rattle.coordinator.specs.Step.{is_finished}
-use Rattle.service_node.specs.NodeState.{AreTakenInPart, shown}
-use Rattle.service_node.proofs.Listed.{take_map_more}
+use Rattle.service_node.specs.Ticking.{AreTaken}
 
 -- a record stands at this place
 abbrev pub IsThere : List Standing → ℕ → Type 0
@@ -99,6 +99,21 @@ held_place place (CellsPrepared life number recovery ps) commits forgets r e = a
 held_place place (CellsOutcome named ending) commits forgets r e = absurd cc
 held_place place (CellsOnePhase life number ps) commits forgets r e = absurd cc
 
+decided_place : (place : ℕ) (x : Standing) → is_decision_at place x ≡ true → x.place ≡ place
+decided_place place x e = by_place (x.place == place) refl e
+  where
+    by_place : (b : Bool) → (x.place == place) ≡ b → (b && is_decision x.item) ≡ true → x.place ≡ place
+    by_place true is e = grind (arith, nat_tests, is)
+    by_place false is e = absurd cc
+
+decision_place : (place : ℕ) (ss : List Standing) (s : Standing) → find (is_decision_at place) ss ≡ Some s → s.place ≡ place
+decision_place place [] s e = absurd cc
+decision_place place (x ∷ ss) s e = by_test (is_decision_at place x) refl e (decision_place place ss s)
+  where
+    by_test : (b : Bool) → is_decision_at place x ≡ b → cond b (Some x) (find (is_decision_at place) ss) ≡ Some s → (find (is_decision_at place) ss ≡ Some s → s.place ≡ place) → s.place ≡ place
+    by_test true at e rest = let same : x ≡ s = cc in ap (λ (t : Standing). t.place) (sym same) ∙ decided_place place x at
+    by_test false at e rest = rest e
+
 left_there : (found : Found) (f : Family) (s : Standing) → left_record found f ≡ Some s → IsThere found.standing s.place
 left_there found f s e = by_end (is_finished f) e
   where
@@ -128,14 +143,67 @@ pub over_joined : (found : Found) (some more : List (Option Family)) (rs : List 
 over_joined found [] more rs = refl
 over_joined found (place ∷ some) more rs = over_joined found some more (takes_over found place rs)
 
-pub over_more : (found : Found) (xs : List (Option FamilyParts)) (i : ℕ) (x : Option FamilyParts) (rs : List Held) → i < length xs → x ≡ get_or xs i x
-    → takes_all_over found (take (i + 1) (map shown xs)) rs ≡ takes_over found (shown x) (takes_all_over found (take i (map shown xs)) rs)
-over_more found xs i x rs lt is =
-    ap (λ (ys : List (Option Family)). takes_all_over found ys rs) (take_map_more shown xs i x lt is)
-    ∙ over_joined found (take i (map shown xs)) (shown x ∷ []) rs
+-- time has passed for one family more
+pub over_ticked : (found : Found) (now : ℕ) (zs : List (Option Family)) (i : ℕ) (z : Option Family) (rs : List Held) → i < length zs → z ≡ get_or zs i z
+    → takes_all_over found (map (ticked now) (take (i + 1) zs)) rs ≡ takes_over found (ticked now z) (takes_all_over found (map (ticked now) (take i zs)) rs)
+over_ticked found now zs i z rs lt is =
+    ap (λ (ys : List (Option Family)). takes_all_over found ys rs) (map_more (ticked now) zs i z lt)
+    ∙ over_joined found (map (ticked now) (take i zs)) (ticked now (get_or zs i z) ∷ []) rs
+    ∙ ap (λ (y : Option Family). takes_over found (ticked now y) (takes_all_over found (map (ticked now) (take i zs)) rs)) (sym is)
 
--- records of some of the first families are taken over
-pub part_stands : (found : Found) (places : List (Option Family)) (before after : List Held) → AreTakenInPart found places before after
+pub taken_stands : (found : Found) (now count : ℕ) (families : List (Option Family)) (before after : List Held) → AreTaken found now count families before after
     → AllStand found.standing before → AllStand found.standing after
-part_stands found places before after part all =
-    subst (AllStand found.standing) (sym part.1) (all_over_stand found (take part.0 places) before all)
+taken_stands found now count families before after taken all =
+    subst (AllStand found.standing) (sym taken) (all_over_stand found (map (ticked now) (take count families)) before all)
+
+-- ---- a record that is held already
+
+module _ (found : Found) (f : Family) (rs : List Held) where
+  taken_held : (place : ℕ) → is_held place rs ≡ true → (s : Standing) → s.place ≡ place → taken (held_for f s) rs ≡ rs
+  taken_held place held s same = by_item (held_for f s) refl
+    where
+      by_item : (o : Option Held) → held_for f s ≡ o → taken o rs ≡ rs
+      by_item None is = refl
+      by_item (Some r) is =
+          let at : is_held r.place rs ≡ true = ap (λ (k : ℕ). is_held k rs) (held_place s.place s.item _ _ r is ∙ same) ∙ held in
+          ap (λ (b : Bool). cond b rs (before r.place rs ++ r ∷ behind r.place rs)) at
+
+  found_taken : (place : ℕ) → is_held place rs ≡ true → (o : Option Standing) → ((s : Standing) → o ≡ Some s → s.place ≡ place) → taken (option_and_then (held_for f) o) rs ≡ rs
+  found_taken place held None at = refl
+  found_taken place held (Some s) at = taken_held place held s (at s refl)
+
+  -- nothing is taken over
+  pub over_held : (place : ℕ) → cond (is_finished f) (record_place f.completion) None ≡ Some place → is_held place rs ≡ true → takes_over found (Some f) rs ≡ rs
+  over_held place is held = by_end (is_finished f) is
+    where
+      by_place : (o : Option ℕ) → o ≡ Some place → taken (option_and_then (held_for f) (option_and_then (λ (k : ℕ). find (is_decision_at k) found.standing) o)) rs ≡ rs
+      by_place None e = absurd cc
+      by_place (Some k) e = found_taken k (let same : k ≡ place = cc in ap (λ (n : ℕ). is_held n rs) same ∙ held) (find (is_decision_at k) found.standing) (decision_place k found.standing)
+
+      by_end : (b : Bool) → cond b (record_place f.completion) None ≡ Some place
+          → taken (option_and_then (held_for f) (cond b (option_and_then (λ (k : ℕ). find (is_decision_at k) found.standing) (record_place f.completion)) None)) rs ≡ rs
+      by_end true e = by_place (record_place f.completion) e
+      by_end false e = absurd cc
+
+  pub over_none : cond (is_finished f) (record_place f.completion) None ≡ None → takes_over found (Some f) rs ≡ rs
+  over_none is = ap (λ (o : Option Standing). taken (option_and_then (held_for f) o) rs) (by_end (is_finished f) is)
+    where
+      by_place : (o : Option ℕ) → o ≡ None → option_and_then (λ (k : ℕ). find (is_decision_at k) found.standing) o ≡ None
+      by_place None e = refl
+      by_place (Some k) e = absurd cc
+
+      by_end : (b : Bool) → cond b (record_place f.completion) None ≡ None → cond b (option_and_then (λ (k : ℕ). find (is_decision_at k) found.standing) (record_place f.completion)) None ≡ None
+      by_end true e = by_place (record_place f.completion) e
+      by_end false e = refl
+
+  -- the record that is left is that at its place
+  pub left_at : (place : ℕ) → cond (is_finished f) (record_place f.completion) None ≡ Some place → left_record found f ≡ find (is_decision_at place) found.standing
+  left_at place is = by_end (is_finished f) is
+    where
+      by_place : (o : Option ℕ) → o ≡ Some place → option_and_then (λ (k : ℕ). find (is_decision_at k) found.standing) o ≡ find (is_decision_at place) found.standing
+      by_place None e = absurd cc
+      by_place (Some k) e = let same : k ≡ place = cc in ap (λ (n : ℕ). find (is_decision_at n) found.standing) same
+
+      by_end : (b : Bool) → cond b (record_place f.completion) None ≡ Some place → cond b (option_and_then (λ (k : ℕ). find (is_decision_at k) found.standing) (record_place f.completion)) None ≡ find (is_decision_at place) found.standing
+      by_end true e = by_place (record_place f.completion) e
+      by_end false e = absurd cc

@@ -1,5 +1,5 @@
 -- A node as its callers see it: as it is defined, with its journal (our profile).
-use Rattle.std.specs.Prelude.{◌≡◌, ◌⊎◌, ℕ, List, take, Option, IfSome, Result, Err}
+use Rattle.std.specs.Prelude.{◌≡◌, ◌⊎◌, ℕ, List, Option, IfSome, Result, Err}
 use Rattle.std.specs.Option.{option_map}
 use Rattle.std.specs.Result.{IsOk}
 use Rattle.ior_refs.specs.declared.key.ObjectKey.{ObjectKey}
@@ -15,7 +15,6 @@ use Rattle.coordinator.specs.Family.{Family, FamilyParts}
 use Rattle.coordinator.specs.Node.{Node, load}
 use Rattle.coordinator.specs.NodeParts.{IsWhole}
 use Rattle.coordinator.specs.NodeSlots.{Created}
-use Rattle.coordinator.specs.NodeTick.{takes_all_over, tells_again}
 
 -- a node, and its journal
 pub record NodeState (D : Type 0) : Type 0 where
@@ -62,15 +61,6 @@ pub record IsStarved {D : Type 0} (before after : NodeState D) (said : Result Ob
 
 abbrev pub IsMadeOrStarved : {D : Type 0} → NodeState D → NodeState D → Result ObjectKey NodeFault → Created → Type 0
 IsMadeOrStarved before after said created = IsMade before after said created ⊎ IsStarved before after said created
-
--- the records of some of the first families were taken over
-abbrev pub AreTakenInPart : Found → List (Option Family) → List Held → List Held → Type 0
-AreTakenInPart found families before after = (count : ℕ) × (after ≡ takes_all_over found (take count families) before)
-
--- only the records changed: those of some of the first families were taken over, or they are all to be told again
-pub record AreToldInPart (before after : Node) : Type 0 where
-  pub others : after ≡ record before { recovered = after.recovered }
-  pub records : AreTakenInPart before.found before.families before.recovered after.recovered ⊎ (after.recovered ≡ (tells_again before).recovered)
 
 -- the node that a load leaves is that of the records which its disk held, in their next life
 pub record IsBegun (service : ℕ) (n : Node) (before after : DiskState) : Type 0 where

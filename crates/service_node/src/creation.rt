@@ -7,10 +7,10 @@ ghost use Rattle.coordinator.specs.NodeSlots as slots;
 ghost use Rattle.coordinator.specs.NodeTick as ticking;
 ghost use Rattle.ior_refs.specs.declared.key.ObjectKey.{ObjectKey as Key};
 ghost use Rattle.recovery_coord.specs.Telling as telling;
-ghost use Rattle.service_node.specs.NodeState.{AreToldInPart, IsMadeOrStarved};
-ghost use Rattle.service_node.specs.Ticking.{HasPassedSome, HasTickedInPart, told, words_in};
+ghost use Rattle.service_node.specs.NodeState.{IsMadeOrStarved};
+ghost use Rattle.service_node.specs.Ticking.{HasPassedSome, HasTickedInPart, hands_over, told, words_in};
 
-use crate::handing::{take_all_over, take_from};
+use crate::handing::take_from;
 use crate::node::Node;
 use crate::passing::{Happening, Happenings};
 use coordinator::NodeFault;
@@ -95,8 +95,8 @@ impl<D: Disk> Node<D> {
     }
 
     /// The clock of the node goes on: time is over for some families, whose words go out by slot, and then the records
-    /// are told again whose families are gone, or finished. Want of memory leaves what was done, and the words that
-    /// went out.
+    /// are told again whose families are gone, or finished. Each slot is looked at once. Want of memory leaves what was
+    /// done, and the words that went out.
     #[tactic(auto, unfolding(coordinator::specs::NodeTick::ticks))]
     pub fn tick(&mut self, now: u64, out: &mut Outbox) -> Result<Happenings, NodeFault>
         ensures node { OnOk result (self.new.node ≡ (ticking.ticks now self.old.node).node) }
@@ -113,14 +113,14 @@ impl<D: Disk> Node<D> {
         Ok(Happenings::from_vec(happened))
     }
 
-    /// Time passes for each family.
+    /// Time passes for each family, and the records of those that are finished then go on without them.
     fn pass_time(
         &mut self,
         now: u64,
         out: &mut Outbox,
         happened: &mut Vec<Happening>,
     ) -> Result<(), NodeFault>
-        ensures node { OnOk result (self.new.node ≡ ticking.passes_time now self.old.node) }
+        ensures node { OnOk result (self.new.node ≡ hands_over (ticking.passes_time now self.old.node)) }
         ensures happened { OnOk result (happened.new.items ≡ happened.old.items
             ++ map told (filter_map (ticking.happens_in now) (self.old.node).families)) }
         ensures words { OnOk result (out.new.words ≡ out.old.words
@@ -129,27 +129,28 @@ impl<D: Disk> Node<D> {
         ensures part { OnErr result (HasPassedSome now self.old.node self.new.node out.old.words out.new.words) }
         ensures fault { IfErr result (λ fault. fault ≡ NodeFault.Memory) }
     {
-        self.slots.pass_time(self.alloc, now, out, happened)
+        self.slots.pass_time(
+            self.alloc,
+            now,
+            &self.journal,
+            &mut self.recovered,
+            out,
+            happened,
+        )
     }
 
-    /// Tells the records again whose families are gone, or finished: puts each word that is still to be told behind the
-    /// others, in record order. Want of memory leaves the words as they were.
-    pub fn tell_again(&mut self, out: &mut Outbox) -> Result<(), NodeFault>
-        ensures node { OnOk result (self.new.node ≡ ticking.tells_again self.old.node) }
+    /// Tells the records again that are held: puts each word that is still to be told behind the others, in record order. Want
+    /// of memory leaves the words as they were.
+    fn tell_again(&mut self, out: &mut Outbox) -> Result<(), NodeFault>
+        ensures node { self.new.node ≡ record self.old.node {
+          recovered = map telling.retold (self.old.node).recovered;
+        } }
         ensures words { OnOk result (out.new.words
             ≡ out.old.words ++ telling.words (nodes.life self.new.node) (self.new.node).recovered) }
         ensures journal { self.new.journal ≡ self.old.journal }
         ensures unsaid { OnErr result (out.new.words ≡ out.old.words) }
-        ensures part { OnErr result (AreToldInPart self.old.node self.new.node) }
         ensures fault { IfErr result (λ fault. fault ≡ NodeFault.Memory) }
-        ensures room { out.new.room ≡ out.old.room }
     {
-        take_all_over(
-            self.alloc,
-            &self.journal,
-            self.slots.items(),
-            &mut self.recovered,
-        )?;
         self.recovered.redrive(out)?;
         Ok(())
     }

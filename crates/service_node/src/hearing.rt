@@ -1,7 +1,6 @@
 // The Done of a record that an answer to a word told again completes.
-ghost use Rattle.std.specs.Prelude.{◌≡◌, ◌++◌, ◌∷◌, [], ◌<◌, ◌≤◌, true, false, not, find, filter, vec_len, vec_capacity, None, IsSome, if◌then◌else◌};
+ghost use Rattle.std.specs.Prelude.{◌≡◌, ◌++◌, ◌∷◌, [], ◌<◌, ◌≤◌, true, false, filter, vec_len, vec_capacity, None, IsSome, if◌then◌else◌};
 ghost use Rattle.std.specs.List.{list_any};
-ghost use Rattle.std.specs.Option.{option_map};
 ghost use Rattle.decision_journal.specs.Calls.{IsAfterDone, IsRefusedAppend};
 ghost use Rattle.decision_journal.specs.Index.{AreInOrder};
 ghost use Rattle.decision_journal.specs.Journal.{is_decision_at};
@@ -13,7 +12,7 @@ use crate::finding::decision_at;
 use coordinator::Effect;
 use decision_journal::{Journal, JournalFault, JournalRecord, Standing};
 use ots_outside::Disk;
-use recovery_coord::{Held, Recovered};
+use recovery_coord::Recovered;
 
 /// Whether a decision or prepared record stands at this place.
 fn stands(standing: &[Standing], place: u32) -> bool
@@ -26,20 +25,6 @@ fn stands(standing: &[Standing], place: u32) -> bool
     }
 }
 
-/// The place of the first record that stands no more.
-fn first_lost(standing: &[Standing], records: &[Held]) -> Option<u32>
-    requires order { AreInOrder standing.now }
-    ensures { result ≡ option_map (λ r. r.place)
-        (find (λ r. not (list_any (is_decision_at r.place) standing.now)) records.now) }
-{
-    for held in records {
-        if !stands(standing, held.place) {
-            return Some(held.place);
-        }
-    }
-    None
-}
-
 /// Lets each record go that stands no more.
 fn keep_standing(standing: &[Standing], recovered: &mut Recovered)
     requires order { AreInOrder standing.now }
@@ -47,8 +32,14 @@ fn keep_standing(standing: &[Standing], recovered: &mut Recovered)
       records = filter (λ r. list_any (is_decision_at r.place) standing.now) recovered.old.records;
     } }
 {
-    while let Some(place) = first_lost(standing, recovered.records()) {
-        recovered.done(place);
+    let mut index = 0;
+    while index < recovered.records().len() {
+        let place = recovered.records()[index].place;
+        if stands(standing, place) {
+            index += 1;
+        } else {
+            recovered.done(place);
+        }
     }
 }
 

@@ -1,15 +1,19 @@
 // Time passes for families.
-ghost use Rattle.std.specs.Prelude.{◌≡◌, ◌++◌, [], length, map, filter_map, false, IfOk, IfErr, OnOk, OnErr};
+ghost use Rattle.std.specs.Prelude.{◌≡◌, ◌⊎◌, ◌++◌, [], length, map, filter_map, false, IfOk, IfErr, OnOk, OnErr};
 ghost use Rattle.std.specs.Option.{option_map, option_to_list};
+ghost use Rattle.coordinator.specs.NodeSlots as slots;
 ghost use Rattle.coordinator.specs.NodeTick as ticks;
 ghost use Rattle.coordinator.specs.Step as steps;
 ghost use Rattle.service_node.specs.NodeState.{shown};
 ghost use Rattle.service_node.specs.Ticking as ticking;
 
+use crate::handing::take_from;
 use coordinator::{Act, Answers, Effects, Event, NodeFault, StepAnswer};
+use decision_journal::Journal;
 use family_step::{Family, FamilyFault};
 use ior_refs::ObjectKey;
-use recovery_coord::Outbox;
+use ots_outside::Disk;
+use recovery_coord::{Outbox, Recovered};
 use std::alloc::Global;
 use std::marker::Model;
 
@@ -165,11 +169,40 @@ fn pass_in(
     }
 }
 
-/// Time passes in all slots, one after another.
-pub(crate) fn pass_all(
+/// Time passes in a slot, and then the record of the family there goes on without it, where it is finished.
+fn pass_on<D: Disk>(
+    alloc: Global,
+    now: u64,
+    place: &mut Option<Family>,
+    journal: &Journal<D>,
+    recovered: &mut Recovered,
+    out: &mut Outbox,
+    happened: &mut Vec<Happening>,
+) -> Result<(), NodeFault>
+    ensures place { OnOk result (ticking.HasPassedIn now (shown place.old) (shown place.new)
+        out.old.words out.new.words) }
+    ensures happened { OnOk result (happened.new.items ≡ happened.old.items
+        ++ option_to_list (option_map ticking.told (ticks.happens_in now (shown place.old)))) }
+    ensures records { OnOk result (recovered.new ≡ record recovered.old {
+      records = slots.takes_over journal.now.found (ticks.ticked now (shown place.old)) recovered.old.records;
+    }) }
+    ensures part { OnErr result (ticking.HasPassedIn now (shown place.old) (shown place.new) out.old.words out.new.words
+        ⊎ ticking.IsStill (shown place.old) (shown place.new) out.old.words out.new.words) }
+    ensures same { OnErr result (recovered.new ≡ recovered.old) }
+    ensures fault { IfErr result (λ fault. fault ≡ NodeFault.Memory) }
+{
+    pass_in(alloc, now, place, out, happened)?;
+    take_from(alloc, journal, place.as_ref(), recovered)?;
+    Ok(())
+}
+
+/// Time passes in all slots, one after another, and the records of the families that are finished then go on without them.
+pub(crate) fn pass_all<D: Disk>(
     alloc: Global,
     now: u64,
     places: &mut [Option<Family>],
+    journal: &Journal<D>,
+    recovered: &mut Recovered,
     out: &mut Outbox,
     happened: &mut Vec<Happening>,
 ) -> Result<(), NodeFault>
@@ -177,12 +210,15 @@ pub(crate) fn pass_all(
         (map shown places.new) out.old.words out.new.words) }
     ensures happened { OnOk result (happened.new.items ≡ happened.old.items
         ++ map ticking.told (filter_map (ticks.happens_in now) (map shown places.old))) }
-    ensures part { OnErr result (ticking.HasPassedInPart now (map shown places.old) (map shown places.new)
-        out.old.words out.new.words) }
+    ensures taken { OnOk result (ticking.AreTaken journal.now.found now (length places.old) (map shown places.old)
+        recovered.old.records recovered.new.records) }
+    ensures part { OnErr result (ticking.HasPassedInPart now journal.now.found (map shown places.old)
+        (map shown places.new) recovered.old.records recovered.new.records out.old.words out.new.words) }
+    ensures others { recovered.new ≡ record recovered.old { records = recovered.new.records } }
     ensures fault { IfErr result (λ fault. fault ≡ NodeFault.Memory) }
 {
     for place in places.iter_mut() {
-        pass_in(alloc, now, place, out, happened)?;
+        pass_on(alloc, now, place, journal, recovered, out, happened)?;
     }
     Ok(())
 }

@@ -8,7 +8,7 @@ ghost use Rattle.coordinator.specs.NodeTick.{happens_in};
 ghost use Rattle.family_step.specs.Asking.{is_reread};
 ghost use Rattle.service_node.specs.Applying.{HasSteppedAt, IsUnmovedAt};
 ghost use Rattle.service_node.specs.NodeState.{shown};
-ghost use Rattle.service_node.specs.Ticking.{HasPassed, HasPassedInPart, told};
+ghost use Rattle.service_node.specs.Ticking.{AreTaken, HasPassed, HasPassedInPart, told};
 
 use crate::applying::step_place;
 use crate::passing::{Happening, pass_all};
@@ -86,21 +86,36 @@ impl Slots {
         free_in(&self.items, last as usize)
     }
 
-    /// Time passes in all slots, one after another.
-    pub(crate) fn pass_time(
+    /// Time passes in all slots, one after another, and the records of the families that are finished then go on without
+    /// them.
+    pub(crate) fn pass_time<D: Disk>(
         &mut self,
         alloc: Global,
         now: u64,
+        journal: &Journal<D>,
+        recovered: &mut Recovered,
         out: &mut Outbox,
         happened: &mut Vec<Happening>,
     ) -> Result<(), NodeFault>
         ensures passed { OnOk result (HasPassed now (length self.old) self.old self.new out.old.words out.new.words) }
         ensures happened { OnOk result (happened.new.items
             ≡ happened.old.items ++ map told (filter_map (happens_in now) self.old)) }
-        ensures part { OnErr result (HasPassedInPart now self.old self.new out.old.words out.new.words) }
+        ensures taken { OnOk result (AreTaken journal.now.found now (length self.old) self.old
+            recovered.old.records recovered.new.records) }
+        ensures part { OnErr result (HasPassedInPart now journal.now.found self.old self.new
+            recovered.old.records recovered.new.records out.old.words out.new.words) }
+        ensures others { recovered.new ≡ record recovered.old { records = recovered.new.records } }
         ensures fault { IfErr result (λ fault. fault ≡ NodeFault.Memory) }
     {
-        pass_all(alloc, now, self.items.as_mut_slice(), out, happened)
+        pass_all(
+            alloc,
+            now,
+            self.items.as_mut_slice(),
+            journal,
+            recovered,
+            out,
+            happened,
+        )
     }
 
     /// A step of the family in this slot.

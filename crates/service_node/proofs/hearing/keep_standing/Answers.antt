@@ -1,41 +1,69 @@
-use Rattle.std.proofs.Common.{◌≡◌, ◌∙◌, ℕ, ◌<◌, List, length, Some, false, sym, ap, subst}
+use Rattle.std.proofs.Common.{◌≡◌, ◌∙◌, ◌-◌, ◌<◌, List, length, take, get_or, false, not, sym, ap, arith}
 use Rattle.std.specs.Prelude.{find}
 use Rattle.std.specs.List.{filter}
-use Rattle.std.specs.Option.{option_map}
+use Rattle.std.proofs.lemmas.List.{take_all}
 use Rattle.recovery_coord.specs.Held.{Recoveries, without}
 use Rattle.recovery_coord.specs.declared.held.Held.{Held}
-use Rattle.service_node.proofs.Keeping.{all_kept, fewer, first_place, is_lost, is_there, keeps, kept_without, loses, none_first, same_others}
+use Rattle.service_node.proofs.Keeping.{all_kept, fewer_left, find_more, front_left, is_there, keeps, kept_without, loses, same_others, still_within}
 use Rattle.service_node.proofs.hearing.keep_standing.Goals as goal
 
-pub loop-place-smaller : goal.loop-place-smaller
-loop-place-smaller c =
+pub loop-index-preserved-then-stands : goal.loop-index-preserved-then-stands
+loop-index-preserved-then-stands c =
     let ss = c.args.standing.now in
-    let rs = c.loop-place.recovered.records in
-    let e : option_map (λ (r : Held). r.place) (find (loses ss) rs) ≡ Some c.in-Some.place =
-    ap (λ (xs : List Held). option_map (λ (r : Held). r.place) (find (loses ss) xs)) (sym c.records.ensures) ∙ sym c.in-Some.ensures in
-    let lost = first_place ss rs c.in-Some.place e in
-    subst (λ (n : ℕ). n < length rs) (sym (ap (λ (x : Recoveries). length x.records) c.done.ensures))
-    (subst (λ (k : ℕ). length (without k rs) < length rs) lost.2 (fewer ss rs lost.0 lost.1))
-
-pub loop-place-preserved : goal.loop-place-preserved
-loop-place-preserved c =
-    let ss = c.args.standing.now in
-    let rs = c.loop-place.recovered.records in
-    let e : option_map (λ (r : Held). r.place) (find (loses ss) rs) ≡ Some c.in-Some.place =
-    ap (λ (xs : List Held). option_map (λ (r : Held). r.place) (find (loses ss) xs)) (sym c.records.ensures) ∙ sym c.in-Some.ensures in
-    let lost = first_place ss rs c.in-Some.place e in
+    let rs = c.loop-index.recovered.records in
+    let i = c.loop-index.index in
+    let x = c.index-records-index.result in
+    let lt : i < length rs = omega (arith, c.loop-index-test.true, ap length c.records.ensures) in
+    let is : x ≡ get_or rs i x = c.index-records-index.is ∙ ap (λ (xs : List Held). get_or xs i x) c.records-in-loop-index.ensures in
     record {
-      others = same_others c.done.new.self c.loop-place.recovered c.args.recovered.now (without c.in-Some.place rs) c.done.ensures c.loop-place.invariant.others;
-      kept =
-          ap (λ (x : Recoveries). filter (keeps ss) x.records) c.done.ensures
-          ∙ kept_without ss c.in-Some.place (subst (λ (k : ℕ). is_there ss k ≡ false) lost.2 (is_lost ss rs lost.0 lost.1)) rs
-          ∙ c.loop-place.invariant.kept;
+      others = c.loop-index.invariant.others;
+      kept = c.loop-index.invariant.kept;
+      front = find_more (loses ss) rs i x lt is c.loop-index.invariant.front
+          (ap not (ap (λ (y : Held). is_there ss y.place) c.index-records-index.is ∙ sym c.stands.ensures ∙ c.if-stands.true));
+      within = omega (arith, lt);
+    }
+
+pub loop-index-smaller : goal.loop-index-smaller
+loop-index-smaller c =
+    let ss = c.args.standing.now in
+    let rs = c.loop-index.recovered.records in
+    let i = c.loop-index.index in
+    let x = c.index-records-index.result in
+    let lt : i < length rs = omega (arith, c.loop-index-test.true, ap length c.records.ensures) in
+    let is : x ≡ get_or rs i x = c.index-records-index.is ∙ ap (λ (xs : List Held). get_or xs i x) c.records-in-loop-index.ensures in
+    let lost : is_there ss x.place ≡ false = ap (λ (y : Held). is_there ss y.place) c.index-records-index.is ∙ sym c.stands.ensures ∙ c.if-stands.false in
+    let left : c.done.new.self.records ≡ without x.place rs =
+    ap (λ (r : Recoveries). r.records) c.done.ensures ∙ ap (λ (y : Held). without y.place rs) (sym c.index-records-index.is) in
+    let less : length c.done.new.self.records - i < length rs - i =
+    omega (arith, ap length left, fewer_left ss rs i x lt is c.loop-index.invariant.front lost, lt) in
+    less
+
+pub loop-index-preserved : goal.loop-index-preserved
+loop-index-preserved c =
+    let ss = c.args.standing.now in
+    let rs = c.loop-index.recovered.records in
+    let i = c.loop-index.index in
+    let x = c.index-records-index.result in
+    let lt : i < length rs = omega (arith, c.loop-index-test.true, ap length c.records.ensures) in
+    let is : x ≡ get_or rs i x = c.index-records-index.is ∙ ap (λ (xs : List Held). get_or xs i x) c.records-in-loop-index.ensures in
+    let lost : is_there ss x.place ≡ false = ap (λ (y : Held). is_there ss y.place) c.index-records-index.is ∙ sym c.stands.ensures ∙ c.if-stands.false in
+    let left : c.done.new.self.records ≡ without x.place rs =
+    ap (λ (r : Recoveries). r.records) c.done.ensures ∙ ap (λ (y : Held). without y.place rs) (sym c.index-records-index.is) in
+    record {
+      others = same_others c.done.new.self c.loop-index.recovered c.args.recovered.now _ c.done.ensures c.loop-index.invariant.others;
+      kept = ap (filter (keeps ss)) left ∙ kept_without ss x.place lost rs ∙ c.loop-index.invariant.kept;
+      front =
+          ap (λ (xs : List Held). find (loses ss) (take i xs)) left
+          ∙ ap (find (loses ss)) (front_left ss rs i x lt is c.loop-index.invariant.front lost)
+          ∙ c.loop-index.invariant.front;
+      within = omega (arith, ap length left, still_within ss rs i x lt is c.loop-index.invariant.front lost);
     }
 
 pub returns : goal.returns
 returns c =
     let ss = c.args.standing.now in
-    let rs = c.loop-place.recovered.records in
-    let none = none_first ss rs (λ place e. c.in_default.not-Some place (c.first_lost.ensures ∙ ap (λ (xs : List Held). option_map (λ (r : Held). r.place) (find (loses ss) xs)) c.records.ensures ∙ e)) in
-    c.loop-place.invariant.others
-    ∙ ap (λ (xs : List Held). record c.args.recovered.now { records = xs }) (sym (all_kept ss rs none) ∙ c.loop-place.invariant.kept)
+    let rs = c.loop-index.recovered.records in
+    let all : take c.loop-index.index rs ≡ rs = take_all c.loop-index.index rs (omega (arith, c.loop-index-test.false, ap length c.records.ensures)) in
+    let none = ap (find (loses ss)) (sym all) ∙ c.loop-index.invariant.front in
+    c.loop-index.invariant.others
+    ∙ ap (λ (xs : List Held). record c.args.recovered.now { records = xs }) (sym (all_kept ss rs none) ∙ c.loop-index.invariant.kept)
