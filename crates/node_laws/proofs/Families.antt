@@ -1,5 +1,5 @@
 -- What a step keeps of a family that is decided: its outcome, its record, and its participants, each of them named and told.
-use Rattle.std.proofs.Common.{◌≡◌, ◌≢◌, ◌⊎◌, ◌&&◌, inl, inr, ℕ, List, [], ◌∷◌, map, filter, cond, not, Bool, true, false, if◌then◌else◌, Option, Some, None, Contains, refl, ap, sym, subst, ◌∙◌}
+use Rattle.std.proofs.Common.{◌≡◌, ◌≢◌, ◌⊎◌, inl, inr, ℕ, List, [], ◌∷◌, map, filter, cond, Bool, true, false, if◌then◌else◌, Option, Some, None, Contains, refl, ap, sym, subst, ◌∙◌}
 use Rattle.std.specs.List.{AllByRecursion}
 use Rattle.std.specs.Option.{option_map_or}
 use Rattle.ots_model.specs.declared.completion.Ground.TheVariants.{Record}
@@ -14,13 +14,12 @@ use Rattle.two_phase.specs.Course.{Course}
 use Rattle.two_phase.specs.LawsOfAnswers.{WordsWaitForAnswers}
 use Rattle.two_phase.specs.LawsOfOutcomes.{IsRecorded, OutcomesHaveCauses}
 use Rattle.two_phase.specs.LawsOfReached.{IsReached, TreeOutcomeStays}
+use Rattle.two_phase.specs.LawsOfSettling.{SettledIsThrough}
 use Rattle.two_phase.specs.Parties.{has_voted_commit, is_commit_vote}
-use Rattle.two_phase.specs.Reports as reports
 use Rattle.two_phase.specs.Stages as stages
 use Rattle.two_phase.specs.Stages.{Standing as Completion, Waiting, Going as UnderWay}
 use Rattle.two_phase.specs.declared.party.Errand.{Errand}
 use Rattle.two_phase.specs.declared.party.Party.{Party}
-use Rattle.two_phase.specs.declared.party.Stage.TheVariants as rounds
 use Rattle.decision_journal.specs.declared.journal.Standing.{Standing}
 use Rattle.decision_journal.specs.declared.record.JournalRecord.{JournalRecord}
 use Rattle.decision_journal.specs.declared.record.JournalRecord.TheVariants.{Life, Decision, Done, Prepared, CellsPrepared, CellsOutcome, CellsOnePhase}
@@ -51,6 +50,7 @@ pub record Facts : Type 0 where
   pub stays : TreeOutcomeStays
   pub waits : WordsWaitForAnswers
   pub causes : OutcomesHaveCauses
+  pub settled : SettledIsThrough
 
 -- ---- a completion whose outcome is fixed
 
@@ -208,15 +208,6 @@ completed_told p (inl e) n = absurd (cc (sym e ∙ n))
 completed_told p (inr (inl e)) n = absurd (cc (sym e ∙ n))
 completed_told p (inr (inr (d, e, let_go))) n = absurd (cc (sym e ∙ n))
 
-settled_fixed : (c : Course) → reports.is_settled c ≡ true → (fixed : Outcome) × (course.outcome c ≡ Some fixed)
-settled_fixed c h = go (course.outcome c) refl h
-  where
-    go : (o : Option Outcome) → course.outcome c ≡ o
-        → ((elim o as (λ x. Bool) [ Some fixed ↦ reports.all_through (course.decides_alone c) fixed c.parties | None ↦ false ]) && not (reports.some_owed rounds.Forgetting c.parties)) ≡ true
-        → (fixed : Outcome) × (course.outcome c ≡ Some fixed)
-    go (Some fixed) i x = (fixed, i)
-    go None i x = absurd (cc x)
-
 same_outcome : (c : Course) (o : Option Errand) → course.outcome (record c { out = o }) ≡ course.outcome c
 unfolding course.outcome course.all_consent course.some_commit
 same_outcome c o = refl
@@ -224,13 +215,13 @@ same_outcome c o = refl
 told_out : (c : Course) (o : Option Errand) → HasToldAll (UnderWay c) → HasToldAll (UnderWay (record c { out = o }))
 told_out c o (fixed, is, told) = (fixed, same_outcome c o ∙ is, told)
 
-closed_told : (s t : Completion) → IsSame s t → CompletesAll s → stages.is_settled s ≡ true → HasToldAll t
-closed_told (Waiting room) t same all settled = absurd all
-closed_told (UnderWay c) t same all settled =
+closed_told : Facts → (s t : Completion) → IsSame s t → CompletesAll s → stages.is_settled s ≡ true → HasToldAll t
+closed_told law (Waiting room) t same all settled = absurd all
+closed_told law (UnderWay c) t same all settled =
     let x = same c refl in
-    let fixed = settled_fixed c settled in
+    let through = (law.settled c).0 settled in
     subst HasToldAll (sym x.1)
-    (told_out c x.0 (fixed.0, fixed.1, all_on (λ (p : Party). p.ballot ≡ Some (phase_hears.Voted VoteCommit) → HasCompleted p) WasTold (λ p h voted. completed_told p (h voted)) c.parties all))
+    (told_out c x.0 (through.0, through.1, all_on (λ (p : Party). p.ballot ≡ Some (phase_hears.Voted VoteCommit) → HasCompleted p) WasTold (λ p h voted. completed_told p (h voted)) c.parties all))
 
 -- once the Done was asked for
 pub step_told : Facts → (f : Family) (e : Event) (stood : Option Stood) → IsSoundFamily f → (f.closed ≢ None → HasToldAll f.completion) → (family_step f e stood).family.closed ≢ None
@@ -243,7 +234,7 @@ step_told law f e stood sound was asked = go (step_sends f e stood).closed
     go : (g.closed ≡ f.closed) ⊎ ClosesNow f e g → HasToldAll g.completion
     go (inl same) = still_told f g (step_goes law f e stood sound.completion.there) (was (λ n. asked (same ∙ n)))
     go (inr x) =
-        closed_told (hears x.number x.heard f).family.completion g.completion x.closes.same
+        closed_told law (hears x.number x.heard f).family.completion g.completion x.closes.same
         (law.close.completed f e x.place x.number x.heard sound x.wants x.answer).0 (done_settled (hears x.number x.heard f).family x.closes.wants)
 
 pub tick_told : Facts → (now : ℕ) (f : Family) → IsSoundFamily f → (f.closed ≢ None → HasToldAll f.completion) → (tick_of now f).family.closed ≢ None → HasToldAll (tick_of now f).family.completion

@@ -14,8 +14,8 @@ use family_laws::{
     families_words_rest, nodes_keep_decisions,
 };
 use two_phase::{
-    a_tree_outcome_stays, a_tree_word_waits_for_its_answer, tree_outcomes_have_causes,
-    tree_words_go_rightly,
+    a_settled_one_is_through, a_tree_outcome_stays, a_tree_word_waits_for_its_answer,
+    tree_outcomes_have_causes, tree_words_go_rightly,
 };
 
 /// A node that is loaded from what a crash of another one leaves is in a greater life: between two calls, at any moment of an
@@ -52,6 +52,7 @@ pub fn nodes_keep_rules()
     a_tree_outcome_stays();
     a_tree_word_waits_for_its_answer();
     tree_outcomes_have_causes();
+    a_settled_one_is_through();
 }
 
 /// At such a node each commit word that a family hands out rests on a decision of that family, which stands, is the word's receipt,

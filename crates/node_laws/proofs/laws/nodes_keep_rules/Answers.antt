@@ -11,4 +11,5 @@ returns c = nodes_keep_rules c.nodes_keep_decisions.ensures c.nodes_keep_numbers
   stays = c.a_tree_outcome_stays.ensures;
   waits = c.a_tree_word_waits_for_its_answer.ensures.out;
   causes = c.tree_outcomes_have_causes.ensures;
+  settled = c.a_settled_one_is_through.ensures.through;
 })
