@@ -1,4 +1,4 @@
-ghost use Rattle.std.specs.Prelude.{◌≡◌, ◌≤◌, ℕ, List, Option, length, IfOk, OnErr, OnOk};
+ghost use Rattle.std.specs.Prelude.{◌≡◌, ℕ, List, Option, length, IfOk, OnErr, OnOk};
 ghost use Rattle.ots_outside.specs.Source.{CountsWithin, GivesOf, HasRisen};
 ghost use Rattle.ots_program.specs.Limits.{piece_limit};
 
@@ -7,7 +7,7 @@ use ots_outside::{Failed, Source};
 /// How many octets are read at once.
 pub const PIECE: usize = 8_192;
 
-/// Where the octets of a script or of a stream come from, in pieces of at most 8,192.
+/// Where the octets of a script or of a stream come from. 8,192 are asked for at once.
 pub trait Pieces {
     /// How often it has failed.
     ghost faults: { Self → ℕ };
@@ -15,10 +15,9 @@ pub trait Pieces {
     /// The octets that are left, where it tells them.
     ghost remaining: { Self → Option (List ℕ) };
 
-    /// Reads a piece into the front of the room, and says how many octets it has. 0 is the end, where there is room. No
-    /// more than 8,192 may be asked for.
+    /// Reads a piece into the front of the room, which is for 8,192 octets, and says how many it has. 0 is the end.
     fn read_piece(&mut self, room: &mut [u8]) -> Result<usize, Failed>
-        requires few { length room.old ≤ piece_limit }
+        requires room { length room.old ≡ piece_limit }
         ensures count { CountsWithin result room.old }
         ensures octets { IfOk result (λ n.
             GivesOf (remaining self.old) (length room.old) n room.new (remaining self.new)) }

@@ -205,6 +205,8 @@ fn tell_journals(world: World, output: &mut Vec<u8>) -> Result<(), Stop>
 {
     match world.finish(output) {
         Ok(()) => Ok(()),
-        Err(_) => Err(Stop::Memory),
+        Err(WorldFault::Memory) => Err(Stop::Memory),
+        // A world that stands is refused here for nothing else.
+        Err(WorldFault::Names | WorldFault::Limit(_)) => unreachable!(),
     }
 }
