@@ -3,32 +3,17 @@
 #![tactic(auto)]
 
 use ots_outside::{StdSink, StdSource};
-use ots_program::{Devices, Status, Word, run};
-use std::io::ErrorKind;
-use std::process::ExitCode;
-use std::{env, io};
+use ots_program::{Devices, Status, run, words_of};
+use std::env;
 
-fn main(rt: HostRuntime) -> ExitCode {
-    let status = match words(&rt) {
-        Ok(words) => {
-            let mut devices = Devices {
-                source: StdSource::new(rt.stdin()),
-                sink: StdSink::new(rt.stdout()),
-            };
-            run(&rt, rt.alloc(), words.as_slice(), &mut devices)
-        }
-        Err(error) if error.kind() == ErrorKind::OutOfMemory => Status::Memory,
-        Err(_) => Status::Usage,
+fn main(rt: HostRuntime) -> Status {
+    let words = match words_of(rt.alloc(), env::args(&rt)) {
+        Ok(words) => words,
+        Err(status) => return status,
     };
-    let _ = eprint!(rt; "{status}");
-    ExitCode::from(status.number())
-}
-
-/// The words of the command line, without the program's name.
-fn words(rt: &HostRuntime) -> io::Result<Vec<Word>> {
-    let words = env::args(rt)?
-        .skip(1)
-        .map(|word| Word::new(word.into_bytes()))
-        .collect(rt.alloc())?;
-    Ok(words)
+    let mut devices = Devices {
+        source: StdSource::new(rt.stdin()),
+        sink: StdSink::new(rt.stdout()),
+    };
+    run(&rt, rt.alloc(), words.as_slice(), &mut devices)
 }

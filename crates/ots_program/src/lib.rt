@@ -1,6 +1,8 @@
-//! What the program does with its command line: the one entry, generic over its devices, and how the program ends.
+//! What the program does with its command line: its words, the one entry, generic over its devices, and how the program
+//! ends.
 #![tactic(auto)]
 
+pub use arguments::words_of;
 pub use command::{run, run_plain};
 pub use devices::{Devices, Word};
 pub use input::{PIECE, Pieces};
@@ -9,6 +11,7 @@ pub use replay::replay_script;
 pub use show::show_messages;
 pub use status::Status;
 
+mod arguments;
 mod command;
 mod devices;
 mod input;

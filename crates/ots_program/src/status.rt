@@ -4,6 +4,7 @@ use crate::player::Stop;
 use giop_frames::FrameFault;
 use std::alloc::AllocError;
 use std::fmt;
+use std::process::{ExitCode, Termination};
 
 /// How a run ends.
 #[derive(Clone, Copy, Debug, PartialEq, Eq)]
@@ -65,6 +66,19 @@ impl fmt::Display for Status {
             Status::BadMessage(place, _) => writeln!(f, "ots: bad message at {place}"),
             Status::Memory => writeln!(f, "ots: out of memory"),
         }
+    }
+}
+
+/// The program ends with the number of its status, and says its line on standard error.
+impl Termination for Status {
+    ghost use Rattle.std.specs.Process.{exit_status};
+    ghost use Rattle.ots_program.specs.Exit.{number_of};
+
+    fn report<R: Eprint>(self, rt: &R) -> ExitCode
+        ensures { exit_status result ≡ number_of self }
+    {
+        let _ = eprint!(rt; "{self}");
+        ExitCode::from(self.number())
     }
 }
 

@@ -118,7 +118,7 @@ impl Case {
             Subject::Command => return self.run(rt, alloc, input),
             Subject::Lines => lines::tell_lines(alloc, &mut told, input)?,
             Subject::Tree => trees::tell(alloc, &mut told, input)?,
-            Subject::Statuses => statuses::tell(&mut told)?,
+            Subject::Statuses => statuses::tell(alloc, &mut told)?,
         }
         Ok(told)
     }
