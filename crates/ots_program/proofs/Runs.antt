@@ -8,7 +8,7 @@ use Rattle.ots_outside.specs.Source.{Gives, HasRisen}
 use Rattle.ots_program.specs.declared.player.Player.{Player}
 use Rattle.ots_program.specs.declared.status.Status.{Status}
 use Rattle.ots_program.specs.declared.status.Status.TheVariants as statuses
-use Rattle.ots_program.specs.Answers.{IsReadToEnd, Replays, TakesFront, TakesLines, Writes}
+use Rattle.ots_program.specs.Answers.{IsReadToEnd, Replays, TakesFront, TakesLines, TakesSome, Writes}
 use Rattle.ots_program.specs.Laws.{WorldsAgree}
 use Rattle.ots_program.specs.PlayingInside.{left}
 use Rattle.ots_program.specs.Replay.{Replay, replay}
@@ -81,6 +81,10 @@ TakesFront-limit k some others taken after h =
     let e : (some ++ take k others) ++ drop k others ≡ some ++ others = append_assoc some (take k others) (drop k others) ∙ ap (λ lines. some ++ lines) (take-append-drop k others) in
     subst (λ (lines : List Told). TakesFront lines taken after) e (TakesFront-lines (some ++ take k others) (drop k others) taken after h)
 
+TakesFront-some : (all : List Told) (taken : List ℕ) (after : Option (List ℕ)) → TakesSome all taken after → TakesFront all taken after
+TakesFront-some all taken after h =
+    subst (λ (lines : List Told). TakesFront lines taken after) (take-append-drop h.0 all) (TakesFront-lines (take h.0 all) (drop h.0 all) taken after h.1)
+
 -- whatever the status, a front of the replay's lines was taken
 TakesFront-written : (status : Status) (r : Replay) (taken : List ℕ) (after : Option (List ℕ)) → Writes status r taken after → TakesFront (r.lines ++ r.further) taken after
 TakesFront-written statuses.Done r taken after h = TakesFront-lines r.lines r.further taken after h
@@ -88,9 +92,9 @@ TakesFront-written (statuses.Script line) r taken after h = TakesFront-lines r.l
 TakesFront-written (statuses.Limit line number) r taken after h = TakesFront-limit h.0 r.lines r.further taken after h.1
 TakesFront-written statuses.Usage r taken after h = h
 TakesFront-written (statuses.BadMessage place fault) r taken after h = h
-TakesFront-written statuses.ReadFault r taken after h = h
+TakesFront-written statuses.ReadFault r taken after h = TakesFront-some (r.lines ++ r.further) taken after h
 TakesFront-written statuses.WriteFault r taken after h = h
-TakesFront-written statuses.Memory r taken after h = h
+TakesFront-written statuses.Memory r taken after h = TakesFront-some (r.lines ++ r.further) taken after h
 
 Replays-front : (status : Status) (octets : List ℕ) (before after : Option (List ℕ)) → Halts status (replay octets) before after → IfSome before (λ taken. TakesFront ((replay octets).lines ++ (replay octets).further) taken after)
 Replays-front status octets None after h = tt

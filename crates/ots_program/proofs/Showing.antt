@@ -131,12 +131,12 @@ whole_front taken told after e = (length told, e ∙ ap (λ (x : List ℕ). Some
 pub writes_whole : (status : Status) (messages : List Framed) (taken : List ℕ) (after : Option (List ℕ)) → after ≡ Some (taken ++ message_lines messages) → WritesMessageLines status messages taken after
 writes_whole statuses.Done messages taken after e = e
 writes_whole (statuses.BadMessage place fault) messages taken after e = e
-writes_whole statuses.Usage messages taken after e = whole_front taken (message_lines messages) after e
-writes_whole (statuses.Script line) messages taken after e = whole_front taken (message_lines messages) after e
-writes_whole statuses.ReadFault messages taken after e = whole_front taken (message_lines messages) after e
+writes_whole statuses.Usage messages taken after e = e
+writes_whole (statuses.Script line) messages taken after e = e
+writes_whole statuses.ReadFault messages taken after e = e
 writes_whole statuses.WriteFault messages taken after e = whole_front taken (message_lines messages) after e
-writes_whole (statuses.Limit line number) messages taken after e = whole_front taken (message_lines messages) after e
-writes_whole statuses.Memory messages taken after e = whole_front taken (message_lines messages) after e
+writes_whole (statuses.Limit line number) messages taken after e = e
+writes_whole statuses.Memory messages taken after e = e
 
 written : (status : Status) (messages : List Framed) (told : List ℕ) (before after : Option (List ℕ)) → told ≡ message_lines messages → Takes before told after → IfSome before (λ taken. WritesMessageLines status messages taken after)
 written status messages told None after e t = tt
@@ -292,6 +292,10 @@ ahead_front : (messages more : List Framed) (taken : List ℕ) (after : Option (
 ahead_front messages more taken after h =
     (length (message_lines messages) + h.0, h.1 ∙ ap (λ (x : List ℕ). Some x) (append_assoc taken (message_lines messages) (take h.0 (message_lines more)) ∙ ap (λ (x : List ℕ). taken ++ x) (sym (ap (take (length (message_lines messages) + h.0)) (flat_map-append message_line messages more) ∙ take-append-add (message_lines messages) (message_lines more) h.0))))
 
+ahead_whole : (messages more : List Framed) (taken : List ℕ) (after : Option (List ℕ)) → after ≡ Some ((taken ++ message_lines messages) ++ message_lines more) → after ≡ Some (taken ++ message_lines (messages ++ more))
+ahead_whole messages more taken after h =
+    h ∙ ap (λ (x : List ℕ). Some x) (append_assoc taken (message_lines messages) (message_lines more) ∙ ap (λ (x : List ℕ). taken ++ x) (sym (flat_map-append message_line messages more)))
+
 -- lines, and then what a piece wrote
 ahead : (status : Status) (messages more : List Framed) (taken : List ℕ) (now after : Option (List ℕ)) → now ≡ Some (taken ++ message_lines messages) → IfSome now (λ t. WritesMessageLines status more t after) → StopsShow status → WritesMessageLines status (messages ++ more) taken after
 ahead statuses.Done messages more taken now after e w stops = absurd stops
@@ -300,10 +304,8 @@ ahead (statuses.Script line) messages more taken now after e w stops = absurd st
 ahead (statuses.Limit line number) messages more taken now after e w stops = absurd stops
 ahead statuses.ReadFault messages more taken now after e w stops = absurd stops
 ahead statuses.WriteFault messages more taken now after e w stops = ahead_front messages more taken after (rw e at w)
-ahead statuses.Memory messages more taken now after e w stops = ahead_front messages more taken after (rw e at w)
-ahead (statuses.BadMessage place fault) messages more taken now after e w stops =
-    let w' : after ≡ Some ((taken ++ message_lines messages) ++ message_lines more) = rw e at w in
-    w' ∙ ap (λ (x : List ℕ). Some x) (append_assoc taken (message_lines messages) (message_lines more) ∙ ap (λ (x : List ℕ). taken ++ x) (sym (flat_map-append message_line messages more)))
+ahead statuses.Memory messages more taken now after e w stops = ahead_whole messages more taken after (rw e at w)
+ahead (statuses.BadMessage place fault) messages more taken now after e w stops = ahead_whole messages more taken after (rw e at w)
 
 broke_writes : (status : Status) (messages more : List Framed) (before now after : Option (List ℕ)) → Takes before (message_lines messages) now → IfSome now (λ t. WritesMessageLines status more t after) → StopsShow status → IfSome before (λ taken. WritesMessageLines status (messages ++ more) taken after)
 broke_writes status messages more None now after t w stops = tt

@@ -1,7 +1,7 @@
 -- What a sink has taken of a replay.
 use Rattle.std.proofs.Common.{◌≡◌, ℕ, ◌+◌, min, List, [], ◌++◌, length, take, Option, Some, None, Result, Ok, Err, OnOk, IfErr, IfSome, refl, ap, ◌∙◌, append_assoc, arith}
 use Rattle.std.proofs.lemmas.Grind.{common_steps}
-use Rattle.std.proofs.Math.Seq.{take-append-add}
+use Rattle.std.proofs.Math.Seq.{take-append-add, take-append_seam}
 use Rattle.nodes_world.specs.Told.{Told, text}
 use Rattle.ots_outside.specs.Sink.{Takes, TakesPart}
 use Rattle.ots_program.specs.declared.player.Player.{Player}
@@ -9,11 +9,11 @@ use Rattle.ots_program.specs.declared.player.Stop.{Stop}
 use Rattle.ots_program.specs.declared.player.Stop.TheVariants as stops
 use Rattle.ots_program.specs.declared.status.Status.{Status}
 use Rattle.ots_program.specs.declared.status.Status.TheVariants as statuses
-use Rattle.ots_program.specs.Answers.{OfReplay, TakesFront, Tells, Writes}
+use Rattle.ots_program.specs.Answers.{OfReplay, TakesFront, TakesSome, Tells, Writes}
 use Rattle.ots_program.specs.PlayingInside.{Ends, IsFed, StopsAt, StopsIn, left, octets_fed}
 use Rattle.ots_program.specs.Replay.{Replay, ahead_of}
 use Rattle.ots_program.specs.ReplayInside.{Advances, BreaksOff, Halts, IsReady, PlaysPiece, StopsReplay, status_of}
-use Rattle.ots_program.proofs.Told.{IsFront, IsFront-ahead, IsFront-passed, IsFront-stopped, IsFront-ended, ahead_of-twice, take-shorter, text-append}
+use Rattle.ots_program.proofs.Told.{IsFront, IsFront-passed, IsFront-stopped, IsFront-ended, ahead_of-twice, take-shorter, text-append}
 
 pub Takes-none : (taken : Option (List ℕ)) → Takes taken [] taken
 Takes-none None = tt
@@ -26,14 +26,15 @@ Takes-trans xs ys (Some taken) (Some more) after h k =
     let e : more ≡ taken ++ xs = cc (h) in
     rw (k, e, append_assoc) refl
 
-Takes-part : (octets : List ℕ) (before after : Option (List ℕ)) → Takes before octets after → TakesPart before octets after
-Takes-part octets None after h = tt
-Takes-part octets (Some taken) after h = (length octets, grind (arith, common_steps, h))
-
 -- what was taken in part is a front of the replay's text
 TakesFront-part : (told : List ℕ) (r : Replay) (before after : Option (List ℕ)) → IsFront told r → TakesPart before told after → IfSome before (λ taken. TakesFront (r.lines ++ r.further) taken after)
 TakesFront-part told r None after front h = tt
 TakesFront-part told r (Some taken) after front h = (min h.0 (length told), rw (h.1, front.split, take-shorter h.0 told front.rest) refl)
+
+-- the lines so far were taken, whole
+TakesSome-lines : (lines : List Told) (r : Replay) (before after : Option (List ℕ)) → Takes before (text lines) after → IfSome before (λ taken. TakesSome ((lines ++ r.lines) ++ r.further) taken after)
+TakesSome-lines lines r None after h = tt
+TakesSome-lines lines r (Some taken) after h = (length lines, rw (append_assoc lines r.lines r.further, take-append_seam lines (r.lines ++ r.further)) h)
 
 pub Advances-none : (r : Replay) (taken : Option (List ℕ)) → Advances r r taken taken
 Advances-none r taken = record { lines = []; whole = refl; taken = Takes-none taken }
@@ -53,7 +54,7 @@ pub Halts-read : (r s : Replay) (before after : Option (List ℕ)) → Advances 
 Halts-read r s before after h = record {
   of_replay = tt;
   tells = tt;
-  writes = rw h.whole (TakesFront-part (text h.lines) (ahead_of h.lines s) before after (IsFront-ahead h.lines s) (Takes-part (text h.lines) before after h.taken));
+  writes = rw h.whole (TakesSome-lines h.lines s before after h.taken);
 }
 
 -- the replay stopped, and the output was written
@@ -61,8 +62,7 @@ Writes-stopped : (stop : Stop) (r : Replay) (told : List ℕ) (before after : Op
 Writes-stopped stop r told None after h k = tt
 Writes-stopped (stops.Script line) r told (Some taken) after h k = rw h.1 at k
 Writes-stopped (stops.Limit line number) r told (Some taken) after h k = (h.1.0, rw h.1.1 at k)
-Writes-stopped stops.Memory r told (Some taken) after h k =
-    TakesFront-part told r (Some taken) after (IsFront-stopped stops.Memory r told h) (Takes-part told (Some taken) after k)
+Writes-stopped stops.Memory r told (Some taken) after h k = (h.0, rw h.1 at k)
 
 Tells-stopped : (stop : Stop) (r : Replay) (told : List ℕ) → StopsAt stop r [] told → Tells (status_of stop) r.ending
 Tells-stopped (stops.Script line) r told h = h.0
@@ -132,6 +132,11 @@ TakesFront-ahead : (lines : List Told) (r : Replay) (taken more : List ℕ) (aft
 TakesFront-ahead lines r taken more after e h =
     (length (text lines) + h.0, rw (h.1, e, append_assoc lines r.lines r.further, text-append lines (r.lines ++ r.further), take-append-add (text lines) (text (r.lines ++ r.further)) h.0, append_assoc) refl)
 
+-- some of what is left, behind the lines so far
+TakesSome-ahead : (lines : List Told) (r : Replay) (taken more : List ℕ) (after : Option (List ℕ)) → more ≡ taken ++ text lines → TakesSome (r.lines ++ r.further) more after → TakesSome ((lines ++ r.lines) ++ r.further) taken after
+TakesSome-ahead lines r taken more after e h =
+    (length lines + h.0, rw (h.1, e, append_assoc lines r.lines r.further, take-append-add lines (r.lines ++ r.further) h.0, text-append lines (take h.0 (r.lines ++ r.further)), append_assoc) refl)
+
 Writes-ahead : (status : Status) (lines : List Told) (r : Replay) (taken more : List ℕ) (after : Option (List ℕ)) → more ≡ taken ++ text lines → Writes status r more after → Writes status (ahead_of lines r) taken after
 Writes-ahead statuses.Done lines r taken more after e h = rw (h, e, text-append lines r.lines, append_assoc) refl
 Writes-ahead (statuses.Script line) lines r taken more after e h = rw (h, e, text-append lines r.lines, append_assoc) refl
@@ -139,9 +144,9 @@ Writes-ahead (statuses.Limit line number) lines r taken more after e h =
     (h.0, rw (h.1, e, append_assoc lines r.lines (take h.0 r.further), text-append lines (r.lines ++ take h.0 r.further), append_assoc) refl)
 Writes-ahead statuses.Usage lines r taken more after e h = TakesFront-ahead lines r taken more after e h
 Writes-ahead (statuses.BadMessage place fault) lines r taken more after e h = TakesFront-ahead lines r taken more after e h
-Writes-ahead statuses.ReadFault lines r taken more after e h = TakesFront-ahead lines r taken more after e h
+Writes-ahead statuses.ReadFault lines r taken more after e h = TakesSome-ahead lines r taken more after e h
 Writes-ahead statuses.WriteFault lines r taken more after e h = TakesFront-ahead lines r taken more after e h
-Writes-ahead statuses.Memory lines r taken more after e h = TakesFront-ahead lines r taken more after e h
+Writes-ahead statuses.Memory lines r taken more after e h = TakesSome-ahead lines r taken more after e h
 
 IfSome-ahead : (status : Status) (lines : List Told) (r : Replay) (before mid after : Option (List ℕ)) → Takes before (text lines) mid → IfSome mid (λ taken. Writes status r taken after) → IfSome before (λ taken. Writes status (ahead_of lines r) taken after)
 IfSome-ahead status lines r None mid after h k = tt

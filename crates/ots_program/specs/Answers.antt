@@ -53,16 +53,22 @@ Tells _ ending = Unit {0}
 abbrev pub TakesLines : List Told → List ℕ → Option (List ℕ) → Type 0
 TakesLines lines before after = after ≡ Some (before ++ text lines)
 
+-- the sink has taken some of these lines, whole, from the front
+abbrev pub TakesSome : List Told → List ℕ → Option (List ℕ) → Type 0
+TakesSome lines before after = (k : ℕ) × TakesLines (take k lines) before after
+
 -- the sink has taken a part of the text of these lines, from the front
 abbrev pub TakesFront : List Told → List ℕ → Option (List ℕ) → Type 0
 TakesFront lines before after = (n : ℕ) × (after ≡ Some (before ++ take n (text lines)))
 
--- What the sink has taken, by the status: the replay's lines, and maybe some of the further ones at a limit. A fault or
--- want of memory may cut the text short.
+-- What the sink has taken, by the status: the replay's lines, and maybe some of the further ones at a limit. Where reading
+-- failed or memory ran out, some of these lines, whole, from the front. Where writing failed, a part of their text.
 abbrev pub Writes : Status → Replay → List ℕ → Option (List ℕ) → Type 0
 Writes statuses.Done r before after = TakesLines r.lines before after
 Writes (statuses.Script line) r before after = TakesLines r.lines before after
 Writes (statuses.Limit line number) r before after = (k : ℕ) × TakesLines (r.lines ++ take k r.further) before after
+Writes statuses.ReadFault r before after = TakesSome (r.lines ++ r.further) before after
+Writes statuses.Memory r before after = TakesSome (r.lines ++ r.further) before after
 Writes _ r before after = TakesFront (r.lines ++ r.further) before after
 
 -- a part of the first of these lines, less than the whole; nothing, where there are none

@@ -23,21 +23,17 @@ abbrev pub EndsBadly : List Framed → ℕ → FrameFault → List ℕ → Type 
 EndsBadly messages place fault octets =
     IsRefused profile_versions messages place fault octets ⊎ ((fault ≡ Short) × IsCut profile_versions messages place octets)
 
--- How a show of the octets ends, by its status, behind the messages whose lines were written. A fault or want of memory
--- may cut the lines short.
+-- how a show of the octets ends, by its status, behind the messages whose lines were written
 abbrev pub Ends : Status → List Framed → List ℕ → Type 0
 Ends statuses.Done messages octets = IsWhole profile_versions messages octets
 Ends (statuses.BadMessage place fault) messages octets = EndsBadly messages place fault octets
 Ends _ messages octets = IsBegun profile_versions messages octets
 
--- the lines of these messages went out, whole or from the front, by the status
+-- the lines of these messages went out, whole; or, where writing failed, from the front
 abbrev pub WritesMessageLines : Status → List Framed → List ℕ → Option (List ℕ) → Type 0
-WritesMessageLines statuses.Done messages before after =
-    after ≡ Some (before ++ message_lines messages)
-WritesMessageLines (statuses.BadMessage place fault) messages before after =
-    after ≡ Some (before ++ message_lines messages)
-WritesMessageLines _ messages before after =
+WritesMessageLines statuses.WriteFault messages before after =
     (n : ℕ) × (after ≡ Some (before ++ take n (message_lines messages)))
+WritesMessageLines _ messages before after = after ≡ Some (before ++ message_lines messages)
 
 -- a show of these octets with this status: it ended so behind some messages, whose lines went out, where the sink tells
 -- what it has taken
