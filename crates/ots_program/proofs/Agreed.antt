@@ -1,31 +1,30 @@
 -- The world in which a replay stands agrees with what it has told, and all that it tells is right.
 use Rattle.std.proofs.Common.{◌≡◌, ℕ, List, [], ◌∷◌, ◌++◌, refl, sym, ap, subst, ◌∙◌, append_assoc, append-nil, arith}
 use Rattle.nodes_world.specs.Agreement as agreement
-use Rattle.nodes_world.specs.Agreement.{Reaches}
 use Rattle.nodes_world.specs.Lives.{last_lines}
 use Rattle.nodes_world.specs.Told.{Told}
 use Rattle.nodes_world.specs.World.{World}
 use Rattle.nodes_told.specs.Reached as told_reached
-use Rattle.nodes_steps.specs.Steps.{Lasts}
-use Rattle.ots_program.specs.Answers.{Agrees, OutcomesStay, journals_by}
+use Rattle.nodes_steps.specs.Steps.{CanGoOn, Lasts}
+use Rattle.ots_program.specs.Answers.{Agrees, DecisionsAreToldAgain, OutcomesStay, journals_by}
 use Rattle.ots_program.specs.Laws.{WorldsAgree}
 use Rattle.ots_program.specs.Replay.{Row, Replay, Ending, Completed, Refused, Limited, Place, Turn, Goes, Stops, turn, ahead_of, behind, completed, stopped, replay_from, replay, rows, start}
 use Rattle.ots_program.proofs.Followed.{AreRight, AreRight-last, Follows, Follows-turn, IsStop, Lasts-nothing, Stood, Stood-still}
 use Rattle.ots_program.proofs.Lasting.{Lasts-still, Lasts-then}
 use Rattle.ots_program.proofs.Replays.{replay-ended, replay-goes, replay-stops}
 
--- behind lines, a replay stands in a world that a script can reach, where what was so for good is so still, and what it tells is
--- right
+-- behind lines, a replay stands in a world that a script can reach and go on from, where what was so for good is so still; and what
+-- it tells is right
 record ComesTo (w : World) (told : List Told) (r : Replay) : Type 0 where
   lines : r.lines ≡ r.told ++ journals_by r.ending r.world
-  reached : Reaches r.world (told ++ r.told)
+  goes_on : CanGoOn r.world (told ++ r.told)
   lasts : Lasts w r.world told (told ++ r.told)
   right : AreRight (told ++ (r.lines ++ r.further))
 
 ComesTo-completed : WorldsAgree → (w : World) (told : List Told) → Stood w told → ComesTo w told (completed w)
 ComesTo-completed law w told h = record {
   lines = refl;
-  reached = (Stood-still w told h).goes_on.reached;
+  goes_on = (Stood-still w told h).goes_on;
   lasts = Lasts-nothing w told;
   right = subst (λ (some : List Told). AreRight (told ++ some)) (sym (append-nil (last_lines w))) (AreRight-last law w told h);
 }
@@ -39,7 +38,7 @@ ComesTo-stopped : (w : World) (told : List Told) (ending : Ending) (further : Li
     → ComesTo w told (stopped w ending further)
 ComesTo-stopped w told ending further h stop right = record {
   lines = sym (journals_by-stop ending w stop);
-  reached = (Stood-still w told h).goes_on.reached;
+  goes_on = (Stood-still w told h).goes_on;
   lasts = Lasts-nothing w told;
   right = right;
 }
@@ -47,7 +46,7 @@ ComesTo-stopped w told ending further h stop right = record {
 ComesTo-ahead : (w world : World) (told lines : List Told) (r : Replay) → Lasts w world told (told ++ lines) → ComesTo world (told ++ lines) r → ComesTo w told (ahead_of lines r)
 ComesTo-ahead w world told lines r lasts h = record {
   lines = ap (λ all. lines ++ all) h.lines ∙ sym (append_assoc lines r.told (journals_by r.ending r.world));
-  reached = subst (Reaches r.world) (append_assoc told lines r.told) h.reached;
+  goes_on = subst (CanGoOn r.world) (append_assoc told lines r.told) h.goes_on;
   lasts = subst (Lasts w r.world told) (append_assoc told lines r.told) (Lasts-then w world r.world told (told ++ lines) ((told ++ lines) ++ r.told) lasts h.lasts);
   right = subst AreRight (append_assoc told lines (r.lines ++ r.further) ∙ ap (λ all. told ++ all) (sym (append_assoc lines r.lines r.further))) h.right;
 }
@@ -111,12 +110,18 @@ replay-agrees law octets =
     let h = ComesTo-script law octets in
     record {
       lines = h.lines;
-      reached = h.reached;
-      is_known = law.known (replay octets).world (replay octets).told h.reached;
-      standing = λ place n up. law.standing (replay octets).world (replay octets).told place n h.reached up;
-      dones = law.dones (replay octets).world (replay octets).told h.reached;
+      reached = h.goes_on.reached;
+      is_known = law.known (replay octets).world (replay octets).told h.goes_on.reached;
+      standing = λ place n up. law.standing (replay octets).world (replay octets).told place n h.goes_on.reached up;
+      dones = law.dones (replay octets).world (replay octets).told h.goes_on.reached;
     }
 
 -- and what is decided or closed on the way stays so
 pub replay-lasts : WorldsAgree → (octets : List ℕ) → OutcomesStay octets
 replay-lasts law octets front others is = rw is (Stays-front law start front others [] Stood-start).outcomes
+
+-- and wherever a script stands, a decision that stood is told again
+pub replay-tells_again : WorldsAgree → (octets : List ℕ) → DecisionsAreToldAgain octets
+replay-tells_again law octets front others is =
+    let h = ComesTo-rows law start front [] Stood-start in
+    law.again (replay_from start front).world (replay_from start front).told h.goes_on.reached h.goes_on.few

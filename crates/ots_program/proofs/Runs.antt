@@ -13,7 +13,7 @@ use Rattle.ots_program.specs.Laws.{WorldsAgree}
 use Rattle.ots_program.specs.PlayingInside.{left}
 use Rattle.ots_program.specs.Replay.{Replay, replay}
 use Rattle.ots_program.specs.ReplayInside.{Advances, BreaksOff, Halts, PlaysPiece}
-use Rattle.ots_program.proofs.Agreed.{replay-agrees, replay-lasts}
+use Rattle.ots_program.proofs.Agreed.{replay-agrees, replay-lasts, replay-tells_again}
 use Rattle.ots_program.proofs.ReadBack.{IfSome-read}
 use Rattle.ots_program.proofs.Safely.{IfSome-safely}
 use Rattle.ots_program.proofs.Taken.{Advances-none, Advances-trans, Halts-advanced, Halts-read}
@@ -112,6 +112,7 @@ Replays-halted law status octets script before after e h = record {
   read = IfSome-read law octets before after (Replays-front status octets before after h);
   agreed = replay-agrees law octets;
   lasts = replay-lasts law octets;
+  again = replay-tells_again law octets;
 }
 
 Reads-all : (seen rest : List ℕ) (script now : Option (List ℕ)) → Reads seen rest script now → IfSome script (λ all. all ≡ seen ++ rest)

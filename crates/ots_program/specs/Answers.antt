@@ -8,6 +8,7 @@ use Rattle.nodes_world.specs.Agreement.{DonesAreComplete, IsKnown, OutcomesLast,
 use Rattle.nodes_world.specs.Lives.{last_lines}
 use Rattle.nodes_world.specs.StandingDecisions.{AreToldDecided}
 use Rattle.nodes_world.specs.Told.{Told, known, spelled, text}
+use Rattle.nodes_world.specs.ToldAgain.{TellsAgain}
 use Rattle.nodes_world.specs.World.{World, node_at}
 use Rattle.nodes_told.specs.Reading.{IsTold}
 use Rattle.ots_outside.specs.Source.{HasRisen}
@@ -111,6 +112,12 @@ abbrev pub OutcomesStay : List ℕ → Type 0
 OutcomesStay octets = (front others : List Row) → rows octets ≡ front ++ others
     → OutcomesLast (replay_from start front).world (replay octets).world (replay_from start front).told (replay octets).told
 
+-- Wherever a script stands, behind some of its lines, a decision that stood is told again: by a restart, and then at each tick of
+-- its node to all whom it names and who haven't answered.
+abbrev pub DecisionsAreToldAgain : List ℕ → Type 0
+DecisionsAreToldAgain octets = (front others : List Row) → rows octets ≡ front ++ others
+    → TellsAgain (replay_from start front).world (replay_from start front).told
+
 -- A replay with this status: the source had these octets left, and the sink had taken the octets before and has taken
 -- those after.
 pub record Replays (status : Status) (left before after : Option (List ℕ)) : Type 0 where
@@ -131,6 +138,8 @@ pub record Replays (status : Status) (left before after : Option (List ℕ)) : T
   pub agreed : Agrees (replay octets)
   -- and each family that was decided or closed on the way is so there
   pub lasts : OutcomesStay octets
+  -- a decision that stood is told again after a restart, until all whom it names have answered
+  pub again : DecisionsAreToldAgain octets
 
 -- all that a replay tells is safe, whatever the octets
 abbrev pub ReplaysAreSafe : Type 0

@@ -5,8 +5,8 @@ ghost use Rattle.ots_program.specs.ReadBack.{ReplaysAreTold, WhatIsReadIsSafe};
 use nodes_steps::lines_keep_agreement;
 use nodes_told::{reached_lines_are_told, told_lines_are_read};
 use nodes_world::{
-    decisions_outlive_crashes, dones_are_complete, names_that_are_read_fit,
-    reached_worlds_are_known,
+    decisions_are_told_again, decisions_outlive_crashes, dones_are_complete,
+    names_that_are_read_fit, reached_worlds_are_known,
 };
 
 /// A law: all lines that a replay tells are safe, whatever the script.
@@ -33,6 +33,7 @@ pub fn worlds_agree()
     reached_worlds_are_known();
     decisions_outlive_crashes();
     dones_are_complete();
+    decisions_are_told_again();
     names_that_are_read_fit();
     reached_lines_are_told();
     told_lines_are_read();
