@@ -1,6 +1,6 @@
 -- What a world keeps by the laws of its definition.
 use Rattle.std.proofs.Common.{◌≡◌, ℕ, List, Some, Result, Ok, Err, sym, ap, subst, ◌∙◌}
-use Rattle.std.specs.Prelude.{IsTrue, OnOk}
+use Rattle.std.specs.Prelude.{OnOk}
 use Rattle.ior_refs.specs.declared.key.ObjectKey.{ObjectKey}
 use Rattle.resource_end.specs.declared.state.State.{State}
 use Rattle.resource_end.specs.declared.state.State.TheVariants.{Applied, Undone}
@@ -9,7 +9,7 @@ use Rattle.decision_journal.specs.declared.record.JournalRecord.{JournalRecord}
 use Rattle.ots_world.specs.declared.fault.WorldFault.{WorldFault}
 use Rattle.ots_world.specs.declared.script.ScriptEvent.{ScriptEvent}
 use Rattle.nodes_world.specs.declared.deed.Deed.TheVariants.{Restart}
-use Rattle.nodes_world.specs.Agreement.{IsOver, ReachedDonesAreComplete, ReachedIsKnown, names_fit, records_at}
+use Rattle.nodes_world.specs.Agreement.{GivesName, IsOver, ReachedDonesAreComplete, ReachedIsKnown, records_at}
 use Rattle.nodes_world.specs.Happenings.{Done}
 use Rattle.nodes_world.specs.OverForGood.{AnsweredCommitsAreStored, IsAt, ResourcesStay}
 use Rattle.nodes_world.specs.Resolve.{resolve}
@@ -67,7 +67,7 @@ resources_stay lines law old event new before after (Ok _) m = staying lines law
 resources_stay lines law old event new before after (Err fault) m = tt
 
 lasting : LinesKeepAgreement → (old : Standing) (event : ScriptEvent) (new : Standing) (told : List Told) (before after : List ℕ) → GoesOn old
-    → IsTrue (names_fit event) → HasTold old told → Moved old event new before after → GoesOnLasting old event told new before after
+    → GivesName event → HasTold old told → Moved old event new before after → GoesOnLasting old event told new before after
 lasting law old event new told before after goes fit h m = record {
   world = m.world;
   was = m.was;
@@ -80,7 +80,7 @@ lasting law old event new told before after goes fit h m = record {
 }
 
 pub goes_on_lasting : LinesKeepAgreement → (old : Standing) (event : ScriptEvent) (new : Standing) (told : List Told) (before after : List ℕ)
-    (r : Result (Unit {0}) WorldFault) → GoesOn old → IsTrue (names_fit event) → HasTold old told → OnOk r (Moved old event new before after)
+    (r : Result (Unit {0}) WorldFault) → GoesOn old → GivesName event → HasTold old told → OnOk r (Moved old event new before after)
     → OnOk r (GoesOnLasting old event told new before after)
 goes_on_lasting law old event new told before after (Ok _) goes fit h m = lasting law old event new told before after goes fit h m
 goes_on_lasting law old event new told before after (Err fault) goes fit h m = tt

@@ -1,12 +1,12 @@
 -- Lines stay safe, from what a step says of the world and the lines.
 use Rattle.std.proofs.Common.{◌≡◌, ℕ, List, [], ◌++◌, take, drop, Result, Ok, Err, refl, sym, ap, subst, ◌∙◌, append_assoc, ⊎_elim}
-use Rattle.std.specs.Prelude.{IfErr, IsErrOf, IsTrue, OnOk}
+use Rattle.std.specs.Prelude.{IfErr, IsErrOf, OnOk}
 use Rattle.std.proofs.lemmas.List.{append-nil, take-append-drop}
 use Rattle.ots_model.specs.Safe.{AreSafe}
 use Rattle.ots_world.specs.declared.fault.WorldFault.{WorldFault}
 use Rattle.ots_world.specs.declared.fault.WorldFault.TheVariants as faults
 use Rattle.ots_world.specs.declared.script.ScriptEvent.{ScriptEvent}
-use Rattle.nodes_world.specs.Agreement.{names_fit}
+use Rattle.nodes_world.specs.Agreement.{GivesName}
 use Rattle.nodes_world.specs.Lives.{last_lines}
 use Rattle.nodes_world.specs.Step.{Stepped, Moves, Passes, Names, step}
 use Rattle.nodes_world.specs.Told.{Told, known}
@@ -79,13 +79,13 @@ stays law old event new told before after h own same text = record {
 
 -- what the line keeps
 pub line_keeps : LinesKeepAgreement → (old : Standing) (event : ScriptEvent) (told : List Told) (w : World) → old ≡ Ok w → GoesOn old
-    → IsTrue (names_fit event) → HasTold old told → Keeps event w told
+    → GivesName event → HasTold old told → Keeps event w told
 line_keeps law old event told w was goes fit h =
     law.keeps event w told fit
     (record { reached = subst (λ (s : Standing). HasTold s told) was h; few = subst (λ (s : Standing). GoesOn s) was goes })
 
 moves_on : LinesKeepAgreement → (old : Standing) (event : ScriptEvent) (new : Standing) (told : List Told) (before after : List ℕ) → GoesOn old
-    → IsTrue (names_fit event) → HasTold old told → Moved old event new before after → GoesOnSafely old event told new before after
+    → GivesName event → HasTold old told → Moved old event new before after → GoesOnSafely old event told new before after
 moves_on law old event new told before after goes fit h m =
     let k = line_keeps law old event told m.world m.was goes fit h in record {
       further = m.to.lines;
@@ -102,7 +102,7 @@ may_are Names lines may = absurd may
 
 -- the world stopped in the midst of the line
 stops_midway : LinesKeepAgreement → (old : Standing) (event : ScriptEvent) (fault : WorldFault) (new : Standing) (told : List Told) (before after : List ℕ)
-    → GoesOn old → IsTrue (names_fit event) → HasTold old told → Stopped old event fault new before after → GoesOnSafely old event told new before after
+    → GoesOn old → GivesName event → HasTold old told → Stopped old event fault new before after → GoesOnSafely old event told new before after
 stops_midway law old event fault new told before after goes fit h s =
     let safe = part_safe law told s.lines s.told.0
     (subst (λ (lines : List Told). AreSafe (known (told ++ lines))) (may_are (step event s.world) s.lines s.may)
@@ -116,7 +116,7 @@ stops_midway law old event fault new told before after goes fit h s =
 
 -- whatever a step answers
 goes_on_by : LinesKeepAgreement → (old : Standing) (event : ScriptEvent) (new : Standing) (told : List Told) (before after : List ℕ)
-    → (r : Result (Unit {0}) WorldFault) → GoesOn old → IsTrue (names_fit event) → HasTold old told → OnOk r (Moved old event new before after)
+    → (r : Result (Unit {0}) WorldFault) → GoesOn old → GivesName event → HasTold old told → OnOk r (Moved old event new before after)
     → (IsErrOf r faults.Names → Refused old event new before after)
     → IfErr r (λ fault. IsRefusal old event fault new before after) → GoesOnSafely old event told new before after
 goes_on_by law old event new told before after (Ok _) goes fit h moved names stopped = moves_on law old event new told before after goes fit h moved
@@ -126,7 +126,7 @@ goes_on_by law old event new told before after (Err fault) goes fit h moved name
     (λ s. stays law old event new told before after h (own_spent old event fault new before after s) s.now s.told) rest) stopped
 
 pub goes_on_safely : LinesKeepAgreement → (old : Standing) (event : ScriptEvent) (new : Standing) (told : List Told) (before after : List ℕ)
-    → (r : Result (Unit {0}) WorldFault) → GoesOn old → IsTrue (names_fit event) → HasTold old told → HasStepped old event new before after r
+    → (r : Result (Unit {0}) WorldFault) → GoesOn old → GivesName event → HasTold old told → HasStepped old event new before after r
     → GoesOnSafely old event told new before after
 goes_on_safely law old event new told before after r goes fit h s =
     goes_on_by law old event new told before after r goes fit h s.moved s.names s.stopped

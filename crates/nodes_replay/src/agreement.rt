@@ -1,6 +1,5 @@
 // The laws of the definitions that a script's world keeps.
-ghost use Rattle.std.specs.Prelude.{IsTrue};
-ghost use Rattle.nodes_world.specs.Agreement.{ReachedDonesAreComplete, ReachedIsKnown, names_fit};
+ghost use Rattle.nodes_world.specs.Agreement.{GivesName, ReachedDonesAreComplete, ReachedIsKnown};
 ghost use Rattle.nodes_world.specs.OverForGood.{AnsweredCommitsAreStored, ResourcesStay};
 ghost use Rattle.nodes_world.specs.StandingDecisions.{RestartsTellAgain, StandingIsTold};
 ghost use Rattle.nodes_steps.specs.Steps.{LinesKeepAgreement};
@@ -30,11 +29,26 @@ pub(crate) fn laws_hold()
     dones_are_complete();
 }
 
-/// A name has no more octets than names have.
-pub(crate) fn has_fitting_names(event: &ScriptEvent)
-    ensures { IsTrue (names_fit event.now) }
+/// A name that a line gives is one.
+pub(crate) fn gives_name(event: &ScriptEvent)
+    ensures { GivesName event.now }
 {
-    if let ScriptEvent::End(name) = event {
-        let _octets = name.octets();
+    match event {
+        ScriptEvent::Node(name)
+        | ScriptEvent::End(name)
+        | ScriptEvent::Begin {
+            transaction: name,
+            ..
+        }
+        | ScriptEvent::Sub {
+            transaction: name,
+            ..
+        }
+        | ScriptEvent::Register { resource: name, .. }
+        | ScriptEvent::Aware { resource: name, .. }
+        | ScriptEvent::Double { resource: name, .. } => {
+            let _octets = name.octets();
+        }
+        _ => {}
     }
 }

@@ -10,7 +10,7 @@ ghost use Rattle.nodes_replay.specs.Lent.{lent, lent_as};
 ghost use Rattle.nodes_replay.specs.Stands.{HasFinished, HasStepped};
 ghost use Rattle.nodes_replay.specs.WorldInside.{lasting_fault};
 
-use crate::agreement::{has_fitting_names, laws_hold};
+use crate::agreement::{gives_name, laws_hold};
 use crate::deeds::carry_line;
 use crate::lending::lent_node;
 use nodes_endings::tell_journals;
@@ -93,7 +93,7 @@ impl World {
         ensures complete { (told : List Told) → HasTold self.new told → StandsComplete self.new }
     {
         laws_hold();
-        has_fitting_names(event);
+        gives_name(event);
         self.goes_on();
         self.carry_out(event, lines)
     }

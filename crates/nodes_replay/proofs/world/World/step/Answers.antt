@@ -5,12 +5,12 @@ use Rattle.nodes_replay.proofs.world.World.step.Goals as goal
 pub returns-clause-agreement : goal.returns-clause-agreement
 returns-clause-agreement c told h =
     goes_on_safely c.laws_hold.ensures.lines c.args.self.now c.args.event.now c.carry_out.new.self told c.args.lines.now.items
-    c.carry_out.new.lines.items c.carry_out.result c.goes_on.ensures c.has_fitting_names.ensures h c.carry_out.ensures.stepped
+    c.carry_out.new.lines.items c.carry_out.result c.goes_on.ensures c.gives_name.ensures h c.carry_out.ensures.stepped
 
 pub returns-clause-lasts : goal.returns-clause-lasts
 returns-clause-lasts c told h =
     goes_on_lasting c.laws_hold.ensures.lines c.args.self.now c.args.event.now c.carry_out.new.self told c.args.lines.now.items
-    c.carry_out.new.lines.items c.carry_out.result c.goes_on.ensures c.has_fitting_names.ensures h c.carry_out.ensures.stepped.moved
+    c.carry_out.new.lines.items c.carry_out.result c.goes_on.ensures c.gives_name.ensures h c.carry_out.ensures.stepped.moved
 
 pub returns-clause-recorded : goal.returns-clause-recorded
 returns-clause-recorded c told h = decisions_told c.laws_hold.ensures.told c.carry_out.new.self told h
