@@ -4,12 +4,11 @@ use Rattle.nodes_world.specs.Agreement as agreement
 use Rattle.nodes_world.specs.Lives.{last_lines}
 use Rattle.nodes_world.specs.Told.{Told}
 use Rattle.nodes_world.specs.World.{World}
-use Rattle.nodes_told.specs.Reached as told_reached
 use Rattle.nodes_steps.specs.Steps.{CanGoOn, Lasts}
 use Rattle.ots_program.specs.Answers.{Agrees, DecisionsAreToldAgain, OutcomesStay, journals_by}
 use Rattle.ots_program.specs.Laws.{WorldsAgree}
 use Rattle.ots_program.specs.Replay.{Row, Replay, Ending, Completed, Refused, Limited, Place, Turn, Goes, Stops, turn, ahead_of, behind, completed, stopped, replay_from, replay, rows, start}
-use Rattle.ots_program.proofs.Followed.{AreRight, AreRight-last, Follows, Follows-turn, IsStop, Lasts-nothing, Stood, Stood-still}
+use Rattle.ots_program.proofs.Followed.{AreRight, AreRight-last, CanGoOn-still, Follows, Follows-turn, IsStop, Lasts-nothing}
 use Rattle.ots_program.proofs.Lasting.{Lasts-still, Lasts-then}
 use Rattle.ots_program.proofs.Replays.{replay-ended, replay-goes, replay-stops}
 
@@ -21,10 +20,10 @@ record ComesTo (w : World) (told : List Told) (r : Replay) : Type 0 where
   lasts : Lasts w r.world told (told ++ r.told)
   right : AreRight (told ++ (r.lines ++ r.further))
 
-ComesTo-completed : WorldsAgree → (w : World) (told : List Told) → Stood w told → ComesTo w told (completed w)
+ComesTo-completed : WorldsAgree → (w : World) (told : List Told) → CanGoOn w told → ComesTo w told (completed w)
 ComesTo-completed law w told h = record {
   lines = refl;
-  goes_on = (Stood-still w told h).goes_on;
+  goes_on = CanGoOn-still w told h;
   lasts = Lasts-nothing w told;
   right = subst (λ (some : List Told). AreRight (told ++ some)) (sym (append-nil (last_lines w))) (AreRight-last law w told h);
 }
@@ -34,11 +33,11 @@ journals_by-stop Completed w stop = absurd stop
 journals_by-stop (Refused line) w stop = refl
 journals_by-stop (Limited line number) w stop = refl
 
-ComesTo-stopped : (w : World) (told : List Told) (ending : Ending) (further : List Told) → Stood w told → IsStop ending → AreRight (told ++ further)
+ComesTo-stopped : (w : World) (told : List Told) (ending : Ending) (further : List Told) → CanGoOn w told → IsStop ending → AreRight (told ++ further)
     → ComesTo w told (stopped w ending further)
 ComesTo-stopped w told ending further h stop right = record {
   lines = sym (journals_by-stop ending w stop);
-  goes_on = (Stood-still w told h).goes_on;
+  goes_on = CanGoOn-still w told h;
   lasts = Lasts-nothing w told;
   right = right;
 }
@@ -51,8 +50,8 @@ ComesTo-ahead w world told lines r lasts h = record {
   right = subst AreRight (append_assoc told lines (r.lines ++ r.further) ∙ ap (λ all. told ++ all) (sym (append_assoc lines r.lines r.further))) h.right;
 }
 
-ComesTo-row : (p : Place) (row : Row) (others : List Row) (told : List Told) (t : Turn) → turn p row ≡ t → Stood p.world told → Follows p.world told t
-    → ((world : World) (lines : List Told) → Stood world (told ++ lines) → ComesTo world (told ++ lines) (replay_from (behind p row world) others))
+ComesTo-row : (p : Place) (row : Row) (others : List Row) (told : List Told) (t : Turn) → turn p row ≡ t → CanGoOn p.world told → Follows p.world told t
+    → ((world : World) (lines : List Told) → CanGoOn world (told ++ lines) → ComesTo world (told ++ lines) (replay_from (behind p row world) others))
     → ComesTo p.world told (replay_from p (row ∷ others))
 ComesTo-row p row others told (Goes world lines) e h follows more =
     subst (ComesTo p.world told) (sym (replay-goes p row others world lines e))
@@ -60,7 +59,7 @@ ComesTo-row p row others told (Goes world lines) e h follows more =
 ComesTo-row p row others told (Stops ending further) e h follows more =
     subst (ComesTo p.world told) (sym (replay-stops p row others ending further e)) (ComesTo-stopped p.world told ending further h follows.0 follows.1)
 
-ComesTo-rows : WorldsAgree → (p : Place) (some : List Row) (told : List Told) → Stood p.world told → ComesTo p.world told (replay_from p some)
+ComesTo-rows : WorldsAgree → (p : Place) (some : List Row) (told : List Told) → CanGoOn p.world told → ComesTo p.world told (replay_from p some)
 ComesTo-rows law p [] told h = subst (ComesTo p.world told) (sym (replay-ended p)) (ComesTo-completed law p.world told h)
 ComesTo-rows law p (row ∷ others) told h =
     ComesTo-row p row others told (turn p row) refl h (Follows-turn law p row told h)
@@ -76,7 +75,7 @@ Stays-ahead : (told lines : List Told) (r s : Replay) → Stays (told ++ lines) 
 Stays-ahead told lines r s h = rw (← append_assoc told lines r.told, ← append_assoc told lines s.told) h
 
 Stays-row : WorldsAgree → (p : Place) (row : Row) (front others : List Row) (told : List Told) (t : Turn) → turn p row ≡ t → Follows p.world told t
-    → ((world : World) (lines : List Told) → Stood world (told ++ lines)
+    → ((world : World) (lines : List Told) → CanGoOn world (told ++ lines)
     → Stays (told ++ lines) (replay_from (behind p row world) front) (replay_from (behind p row world) (front ++ others)))
     → Stays told (replay_from p (row ∷ front)) (replay_from p (row ∷ (front ++ others)))
 Stays-row law p row front others told (Goes world lines) e follows more =
@@ -85,7 +84,7 @@ Stays-row law p row front others told (Goes world lines) e follows more =
 Stays-row law p row front others told (Stops ending further) e follows more =
     rw (replay-stops p row front ending further e, replay-stops p row (front ++ others) ending further e) (Lasts-still p.world (told ++ []))
 
-Stays-front : WorldsAgree → (p : Place) (front others : List Row) (told : List Told) → Stood p.world told
+Stays-front : WorldsAgree → (p : Place) (front others : List Row) (told : List Told) → CanGoOn p.world told
     → Stays told (replay_from p front) (replay_from p (front ++ others))
 Stays-front law p [] others told h = rw (replay-ended p, append-nil told) (ComesTo-rows law p others told h).lasts
 Stays-front law p (row ∷ front) others told h =
@@ -94,11 +93,11 @@ Stays-front law p (row ∷ front) others told h =
 
 -- ---- scripts
 
-Stood-start : Stood start.world []
-Stood-start = record { goes_on = record { reached = agreement.nothing; few = omega arith }; comes = told_reached.nothing }
+CanGoOn-start : CanGoOn start.world []
+CanGoOn-start = record { reached = agreement.nothing; few = omega arith }
 
 ComesTo-script : WorldsAgree → (octets : List ℕ) → ComesTo start.world [] (replay octets)
-ComesTo-script law octets = ComesTo-rows law start (rows octets) [] Stood-start
+ComesTo-script law octets = ComesTo-rows law start (rows octets) [] CanGoOn-start
 
 -- what a replay tells is safe, and can be read
 pub replay-right : WorldsAgree → (octets : List ℕ) → AreRight ((replay octets).lines ++ (replay octets).further)
@@ -118,10 +117,10 @@ replay-agrees law octets =
 
 -- and what is decided or closed on the way stays so
 pub replay-lasts : WorldsAgree → (octets : List ℕ) → OutcomesStay octets
-replay-lasts law octets front others is = rw is (Stays-front law start front others [] Stood-start).outcomes
+replay-lasts law octets front others is = rw is (Stays-front law start front others [] CanGoOn-start).outcomes
 
 -- and wherever a script stands, a decision that stood is told again
 pub replay-tells_again : WorldsAgree → (octets : List ℕ) → DecisionsAreToldAgain octets
 replay-tells_again law octets front others is =
-    let h = ComesTo-rows law start front [] Stood-start in
+    let h = ComesTo-rows law start front [] CanGoOn-start in
     law.again (replay_from start front).world (replay_from start front).told h.goes_on.reached h.goes_on.few

@@ -6,7 +6,7 @@ use nodes_steps::lines_keep_agreement;
 use nodes_told::{reached_lines_are_told, told_lines_are_read};
 use nodes_world::{
     decisions_are_told_again, decisions_outlive_crashes, dones_are_complete,
-    names_that_are_read_fit, reached_worlds_are_known,
+    names_that_are_read_are_names, reached_worlds_are_known,
 };
 
 /// A law: all lines that a replay tells are safe, whatever the script.
@@ -34,7 +34,7 @@ pub fn worlds_agree()
     decisions_outlive_crashes();
     dones_are_complete();
     decisions_are_told_again();
-    names_that_are_read_fit();
+    names_that_are_read_are_names();
     reached_lines_are_told();
     told_lines_are_read();
 }
