@@ -59,6 +59,21 @@ impl Found {
         }
     }
 
+    /// Forgets what was found. Of the service contexts none is left, though their room isn't written anew.
+    pub fn forget(&mut self)
+        ensures { (content : List ℕ) → told_by content self.new ≡ blank }
+    {
+        self.id = 0;
+        self.flags = 0;
+        self.status = 0;
+        self.target = FoundTarget::Reference;
+        self.operation = Span {
+            start: 0,
+            length: 0,
+        };
+        self.count = 0;
+    }
+
     /// The service contexts that were found.
     pub fn contexts(&self) -> &[FoundContext]
         ensures { result.now ≡ take self.now.count self.now.contexts }

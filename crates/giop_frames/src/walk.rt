@@ -65,18 +65,28 @@ impl Walk {
             → IsWalked header content result }
         ensures place { result.place ≡ place_behind_id (layout header.version header.kind) }
     {
+        let mut walk = Walk::new(header);
+        walk.begin_behind_id(header, id);
+        walk
+    }
+
+    /// Begins anew, with another message, as a walk does behind the request_id. So the walk of a message that has ended
+    /// serves for the next one.
+    pub fn begin_behind_id(&mut self, header: Header, id: u32)
+        ensures walked { (content : List ℕ) → 4 ≤ length content → id ≡ number_in header.order 4 (take 4 content)
+            → IsWalked header content self.new }
+        ensures place { self.new.place ≡ place_behind_id (layout header.version header.kind) }
+    {
         // The fields of each message that has some begin with it.
         let [_, others @ ..] = layout(header.version, header.kind) else {
-            return Walk::new(header);
+            *self = Walk::new(header);
+            return;
         };
-        let mut found = Found::nothing();
-        found.id = id;
-        Walk {
-            step: None,
-            fields: others,
-            place: HEADER_LENGTH as u32 + 4,
-            found,
-        }
+        self.step = None;
+        self.fields = others;
+        self.place = HEADER_LENGTH as u32 + 4;
+        self.found.forget();
+        self.found.id = id;
     }
 
     /// Goes on over the fields that stand in the content, up to their end or to the first fault, as want of octets is
