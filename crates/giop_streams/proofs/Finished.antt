@@ -1,6 +1,6 @@
 -- The last octets of a message.
 use Rattle.std.proofs.Common.{◌≡◌, ℕ, ◌≤◌, ◌++◌, inr, List, length, Result, Ok, Err, Some, refl, subst, ◌∙◌}
-use Rattle.std.specs.Prelude.{IfErr, IfOk, OnErr}
+use Rattle.std.specs.Prelude.{IfErr, IfOk}
 use Rattle.std.proofs.lemmas.Bool.{le-ltb}
 use Rattle.giop_frames.specs.declared.fault.FrameFault.{FrameFault}
 use Rattle.giop_frames.specs.declared.fault.FrameFault.TheVariants as faults
@@ -31,7 +31,3 @@ pub whole_memory : (result : Result Framed FrameFault) (header : Header) (conten
     → IfErr result (λ fault. fault ≡ faults.Memory → GivesKept (message_by header joined)) → IfErr result (λ fault. fault ≡ faults.Memory → MayEnd header content octets)
 whole_memory (Ok framed) header content octets joined same few memory = tt
 whole_memory (Err fault) header content octets joined same few memory = λ e. (rw same at few, inr (rw same at memory e))
-
-pub where_refused : {X : Type 0} (result : Result Framed FrameFault) → X → OnErr result X
-where_refused (Ok framed) x = tt
-where_refused (Err fault) x = x

@@ -1,4 +1,4 @@
-ghost use Rattle.std.specs.Prelude.{◌≡◌, ◌+◌, ◌-◌, ◌<◌, ◌≤◌, ◌++◌, max, [], length, take, drop, vec_capacity, OnErr, OnOk};
+ghost use Rattle.std.specs.Prelude.{◌≡◌, ◌+◌, ◌-◌, ◌<◌, ◌≤◌, ◌++◌, max, [], length, take, drop, vec_capacity, IfOk, OnErr, OnOk};
 
 use giop_frames::front;
 use std::alloc::{AllocError, Global};
@@ -38,6 +38,15 @@ impl Buffer {
         }
     }
 
+    /// A copy of these octets, in memory for no more of them.
+    pub fn of(alloc: Global, octets: &[u8]) -> Result<Buffer, AllocError>
+        ensures octets { IfOk result (λ copy. copy.octets ≡ octets.now) }
+        ensures memory { IfOk result (λ copy. copy.memory ≡ length octets.now) }
+    {
+        let memory = Vec::with_capacity(alloc, octets.len())?;
+        Ok(Buffer::within(memory, octets))
+    }
+
     /// These octets, in memory that was taken for them.
     pub fn within(memory: Vec<u8>, octets: &[u8]) -> Buffer
         requires empty { memory.items ≡ [] }
@@ -45,11 +54,12 @@ impl Buffer {
         ensures octets { result.octets ≡ octets.now }
         ensures memory { result.memory ≡ vec_capacity memory }
     {
-        let mut filled = memory;
+        let mut filled = written(memory, octets);
         fill(&mut filled);
-        let mut buffer = Buffer { filled, count: 0 };
-        buffer.append(octets);
-        buffer
+        Buffer {
+            filled,
+            count: octets.len(),
+        }
     }
 
     /// The octets.
@@ -124,6 +134,21 @@ impl Buffer {
         front[..held].copy_from_slice(&back[..held]);
         self.count = held;
     }
+}
+
+/// These octets, in memory that was taken for them, of which the rest is not filled.
+fn written(memory: Vec<u8>, octets: &[u8]) -> Vec<u8>
+    requires empty { memory.items ≡ [] }
+    requires room { length octets.now ≤ vec_capacity memory }
+    ensures octets { result.items ≡ octets.now }
+    ensures memory { vec_capacity result ≡ vec_capacity memory }
+{
+    // No one else sees them while they are written, so that they are written in one go.
+    let mut filled = memory;
+    for octet in octets {
+        filled.push_reserved(*octet);
+    }
+    filled
 }
 
 /// Fills memory with octets to its end.

@@ -1,13 +1,8 @@
-ghost use Rattle.std.specs.Prelude.{◌≡◌, ◌≤◌, length, IfErr, Ok, Some};
-ghost use Rattle.giop_frames.specs.Limits.{size_limit};
-ghost use Rattle.giop_frames.specs.Fault.{Finds};
-ghost use Rattle.giop_frames.specs.Content.{GivesKept, message_by};
-ghost use Rattle.giop_streams.specs.Stream.{whole, whole_by};
-ghost use Rattle.giop_frames.specs.Walk.{IsAsFar, IsWalked};
+ghost use Rattle.std.specs.Prelude.{◌≡◌, Ok, Some};
+ghost use Rattle.giop_streams.specs.Stream.{whole};
 
 use cdr_values::Order;
-use giop_frames::{Content, FrameFault, Header, Message, Version, Walk, finish_message};
-use std::alloc::Global;
+use giop_frames::{Content, Header, Message, Version};
 
 /// A message of a stream, and what the header of its first part says.
 #[derive(Drop)]
@@ -39,24 +34,4 @@ pub fn frame(place: u64, header: Header, found: Content) -> Framed
         start: found.start,
         message: found.message,
     }
-}
-
-/// The whole message whose first part has this place and header, with this content, over which a walk has gone.
-pub fn finish_framed(
-    alloc: Global,
-    place: u64,
-    header: Header,
-    content: &[u8],
-    walk: &mut Walk,
-) -> Result<Framed, FrameFault>
-    requires short { length content.now ≤ size_limit }
-    requires walked { IsWalked header content.now walk.old }
-    requires far { IsAsFar header content.now walk.old }
-    ensures whole { Finds (λ framed. Some framed) result (whole_by place header content.now) }
-    ensures memory { IfErr result (λ fault. fault ≡ FrameFault.Memory → GivesKept (message_by header content.now)) }
-    ensures walked { IsWalked header content.now walk.new }
-    ensures far { IsAsFar header content.now walk.new }
-{
-    let found = finish_message(alloc, header, content, walk)?;
-    Ok(frame(place, header, found))
 }

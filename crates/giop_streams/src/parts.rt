@@ -14,7 +14,7 @@ use crate::framed::{Framed, frame};
 use crate::unfinished::Unfinished;
 use cdr_values::{Order, Reader};
 use giop_frames::{
-    FrameFault, HEADER_LENGTH, Header, HeaderWalk, Kind, Version, behind, front, read_message,
+    FrameFault, HEADER_LENGTH, Header, HeaderWalk, Kind, Version, Walk, behind, front, read_message,
 };
 use std::alloc::Global;
 
@@ -109,11 +109,13 @@ fn can_be_fragmented(version: Version, kind: Kind) -> bool
     }
 }
 
-/// What the part at this place says, by the messages that are unfinished before it.
+/// What the part at this place says, by the messages that are unfinished before it. The block of a walk that has ended
+/// serves for the next one.
 #[tactic(auto, unfolding(crate::specs::Stream::judged))]
 pub fn judge(
     alloc: Global,
     unfinished: &mut Vec<Unfinished>,
+    ended: &mut Option<Box<Walk>>,
     place: u64,
     header: Header,
     content: &[u8],
@@ -123,10 +125,10 @@ pub fn judge(
     ensures { Judges place (part_of header content.now) result unfinished.old.items unfinished.new.items }
 {
     if header.is_fragment() {
-        return go_on(alloc, unfinished, header, content);
+        return go_on(alloc, unfinished, ended, header, content);
     }
     if header.more {
-        begin(alloc, unfinished, place, header, content)?;
+        begin(alloc, unfinished, ended, place, header, content)?;
         return Ok(None);
     }
     let found = read_message(alloc, header, content)?;
@@ -137,6 +139,7 @@ pub fn judge(
 fn begin(
     alloc: Global,
     unfinished: &mut Vec<Unfinished>,
+    ended: &mut Option<Box<Walk>>,
     place: u64,
     header: Header,
     content: &[u8],
@@ -156,7 +159,7 @@ fn begin(
     ensures err { OnErr result (unfinished.new.items ≡ unfinished.old.items) }
 {
     let id = free_id(unfinished, header, content)?;
-    unfinished.push(Unfinished::new(alloc, id, place, header, content)?)?;
+    unfinished.push(Unfinished::new(alloc, ended, id, place, header, content)?)?;
     Ok(())
 }
 
@@ -185,6 +188,7 @@ fn free_id(unfinished: &[Unfinished], header: Header, content: &[u8]) -> Result<
 fn go_on(
     alloc: Global,
     unfinished: &mut Vec<Unfinished>,
+    ended: &mut Option<Box<Walk>>,
     header: Header,
     content: &[u8],
 ) -> Result<Option<Framed>, FrameFault>
@@ -198,7 +202,7 @@ fn go_on(
     match position(unfinished, id) {
         None => Err(FrameFault::BadFragment),
         Some(index) if header.more => extend(unfinished, index, header, content),
-        Some(index) => end(alloc, unfinished, index, header, content),
+        Some(index) => end(alloc, unfinished, ended, index, header, content),
     }
 }
 
@@ -226,6 +230,7 @@ fn extend(
 fn end(
     alloc: Global,
     unfinished: &mut Vec<Unfinished>,
+    ended: &mut Option<Box<Walk>>,
     index: usize,
     header: Header,
     content: &[u8],
@@ -240,7 +245,7 @@ fn end(
         result unfinished.old.items unfinished.new.items }
 {
     let framed = unfinished[index].finish(alloc, behind_id(content))?;
-    let _ = unfinished.remove(index);
+    *ended = Some(unfinished.remove(index).into_walk());
     Ok(Some(framed))
 }
 

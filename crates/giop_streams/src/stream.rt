@@ -11,8 +11,8 @@ use crate::framed::Framed;
 use crate::parts::{content_of, judge, whole_part};
 use crate::unfinished::Unfinished;
 use giop_frames::{
-    FrameFault, HEADER_LENGTH, HeaderWalk, Message, Version, behind, headers_are_read_exactly,
-    profile_versions,
+    FrameFault, HEADER_LENGTH, HeaderWalk, Message, Version, Walk, behind,
+    headers_are_read_exactly, profile_versions,
 };
 use std::alloc::{AllocError, Global};
 use std::marker::Model;
@@ -26,6 +26,8 @@ pub struct Stream {
     alloc: Global,
     versions: &'static [Version],
     messages: Vec<Unfinished>,
+    /// The block of a walk whose message has ended, for that of the next one.
+    ended: Option<Box<Walk>>,
     buffer: Buffer,
     start: usize,
     /// Memory for what is left once that of a large buffer is given back. It has no octets.
@@ -95,6 +97,7 @@ impl Stream {
             alloc,
             versions,
             messages: Vec::new(alloc),
+            ended: None,
             buffer: Buffer::new(alloc),
             start: 0,
             spare: Vec::new(alloc),
@@ -245,7 +248,14 @@ impl Stream {
             return Ok(Taken::Nothing);
         };
         let content = content_of(header, rest);
-        let framed = judge(self.alloc, &mut self.messages, self.place, header, content)?;
+        let framed = judge(
+            self.alloc,
+            &mut self.messages,
+            &mut self.ended,
+            self.place,
+            header,
+            content,
+        )?;
         let length = HEADER_LENGTH + header.size as usize;
         self.header = HeaderWalk::new();
         self.start = give_back(&mut self.buffer, self.start + length);

@@ -1,18 +1,18 @@
 ghost use Rattle.std.specs.Prelude.{◌≡◌, ◌≢◌, ◌+◌, ◌<◌, ◌≤◌, ◌++◌, true, false, IfErr, IfOk, OnErr, OnOk, Ok, Err, None, Some, length, take};
 ghost use Rattle.giop_frames.specs.Limits.{size_limit};
-ghost use Rattle.giop_frames.specs.Fault.{Fails};
+ghost use Rattle.giop_frames.specs.Fault.{Fails, Finds};
 ghost use Rattle.giop_frames.specs.Header.{is_fragment};
 ghost use Rattle.giop_frames.specs.Walk.{IsAsFar, IsWalked};
 ghost use Rattle.giop_streams.specs.Held.{MayEnd, MayJoin};
 ghost use Rattle.giop_streams.specs.Limits.{joined_memory_limit};
 ghost use Rattle.giop_streams.specs.StreamInside.{wants_octets, WantsRoom, limited_so_far, limited_whole};
-ghost use Rattle.giop_frames.specs.Content.{message_by};
-ghost use Rattle.giop_streams.specs.Stream.{begun_as, id_of, joined, part_of, so_far, with_more};
+ghost use Rattle.giop_frames.specs.Content.{GivesKept, message_by};
+ghost use Rattle.giop_streams.specs.Stream.{begun_as, id_of, joined, part_of, so_far, whole_by, with_more};
 
 use crate::buffer::Buffer;
-use crate::framed::{Framed, finish_framed};
+use crate::framed::{Framed, frame};
 use cdr_values::CdrFault;
-use giop_frames::{FrameFault, Header, SIZE_LIMIT, Walk};
+use giop_frames::{FrameFault, Header, SIZE_LIMIT, Walk, finish_message};
 use std::alloc::Global;
 use std::marker::Model;
 
@@ -49,9 +49,11 @@ impl Model for Unfinished {
 }
 
 impl Unfinished {
-    /// A message of which this is the first part, whose request_id was read.
+    /// A message of which this is the first part, whose request_id was read. Its walk takes the block of one that has
+    /// ended, where there is one.
     pub fn new(
         alloc: Global,
+        ended: &mut Option<Box<Walk>>,
         id: u32,
         place: u64,
         header: Header,
@@ -67,16 +69,12 @@ impl Unfinished {
         ensures memory { IfErr result (λ fault. fault ≡ FrameFault.Memory →
             so_far (message_by header content.now) ≡ Ok None) }
     {
-        let mut walk = Walk::behind_id(header, id);
-        walk_so_far(&mut walk, header, content)?;
-        let mut joined = Buffer::new(alloc);
-        join(&mut joined, content)?;
-        let walk = Box::new(alloc, walk)?;
+        let walk = begin_walk(alloc, ended, id, header, content)?;
         Ok(Unfinished {
             id,
             place,
             header,
-            content: joined,
+            content: Buffer::of(alloc, content)?,
             walk,
         })
     }
@@ -128,10 +126,45 @@ impl Unfinished {
             octets,
         )
     }
+
+    /// The block of its walk, for that of another message.
+    pub fn into_walk(self) -> Box<Walk> {
+        self.walk
+    }
+}
+
+/// A walk that goes over the first part of a message, whose request_id was read, in the block of one that has ended,
+/// where there is one.
+fn begin_walk(
+    alloc: Global,
+    ended: &mut Option<Box<Walk>>,
+    id: u32,
+    header: Header,
+    content: &[u8],
+) -> Result<Box<Walk>, FrameFault>
+    requires content { length content.now ≤ size_limit }
+    requires first { is_fragment header.kind ≡ false }
+    requires long { 4 ≤ length content.now }
+    requires id { id ≡ id_of (part_of header content.now) }
+    ensures walked { IfOk result (λ walk. IsWalked header content.now walk.value) }
+    ensures far { IfOk result (λ walk. IsAsFar header content.now walk.value) }
+    ensures sound { OnOk result (so_far (message_by header content.now) ≡ Ok None) }
+    ensures refused { IfErr result (λ fault. Fails fault (so_far (message_by header content.now))) }
+    ensures memory { IfErr result (λ fault. fault ≡ FrameFault.Memory →
+        so_far (message_by header content.now) ≡ Ok None) }
+{
+    let Some(mut walk) = ended.take() else {
+        let mut walk = Walk::behind_id(header, id);
+        walk_so_far(&mut walk, header, content)?;
+        return Ok(Box::new(alloc, walk)?);
+    };
+    walk.begin_behind_id(header, id);
+    walk_so_far(&mut walk, header, content)?;
+    Ok(walk)
 }
 
 /// The last octets of a message have come behind its content, and a walk that stood where octets were wanting goes on
-/// over them. Where it isn't given the content is as it was.
+/// over them, to the end. Where the message isn't given the content is as it was.
 fn finish_joined(
     alloc: Global,
     place: u64,
@@ -157,9 +190,35 @@ fn finish_joined(
     ensures room { content.new.memory ≤ joined_memory_limit }
 {
     let before = content.len();
-    go_so_far(walk, header, content, octets)?;
-    match finish_framed(alloc, place, header, content.octets(), walk) {
-        Ok(framed) => Ok(framed),
+    join(content, octets)?;
+    end_joined(alloc, place, header, walk, content, before)
+}
+
+/// A message whose last octets were joined, behind so many, as far as which a walk has gone. Where it isn't given the
+/// octets behind those are taken back.
+fn end_joined(
+    alloc: Global,
+    place: u64,
+    header: Header,
+    walk: &mut Walk,
+    content: &mut Buffer,
+    before: usize,
+) -> Result<Framed, FrameFault>
+    requires content { length content.old.octets ≤ size_limit }
+    requires first { is_fragment header.kind ≡ false }
+    requires walked { IsWalked header (take before content.old.octets) walk.old }
+    requires far { IsAsFar header (take before content.old.octets) walk.old }
+    requires room { content.old.memory ≤ joined_memory_limit }
+    ensures whole { Finds (λ framed. Some framed) result (whole_by place header content.old.octets) }
+    ensures memory { IfErr result (λ fault. fault ≡ FrameFault.Memory →
+        GivesKept (message_by header content.old.octets)) }
+    ensures walked { IsWalked header content.new.octets walk.new }
+    ensures far { IsAsFar header content.new.octets walk.new }
+    ensures err { OnErr result (content.new.octets ≡ take before content.old.octets) }
+    ensures room { content.new.memory ≤ joined_memory_limit }
+{
+    match finish_message(alloc, header, content.octets(), walk) {
+        Ok(found) => Ok(frame(place, header, found)),
         Err(fault) => {
             take_back(walk, header, content, before);
             Err(fault)
