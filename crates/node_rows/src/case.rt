@@ -1,7 +1,7 @@
 use crate::client::Client;
 use crate::commands::{number, play};
 use crate::crashes::tell_crashes;
-use crate::node_calls::{MemNode, crash, disk_of, load, rebuilt};
+use crate::node_calls::{MemNode, crash, disk_of, load};
 use crate::tell::tell_records;
 use coordinator::NodeFault;
 use ots_outside::{Back, MemDisk};
@@ -241,31 +241,36 @@ fn live_on(
     between: &str,
     told: &mut Vec<u8>,
 ) -> io::Result<MemDisk> {
-    tell_records(&node, told)?;
     let mut node = node;
-    let mut client = Client::new(alloc);
-    for line in lines {
-        node = play_line(alloc, node, &mut client, between, line, told)?;
-    }
+    play_lines(alloc, &mut node, lines, between, told)?;
     Ok(crash(node))
 }
 
-/// Plays a line. Gives the node back.
+fn play_lines(
+    alloc: Global,
+    node: &mut MemNode,
+    lines: &[&str],
+    between: &str,
+    told: &mut Vec<u8>,
+) -> io::Result<()> {
+    tell_records(node, told)?;
+    let mut client = Client::new(alloc);
+    for line in lines {
+        play_line(alloc, node, &mut client, between, line, told)?;
+    }
+    Ok(())
+}
+
 fn play_line(
     alloc: Global,
-    node: MemNode,
+    node: &mut MemNode,
     client: &mut Client,
     between: &str,
     line: &str,
     told: &mut Vec<u8>,
-) -> io::Result<MemNode> {
+) -> io::Result<()> {
     write!(told, "{between}{line}:")?;
-    if line == "apart" {
-        return Ok(rebuilt(alloc, node));
-    }
-    let mut node = node;
-    play(alloc, &mut node, client, line, told)?;
-    Ok(node)
+    play(alloc, node, client, line, told)
 }
 
 /// Tells the last of lines.

@@ -5,7 +5,6 @@
 //! - `octets HEX`: what the disk holds at first. `area N`: the area of its journal.
 //! - `fail N ..`: these calls of the disk fail.
 //! - `crash`: the node crashes, and the lines behind it are of its next life. Its disk fails no more.
-//! - `apart`: the node is taken apart, and put together again.
 //! - Each other line has commands, as `commands` says, with `; ` between them.
 //!
 //! There are these kinds of case:
