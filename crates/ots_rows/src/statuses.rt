@@ -10,6 +10,7 @@ use std::io::Write;
 use std::process::Termination;
 
 /// A standard error that keeps what is said.
+#[derive(Drop)]
 struct Errors {
     text: RefCell<Vec<u8>>,
 }
