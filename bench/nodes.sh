@@ -2,8 +2,8 @@
 # Makes calls to a node: questions to 256 families of 64 registrations each, to one family of 64, and to 256 families of
 # 1, in turn; a further registration, which is refused, with 256 families of 64 registrations and with one; questions,
 # each under a new key, and a commit that was answered later and comes again, behind a history of 1,000 and of 10,000
-# entries; answers to the words of a family of which 17 are out, and of one of which 1,023 are; and commits of further
-# transactions beside none and beside 255. And has the clock of a node go on whose journal holds 1,024 and 8,192 decisions
+# entries; commits of further transactions beside none and
+# beside 255. And has the clock of a node go on whose journal holds 1,024 and 8,192 decisions
 # with two registrations, for the first time and then again, so that each word goes out; whose journal holds 1,024
 # prepared records, which have no word to tell, of 2 and of 64 registrations; and which has 16 and 256 finished families,
 # of which each has a word to tell. Prints the time per call, how it grows with the families, the registrations, the
@@ -87,11 +87,6 @@ ratio "question under a new key" "$work/keyed"
   row "10,000 entries" repeats 10000 1 10000
 } >"$work/repeats"
 ratio "repeated commit" "$work/repeats"
-{
-  row "17 words out" answers 1000 64 17
-  row "1,023 words out" answers 1000 1 1023
-} >"$work/answers"
-ratio answer "$work/answers"
 {
   row "no other transaction" commits 500 0 0
   row "255 others of 2 registrations" commits 500 255 2
