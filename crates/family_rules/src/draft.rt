@@ -125,7 +125,7 @@ impl Draft {
         Brought {
             word,
             told: Answers::from_vec(told),
-            kept: Answers::from_vec(kept),
+            kept: Answers::from_vec(without_room(kept)),
             effects: Effects::from_vec(effects),
         }
     }
@@ -238,6 +238,17 @@ fn told_at(finished: &[Told], position: u32) -> Option<&Told>
         ≡ find (λ (t : ToldAnswer). t.position == position) finished.now }
 {
     finished.iter().find(|t| t.position == position)
+}
+
+/// The same answers; where there are none, without the memory for them, since a history keeps what it is given.
+fn without_room(answers: Vec<Finished>) -> Vec<Finished>
+    ensures { result.items ≡ answers.items }
+{
+    if answers.is_empty() {
+        Vec::new(*answers.allocator())
+    } else {
+        answers
+    }
 }
 
 /// Puts the answers of other calls behind these.
