@@ -18,6 +18,9 @@ use std::marker::Model;
 
 const PADDING: [u8; 8] = [0; 8];
 
+/// For how many octets memory is taken at first, so that a short value takes it once.
+const FIRST_ROOM: usize = 128;
+
 /// Writes values at the end of octets, at offsets that count from a start of the caller's, with padding 0. It writes at
 /// most 65,536 octets. Contracts see it as the order, the start, and the octets so far. A refusal leaves the writer as
 /// it was.
@@ -216,12 +219,24 @@ fn append(
 ) -> Result<(), AllocError>
     ensures { Appends (in_order padding.now number.now items.now end.now) result octets.old.items octets.new.items }
 {
+    take_first_room(octets)?;
     let start = octets.len();
     let appended = append_parts(octets, padding, number, items, end);
     if appended.is_err() {
         octets.truncate(start);
     }
     appended
+}
+
+/// Takes memory for the first octets, where there is none.
+fn take_first_room(octets: &mut Vec<u8>) -> Result<(), AllocError>
+    ensures same { octets.new.items ≡ octets.old.items }
+{
+    if octets.capacity() == 0 {
+        octets.reserve(FIRST_ROOM)
+    } else {
+        Ok(())
+    }
 }
 
 fn append_parts(
