@@ -14,8 +14,8 @@ use Rattle.nodes_lives.specs.declared.running.Running.{Running}
 use Rattle.nodes_lives.specs.declared.running.Through.{Through}
 
 pub has_answered : (k : ObjectKey) (e : Event) (before : Running) (t : Through) (stop : Option Stop) (later : Option KeptStop) → HasGoneThrough k e before t
-    → ((stood : Option Stood) → Writes k e before.loaded.items (living before) t.running.node.journal.disk.disk stood before.end t.running.end
-    → asked_by k e (living before) stop ≡ Answers stood t.running.node.journal.disk.disk (option_map stop_of later))
+    → ((stood : Option Stood) → Writes k e before.loaded.items (living before) t.running.node.value.journal.disk.disk stood before.end t.running.end
+    → asked_by k e (living before) stop ≡ Answers stood t.running.node.value.journal.disk.disk (option_map stop_of later))
     → HasAnswered k e (living before) stop (record { node = living t.running; stop = later; answer = t.answer; words = t.words })
 has_answered k e before t stop later g asked = record {
   stood = g.stood;

@@ -4,7 +4,7 @@ use Rattle.nodes_lives.specs.Living.{Living}
 use Rattle.nodes_lives.specs.Running.{IsRunning}
 
 abbrev pub living : Running → Living
-living r = record { node = r.node.node; disk = r.node.journal.disk.disk }
+living r = record { node = r.node.value.node; disk = r.node.value.journal.disk.disk }
 
 abbrev pub Runs : Running → Type 0
-Runs r = IsRunning r.node r.loaded.items r.end
+Runs r = IsRunning r.node.value r.loaded.items r.end

@@ -49,11 +49,11 @@ pub data Writes (k : ObjectKey) (e : Event) (loaded : List ℕ) (before : Living
 -- the call went through, as long as no stop comes
 pub record HasGoneThrough (k : ObjectKey) (e : Event) (before : Running) (t : Through) : Type 0 where
   pub stood : Option Stood
-  pub writes : Writes k e before.loaded.items (living before) (t.running.node.journal.disk.disk) stood before.end t.running.end
+  pub writes : Writes k e before.loaded.items (living before) (t.running.node.value.journal.disk.disk) stood before.end t.running.end
   pub loaded : t.running.loaded.items ≡ before.loaded.items
-  pub node : t.running.node.node ≡ (applies k e stood before.node.node).node
-  pub answer : t.answer ≡ (applies k e stood before.node.node).answer
-  pub words : t.words.words ≡ (applies k e stood before.node.node).words
+  pub node : t.running.node.value.node ≡ (applies k e stood before.node.value.node).node
+  pub answer : t.answer ≡ (applies k e stood before.node.value.node).answer
+  pub words : t.words.words ≡ (applies k e stood before.node.value.node).words
 
 -- a call was refused for want of memory
 abbrev pub is_memory : Result StepAnswer NodeFault → Bool

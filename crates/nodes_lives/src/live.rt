@@ -26,7 +26,7 @@ use ots_outside::MemDisk;
 use ots_world::WorldFault;
 use recovery_coord::{Held, Outbox};
 use service_node::Node;
-use std::alloc::Global;
+use std::alloc::{AllocError, Global};
 use std::marker::Model;
 
 /// How many octets a journal has at most.
@@ -69,7 +69,7 @@ impl LiveNode {
         ensures sound { IsSoundNode self.now.node }
         ensures journal { StoresJournal self.now.node.service self.now.disk.reads }
     {
-        is_current(&self.running.node);
+        is_current(&self.running);
     }
 
     /// The node itself, over its disk.
@@ -183,10 +183,19 @@ fn load(alloc: Global, octets: Vec<u8>, service: u64) -> Result<Running, WorldFa
     };
     let loaded = node.journal().disk().octets().to_vec(alloc)?;
     let end = last_gates(loaded.as_slice()).end;
+    let held = in_block(alloc, node)?;
     Ok(Running {
         alloc,
-        node,
+        node: held,
         loaded,
         end,
     })
+}
+
+/// A node, in a block of its own.
+fn in_block(alloc: Global, node: Node<MemDisk>) -> Result<Box<Node<MemDisk>>, AllocError>
+    ensures same { IfOk result (λ held. held.value ≡ node) }
+{
+    let held = Box::new(alloc, node)?;
+    Ok(held)
 }

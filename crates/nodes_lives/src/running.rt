@@ -22,7 +22,8 @@ use std::alloc::Global;
 #[derive(Drop)]
 pub(crate) struct Running {
     pub(crate) alloc: Global,
-    pub(crate) node: Node<MemDisk>,
+    /// In a block of its own, so that it stays where it is while calls hand it on.
+    pub(crate) node: Box<Node<MemDisk>>,
     pub(crate) loaded: Vec<u8>,
     pub(crate) end: usize,
 }
@@ -30,9 +31,16 @@ pub(crate) struct Running {
 impl Running {
     /// What its disk reads.
     pub(crate) fn octets(&self) -> &[u8]
-        ensures { result.now ≡ self.now.node.journal.disk.disk.reads }
+        ensures { result.now ≡ self.now.node.value.journal.disk.disk.reads }
     {
         self.node.journal().disk().octets()
+    }
+
+    /// Whether its journal has failed.
+    fn has_failed(&self) -> bool
+        ensures { result ≡ self.now.node.value.journal.failed }
+    {
+        self.node.journal().failed()
     }
 }
 
@@ -45,12 +53,12 @@ pub(crate) struct Through {
 }
 
 /// The disk of a node whose journal has not failed holds its records, and nothing else.
-pub(crate) fn is_current(node: &Node<MemDisk>)
-    requires failed { node.now.journal.failed ≡ false }
-    requires sure { node.now.journal.doubted ≡ None }
-    ensures { IsCurrent told node.now.journal }
+pub(crate) fn is_current(running: &Running)
+    requires failed { running.now.node.value.journal.failed ≡ false }
+    requires sure { running.now.node.value.journal.doubted ≡ None }
+    ensures { IsCurrent told running.now.node.value.journal }
 {
-    let _disk = node.journal().disk();
+    let _disk = running.node.journal().disk();
 }
 
 /// A call to a node, while no stop comes. Where its journal fails, memory ran out.
@@ -65,11 +73,11 @@ pub(crate) fn apply(running: Running, key: &ObjectKey, event: &Event) -> Result<
     held_records_stood();
     records_are_read();
     completes_once();
-    is_current(&running.node);
+    is_current(&running);
     let mut running = running;
     let mut words = Outbox::new(running.alloc);
     let answer = running.node.apply(key, event, &mut words);
-    if is_memory(&answer) || running.node.journal().failed() {
+    if is_memory(&answer) || running.has_failed() {
         return Err(WorldFault::Memory);
     }
     running.end = end_from(running.octets(), running.end);

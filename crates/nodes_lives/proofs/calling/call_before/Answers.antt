@@ -12,7 +12,7 @@ use Rattle.nodes_lives.proofs.calling.call_before.Goals as goal
 pub returns-then-end-last-clause-called : goal.returns-then-end-last-clause-called
 returns-then-end-last-clause-called c =
     let through = c.in_ok-through.through in
-    let later = through.running.node.journal.disk.disk in
+    let later = through.running.node.value.journal.disk.disk in
     let before = living c.args.running in
     subst (HasCalled c.args.key.now c.args.event.now before (Some (stop_of c.args.stop))) (sym c.went_on.ensures)
     (has_answered c.args.key.now c.args.event.now c.args.running through (Some (stop_of c.args.stop)) (Some c.args.stop) c.in_ok-through.ensures.through
@@ -22,7 +22,7 @@ pub returns-then-stop-gt-APPEND_WRITES-clause-called :
     goal.returns-then-stop-gt-APPEND_WRITES-clause-called
 returns-then-stop-gt-APPEND_WRITES-clause-called c =
     let through = c.in_ok-through.through in
-    let later = through.running.node.journal.disk.disk in
+    let later = through.running.node.value.journal.disk.disk in
     let before = living c.args.running in
     subst (HasCalled c.args.key.now c.args.event.now before (Some (stop_of c.args.stop))) (sym c.went_on-then-stop-gt-APPEND_WRITES.ensures)
     (has_answered c.args.key.now c.args.event.now c.args.running through (Some (stop_of c.args.stop))
@@ -33,7 +33,7 @@ returns-then-stop-gt-APPEND_WRITES-clause-called c =
 pub strike-requires : goal.strike-requires
 strike-requires c =
     let through = c.in_ok-through.through in
-    let later = through.running.node.journal.disk.disk in
+    let later = through.running.node.value.journal.disk.disk in
     let before = living c.args.running in
     let g = c.in_ok-through.ensures.through in
     let a : Appended = record { reads = c.octets.result; loaded = c.as_slice.result; gates = record { last = c.args.running.end; end = through.running.end } } in
@@ -45,7 +45,7 @@ strike-requires c =
 pub returns-clause-called : goal.returns-clause-called
 returns-clause-called c =
     let through = c.in_ok-through.through in
-    let later = through.running.node.journal.disk.disk in
+    let later = through.running.node.value.journal.disk.disk in
     let before = living c.args.running in
     let g = c.in_ok-through.ensures.through in
     let a : Appended = record { reads = c.octets.result; loaded = c.as_slice.result; gates = record { last = c.args.running.end; end = through.running.end } } in

@@ -16,4 +16,4 @@ returns-in_ok-apply-in-None-clause-called c =
     (subst (λ (o : Option KeptStop). HasCalled c.args.key.now c.args.event.now (living running) (option_map stop_of o) c.went_on.result) (sym c.in-None.is)
     (subst (HasCalled c.args.key.now c.args.event.now (living running) None) (sym c.went_on.ensures)
     (has_answered c.args.key.now c.args.event.now running through None None c.in_ok-apply-in-None.ensures.through
-    (λ stood writes. asked_none c.args.key.now c.args.event.now running.loaded.items (living running) through.running.node.journal.disk.disk stood running.end through.running.end writes))))
+    (λ stood writes. asked_none c.args.key.now c.args.event.now running.loaded.items (living running) through.running.node.value.journal.disk.disk stood running.end through.running.end writes))))

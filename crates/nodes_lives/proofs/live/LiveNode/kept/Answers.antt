@@ -11,4 +11,4 @@ returns-clause-sound c = subst (λ (n : Living). IsSoundNode n.node) c.self.view
 pub returns-clause-journal : goal.returns-clause-journal
 returns-clause-journal c =
     subst (λ (n : Living). StoresJournal n.node.service n.disk.reads) c.self.view_is
-    (holds_own c.self.inside.running.node c.self.inside.running.loaded.items c.self.inside.running.end c.self.invariant c.is_current.ensures)
+    (holds_own c.self.inside.running.node.value c.self.inside.running.loaded.items c.self.inside.running.end c.self.invariant c.is_current.ensures)
