@@ -1,12 +1,9 @@
 -- Whose object has answered commit: it has stored its updates.
 use Rattle.std.proofs.Common.{◌≡◌, ℕ, ◌+◌, List, subst}
-use Rattle.ots_model.specs.declared.tree.Outward.{Outward}
 use Rattle.ots_model.specs.declared.completion.Word.TheVariants as phase_words
 use Rattle.ots_model.specs.declared.tree.Word.TheVariants as words
-use Rattle.coordinator.specs.declared.said.Said.{Said}
 use Rattle.nodes_world.specs.declared.message.Content.{Content}
 use Rattle.nodes_world.specs.declared.message.Content.TheVariants as contents
-use Rattle.nodes_world.specs.Agreement.{IsWord}
 use Rattle.nodes_world.specs.Told.{Told}
 use Rattle.nodes_world.specs.World.{World}
 pub use Rattle.nodes_world.specs.ToldAgain.{HasAnsweredCommit}

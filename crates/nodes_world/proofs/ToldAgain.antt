@@ -1,14 +1,12 @@
 -- What a decision of an earlier life owes goes out at each tick of its node; and a restart leaves it owed.
-use Rattle.std.proofs.Common.{◌≡◌, ◌⊎◌, inl, inr, ℕ, ◌+◌, ◌<◌, ◌≤◌, ◌==◌, min, Bool, true, false, is_some, IsTrue, List, [], ◌∷◌, ◌++◌, length, map, slice_get, slice_set, reverse, Contains, Option, Some, None, refl, sym, ap, subst, ◌∙◌, arith}
+use Rattle.std.proofs.Common.{◌≡◌, ◌⊎◌, inl, inr, ℕ, ◌+◌, ◌<◌, ◌≤◌, ◌==◌, min, Bool, true, false, is_some, IsTrue, List, [], ◌∷◌, ◌++◌, length, map, slice_get, Contains, Option, Some, None, refl, sym, ap, subst, ◌∙◌, arith}
 use Rattle.std.specs.Prelude.{◌&&◌}
-use Rattle.std.specs.List.{AllByRecursion}
 use Rattle.std.specs.Option.{option_and_then, option_map_or}
 use Rattle.std.proofs.lemmas.Bool.Decides.{nat_tests}
 use Rattle.std.proofs.lemmas.List.Elements.{Contains-append_cases, Contains-append_right}
 use Rattle.std.proofs.lemmas.List.Folds.{Any-from_list_any}
 use Rattle.ots_outside.specs.Disk.{DiskState}
 use Rattle.ior_refs.specs.declared.key.ObjectKey.{ObjectKey}
-use Rattle.ots_model.specs.Safe.{Stands}
 use Rattle.ots_model.specs.declared.completion.Word.TheVariants as phase_words
 use Rattle.ots_model.specs.declared.line.Line.TheVariants as lines
 use Rattle.ots_model.specs.declared.service.RetryKey.{RetryKey}
@@ -48,9 +46,9 @@ use Rattle.nodes_world.specs.Lives.{loads, restarts, ticks, ticks_seat, ticks_to
 use Rattle.nodes_world.specs.Nodes.{happens, happens_all, ticks_node}
 use Rattle.nodes_world.specs.Objects.{place_of, service_at}
 use Rattle.nodes_world.specs.Resolve.{begins_named, creates_named, end_named, if_free, is_down_node, may_register, node_named, only_if, registers_named, registers_with, resolve, transaction_named}
-use Rattle.nodes_world.specs.StandingDecisions.{AreToldDecided, RestartsTellAgain}
+use Rattle.nodes_world.specs.StandingDecisions.{RestartsTellAgain}
 use Rattle.nodes_world.specs.Step.{carried_out}
-use Rattle.nodes_world.specs.ToldAgain.{ComesUpOwing, HasAnsweredCommit, HeldWaitOrAnswered, Owes, ReachedTellAgain, TellsAgain, TellsCommit}
+use Rattle.nodes_world.specs.ToldAgain.{ComesUpOwing, HasAnsweredCommit, HeldWaitOrAnswered, Owes, ReachedTellAgain, TellsCommit}
 use Rattle.nodes_world.specs.Told.{Told, known}
 use Rattle.nodes_world.specs.World.{World, NamedKey, OfNode, Seat, Server, is_free, node_at, node_in, on_seat, referred, with_clock, with_seat, with_server}
 use Rattle.nodes_world.proofs.Deeds.{NodeIsUp, down, may_be_done, node_is_up}

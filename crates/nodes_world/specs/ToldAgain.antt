@@ -1,5 +1,6 @@
--- A decision is told again after a restart, by its words, until all whom it names have answered (Transaction Service, interface
--- RecoveryCoordinator, and the operation commit of interface Resource; that a tick tells again is our profile).
+-- A decision is told again after a restart: at each tick its words go out to all whom it names, but to those that have answered
+-- (Transaction Service, interface RecoveryCoordinator, and the operation commit of interface Resource; that a tick tells again is
+-- our profile).
 use Rattle.std.specs.Prelude.{◌≡◌, ◌⊎◌, ℕ, ◌+◌, ◌<◌, ◌≤◌, Bool, List, ◌++◌, length, slice_get, Option, Some, Contains}
 use Rattle.ots_model.specs.Safe.{Stands}
 use Rattle.ots_model.specs.declared.completion.Word.TheVariants as phase_words

@@ -138,7 +138,7 @@ pub record Replays (status : Status) (left before after : Option (List ℕ)) : T
   pub agreed : Agrees (replay octets)
   -- and each family that was decided or closed on the way is so there
   pub lasts : OutcomesStay octets
-  -- a decision that stood is told again after a restart, until all whom it names have answered
+  -- a decision that stood is owed after a restart, and each tick tells it to all whom it names but those that have answered
   pub again : DecisionsAreToldAgain octets
 
 -- all that a replay tells is safe, whatever the octets

@@ -99,7 +99,7 @@ pub fn run_plain<S: Source, K: Sink>(
 {
     match Command::of(words) {
         Some(Command::Replay) => replay_script(alloc, source, sink),
-        // A show isn't carried out here.
-        Some(Command::Show) | None => Status::Usage,
+        Some(Command::Show) => unreachable!(),
+        None => Status::Usage,
     }
 }

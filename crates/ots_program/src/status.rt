@@ -11,7 +11,7 @@ use std::process::{ExitCode, Termination};
 pub enum Status {
     /// The input was read to its end, and all was written.
     Done,
-    /// The words are no command line.
+    /// The words are no command line, or they can't be read.
     Usage,
     /// The script's line of this number is outside the grammar, or the world refuses it.
     Script(u64),
