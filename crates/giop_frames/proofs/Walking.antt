@@ -282,6 +282,15 @@ contexts_begun laws old r s count e few = record {
   less = omega arith;
 }
 
+pub no_contexts : ReadingLaws → (old : Found) (r s : Reading) (count : ℕ) → ulong_at r ≡ Ok (count, s) → count ≡ 0 → GoesOn (steps.Front fields.Contexts) old r None (record old { count = 0 }) s
+unfolding step_at field_at sequence_at each_at
+no_contexts laws old r s count e none = record {
+  behind = passed ulong_at ULong laws.ulong r count s e;
+  same = λ more content st. rw (kept ulong_at ULong laws.ulong r count s e more, none) refl;
+  room = tt;
+  less = omega arith;
+}
+
 pub contexts_told : (old : Found) (r : Reading) (left : ℕ) → left ≡ 0 → GoesOn (steps.Contexts left) old r None old r
 unfolding step_at each_at
 contexts_told old r left none = record {

@@ -2,7 +2,7 @@ ghost use Rattle.std.specs.Prelude.{◌≡◌, ◌≢◌, ◌||◌, ◌≤◌, l
 ghost use Rattle.std.specs.List.{starts_with};
 ghost use Rattle.cdr_values.specs.Value.{number_in};
 ghost use Rattle.giop_frames.specs.Limits.{size_limit};
-ghost use Rattle.giop_frames.specs.Header.{kind_at, type_octet, order_of_flags, more_of_flags, is_fragment, header_at, header_of, version_at, version_octets};
+ghost use Rattle.giop_frames.specs.Header.{kind_at, type_octet, order_of_flags, more_of_flags, is_fragment, header_at, header_of, magic, version_at, version_octets};
 
 use crate::fault::{FrameFault, SIZE_LIMIT};
 use crate::layout::Version;
@@ -99,7 +99,7 @@ pub fn read_header(versions: &[Version], octets: &[u8]) -> Result<Header, FrameF
     ensures small { IfOk result (λ header. header.size ≤ size_limit) }
     ensures memory { IfErr result (λ fault. fault ≢ FrameFault.Memory) }
 {
-    if !MAGIC.starts_with(front(octets, 4)) {
+    if !is_magic_begun(octets) {
         return Err(FrameFault::BadMagic);
     }
     match version_at(versions, front(behind(octets, 4), 2)) {
@@ -107,6 +107,17 @@ pub fn read_header(versions: &[Version], octets: &[u8]) -> Result<Header, FrameF
         None if octets.len() > 4 => Err(FrameFault::BadVersion),
         None => Err(FrameFault::Short),
     }
+}
+
+/// Whether the magic begins with these octets, or they with it.
+fn is_magic_begun(octets: &[u8]) -> bool
+    ensures { result ≡ starts_with nat_eq magic (take 4 octets.now) }
+{
+    // Where all four octets have come, a comparison of each of them costs the least.
+    let [first, second, third, fourth, ..] = octets else {
+        return MAGIC.starts_with(octets);
+    };
+    *first == MAGIC[0] && *second == MAGIC[1] && *third == MAGIC[2] && *fourth == MAGIC[3]
 }
 
 /// The header of this version behind its magic and version.

@@ -267,7 +267,7 @@ fn pass_profiles(
     Ok(Some(Step::Profiles(left - 1)))
 }
 
-/// Passes over the count of the service contexts.
+/// Passes over the count of the service contexts, behind which they are whole where there are none.
 #[tactic(auto, unfolding(crate::specs::Walk::step_at, crate::specs::Content::field_at, cdr_values::specs::Sequence::sequence_at))]
 fn begin_contexts(reader: &mut Reader, found: &mut Found) -> Result<Option<Step>, FrameFault>
     ensures { MakesStep (Step.Front Field.Contexts) found.old reader.old result found.new reader.new }
@@ -279,6 +279,9 @@ fn begin_contexts(reader: &mut Reader, found: &mut Found) -> Result<Option<Step>
         return Err(too_long(place, count));
     }
     found.count = 0;
+    if count == 0 {
+        return Ok(None);
+    }
     Ok(Some(Step::Contexts(count)))
 }
 
