@@ -44,7 +44,10 @@ impl Buffer {
         ensures memory { IfOk result (λ copy. copy.memory ≡ length octets.now) }
     {
         let memory = Vec::with_capacity(alloc, octets.len())?;
-        Ok(Buffer::within(memory, octets))
+        Ok(Buffer {
+            filled: written(memory, octets),
+            count: octets.len(),
+        })
     }
 
     /// These octets, in memory that was taken for them.
