@@ -10,6 +10,7 @@ ghost use Rattle.family_rules.specs.declared.draft.Told.{Told as ToldAnswer};
 ghost use Rattle.std.specs.List.{find};
 
 use crate::call::{Reply, Task};
+use crate::spare::{Spare, blank_of, emptied, emptied_queue, parted};
 use coordinator::{Answers, Effect, Effects, Finished, Said};
 use ots_model::CallNumber;
 use ots_model::tree::{Outcome, Outward, Word};
@@ -54,13 +55,14 @@ impl Told {
 }
 
 /// What a step brought: the word that goes out, the answers to earlier calls, once for the caller and once for the history,
-/// and what happened.
+/// and what happened; and the memory that it has left.
 #[derive(Drop)]
 pub struct Brought {
     pub word: Option<Outward>,
     pub told: Answers,
     pub kept: Answers,
     pub effects: Effects,
+    pub spare: Spare,
 }
 
 impl Model for Draft {
@@ -76,20 +78,25 @@ impl Model for Draft {
 }
 
 impl Draft {
-    /// Memory for so many answers and effects, and for so many tasks.
-    pub fn new(alloc: Global, room: usize, tasks: usize) -> Result<Draft, AllocError>
+    /// Memory for so many answers and effects, and for so many tasks, some of it left by an earlier step.
+    pub(crate) fn new(
+        alloc: Global,
+        spare: Spare,
+        room: usize,
+        tasks: usize,
+    ) -> Result<Draft, AllocError>
         ensures nothing { IfOk result (λ d. d.changes ≡ (nothing_yet 0 0).changes) }
         ensures room { IfOk result (λ d. room ≤ d.room) }
         ensures tasks { IfOk result (λ d. tasks ≤ d.tasks_room) }
     {
         Ok(Draft {
             word: None,
-            blank: Some(Blank::new(alloc)?),
-            finished: Vec::with_capacity(alloc, room)?,
-            effects: Vec::with_capacity(alloc, room)?,
-            tasks: VecDeque::with_capacity(alloc, tasks)?,
-            told: Vec::with_capacity(alloc, room)?,
-            kept: Vec::with_capacity(alloc, room)?,
+            blank: Some(blank_of(alloc, spare.blank)?),
+            finished: emptied(spare.finished, room)?,
+            effects: emptied(spare.effects, room)?,
+            tasks: emptied_queue(spare.tasks, tasks)?,
+            told: emptied(spare.told, room)?,
+            kept: emptied(spare.kept, room)?,
         })
     }
 
@@ -114,19 +121,31 @@ impl Draft {
     {
         let Draft {
             word,
+            blank,
             finished,
             effects,
+            tasks,
             mut told,
             mut kept,
-            ..
         } = self;
         put_later(&finished, position, &mut told);
         put_later(&finished, position, &mut kept);
+        let (effects, no_effects) = parted(effects);
+        let (told, none_told) = parted(told);
+        let (kept, none_kept) = parted(kept);
         Brought {
             word,
             told: Answers::from_vec(told),
-            kept: Answers::from_vec(without_room(kept)),
+            kept: Answers::from_vec(kept),
             effects: Effects::from_vec(effects),
+            spare: Spare {
+                blank,
+                finished,
+                effects: no_effects,
+                tasks,
+                told: none_told,
+                kept: none_kept,
+            },
         }
     }
 
@@ -238,17 +257,6 @@ fn told_at(finished: &[Told], position: u32) -> Option<&Told>
         ≡ find (λ (t : ToldAnswer). t.position == position) finished.now }
 {
     finished.iter().find(|t| t.position == position)
-}
-
-/// The same answers; where there are none, without the memory for them, since a history keeps what it is given.
-fn without_room(answers: Vec<Finished>) -> Vec<Finished>
-    ensures { result.items ≡ answers.items }
-{
-    if answers.is_empty() {
-        Vec::new(*answers.allocator())
-    } else {
-        answers
-    }
 }
 
 /// Puts the answers of other calls behind these.

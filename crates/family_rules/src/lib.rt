@@ -3,6 +3,7 @@
 
 pub use call::{Aim, Reply};
 pub use draft::{Brought, Draft};
+pub use spare::Spare;
 pub use state::{State, TOP};
 
 mod call;
@@ -16,6 +17,7 @@ mod outs;
 mod recording;
 mod registered;
 mod running;
+mod spare;
 mod state;
 mod tally;
 mod tasks;

@@ -1,6 +1,7 @@
 // How the transactions of a family stand, and what they are called.
 ghost use Rattle.std.specs.Prelude.{◌≡◌, ◌++◌, ◌<◌, ◌≤◌, is_some, IfOk, OnOk};
 ghost use Rattle.family_rules.specs.Calls as calls;
+ghost use Rattle.family_rules.specs.Changes.{nothing_yet};
 ghost use Rattle.coordinator.specs.Family.{call_at, new_family};
 ghost use Rattle.coordinator.specs.Phases as phases;
 ghost use Rattle.coordinator.specs.Step as steps;
@@ -8,7 +9,9 @@ ghost use Rattle.coordinator.specs.Table as table;
 ghost use Rattle.two_phase.specs.Stages as stages;
 
 use crate::call::Seat;
+use crate::draft::Draft;
 use crate::outs::Outs;
+use crate::spare::Spare;
 use crate::tally::Tally;
 use coordinator::{Column, Entry, Phase, Stage, Superior};
 use ior_refs::ObjectKey;
@@ -41,6 +44,8 @@ pub struct State {
     pub(crate) serial: u32,
     pub(crate) entries: Vec<Entry>,
     pub(crate) tally: Tally,
+    /// What the last step has left of its memory.
+    pub(crate) spare: Option<Spare>,
 }
 
 impl Model for State {
@@ -80,6 +85,7 @@ impl State {
             serial: 0,
             entries: Vec::new(alloc),
             tally: Tally { most: 0, calls: 0 },
+            spare: None,
         })
     }
 
@@ -108,6 +114,25 @@ impl State {
         self.tree.reserve()?;
         self.votes.reserve()?;
         self.completion.reserve(self.votes.count() + 1)
+    }
+
+    /// Memory for what a step brings: for so many answers and effects, and for so many tasks.
+    pub fn draft(&mut self, room: usize, tasks: usize) -> Result<Draft, AllocError>
+        ensures nothing { IfOk result (λ d. d.changes ≡ (nothing_yet 0 0).changes) }
+        ensures room { IfOk result (λ d. room ≤ d.room) }
+        ensures tasks { IfOk result (λ d. tasks ≤ d.tasks_room) }
+        ensures same { self.new ≡ self.old }
+    {
+        let alloc = self.allocator();
+        let spare = self.spare.take().unwrap_or(Spare::new(alloc));
+        Draft::new(alloc, spare, room, tasks)
+    }
+
+    /// Keeps the memory that a step has left.
+    pub fn keep(&mut self, spare: Spare)
+        ensures same { self.new ≡ self.old }
+    {
+        self.spare = Some(spare);
     }
 
     /// How far the top-level transaction has come.

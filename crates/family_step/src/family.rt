@@ -13,7 +13,7 @@ ghost use Rattle.family_step.specs.Asking.{EntryIsCaused, HasStepped, is_reread}
 
 use crate::asking::step_asking;
 use crate::callers::Callers;
-use crate::ready::{Ready, has_room, kept};
+use crate::ready::{Ready, draft_of, has_room, kept};
 use crate::step::{is_silent, step};
 use coordinator::{Entry, Event, Phase, Said, StepAnswer, histories_grow_by_entries};
 use decision_journal::Journal;
@@ -108,7 +108,9 @@ impl Family {
         self.state.make_room()?;
         self.callers.reserve()?;
         out.reserve(1)?;
-        let ready = Ready::new(self.state.allocator(), &self.state, &self.callers, event)?;
+        let draft = draft_of(&mut self.state)?;
+        let alloc = self.state.allocator();
+        let ready = Ready::new(alloc, draft, &self.state, &self.callers, event)?;
         self.ready = Some(ready);
         Ok(())
     }

@@ -34,15 +34,17 @@ pub(crate) struct Ready {
 impl Ready {
     ghost use Rattle.family_step.specs.Reserving.{IsReadyFor};
 
-    /// For this event.
+    /// For this event, with this memory for what its step brings.
     pub fn new(
         alloc: Global,
+        draft: Draft,
         state: &State,
         callers: &Callers,
         event: &Event,
     ) -> Result<Ready, AllocError>
+        requires nothing { draft.changes ≡ (nothing_yet 0 0).changes }
+        requires can { CanGo (length (state.now.family).rows + 8) state.now.family draft }
         requires index { IsIndex (callers.now).places (state.now.family).entries }
-        requires serial { (state.now.family).serial ≤ length (state.now.family).entries }
         ensures { IfOk result (λ r. IsReadyFor event.entry.now state.now.family r) }
     {
         let name = name_asked(alloc, state, event)?;
@@ -53,21 +55,22 @@ impl Ready {
             name_again: copy_name(alloc, &name)?,
             name,
             named: named_by(alloc, state, event)?,
-            draft: draft_of(alloc, state)?,
+            draft,
         })
     }
 }
 
 /// Memory for what a step brings.
-fn draft_of(alloc: Global, state: &State) -> Result<Draft, AllocError>
-    requires serial { (state.now.family).serial ≤ length (state.now.family).entries }
+pub(crate) fn draft_of(state: &mut State) -> Result<Draft, AllocError>
+    requires serial { (state.old.family).serial ≤ length (state.old.family).entries }
     ensures nothing { IfOk result (λ d. d.changes ≡ (nothing_yet 0 0).changes) }
     ensures can { IfOk result (λ d.
-        CanGo (length (state.now.family).rows + 8) state.now.family d) }
+        CanGo (length (state.old.family).rows + 8) state.old.family d) }
+    ensures same { state.new ≡ state.old }
 {
     let room = state.branch_count() as usize + 8;
     match state.most_left().checked_add(128) {
-        Some(tasks) => Draft::new(alloc, room, tasks),
+        Some(tasks) => state.draft(room, tasks),
         None => Err(AllocError),
     }
 }

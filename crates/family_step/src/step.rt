@@ -162,6 +162,7 @@ pub(crate) fn conclude(
     let said_again = again(&said, ready.name_again);
     let brought = ready.draft.brought(position);
     put_word(brought.word, out);
+    state.keep(brought.spare);
     state.enter(Entry {
         event: ready.event,
         stood,
