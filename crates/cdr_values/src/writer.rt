@@ -248,8 +248,19 @@ fn append_parts(
 ) -> Result<(), AllocError>
     ensures { AppendsSome (in_order padding.now number.now items.now end.now) result octets.old.items octets.new.items }
 {
-    octets.extend_from_slice(padding)?;
-    octets.extend_from_slice(number)?;
-    octets.extend_from_slice(items)?;
-    octets.extend_from_slice(end)
+    append_one(octets, padding)?;
+    append_one(octets, number)?;
+    append_one(octets, items)?;
+    append_one(octets, end)
+}
+
+/// Appends these octets, or some of them for want of memory. Most calls have none to append.
+fn append_one(octets: &mut Vec<u8>, items: &[u8]) -> Result<(), AllocError>
+    ensures { AppendsSome items.now result octets.old.items octets.new.items }
+{
+    if items.is_empty() {
+        Ok(())
+    } else {
+        octets.extend_from_slice(items)
+    }
 }

@@ -44,7 +44,7 @@ pub struct State {
     pub(crate) serial: u32,
     pub(crate) entries: Vec<Entry>,
     pub(crate) tally: Tally,
-    /// What the last step has left of its memory.
+    /// What the last step has left of its memory, where it made an entry.
     pub(crate) spare: Option<Spare>,
 }
 
@@ -128,11 +128,15 @@ impl State {
         Draft::new(alloc, spare, room, tasks)
     }
 
-    /// Keeps the memory that a step has left.
+    /// Keeps the memory that a step has left, where further steps may come.
     pub fn keep(&mut self, spare: Spare)
         ensures same { self.new ≡ self.old }
     {
-        self.spare = Some(spare);
+        self.spare = if self.is_finished() {
+            None
+        } else {
+            Some(spare)
+        };
     }
 
     /// How far the top-level transaction has come.

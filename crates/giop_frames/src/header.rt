@@ -113,7 +113,7 @@ pub fn read_header(versions: &[Version], octets: &[u8]) -> Result<Header, FrameF
 fn is_magic_begun(octets: &[u8]) -> bool
     ensures { result ≡ starts_with nat_eq magic (take 4 octets.now) }
 {
-    // Where all four octets have come, a comparison of each of them costs the least.
+    // Where all four octets have come, each of them is compared in place.
     let [first, second, third, fourth, ..] = octets else {
         return MAGIC.starts_with(octets);
     };

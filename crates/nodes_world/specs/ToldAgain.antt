@@ -1,4 +1,4 @@
--- A decision is told again after a restart: at each tick its words go out to all whom it names, but to those that have answered
+-- A decision is told again after a restart: at each tick commit goes out to all whom it names, but to those that have answered
 -- (Transaction Service, interface RecoveryCoordinator, and the operation commit of interface Resource; that a tick tells again is
 -- our profile).
 use Rattle.std.specs.Prelude.{◌≡◌, ◌⊎◌, ℕ, ◌+◌, ◌<◌, ◌≤◌, Bool, List, ◌++◌, length, slice_get, Option, Some, Contains}
