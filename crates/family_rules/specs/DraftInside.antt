@@ -9,13 +9,13 @@ use Rattle.family_rules.specs.declared.draft.Draft.TheInside.{Inside}
 abbrev pub shown : Inside → DraftParts
 shown d = record {
   changes = record {
-    words = option_to_list d.word;
-    finished = map finished_of d.finished.items;
-    effects = d.effects.items;
+    words = option_to_list d.parts.value.word;
+    finished = map finished_of d.parts.value.finished.items;
+    effects = d.parts.value.effects.items;
     tasks = d.tasks.items;
   };
-  room = min (min (vec_capacity d.finished - vec_len d.finished) (vec_capacity d.effects - vec_len d.effects))
-      (min (vec_capacity d.told - vec_len d.finished) (vec_capacity d.kept - vec_len d.finished));
+  room = min (min (vec_capacity d.parts.value.finished - vec_len d.parts.value.finished) (vec_capacity d.parts.value.effects - vec_len d.parts.value.effects))
+      (min (vec_capacity d.parts.value.told - vec_len d.parts.value.finished) (vec_capacity d.parts.value.kept - vec_len d.parts.value.finished));
   tasks_room = deque_capacity d.tasks;
 }
 
@@ -26,8 +26,8 @@ HasBlank (Some word) blank = Unit {0}
 
 -- and for each answer there is memory in both places, which are empty
 pub record IsSound (d : Inside) : Type 0 where
-  pub blank : HasBlank d.word d.blank
-  pub told : vec_len d.finished ≤ vec_capacity d.told
-  pub kept : vec_len d.finished ≤ vec_capacity d.kept
-  pub none_told : d.told.items ≡ []
-  pub none_kept : d.kept.items ≡ []
+  pub blank : HasBlank d.parts.value.word d.parts.value.blank
+  pub told : vec_len d.parts.value.finished ≤ vec_capacity d.parts.value.told
+  pub kept : vec_len d.parts.value.finished ≤ vec_capacity d.parts.value.kept
+  pub none_told : d.parts.value.told.items ≡ []
+  pub none_kept : d.parts.value.kept.items ≡ []

@@ -10,15 +10,15 @@ ghost use Rattle.family_rules.specs.declared.draft.Told.{Told as ToldAnswer};
 ghost use Rattle.std.specs.List.{find};
 
 use crate::call::{Reply, Task};
-use crate::spare::{Spare, blank_of, emptied, emptied_queue, parted};
+use crate::parts::Parts;
+use crate::spare::{Spare, empty_queue, taken};
 use coordinator::{Answers, Effect, Effects, Finished, Said};
 use ots_model::CallNumber;
 use ots_model::tree::{Outcome, Outward, Word};
 use resource_votes::Registration;
-use std::alloc::{AllocError, Global};
+use std::alloc::AllocError;
 use std::collections::VecDeque;
 use std::marker::Model;
-use two_phase::Blank;
 
 /// The answer to the call of that entry.
 #[derive(Clone, Copy)]
@@ -31,15 +31,8 @@ pub(crate) struct Told {
 /// for how many more memory is taken.
 #[derive(Drop)]
 pub struct Draft {
-    pub(crate) word: Option<Outward>,
-    pub(crate) blank: Option<Blank>,
-    pub(crate) finished: Vec<Told>,
-    pub(crate) effects: Vec<Effect>,
+    pub(crate) parts: Box<Parts>,
     pub(crate) tasks: VecDeque<Task>,
-    /// Where the answers are put for the caller, once the step is over.
-    pub(crate) told: Vec<Finished>,
-    /// Where they are put for the history.
-    pub(crate) kept: Vec<Finished>,
 }
 
 impl Told {
@@ -79,24 +72,20 @@ impl Model for Draft {
 
 impl Draft {
     /// Memory for so many answers and effects, and for so many tasks, some of it left by an earlier step.
-    pub(crate) fn new(
-        alloc: Global,
-        spare: Spare,
-        room: usize,
-        tasks: usize,
-    ) -> Result<Draft, AllocError>
+    pub(crate) fn new(spare: Spare, room: usize, tasks: usize) -> Result<Draft, AllocError>
         ensures nothing { IfOk result (λ d. d.changes ≡ (nothing_yet 0 0).changes) }
         ensures room { IfOk result (λ d. room ≤ d.room) }
         ensures tasks { IfOk result (λ d. tasks ≤ d.tasks_room) }
     {
+        let Spare {
+            mut parts,
+            tasks: mut queue,
+        } = spare;
+        parts.make_room(room)?;
+        empty_queue(&mut queue, tasks)?;
         Ok(Draft {
-            word: None,
-            blank: Some(blank_of(alloc, spare.blank)?),
-            finished: emptied(spare.finished, room)?,
-            effects: emptied(spare.effects, room)?,
-            tasks: emptied_queue(spare.tasks, tasks)?,
-            told: emptied(spare.told, room)?,
-            kept: emptied(spare.kept, room)?,
+            parts,
+            tasks: queue,
         })
     }
 
@@ -106,7 +95,7 @@ impl Draft {
         ensures said { result ≡ steps.said_now position self.now.changes.finished otherwise }
         ensures replied { IsReplied otherwise result }
     {
-        match told_at(&self.finished, position) {
+        match told_at(&self.parts.finished, position) {
             Some(told) => told.reply.said(),
             None => otherwise,
         }
@@ -119,33 +108,16 @@ impl Draft {
         ensures kept { result.kept ≡ steps.said_later position self.changes.finished }
         ensures effects { result.effects ≡ self.changes.effects }
     {
-        let Draft {
-            word,
-            blank,
-            finished,
-            effects,
-            tasks,
-            mut told,
-            mut kept,
-        } = self;
-        put_later(&finished, position, &mut told);
-        put_later(&finished, position, &mut kept);
-        let (effects, no_effects) = parted(effects);
-        let (told, none_told) = parted(told);
-        let (kept, none_kept) = parted(kept);
+        let Draft { mut parts, tasks } = self;
+        let gathered = &mut *parts;
+        put_later(&gathered.finished, position, &mut gathered.told);
+        put_later(&gathered.finished, position, &mut gathered.kept);
         Brought {
-            word,
-            told: Answers::from_vec(told),
-            kept: Answers::from_vec(kept),
-            effects: Effects::from_vec(effects),
-            spare: Spare {
-                blank,
-                finished,
-                effects: no_effects,
-                tasks,
-                told: none_told,
-                kept: none_kept,
-            },
+            word: gathered.word.take(),
+            told: Answers::from_vec(taken(&mut gathered.told)),
+            kept: Answers::from_vec(taken(&mut gathered.kept)),
+            effects: Effects::from_vec(taken(&mut gathered.effects)),
+            spare: Spare { parts, tasks },
         }
     }
 
@@ -164,7 +136,7 @@ impl Draft {
         ensures room { self.old.room ≤ self.new.room + 1 }
         ensures tasks_room { self.new.tasks_room ≡ self.old.tasks_room }
     {
-        self.effects.push_reserved(effect);
+        self.parts.effects.push_reserved(effect);
     }
 
     /// Something happened, if it did.
@@ -190,9 +162,9 @@ impl Draft {
         ensures room { self.old.room ≤ self.new.room + 1 }
         ensures tasks_room { self.new.tasks_room ≡ self.old.tasks_room }
     {
-        self.effects.push_reserved(effect);
+        self.parts.effects.push_reserved(effect);
         if let Some(position) = caller {
-            self.finished.push_reserved(Told { position, reply });
+            self.parts.finished.push_reserved(Told { position, reply });
         }
     }
 
@@ -218,7 +190,7 @@ impl Draft {
         ensures tasks_room { self.new.tasks_room ≡ self.old.tasks_room }
     {
         if let Some(position) = caller {
-            self.finished.push_reserved(Told { position, reply });
+            self.parts.finished.push_reserved(Told { position, reply });
         }
     }
 
@@ -230,8 +202,8 @@ impl Draft {
         ensures room { self.new.room ≡ self.old.room }
         ensures tasks_room { self.new.tasks_room ≡ self.old.tasks_room }
     {
-        let blank = self.blank.take().unwrap();
-        self.word = Some(Outward {
+        let blank = self.parts.blank.take().unwrap();
+        self.parts.word = Some(Outward {
             number,
             registration: to.index,
             to: blank.filled(&to.to),
@@ -247,7 +219,7 @@ impl Draft {
         ensures room { self.new.room ≡ self.old.room }
         ensures tasks_room { self.new.tasks_room ≡ self.old.tasks_room }
     {
-        self.word = Some(word);
+        self.parts.word = Some(word);
     }
 }
 

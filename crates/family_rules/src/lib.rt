@@ -14,6 +14,7 @@ mod hearing;
 mod motion;
 mod names;
 mod outs;
+mod parts;
 mod recording;
 mod registered;
 mod running;

@@ -123,9 +123,11 @@ impl State {
         ensures tasks { IfOk result (λ d. tasks ≤ d.tasks_room) }
         ensures same { self.new ≡ self.old }
     {
-        let alloc = self.allocator();
-        let spare = self.spare.take().unwrap_or(Spare::new(alloc));
-        Draft::new(alloc, spare, room, tasks)
+        let spare = match self.spare.take() {
+            Some(spare) => spare,
+            None => Spare::new(self.allocator())?,
+        };
+        Draft::new(spare, room, tasks)
     }
 
     /// Keeps the memory that a step has left, where further steps may come.

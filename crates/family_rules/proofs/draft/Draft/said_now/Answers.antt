@@ -5,6 +5,7 @@ use Rattle.coordinator.specs.Step.{said_now}
 use Rattle.family_rules.specs.Calls.{said_of}
 use Rattle.family_rules.specs.Changes.{DraftParts}
 use Rattle.family_rules.specs.declared.draft.Told.{Told}
+use Rattle.family_rules.specs.declared.parts.Parts.{Parts}
 use Rattle.family_rules.proofs.Handed.{said_by}
 use Rattle.family_rules.proofs.draft.Draft.said_now.Goals as goal
 
@@ -14,6 +15,6 @@ returns-in-Some-clause-said c =
     let otherwise = c.args.otherwise in
     c.said.ensures
     ∙ (ap (λ (o : Option Told). option_map_or (λ (t : Told). said_of t.reply) o otherwise)
-    (c.in-Some.ensures ∙ ap (λ (ys : List Told). find (λ (t : Told). t.position == at) ys) c.deref.ensures.value)
-    ∙ (sym (said_by at c.self.inside.finished.items otherwise)
+    (c.in-Some.ensures ∙ ap (λ (ys : List Told). find (λ (t : Told). t.position == at) ys) (c.deref-2.ensures.value ∙ ap (λ (p : Parts). p.finished.items) c.deref.ensures))
+    ∙ (sym (said_by at c.self.inside.parts.value.finished.items otherwise)
     ∙ ap (λ (d : DraftParts). said_now at d.changes.finished otherwise) c.self.view_is))
