@@ -9,3 +9,4 @@ mod Seams
 mod Filled
 mod Unsynced
 mod Walking
+mod Octets

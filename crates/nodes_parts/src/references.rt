@@ -1,4 +1,4 @@
-ghost use Rattle.std.specs.Prelude.{◌≡◌, ◌==◌, ℕ, [], drop, map, Some, None, if◌then◌else◌, OnOk, OnErr};
+ghost use Rattle.std.specs.Prelude.{◌≡◌, ◌==◌, ℕ, [], bytes_eq, drop, map, Some, None, if◌then◌else◌, OnOk, OnErr};
 ghost use Rattle.std.specs.Map.{lookup};
 ghost use Rattle.std.specs.Option.{option_map, option_or};
 ghost use Rattle.nodes_parts.specs.Referring.{LeadsTo, digest_of, entry_of, named, referred_in};
@@ -91,11 +91,25 @@ fn led_from(entries: &[(Vec<u8>, NamedKey)], place: usize, to: &[u8]) -> Option<
 {
     for at in place..entries.len() {
         let entry = &entries[at];
-        if to == entry.0.as_slice() {
+        if is_same(to, &entry.0) {
             return Some(entry.1);
         }
     }
     None
+}
+
+/// Whether two references hold the same octets. None ends it early, so that many are compared at a time.
+fn is_same(one: &[u8], other: &[u8]) -> bool
+    ensures { result ≡ bytes_eq one.now other.now }
+{
+    if one.len() != other.len() {
+        return false;
+    }
+    let mut same = true;
+    for at in 0..one.len() {
+        same &= one[at] == other[at];
+    }
+    same
 }
 
 /// Where no reference has such a digest yet, the first one stands at this place.
