@@ -8,7 +8,7 @@
 //! - `replay_completion N NAME`, of that registration. `superior WORD`. `clock`: the clock of the family alone goes on.
 //!   `reread`, `opened`: what no caller brings.
 
-use crate::commands::number;
+use crate::text::{front, letter, number, numbers};
 use coordinator::Act;
 use ior_refs::ObjectKey;
 use ots_model::tree::{Heard, Word};
@@ -17,117 +17,92 @@ use std::alloc::Global;
 use std::io;
 use std::io::ErrorKind;
 
-/// The call that these words stand for.
-pub fn act_of(alloc: Global, words: &[&str]) -> io::Result<Act> {
-    match act_by(alloc, words)? {
-        Some(act) => Ok(act),
-        None => Err(ErrorKind::InvalidInput.into()),
-    }
-}
-
-fn act_by(alloc: Global, words: &[&str]) -> io::Result<Option<Act>> {
-    match words {
-        [name] => Ok(act_alone(name)),
-        ["replay_completion", index, name] => replay(alloc, index, name),
-        ["register_resource", name, rest @ ..] => register(alloc, name, !rest.is_empty()),
-        [name, with] => act_with(alloc, name, with),
-        [relation, other @ ..] => related(relation, other),
-        [] => Ok(None),
-    }
-}
-
-fn act_with(alloc: Global, name: &str, with: &str) -> io::Result<Option<Act>> {
+/// The call with this name, and these words behind it.
+pub fn act_of(alloc: Global, name: &str, rest: &str) -> io::Result<Act> {
     match name {
-        "commit" => Ok(Some(Act::Commit(true))),
-        "superior" => Ok(Some(Act::Superior(word_of(with)))),
-        "register_subtran_aware" => register_aware(alloc, with),
-        "register_synchronization" => register_synchronization(alloc, with),
-        _ => related(name, &[with]),
+        "commit" => Ok(Act::Commit(!rest.is_empty())),
+        "register_resource" => register(alloc, rest),
+        "register_subtran_aware" => Ok(Act::RegisterSubtranAware(reference(alloc, rest)?)),
+        "register_synchronization" => Ok(Act::RegisterSynchronization(reference(alloc, rest)?)),
+        "replay_completion" => replay(alloc, rest),
+        "superior" => Ok(Act::Superior(word_of(rest))),
+        _ if rest.is_empty() => act_alone(name),
+        _ => relation_to(name, coordinator_of(alloc, rest)?),
     }
 }
 
-fn replay(alloc: Global, index: &str, name: &str) -> io::Result<Option<Act>> {
-    Ok(Some(Act::Replay(number(index)?, reference(alloc, name)?)))
+fn register(alloc: Global, rest: &str) -> io::Result<Act> {
+    let (name, aware) = front(rest);
+    Ok(Act::RegisterResource(reference(alloc, name)?, !aware.is_empty()))
 }
 
-fn register(alloc: Global, name: &str, aware: bool) -> io::Result<Option<Act>> {
-    Ok(Some(Act::RegisterResource(reference(alloc, name)?, aware)))
-}
-
-fn register_aware(alloc: Global, name: &str) -> io::Result<Option<Act>> {
-    Ok(Some(Act::RegisterSubtranAware(reference(alloc, name)?)))
-}
-
-fn register_synchronization(alloc: Global, name: &str) -> io::Result<Option<Act>> {
-    Ok(Some(Act::RegisterSynchronization(reference(alloc, name)?)))
-}
-
-fn related(relation: &str, other: &[&str]) -> io::Result<Option<Act>> {
-    Ok(relation_to(relation, coordinator_of(other)?))
+fn replay(alloc: Global, rest: &str) -> io::Result<Act> {
+    let (index, name) = front(rest);
+    Ok(Act::Replay(number(index)?, reference(alloc, name)?))
 }
 
 /// A reference of this letter alone.
 fn reference(alloc: Global, name: &str) -> io::Result<RefBytes> {
-    match name.as_bytes() {
-        [letter] => Ok(RefBytes::from_vec(vec![in alloc; *letter]?)),
+    Ok(RefBytes::from_vec(vec![in alloc; letter(name)?]?))
+}
+
+/// The key of another coordinator.
+fn coordinator_of(alloc: Global, words: &str) -> io::Result<Option<ObjectKey>> {
+    if words == "none" {
+        return Ok(None);
+    }
+    let numbers = numbers(alloc, words)?;
+    match numbers.as_slice() {
+        [service, slot, generation, index] => Ok(Some(ObjectKey {
+            kind: b'K',
+            service: u64::from(*service),
+            life: 1,
+            slot: *slot,
+            generation: u64::from(*generation),
+            index: *index,
+        })),
         _ => Err(ErrorKind::InvalidInput.into()),
     }
 }
 
-/// The key of another coordinator.
-fn coordinator_of(words: &[&str]) -> io::Result<Option<ObjectKey>> {
-    match words {
-        [service, slot, generation, index] => Ok(Some(ObjectKey {
-            kind: b'K',
-            service: u64::from(number(service)?),
-            life: 1,
-            slot: number(slot)?,
-            generation: u64::from(number(generation)?),
-            index: number(index)?,
-        })),
-        _ => Ok(None),
-    }
-}
-
 /// A relation to another coordinator.
-fn relation_to(name: &str, other: Option<ObjectKey>) -> Option<Act> {
+fn relation_to(name: &str, other: Option<ObjectKey>) -> io::Result<Act> {
     match name {
-        "is_same_transaction" => Some(Act::IsSameTransaction(other)),
-        "is_related_transaction" => Some(Act::IsRelatedTransaction(other)),
-        "is_ancestor_transaction" => Some(Act::IsAncestorTransaction(other)),
-        "is_descendant_transaction" => Some(Act::IsDescendantTransaction(other)),
-        _ => None,
+        "is_same_transaction" => Ok(Act::IsSameTransaction(other)),
+        "is_related_transaction" => Ok(Act::IsRelatedTransaction(other)),
+        "is_ancestor_transaction" => Ok(Act::IsAncestorTransaction(other)),
+        "is_descendant_transaction" => Ok(Act::IsDescendantTransaction(other)),
+        _ => Err(ErrorKind::InvalidInput.into()),
     }
 }
 
 /// A call without words behind it.
-fn act_alone(name: &str) -> Option<Act> {
+fn act_alone(name: &str) -> io::Result<Act> {
     match name {
-        "get_terminator" => Some(Act::GetTerminator),
-        "get_coordinator" => Some(Act::GetCoordinator),
-        "commit" => Some(Act::Commit(false)),
-        "rollback" => Some(Act::Rollback),
-        "rollback_only" => Some(Act::RollbackOnly),
-        "create_subtransaction" => Some(Act::CreateSubtransaction),
-        "get_txcontext" => Some(Act::GetTxcontext),
-        "clock" => Some(Act::Tick),
-        "reread" => Some(Act::Reread(true)),
-        "opened" => Some(Act::Opened(None)),
+        "get_terminator" => Ok(Act::GetTerminator),
+        "get_coordinator" => Ok(Act::GetCoordinator),
+        "rollback" => Ok(Act::Rollback),
+        "rollback_only" => Ok(Act::RollbackOnly),
+        "create_subtransaction" => Ok(Act::CreateSubtransaction),
+        "get_txcontext" => Ok(Act::GetTxcontext),
+        "clock" => Ok(Act::Tick),
+        "reread" => Ok(Act::Reread(true)),
+        "opened" => Ok(Act::Opened(None)),
         _ => question(name),
     }
 }
 
 /// A question.
-fn question(name: &str) -> Option<Act> {
+fn question(name: &str) -> io::Result<Act> {
     match name {
-        "get_status" => Some(Act::GetStatus),
-        "get_parent_status" => Some(Act::GetParentStatus),
-        "get_top_level_status" => Some(Act::GetTopLevelStatus),
-        "is_top_level_transaction" => Some(Act::IsTopLevelTransaction),
-        "hash_transaction" => Some(Act::HashTransaction),
-        "hash_top_level_tran" => Some(Act::HashTopLevelTran),
-        "get_transaction_name" => Some(Act::GetTransactionName),
-        _ => None,
+        "get_status" => Ok(Act::GetStatus),
+        "get_parent_status" => Ok(Act::GetParentStatus),
+        "get_top_level_status" => Ok(Act::GetTopLevelStatus),
+        "is_top_level_transaction" => Ok(Act::IsTopLevelTransaction),
+        "hash_transaction" => Ok(Act::HashTransaction),
+        "hash_top_level_tran" => Ok(Act::HashTopLevelTran),
+        "get_transaction_name" => Ok(Act::GetTransactionName),
+        _ => Err(ErrorKind::InvalidInput.into()),
     }
 }
 

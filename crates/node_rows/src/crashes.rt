@@ -14,9 +14,9 @@ struct Row {
 }
 
 /// Tells what the next lives make of what a crash in each call of the disk leaves.
-pub fn tell_crashes(alloc: Global, case: &Case, told: &mut Vec<u8>) -> io::Result<()> {
+pub fn tell_crashes(case: &Case, told: &mut Vec<u8>) -> io::Result<()> {
     for call in 0..CALLS {
-        if !tell_crash(alloc, case, call, told)? {
+        if !tell_crash(case, call, told)? {
             break;
         }
     }
@@ -24,64 +24,45 @@ pub fn tell_crashes(alloc: Global, case: &Case, told: &mut Vec<u8>) -> io::Resul
 }
 
 /// Tells what they make of what a crash in this call leaves. The result is whether it was made.
-fn tell_crash(alloc: Global, case: &Case, call: u64, told: &mut Vec<u8>) -> io::Result<bool> {
-    let before = case.stopped(alloc, call)?;
+fn tell_crash(case: &Case, call: u64, told: &mut Vec<u8>) -> io::Result<bool> {
+    let before = case.stopped(call)?;
     let is_made = before.faults() > 0;
     if is_made {
         write!(told, "{call}:")?;
-        tell_left(alloc, case, call.saturating_add(1), before.octets(), told)?;
+        tell_left(case, call.saturating_add(1), before.octets(), told)?;
     }
     Ok(is_made)
 }
 
-fn tell_left(
-    alloc: Global,
-    case: &Case,
-    next: u64,
-    before: &[u8],
-    told: &mut Vec<u8>,
-) -> io::Result<()> {
-    let after = case.stopped(alloc, next)?;
-    tell_images(alloc, case, before, after.octets(), told)
+fn tell_left(case: &Case, next: u64, before: &[u8], told: &mut Vec<u8>) -> io::Result<()> {
+    let after = case.stopped(next)?;
+    tell_images(case, before, after.octets(), told)
 }
 
 /// Tells which places a call writes, and what the next lives make of what a crash in it leaves.
-fn tell_images(
-    alloc: Global,
-    case: &Case,
-    before: &[u8],
-    after: &[u8],
-    told: &mut Vec<u8>,
-) -> io::Result<()> {
+fn tell_images(case: &Case, before: &[u8], after: &[u8], told: &mut Vec<u8>) -> io::Result<()> {
     let written = difference(before, after);
     writeln!(told, " {} to {}", written.start, written.end)?;
-    let rows = rows(alloc, case, before, after, &written)?;
+    let rows = rows(case, before, after, &written)?;
     tell_rows(rows.as_slice(), told)
 }
 
-fn rows(
-    alloc: Global,
-    case: &Case,
-    before: &[u8],
-    after: &[u8],
-    written: &Range<usize>,
-) -> io::Result<Vec<Row>> {
-    let mut rows = Vec::new(alloc);
-    count_torn(alloc, case, after, before, written, &mut rows)?;
-    count_ones(alloc, case, after, written, &mut rows)?;
+fn rows(case: &Case, before: &[u8], after: &[u8], written: &Range<usize>) -> io::Result<Vec<Row>> {
+    let mut rows = Vec::new(case.alloc());
+    count_torn(case, after, before, written, &mut rows)?;
+    count_ones(case, after, written, &mut rows)?;
     Ok(rows)
 }
 
 /// Counts the images of which a part of what was written is there, and behind it octets that are 1.
 fn count_ones(
-    alloc: Global,
     case: &Case,
     after: &[u8],
     written: &Range<usize>,
     rows: &mut Vec<Row>,
 ) -> io::Result<()> {
-    let ones = with_ones(alloc, after, written.start, written.end)?;
-    count_torn(alloc, case, after, ones.as_slice(), written, rows)
+    let ones = with_ones(case.alloc(), after, written.start, written.end)?;
+    count_torn(case, after, ones.as_slice(), written, rows)
 }
 
 /// The octets, of which those between two places are 1.
@@ -126,7 +107,6 @@ fn difference(before: &[u8], after: &[u8]) -> Range<usize> {
 
 /// Counts the images of which a part of what was written is there, and behind it what these octets have.
 fn count_torn(
-    alloc: Global,
     case: &Case,
     after: &[u8],
     behind: &[u8],
@@ -134,8 +114,8 @@ fn count_torn(
     rows: &mut Vec<Row>,
 ) -> io::Result<()> {
     for count in written.start..=written.end {
-        let octets = torn(alloc, after, behind, count)?;
-        count_image(alloc, case, octets.as_slice(), rows)?;
+        let octets = torn(case.alloc(), after, behind, count)?;
+        count_image(case, octets.as_slice(), rows)?;
     }
     Ok(())
 }
@@ -150,9 +130,9 @@ fn torn(alloc: Global, after: &[u8], behind: &[u8], count: usize) -> io::Result<
 }
 
 /// Plays the next lives from an image on, and counts it with those that lead to the same.
-fn count_image(alloc: Global, case: &Case, image: &[u8], rows: &mut Vec<Row>) -> io::Result<()> {
-    let mut told = Vec::new(alloc);
-    case.tell_next(alloc, image, &mut told)?;
+fn count_image(case: &Case, image: &[u8], rows: &mut Vec<Row>) -> io::Result<()> {
+    let mut told = Vec::new(case.alloc());
+    case.tell_next(image, &mut told)?;
     add_image(told, rows)
 }
 

@@ -5,7 +5,8 @@
 //! - `octets HEX`: what the disk holds at first. `area N`: the area of its journal.
 //! - `fail N ..`: these calls of the disk fail.
 //! - `crash`: the node crashes, and the lines behind it are of its next life. Its disk fails no more.
-//! - Each other line has commands, as `commands` says, with `; ` between them.
+//! - `apart`: the node is taken apart, and put together again.
+//! - Each other line has commands, as `life` says, with `; ` between them.
 //!
 //! There are these kinds of case:
 //!
@@ -18,38 +19,41 @@
 #![tactic(auto)]
 
 use case::Case;
-use std::alloc::Global;
 use std::io;
 use std::io::Write;
+use text::pieces;
 
 mod acts;
 mod case;
 mod client;
-mod commands;
 mod crashes;
+mod life;
 mod node_calls;
 mod tell;
+mod text;
 
 fn main(rt: HostRuntime) -> io::Result<()> {
     let text = io::read_to_string(rt.alloc(), rt.stdin())?;
-    let mut out = rt.stdout();
-    for case in text.as_str().split("\n== ").skip(1) {
-        let told = told(rt.alloc(), case)?;
-        out.write_all(told.as_slice())?;
+    let cases = pieces(rt.alloc(), text.as_str(), "\n== ")?;
+    match cases.as_slice() {
+        [_, cases @ ..] => tell_cases(&rt, cases),
+        [] => Ok(()),
+    }
+}
+
+fn tell_cases(rt: &HostRuntime, cases: &[&str]) -> io::Result<()> {
+    for case in cases {
+        tell_case(rt, case)?;
     }
     Ok(())
 }
 
-/// The head of a case, and what comes of it.
-fn told(alloc: Global, case: &str) -> io::Result<Vec<u8>> {
-    let mut told = Vec::new(alloc);
+/// Tells the head of a case, and what comes of it.
+fn tell_case(rt: &HostRuntime, case: &str) -> io::Result<()> {
+    let mut told = Vec::new(rt.alloc());
     let (head, lines) = case.split_once('\n').unwrap_or((case, ""));
-    tell_case(alloc, head, lines, &mut told)?;
-    Ok(told)
-}
-
-fn tell_case(alloc: Global, head: &str, lines: &str, told: &mut Vec<u8>) -> io::Result<()> {
     writeln!(told, "== {head}")?;
-    let case = Case::of(alloc, lines)?;
-    case.tell(alloc, head, told)
+    Case::of(rt, lines)?.tell(head, &mut told)?;
+    rt.stdout().write_all(told.as_slice())?;
+    Ok(())
 }

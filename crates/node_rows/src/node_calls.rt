@@ -1,11 +1,14 @@
 //! The calls of a node over a disk in memory, each without what its contract says: no case needs it.
+ghost use Rattle.std.specs.Prelude.{◌≡◌};
+ghost use Rattle.service_node.specs.Given.{node_makes};
 
-use coordinator::NodeFault;
+use crate::client::Client;
+use coordinator::{Act, NodeFault, StepAnswer};
 use decision_journal::Standing;
 use ior_refs::ObjectKey;
 use ots_outside::{Back, MemDisk};
 use recovery_coord::{Held, Outbox};
-use service_node::{Happenings, Node};
+use service_node::{Happenings, Node, NodeParts, Slots};
 use std::alloc::Global;
 use std::io;
 
@@ -30,9 +33,45 @@ pub fn crash(node: MemNode) -> MemDisk {
     node.crash()
 }
 
+/// Makes the call `parts`, and then `whole` of the same parts, whose families were a vector between.
+pub fn rebuilt(alloc: Global, node: MemNode) -> MemNode {
+    let parts = node.parts();
+    let families = parts.families.into_vec();
+    Node::whole(
+        alloc,
+        NodeParts {
+            journal: parts.journal,
+            recovered: parts.recovered,
+            families: Slots::from_vec(families),
+            last: parts.last,
+            generation: parts.generation,
+        },
+    )
+}
+
 /// Makes the call `create`.
 pub fn create(node: &mut MemNode, now: u64, seconds: u32) -> Result<ObjectKey, NodeFault> {
     node.create(now, seconds)
+}
+
+/// Makes the call `apply` of this client, but for an act that a node itself brings.
+pub fn apply(
+    node: &mut MemNode,
+    client: &mut Client,
+    act: Act,
+) -> Option<Result<StepAnswer, NodeFault>> {
+    if is_made(&act) {
+        return None;
+    }
+    let event = client.event(act);
+    Some(node.apply(&client.key, &event, &mut client.out))
+}
+
+/// Whether a node itself tells its families this.
+fn is_made(act: &Act) -> bool
+    ensures { result ≡ node_makes act.now }
+{
+    matches!(act, Act::Reread(_) | Act::Opened(_))
 }
 
 /// Makes the call `tick`.

@@ -1,8 +1,7 @@
 //! Tells answers, words and records.
 
-use crate::client::Client;
 use crate::node_calls::{MemNode, held, life, standing};
-use coordinator::{Effect, Finished, Said, StepAnswer};
+use coordinator::{Effect, Finished, NodeFault, Said, StepAnswer};
 use decision_journal::Standing;
 use ior_refs::ObjectKey;
 use ots_model::tree::{Outward, Parent, Word};
@@ -12,11 +11,40 @@ use service_node::{Happening, Happenings};
 use std::io;
 use std::io::Write;
 
-/// How many words are told in a line at most.
-const MOST: usize = 1024;
+/// Tells the key of a family that was made.
+pub fn tell_made(made: &Result<ObjectKey, NodeFault>, told: &mut Vec<u8>) -> io::Result<()> {
+    match made {
+        Ok(key) => write!(
+            told,
+            " life {} slot {} number {}",
+            key.life, key.slot, key.generation
+        ),
+        Err(fault) => tell_fault(fault, told),
+    }
+}
+
+fn tell_fault(fault: &NodeFault, told: &mut Vec<u8>) -> io::Result<()> {
+    write!(told, " {fault:?}")
+}
+
+/// Tells the answer to a call.
+pub fn tell_answered(answer: &Result<StepAnswer, NodeFault>, told: &mut Vec<u8>) -> io::Result<()> {
+    match answer {
+        Ok(answer) => tell_answer(answer, told),
+        Err(fault) => tell_fault(fault, told),
+    }
+}
+
+/// Tells what a tick did.
+pub fn tell_ticked(answer: &Result<Happenings, NodeFault>, told: &mut Vec<u8>) -> io::Result<()> {
+    match answer {
+        Ok(happened) => tell_tick(happened, told),
+        Err(fault) => tell_fault(fault, told),
+    }
+}
 
 /// Tells what a call is answered, which earlier calls are answered, and what happened.
-pub fn tell_answer(answer: &StepAnswer, told: &mut Vec<u8>) -> io::Result<()> {
+fn tell_answer(answer: &StepAnswer, told: &mut Vec<u8>) -> io::Result<()> {
     write!(told, " ")?;
     tell_said(&answer.said, told)?;
     if answer.said.is_later() {
@@ -46,7 +74,7 @@ fn tell_finished(answer: &Finished, told: &mut Vec<u8>) -> io::Result<()> {
 }
 
 /// Tells what a tick did to families.
-pub fn tell_tick(happened: &Happenings, told: &mut Vec<u8>) -> io::Result<()> {
+fn tell_tick(happened: &Happenings, told: &mut Vec<u8>) -> io::Result<()> {
     write!(told, " ticked")?;
     for happening in happened.items() {
         tell_happening(happening, told)?;
@@ -59,36 +87,8 @@ fn tell_happening(happening: &Happening, told: &mut Vec<u8>) -> io::Result<()> {
     tell_what_happened(happening.finished.items(), happening.effects.items(), told)
 }
 
-/// Tells the words that go out, which then wait for their answers.
-pub fn tell_words(client: &mut Client, told: &mut Vec<u8>) -> io::Result<()> {
-    for _ in 0..MOST {
-        if !tell_next_word(client, told)? {
-            break;
-        }
-    }
-    Ok(())
-}
-
-/// Tells a word that goes out. The result is whether there is one.
-fn tell_next_word(client: &mut Client, told: &mut Vec<u8>) -> io::Result<bool> {
-    match client.out.take() {
-        Some(outward) => {
-            tell_waiting(client, &outward, told)?;
-            Ok(true)
-        }
-        None => Ok(false),
-    }
-}
-
-/// Tells a word, which then waits for its answer.
-fn tell_waiting(client: &mut Client, outward: &Outward, told: &mut Vec<u8>) -> io::Result<()> {
-    tell_word(outward, told)?;
-    client.waiting.push_back(outward.number)?;
-    Ok(())
-}
-
 /// Tells a word, the registration that it goes to, its reference, its number, and the place of the record behind it.
-fn tell_word(outward: &Outward, told: &mut Vec<u8>) -> io::Result<()> {
+pub fn tell_word(outward: &Outward, told: &mut Vec<u8>) -> io::Result<()> {
     write!(told, " -> ")?;
     tell_name(&outward.word, told)?;
     write!(told, " {} ", outward.registration)?;
