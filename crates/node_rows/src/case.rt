@@ -1,9 +1,9 @@
 use crate::crashes::tell_crashes;
 use crate::life::Life;
 use crate::node_calls::{MemNode, crash, disk_of, load, rebuilt};
+use crate::tell::tell_records;
 use crate::text::{number, octets_of, pieces};
-use coordinator::NodeFault;
-use ots_outside::{Back, MemDisk};
+use ots_outside::MemDisk;
 use std::alloc::Global;
 use std::io;
 use std::io::Write;
@@ -15,7 +15,8 @@ pub const CALLS: u64 = 64;
 /// What a disk holds, which of its calls fail, and what is done in each life of its node.
 #[derive(Drop)]
 pub struct Case<'a> {
-    rt: &'a HostRuntime,
+    /// What cases are played by.
+    pub rt: &'a HostRuntime,
     octets: Vec<u8>,
     area: u64,
     failing: Vec<u64>,
@@ -39,15 +40,10 @@ impl<'a> Case<'a> {
         Ok(case)
     }
 
-    /// What memory is taken by.
-    pub fn alloc(&self) -> Global {
-        self.rt.alloc()
-    }
-
     /// Adds a life of these lines, but those that say what the disk holds and which of its calls fail.
     fn add_life(&mut self, life: &'a str) -> io::Result<()> {
-        let mut told = Vec::new(self.alloc());
-        let lines = pieces(self.alloc(), life, "\n")?;
+        let mut told = Vec::new(self.rt.alloc());
+        let lines = pieces(self.rt.alloc(), life, "\n")?;
         for line in lines.as_slice() {
             self.add_line(line, &mut told)?;
         }
@@ -57,9 +53,9 @@ impl<'a> Case<'a> {
 
     fn add_line(&mut self, line: &'a str, lines: &mut Vec<&'a str>) -> io::Result<()> {
         match line.split_once(' ') {
-            Some(("octets", octets)) => self.octets = octets_of(self.alloc(), octets)?,
+            Some(("octets", octets)) => self.octets = octets_of(self.rt.alloc(), octets)?,
             Some(("area", area)) => self.area = u64::from(number(area)?),
-            Some(("fail", calls)) => self.failing = calls_of(self.alloc(), calls)?,
+            Some(("fail", calls)) => self.failing = calls_of(self.rt.alloc(), calls)?,
             _ if line.is_empty() => {}
             _ => lines.push(line)?,
         }
@@ -78,12 +74,13 @@ impl<'a> Case<'a> {
 
     fn tell_calls(&self, told: &mut Vec<u8>) -> io::Result<()> {
         let failing = self.failing.clone()?;
-        let disk = disk_of(self.alloc(), self.octets.as_slice(), failing)?;
+        let disk = disk_of(self.rt.alloc(), self.octets.as_slice(), failing)?;
         self.tell_lives(disk, self.lives.as_slice(), "\n", told)?;
         writeln!(told)
     }
 
-    /// Plays these lives, one after the other. The disk that the first begins with fails; that of the others doesn't.
+    /// Plays these lives, one after the other. Each but the first has a disk that reads as the last was left, and doesn't
+    /// fail.
     fn tell_lives(
         &self,
         disk: MemDisk,
@@ -95,25 +92,14 @@ impl<'a> Case<'a> {
         let mut gap = "";
         for life in lives {
             write!(told, "{gap}")?;
-            disk = self.next_disk(disk, life.as_slice(), between, told)?;
+            let left = self.live(disk, life.as_slice(), between, told)?;
+            disk = disk_of(self.rt.alloc(), left.octets(), Vec::new(self.rt.alloc()))?;
             gap = between;
         }
         Ok(())
     }
 
-    /// Plays a life on a disk. The next has a disk that reads the same.
-    fn next_disk(
-        &self,
-        disk: MemDisk,
-        life: &[&str],
-        between: &str,
-        told: &mut Vec<u8>,
-    ) -> io::Result<MemDisk> {
-        let left = self.live(disk, life, between, told)?;
-        disk_of(self.alloc(), left.octets(), Vec::new(self.alloc()))
-    }
-
-    /// Loads the node that a disk holds, and plays its life. Gives the disk back.
+    /// Loads the node that a disk holds, and plays its life, or tells why that is refused. Gives the disk back.
     fn live(
         &self,
         disk: MemDisk,
@@ -121,9 +107,12 @@ impl<'a> Case<'a> {
         between: &str,
         told: &mut Vec<u8>,
     ) -> io::Result<MemDisk> {
-        match load(self.alloc(), disk, self.area) {
+        match load(self.rt.alloc(), disk, self.area) {
             Ok(node) => live_on(self.rt, node, lines, between, told),
-            Err(back) => give_back(back, told),
+            Err(back) => {
+                write!(told, "{:?}", back.fault)?;
+                Ok(back.value)
+            }
         }
     }
 
@@ -161,27 +150,29 @@ impl<'a> Case<'a> {
 
     /// Plays a life in which the disk fails from this call on, and tells what came of its last line.
     fn tell_last(&self, from: u64, lines: &[&str], told: &mut Vec<u8>) -> io::Result<()> {
-        let mut all = Vec::new(self.alloc());
+        let mut all = Vec::new(self.rt.alloc());
         self.live(self.disk_from(from)?, lines, "\n", &mut all)?;
-        tell_last_line(all.as_slice(), told)
+        let last = all.as_slice().rsplit(|octet| *octet == b'\n').next();
+        told.write_all(last.unwrap_or(&[]))?;
+        writeln!(told)
     }
 
     /// The disk of the case, whose calls fail from this one on.
     fn disk_from(&self, call: u64) -> io::Result<MemDisk> {
         let failing: Range<u64> = call..call.saturating_add(CALLS);
-        let failing = failing.collect(self.alloc())?;
-        disk_of(self.alloc(), self.octets.as_slice(), failing)
+        let failing = failing.collect(self.rt.alloc())?;
+        disk_of(self.rt.alloc(), self.octets.as_slice(), failing)
     }
 
     /// The disk that the first life leaves where each of its calls fails from this one on.
     pub fn stopped(&self, call: u64) -> io::Result<MemDisk> {
         let disk = self.disk_from(call)?;
-        self.live(disk, self.first_life(), "", &mut Vec::new(self.alloc()))
+        self.live(disk, self.first_life(), "", &mut Vec::new(self.rt.alloc()))
     }
 
     /// Plays the lives behind the first from these octets on, and tells what comes in one line.
     pub fn tell_next(&self, octets: &[u8], told: &mut Vec<u8>) -> io::Result<()> {
-        let disk = disk_of(self.alloc(), octets, Vec::new(self.alloc()))?;
+        let disk = disk_of(self.rt.alloc(), octets, Vec::new(self.rt.alloc()))?;
         match self.lives.as_slice() {
             [_, lives @ ..] => self.tell_lives(disk, lives, ". ", told),
             [] => Ok(()),
@@ -189,14 +180,8 @@ impl<'a> Case<'a> {
     }
 }
 
-/// Tells why a load was refused, and gives the disk back.
-fn give_back(back: Back<MemDisk, NodeFault>, told: &mut Vec<u8>) -> io::Result<MemDisk> {
-    write!(told, "{:?}", back.fault)?;
-    Ok(back.value)
-}
-
-/// Plays the life of a node that was loaded. Gives the disk back. Nothing but a crash ends a node, also where playing
-/// fails.
+/// Plays the life of a node that was loaded, where the line `apart` takes it apart and puts it together again. Gives the
+/// disk back. Nothing but a crash ends a node, also where playing fails.
 fn live_on(
     rt: &HostRuntime,
     node: MemNode,
@@ -206,34 +191,20 @@ fn live_on(
 ) -> io::Result<MemDisk> {
     let mut node = node;
     let mut life = Life::new(rt);
-    let mut played = life.tell_records(&node);
+    let mut played = tell_records(&node, &mut life.told);
     for line in lines {
         if played.is_err() {
             break;
         }
-        node = taken_apart(rt.alloc(), node, line);
+        if *line == "apart" {
+            node = rebuilt(rt.alloc(), node);
+        }
         played = life.play(&mut node, between, line);
     }
     let disk = crash(node);
     played?;
-    told.extend_from_slice(life.told())?;
+    told.write_all(life.told.as_slice())?;
     Ok(disk)
-}
-
-/// The node, which the line `apart` takes apart and puts together again.
-fn taken_apart(alloc: Global, node: MemNode, line: &str) -> MemNode {
-    if line == "apart" {
-        rebuilt(alloc, node)
-    } else {
-        node
-    }
-}
-
-/// Tells the last of lines.
-fn tell_last_line(lines: &[u8], told: &mut Vec<u8>) -> io::Result<()> {
-    let last = lines.rsplit(|octet| *octet == b'\n').next();
-    told.extend_from_slice(last.unwrap_or(&[]))?;
-    writeln!(told)
 }
 
 /// The numbers of calls that are to fail.

@@ -26,56 +26,33 @@ pub fn tell_crashes(case: &Case, told: &mut Vec<u8>) -> io::Result<()> {
 /// Tells what they make of what a crash in this call leaves. The result is whether it was made.
 fn tell_crash(case: &Case, call: u64, told: &mut Vec<u8>) -> io::Result<bool> {
     let before = case.stopped(call)?;
-    let is_made = before.faults() > 0;
-    if is_made {
-        write!(told, "{call}:")?;
-        tell_left(case, call.saturating_add(1), before.octets(), told)?;
+    if before.faults() == 0 {
+        return Ok(false);
     }
-    Ok(is_made)
-}
-
-fn tell_left(case: &Case, next: u64, before: &[u8], told: &mut Vec<u8>) -> io::Result<()> {
-    let after = case.stopped(next)?;
-    tell_images(case, before, after.octets(), told)
+    let after = case.stopped(call.saturating_add(1))?;
+    write!(told, "{call}:")?;
+    tell_images(case, before.octets(), after.octets(), told)?;
+    Ok(true)
 }
 
 /// Tells which places a call writes, and what the next lives make of what a crash in it leaves.
 fn tell_images(case: &Case, before: &[u8], after: &[u8], told: &mut Vec<u8>) -> io::Result<()> {
     let written = difference(before, after);
     writeln!(told, " {} to {}", written.start, written.end)?;
-    let rows = rows(case, before, after, &written)?;
+    let ones = with_ones(case.rt.alloc(), after, written.start, written.end)?;
+    let mut rows = Vec::new(case.rt.alloc());
+    count_torn(case, after, before, &written, &mut rows)?;
+    count_torn(case, after, ones.as_slice(), &written, &mut rows)?;
     tell_rows(rows.as_slice(), told)
-}
-
-fn rows(case: &Case, before: &[u8], after: &[u8], written: &Range<usize>) -> io::Result<Vec<Row>> {
-    let mut rows = Vec::new(case.alloc());
-    count_torn(case, after, before, written, &mut rows)?;
-    count_ones(case, after, written, &mut rows)?;
-    Ok(rows)
-}
-
-/// Counts the images of which a part of what was written is there, and behind it octets that are 1.
-fn count_ones(
-    case: &Case,
-    after: &[u8],
-    written: &Range<usize>,
-    rows: &mut Vec<Row>,
-) -> io::Result<()> {
-    let ones = with_ones(case.alloc(), after, written.start, written.end)?;
-    count_torn(case, after, ones.as_slice(), written, rows)
 }
 
 /// The octets, of which those between two places are 1.
 fn with_ones(alloc: Global, octets: &[u8], start: usize, end: usize) -> io::Result<Vec<u8>> {
     let mut ones = octets.to_vec(alloc)?;
-    fill(ones.as_mut_slice(), start, end);
-    Ok(ones)
-}
-
-fn fill(octets: &mut [u8], start: usize, end: usize) {
-    if let Some(part) = octets.get_mut(start..end) {
+    if let Some(part) = ones.as_mut_slice().get_mut(start..end) {
         part.fill(1);
     }
+    Ok(ones)
 }
 
 /// Tells how many images lead to what.
@@ -88,7 +65,7 @@ fn tell_rows(rows: &[Row], told: &mut Vec<u8>) -> io::Result<()> {
 
 fn tell_row(row: &Row, told: &mut Vec<u8>) -> io::Result<()> {
     write!(told, "  {}:", row.images)?;
-    told.extend_from_slice(row.told.as_slice())?;
+    told.write_all(row.told.as_slice())?;
     writeln!(told)
 }
 
@@ -114,8 +91,10 @@ fn count_torn(
     rows: &mut Vec<Row>,
 ) -> io::Result<()> {
     for count in written.start..=written.end {
-        let octets = torn(case.alloc(), after, behind, count)?;
-        count_image(case, octets.as_slice(), rows)?;
+        let image = torn(case.rt.alloc(), after, behind, count)?;
+        let mut told = Vec::new(case.rt.alloc());
+        case.tell_next(image.as_slice(), &mut told)?;
+        add_image(told, rows)?;
     }
     Ok(())
 }
@@ -124,18 +103,12 @@ fn count_torn(
 fn torn(alloc: Global, after: &[u8], behind: &[u8], count: usize) -> io::Result<Vec<u8>> {
     let mut octets = after.get(..count).unwrap_or(after).to_vec(alloc)?;
     if let Some(rest) = behind.get(count..) {
-        octets.extend_from_slice(rest)?;
+        octets.write_all(rest)?;
     }
     Ok(octets)
 }
 
-/// Plays the next lives from an image on, and counts it with those that lead to the same.
-fn count_image(case: &Case, image: &[u8], rows: &mut Vec<Row>) -> io::Result<()> {
-    let mut told = Vec::new(case.alloc());
-    case.tell_next(image, &mut told)?;
-    add_image(told, rows)
-}
-
+/// Counts an image with those that lead to the same.
 fn add_image(told: Vec<u8>, rows: &mut Vec<Row>) -> io::Result<()> {
     for row in rows.as_mut_slice() {
         if row.told == told {

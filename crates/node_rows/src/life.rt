@@ -31,7 +31,8 @@ use std::time::Instant;
 pub struct Life<'a> {
     rt: &'a HostRuntime,
     client: Client,
-    told: Vec<u8>,
+    /// What was told.
+    pub told: Vec<u8>,
     /// Whether nothing is told for now.
     is_quiet: bool,
 }
@@ -45,16 +46,6 @@ impl<'a> Life<'a> {
             told: Vec::new(rt.alloc()),
             is_quiet: false,
         }
-    }
-
-    /// What was told.
-    pub fn told(&self) -> &[u8] {
-        self.told.as_slice()
-    }
-
-    /// Tells the records.
-    pub fn tell_records(&mut self, node: &MemNode) -> io::Result<()> {
-        tell_records(node, &mut self.told)
     }
 
     /// Tells a line, and carries out its commands.
@@ -122,8 +113,13 @@ impl<'a> Life<'a> {
             "tick" => self.tick(node),
             "hear" => self.hear(node, rest),
             "answer" => self.answer(node, rest),
-            "records" => self.tell_records(node),
-            "kept" => self.tell_kept(node, number(rest)?),
+            "records" => tell_records(node, &mut self.told),
+            "kept" => tell_kept(
+                node,
+                &self.client.key,
+                &retry_key(number(rest)?),
+                &mut self.told,
+            ),
             _ => self.apply(node, act_of(self.rt.alloc(), word, rest)?),
         }
     }
@@ -162,12 +158,6 @@ impl<'a> Life<'a> {
         let (serial, heard) = front(words);
         let of = self.client.word(number(serial)?);
         self.apply(node, Act::Answer(of, heard_of(self.rt.alloc(), heard)))
-    }
-
-    /// Tells what the family has answered the call with this key.
-    fn tell_kept(&mut self, node: &MemNode, number: u32) -> io::Result<()> {
-        let key = retry_key(number);
-        tell_kept(node, &self.client.key, &key, &mut self.told)
     }
 
     /// Makes a call on an object, and tells its answer, the words that go out and the phase.

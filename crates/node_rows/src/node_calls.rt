@@ -8,7 +8,7 @@ use decision_journal::Standing;
 use ior_refs::ObjectKey;
 use ots_outside::{Back, MemDisk};
 use recovery_coord::{Held, Outbox};
-use service_node::{Happenings, Node, NodeParts, Slots};
+use service_node::{Happenings, Node};
 use std::alloc::Global;
 use std::io;
 
@@ -33,20 +33,9 @@ pub fn crash(node: MemNode) -> MemDisk {
     node.crash()
 }
 
-/// Makes the call `parts`, and then `whole` of the same parts, whose families were a vector between.
+/// Makes the call `parts`, and then `whole` of the same parts.
 pub fn rebuilt(alloc: Global, node: MemNode) -> MemNode {
-    let parts = node.parts();
-    let families = parts.families.into_vec();
-    Node::whole(
-        alloc,
-        NodeParts {
-            journal: parts.journal,
-            recovered: parts.recovered,
-            families: Slots::from_vec(families),
-            last: parts.last,
-            generation: parts.generation,
-        },
-    )
+    Node::whole(alloc, node.parts())
 }
 
 /// Makes the call `create`.

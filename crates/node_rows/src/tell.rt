@@ -27,7 +27,7 @@ fn tell_fault(fault: &NodeFault, told: &mut Vec<u8>) -> io::Result<()> {
     write!(told, " {fault:?}")
 }
 
-/// Tells the answer to a call.
+/// Tells the answer to a call: what it is answered, which earlier calls are answered, and what happened.
 pub fn tell_answered(answer: &Result<StepAnswer, NodeFault>, told: &mut Vec<u8>) -> io::Result<()> {
     match answer {
         Ok(answer) => tell_answer(answer, told),
@@ -43,7 +43,6 @@ pub fn tell_ticked(answer: &Result<Happenings, NodeFault>, told: &mut Vec<u8>) -
     }
 }
 
-/// Tells what a call is answered, which earlier calls are answered, and what happened.
 fn tell_answer(answer: &StepAnswer, told: &mut Vec<u8>) -> io::Result<()> {
     write!(told, " ")?;
     tell_said(&answer.said, told)?;
@@ -92,7 +91,7 @@ pub fn tell_word(outward: &Outward, told: &mut Vec<u8>) -> io::Result<()> {
     write!(told, " -> ")?;
     tell_name(&outward.word, told)?;
     write!(told, " {} ", outward.registration)?;
-    told.extend_from_slice(outward.to.bytes())?;
+    told.write_all(outward.to.bytes())?;
     tell_number(&outward.number, told)?;
     match outward.receipt {
         Some(receipt) => write!(told, " by {}", receipt.place),
@@ -119,14 +118,20 @@ fn tell_name(word: &Word, told: &mut Vec<u8>) -> io::Result<()> {
 /// The name of a word that has nothing behind it.
 fn word_name(word: &Word) -> &'static str {
     match word {
-        Word::Phase(PhaseWord::Prepare) => "prepare",
-        Word::Phase(PhaseWord::Commit) => "commit",
-        Word::Phase(PhaseWord::CommitOnePhase) => "commit_one_phase",
-        Word::Phase(PhaseWord::Rollback) => "rollback",
+        Word::Phase(word) => phase_name(*word),
         Word::Forget => "forget",
         Word::BeforeCompletion => "before_completion",
         Word::RollbackSub => "rollback_subtransaction",
         _ => "another word",
+    }
+}
+
+fn phase_name(word: PhaseWord) -> &'static str {
+    match word {
+        PhaseWord::Prepare => "prepare",
+        PhaseWord::Commit => "commit",
+        PhaseWord::CommitOnePhase => "commit_one_phase",
+        PhaseWord::Rollback => "rollback",
     }
 }
 
@@ -187,16 +192,11 @@ fn tell_said(said: &Said, told: &mut Vec<u8>) -> io::Result<()> {
         Said::Flag(yes) => write!(told, "{yes}"),
         Said::State(status) => write!(told, "{status:?}"),
         Said::Number(number) => write!(told, "{number}"),
-        Said::Name(name) => tell_bytes(name.bytes(), told),
+        Said::Name(name) => told.write_all(name.bytes()),
         Said::Made(number) => write!(told, "made {number}"),
         Said::Voted(vote) => write!(told, "{vote:?}"),
         said => write!(told, "{}", name_of(said)),
     }
-}
-
-fn tell_bytes(bytes: &[u8], told: &mut Vec<u8>) -> io::Result<()> {
-    told.extend_from_slice(bytes)?;
-    Ok(())
 }
 
 /// The name of an answer without a value.
