@@ -15,8 +15,8 @@ folder=${2:-$work}
 rounds=${3:-9}
 file=$folder/ends.bench
 trap 'rm -rf "$work" "$file"' EXIT
-program=$here/crates/journal_bench/out/journal_bench
-(cd "$here/crates/journal_bench" && rt run </dev/null >/dev/null 2>&1) || true
+program=$here/crates/journal_rows/out/journal_rows
+(cd "$here/crates/journal_rows" && rt run </dev/null >/dev/null 2>&1) || true
 
 # stored CELLS: the journal of an end in which so many cells are stored, 1,000 by each resource.
 stored() {

@@ -13,8 +13,8 @@ count=${1:-500}
 folder=${2:-$work}
 file=$folder/journal.bench
 trap 'rm -rf "$work" "$file"' EXIT
-program=$here/crates/journal_bench/out/journal_bench
-(cd "$here/crates/journal_bench" && rt run </dev/null >/dev/null 2>&1) || true
+program=$here/crates/journal_rows/out/journal_rows
+(cd "$here/crates/journal_rows" && rt run </dev/null >/dev/null 2>&1) || true
 
 # least TIMES: the least of these.
 least() { sort -n | head -1; }

@@ -5,8 +5,8 @@
 set -euo pipefail
 . "$(dirname "$0")/timing.sh"
 file=$work/journal.bench
-program=$here/crates/journal_bench/out/journal_bench
-(cd "$here/crates/journal_bench" && rt run </dev/null >/dev/null 2>&1) || true
+program=$here/crates/journal_rows/out/journal_rows
+(cd "$here/crates/journal_rows" && rt run </dev/null >/dev/null 2>&1) || true
 
 # journal COUNT REGISTRATIONS: a journal of so many decisions, each with so many registrations of 40 octets.
 journal() {

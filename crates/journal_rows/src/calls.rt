@@ -5,7 +5,9 @@
 //! - `done PLACE`, `reopen`: these calls.
 //! - `bytes`: the octets that the journal gives. `disk`: those that its disk reads. `standing`: what stands.
 
-use crate::journals::{MemJournal, append_outcome, bytes, disk_octets, done, life, reopen};
+use crate::journals::{
+    MemJournal, append_outcome, bytes, disk_octets, done, life, reopen, standing,
+};
 use crate::records::{append_record, number};
 use decision_journal::{CellsEnd, JournalRecord, Put, Puts, Standing};
 use ots_model::RefBytes;
@@ -105,10 +107,6 @@ fn tell_places(standing: &[Standing], told: &mut Vec<u8>) -> io::Result<()> {
         write!(told, " {}", standing.place)?;
     }
     Ok(())
-}
-
-fn standing(journal: &MemJournal) -> &[Standing] {
-    journal.standing()
 }
 
 /// How many records stand, where those of cells count too.

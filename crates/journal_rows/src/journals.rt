@@ -1,7 +1,11 @@
-//! The calls of a journal over a disk in memory, each without what its contract says: no case needs it.
+//! The calls of a journal, each without what its contract says: nothing here needs it.
+ghost use Rattle.std.specs.Prelude.{◌≡◌, ◌≤◌, true};
+ghost use Rattle.decision_journal.specs.Journal.{Found, can_follow};
+ghost use Rattle.decision_journal.specs.Layout.{Fits};
+ghost use Rattle.decision_journal.specs.State.{cells_in};
 
-use decision_journal::{CellsEnd, Journal, JournalFault, JournalRecord};
-use ots_outside::{Back, MemDisk};
+use decision_journal::{CellsEnd, Journal, JournalFault, JournalRecord, Standing};
+use ots_outside::{Back, Disk, MemDisk};
 use std::alloc::Global;
 use std::io;
 
@@ -15,7 +19,12 @@ pub type Loaded = Result<MemJournal, Back<MemDisk, JournalFault>>;
 pub const AREA_LIMIT: u64 = 67_108_864;
 
 /// Makes the call `Journal::load`, with an area within the limit.
-pub fn load(alloc: Global, disk: MemDisk, area: u64, service: u64) -> Loaded {
+pub fn load<D: Disk>(
+    alloc: Global,
+    disk: D,
+    area: u64,
+    service: u64,
+) -> Result<Journal<D>, Back<D, JournalFault>> {
     Journal::load(alloc, disk, area.min(AREA_LIMIT), service)
 }
 
@@ -30,7 +39,7 @@ pub fn into_disk(journal: MemJournal) -> MemDisk {
 }
 
 /// Makes the call `done`.
-pub fn done(journal: &mut MemJournal, place: u32) -> Result<(), JournalFault> {
+pub fn done<D: Disk>(journal: &mut Journal<D>, place: u32) -> Result<(), JournalFault> {
     journal.done(place)
 }
 
@@ -49,14 +58,32 @@ pub fn life(journal: &MemJournal) -> u32 {
     journal.life()
 }
 
+/// Makes the call `standing`.
+pub fn standing<D: Disk>(journal: &Journal<D>) -> &[Standing] {
+    journal.standing()
+}
+
 /// What the disk of a journal reads.
 pub fn disk_octets(journal: &MemJournal) -> &[u8] {
     journal.disk().octets()
 }
 
+/// Appends a record that can follow any others, once there is room for it.
+pub fn append<D: Disk>(
+    journal: &mut Journal<D>,
+    item: JournalRecord,
+) -> io::Result<Result<u32, JournalFault>>
+    requires fits { Fits item }
+    requires follows { (found : Found) → can_follow found item ≡ true }
+    requires cells { cells_in item ≤ 1 }
+{
+    journal.reserve()?;
+    Ok(journal.append(item))
+}
+
 /// Appends the outcome of the cells which were prepared there, where it can follow.
-pub fn append_outcome(
-    journal: &mut MemJournal,
+pub fn append_outcome<D: Disk>(
+    journal: &mut Journal<D>,
     place: u32,
 ) -> io::Result<Option<Result<u32, JournalFault>>> {
     let item = JournalRecord::CellsOutcome(place, CellsEnd::Applied);

@@ -1,4 +1,5 @@
 //! Runs the cases on standard input, each on a journal or a resource end over a disk in memory, and tells what comes of it.
+//! With words on the command line it tells how long calls over a real file take, as `bench` says.
 //!
 //! A case begins with a line `== KIND: ..`. The lines behind it say what the disk holds at first, and what is done:
 //!
@@ -28,11 +29,14 @@
 //! No more than the first 64 calls of a disk are looked at.
 #![tactic(auto)]
 
+use bench::tell_time;
 use case::Case;
+use records::number;
 use std::alloc::Global;
-use std::io;
 use std::io::Write;
+use std::{env, io};
 
+mod bench;
 mod calls;
 mod case;
 mod crashes;
@@ -43,6 +47,19 @@ mod journals;
 mod records;
 
 fn main(rt: HostRuntime) -> io::Result<()> {
+    let words: Vec<String> = env::args(&rt)?.skip(1).collect(rt.alloc())?;
+    match words.as_slice() {
+        [kind, path, count] => tell_time(
+            &rt,
+            kind.as_str(),
+            path.as_str(),
+            number(count.as_str())?,
+        ),
+        _ => tell_cases(&rt),
+    }
+}
+
+fn tell_cases(rt: &HostRuntime) -> io::Result<()> {
     let text = io::read_to_string(rt.alloc(), rt.stdin())?;
     let mut out = rt.stdout();
     for case in text.as_str().split("\n== ").skip(1) {

@@ -11,7 +11,7 @@ ghost use Rattle.decision_journal.specs.Journal.{Found, can_follow};
 ghost use Rattle.decision_journal.specs.Layout.{Fits, FitsPuts, FitsReference, FitsRegistrations};
 ghost use Rattle.decision_journal.specs.State.{cells_in};
 
-use crate::journals::MemJournal;
+use crate::journals::{MemJournal, append};
 use decision_journal::{JournalFault, JournalRecord, Put, Puts, Registration, Registrations};
 use ots_model::{REFERENCE_LIMIT, RefBytes, RetryKey};
 use std::alloc::Global;
@@ -61,9 +61,7 @@ pub fn append_record(
     journal: &mut MemJournal,
     words: &str,
 ) -> io::Result<Result<u32, JournalFault>> {
-    let item = record_of(alloc, words)?;
-    journal.reserve()?;
-    Ok(journal.append(item))
+    append(journal, record_of(alloc, words)?)
 }
 
 /// The record that words stand for. It can follow any others.
@@ -89,6 +87,23 @@ pub fn record_of(alloc: Global, words: &str) -> io::Result<JournalRecord>
         "cells" => JournalRecord::CellsPrepared(1, 1, first, one_put(alloc)?),
         _ => JournalRecord::CellsOnePhase(1, 2, one_put(alloc)?),
     })
+}
+
+/// A decision with two references of 116 octets. It can follow any others.
+pub fn decision(alloc: Global) -> io::Result<JournalRecord>
+    ensures fits { IfOk result Fits }
+    ensures follows { IfOk result (λ item. (found : Found) → can_follow found item ≡ true) }
+    ensures cells { IfOk result (λ item. cells_in item ≤ 1) }
+{
+    let items = two_registrations(alloc, zeros(alloc)?, zeros(alloc)?)?;
+    Ok(JournalRecord::Decision(1, 0, 1, None, false, items))
+}
+
+/// A reference of 116 octets.
+fn zeros(alloc: Global) -> io::Result<RefBytes>
+    ensures { IfOk result FitsReference }
+{
+    Ok(RefBytes::from_vec(vec![in alloc; 0; 116]?))
 }
 
 fn reference_of(alloc: Global, word: &str) -> io::Result<RefBytes>
