@@ -92,8 +92,7 @@ fn tell_bytes(alloc: Global, journal: &mut MemJournal, told: &mut Vec<u8>) -> io
 
 fn tell_octets(alloc: Global, octets: &[u8], told: &mut Vec<u8>) -> io::Result<()> {
     let digits = hex::encode(alloc, octets)?;
-    told.extend_from_slice(digits.as_bytes())?;
-    Ok(())
+    told.write_all(digits.as_bytes())
 }
 
 /// Tells the life, and the places of what stands.

@@ -3,7 +3,7 @@ use crate::crashes::tell_crashes;
 use crate::end_calls::{LoadedEnd, load_end};
 use crate::end_runs::{tell_end, tell_stops, tell_words};
 use crate::journals::{Loaded, MemJournal, disk_of, into_disk, load};
-use crate::records::{add_octets, low_octet, number};
+use crate::records::{add_octets, low_octet, number, numbers};
 use decision_journal::JournalFault;
 use ots_outside::{Back, MemDisk};
 use std::alloc::Global;
@@ -26,7 +26,6 @@ pub struct Case<'a> {
     pub looks: Vec<&'a str>,
 }
 
-// What a case is made of. Each kind of line has a function of its own.
 impl<'a> Case<'a> {
     /// The case that these lines make.
     pub fn of(alloc: Global, lines: &[&'a str]) -> io::Result<Case<'a>> {
@@ -49,56 +48,22 @@ impl<'a> Case<'a> {
 
     fn add(&mut self, alloc: Global, line: &'a str) -> io::Result<()> {
         match line.split_once(' ') {
-            Some((word, rest)) => self.add_word(alloc, line, word, rest),
-            None => self.add_call(line),
+            Some(("octets", octets)) => add_octets(alloc, &mut self.octets, octets)?,
+            Some(("fill", count)) => self.fill(number(count)?)?,
+            Some(("area", area)) => self.area = u64::from(number(area)?),
+            Some(("service", service)) => self.service = u64::from(number(service)?),
+            Some(("then", look)) => self.looks.push(look)?,
+            _ => self.calls.push(line)?,
         }
+        Ok(())
     }
 
-    fn add_word(
-        &mut self,
-        alloc: Global,
-        line: &'a str,
-        word: &str,
-        rest: &'a str,
-    ) -> io::Result<()> {
-        match word {
-            "octets" => add_octets(alloc, &mut self.octets, rest),
-            "fill" => self.fill(rest),
-            "area" => self.set_area(rest),
-            "service" => self.set_service(rest),
-            "then" => self.add_look(rest),
-            _ => self.add_call(line),
-        }
-    }
-
-    fn fill(&mut self, count: &str) -> io::Result<()> {
-        let length = self.octets.len().saturating_add(number(count)? as usize);
+    fn fill(&mut self, count: u32) -> io::Result<()> {
+        let length = self.octets.len().saturating_add(count as usize);
         self.octets.resize(length, 1)?;
         Ok(())
     }
 
-    fn set_area(&mut self, area: &str) -> io::Result<()> {
-        self.area = u64::from(number(area)?);
-        Ok(())
-    }
-
-    fn set_service(&mut self, service: &str) -> io::Result<()> {
-        self.service = u64::from(number(service)?);
-        Ok(())
-    }
-
-    fn add_look(&mut self, look: &'a str) -> io::Result<()> {
-        self.looks.push(look)?;
-        Ok(())
-    }
-
-    fn add_call(&mut self, call: &'a str) -> io::Result<()> {
-        self.calls.push(call)?;
-        Ok(())
-    }
-}
-
-impl<'a> Case<'a> {
     /// Tries the case, and tells what came.
     pub fn tell(&self, alloc: Global, head: &str, told: &mut Vec<u8>) -> io::Result<()> {
         let (kind, _) = head.split_once(':').unwrap_or((head, ""));
@@ -200,16 +165,6 @@ impl<'a> Case<'a> {
         told: &mut Vec<u8>,
     ) -> io::Result<bool> {
         let disk = self.run(alloc, failing, between, told)?;
-        self.tell_left(alloc, &disk, between, told)
-    }
-
-    fn tell_left(
-        &self,
-        alloc: Global,
-        disk: &MemDisk,
-        between: &str,
-        told: &mut Vec<u8>,
-    ) -> io::Result<bool> {
         write!(told, "{between}then ")?;
         self.tell_load(alloc, disk.octets(), told)?;
         Ok(disk.faults() > 0)
@@ -242,15 +197,11 @@ impl<'a> Case<'a> {
 }
 
 fn tell_loaded(loaded: &Loaded, told: &mut Vec<u8>) -> io::Result<()> {
-    tell_found(loaded, told)?;
-    writeln!(told)
-}
-
-fn tell_found(loaded: &Loaded, told: &mut Vec<u8>) -> io::Result<()> {
     match loaded {
-        Ok(journal) => tell_standing(journal, told),
-        Err(back) => write!(told, "{:?}", back.fault),
+        Ok(journal) => tell_standing(journal, told)?,
+        Err(back) => write!(told, "{:?}", back.fault)?,
     }
+    writeln!(told)
 }
 
 /// Tells why a load was refused, and gives the disk back.
@@ -262,35 +213,13 @@ fn give_back(back: Back<MemDisk, JournalFault>, told: &mut Vec<u8>) -> io::Resul
 /// The octets, of which one is another, and the rest is cut off, as a line says.
 fn changed(alloc: Global, line: &str, octets: &[u8]) -> io::Result<Vec<u8>> {
     let mut octets = octets.to_vec(alloc)?;
-    change(alloc, line, &mut octets)?;
-    Ok(octets)
-}
-
-fn change(alloc: Global, line: &str, octets: &mut Vec<u8>) -> io::Result<()> {
-    let words: Vec<&str> = line.split_whitespace().collect(alloc)?;
-    change_by(words.as_slice(), octets)
-}
-
-fn change_by(words: &[&str], octets: &mut Vec<u8>) -> io::Result<()> {
-    match words {
-        [place, other, length] => {
-            change_at(
-                octets,
-                number(place)?,
-                low_octet(number(other)?),
-                number(length)?,
-            );
-            Ok(())
+    if let [place, other, length] = numbers(alloc, line)?.as_slice() {
+        if let Some(octet) = octets.get_mut(*place as usize) {
+            *octet = low_octet(*other);
         }
-        _ => Ok(()),
+        octets.truncate(*length as usize);
     }
-}
-
-fn change_at(octets: &mut Vec<u8>, place: u32, other: u8, length: u32) {
-    if let Some(octet) = octets.get_mut(place as usize) {
-        *octet = other;
-    }
-    octets.truncate(length as usize);
+    Ok(octets)
 }
 
 /// The calls of a disk from this one on.

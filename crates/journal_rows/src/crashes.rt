@@ -2,7 +2,6 @@
 
 use crate::case::{CALLS, Case};
 use crate::journals::{MemJournal, bytes, life};
-use ots_outside::MemDisk;
 use std::alloc::Global;
 use std::io;
 use std::io::Write;
@@ -40,42 +39,13 @@ fn tell_crash(
     told: &mut Vec<u8>,
 ) -> io::Result<bool> {
     let before = case.stopped(alloc, call)?;
-    tell_made(alloc, case, call, &before, end, told)
-}
-
-fn tell_made(
-    alloc: Global,
-    case: &Case,
-    call: u64,
-    before: &MemDisk,
-    end: &[u8],
-    told: &mut Vec<u8>,
-) -> io::Result<bool> {
-    let is_made = before.faults() > 0;
-    if is_made {
-        write!(told, "{call}: ")?;
-        tell_left(
-            alloc,
-            case,
-            call.saturating_add(1),
-            before.octets(),
-            end,
-            told,
-        )?;
+    if before.faults() == 0 {
+        return Ok(false);
     }
-    Ok(is_made)
-}
-
-fn tell_left(
-    alloc: Global,
-    case: &Case,
-    next: u64,
-    before: &[u8],
-    end: &[u8],
-    told: &mut Vec<u8>,
-) -> io::Result<()> {
-    let after = case.stopped(alloc, next)?;
-    tell_between(alloc, case, before, after.octets(), end, told)
+    let after = case.stopped(alloc, call.saturating_add(1))?;
+    write!(told, "{call}: ")?;
+    tell_between(alloc, case, before.octets(), after.octets(), end, told)?;
+    Ok(true)
 }
 
 fn tell_between(
@@ -86,13 +56,11 @@ fn tell_between(
     end: &[u8],
     told: &mut Vec<u8>,
 ) -> io::Result<()> {
-    tell_difference(difference(before, after), told)?;
-    let rows = rows(alloc, case, before, after, end)?;
+    let written = difference(before, after);
+    write!(told, "{} to {}:", written.start, written.end)?;
+    let images = images(alloc, before, after)?;
+    let rows = rows(alloc, case, images.as_slice(), end)?;
     tell_rows(rows.as_slice(), told)
-}
-
-fn tell_difference(written: Range<usize>, told: &mut Vec<u8>) -> io::Result<()> {
-    write!(told, "{} to {}:", written.start, written.end)
 }
 
 fn tell_rows(rows: &[Row], told: &mut Vec<u8>) -> io::Result<()> {
@@ -123,32 +91,14 @@ fn difference(before: &[u8], after: &[u8]) -> Range<usize> {
     start..end
 }
 
-/// Loads each image that a crash can leave, and counts them by their records.
-fn rows(
-    alloc: Global,
-    case: &Case,
-    before: &[u8],
-    after: &[u8],
-    end: &[u8],
-) -> io::Result<Vec<Row>> {
+/// Loads each image, and counts them by their records.
+fn rows(alloc: Global, case: &Case, images: &[Vec<u8>], end: &[u8]) -> io::Result<Vec<Row>> {
     let mut rows = Vec::new(alloc);
-    let images = images(alloc, before, after)?;
-    count_images(alloc, case, images.as_slice(), end, &mut rows)?;
-    Ok(rows)
-}
-
-fn count_images(
-    alloc: Global,
-    case: &Case,
-    images: &[Vec<u8>],
-    end: &[u8],
-    rows: &mut Vec<Row>,
-) -> io::Result<()> {
     for image in images {
         let (records, life) = records_of(alloc, case, image.as_slice(), end)?;
-        count_image(records, life, rows)?;
+        count_image(records, life, &mut rows)?;
     }
-    Ok(())
+    Ok(rows)
 }
 
 /// The images that a crash can leave. Each has the front of what was written, and behind it what stood there, or octets
@@ -168,20 +118,16 @@ pub fn images(alloc: Global, before: &[u8], after: &[u8]) -> io::Result<Vec<Vec<
 /// The octets, of which those between two places are 1.
 fn with_ones(alloc: Global, octets: &[u8], start: usize, end: usize) -> io::Result<Vec<u8>> {
     let mut ones = octets.to_vec(alloc)?;
-    fill(ones.as_mut_slice(), start, end);
-    Ok(ones)
-}
-
-fn fill(octets: &mut [u8], start: usize, end: usize) {
-    if let Some(rest) = octets.get_mut(start..end) {
+    if let Some(rest) = ones.as_mut_slice().get_mut(start..end) {
         rest.fill(1);
     }
+    Ok(ones)
 }
 
 /// So many octets of what was written, and what stood behind them.
 fn torn(alloc: Global, before: &[u8], after: &[u8], count: usize) -> io::Result<Vec<u8>> {
     let mut octets = front(after, count).to_vec(alloc)?;
-    octets.extend_from_slice(before.get(count..).unwrap_or(&[]))?;
+    octets.write_all(before.get(count..).unwrap_or(&[]))?;
     Ok(octets)
 }
 

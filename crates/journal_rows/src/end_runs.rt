@@ -118,20 +118,8 @@ fn tell_new(
 ) -> io::Result<()> {
     let mut answers = Vec::new(alloc);
     let after = run(alloc, case, Vec::new(alloc), lines, "", &mut answers)?;
-    let answer = answers.get(known..).unwrap_or(&[]);
-    tell_call_of(alloc, case, answer, before, after.octets(), told)
-}
-
-fn tell_call_of(
-    alloc: Global,
-    case: &Case,
-    answer: &[u8],
-    before: &[u8],
-    after: &[u8],
-    told: &mut Vec<u8>,
-) -> io::Result<()> {
-    told.extend_from_slice(answer)?;
-    tell_written(alloc, case, before, after, told)?;
+    told.write_all(answers.get(known..).unwrap_or(&[]))?;
+    tell_written(alloc, case, before, after.octets(), told)?;
     writeln!(told)
 }
 
@@ -304,17 +292,12 @@ fn tell_stop(
 ) -> io::Result<bool> {
     let mut row = Vec::new(alloc);
     let failed = stop(alloc, case, call, &mut row)?;
-    tell_other(call, row, last, told)?;
-    Ok(failed)
-}
-
-fn tell_other(call: u64, row: Vec<u8>, last: &mut Vec<u8>, told: &mut Vec<u8>) -> io::Result<()> {
     if row != *last {
         write!(told, "{call}: ")?;
-        told.extend_from_slice(row.as_slice())?;
+        told.write_all(row.as_slice())?;
         *last = row;
     }
-    Ok(())
+    Ok(failed)
 }
 
 /// Makes the calls, while all calls of the disk fail from this one on, and tells the answers, and what comes of the images
@@ -322,18 +305,8 @@ fn tell_other(call: u64, row: Vec<u8>, last: &mut Vec<u8>, told: &mut Vec<u8>) -
 fn stop(alloc: Global, case: &Case, call: u64, told: &mut Vec<u8>) -> io::Result<bool> {
     let lines = case.calls.as_slice();
     let before = run(alloc, case, calls_from(alloc, call)?, lines, ", ", told)?;
-    tell_stopped(alloc, case, call.saturating_add(1), &before, told)
-}
-
-fn tell_stopped(
-    alloc: Global,
-    case: &Case,
-    next: u64,
-    before: &MemDisk,
-    told: &mut Vec<u8>,
-) -> io::Result<bool> {
     writeln!(told)?;
-    tell_left(alloc, case, next, before.octets(), told)?;
+    tell_left(alloc, case, call.saturating_add(1), before.octets(), told)?;
     Ok(before.faults() > 0)
 }
 
@@ -354,27 +327,8 @@ fn tell_left(
         "",
         &mut Vec::new(alloc),
     )?;
-    tell_between(alloc, case, before, after.octets(), told)
-}
-
-fn tell_between(
-    alloc: Global,
-    case: &Case,
-    before: &[u8],
-    after: &[u8],
-    told: &mut Vec<u8>,
-) -> io::Result<()> {
-    let images = images(alloc, before, after)?;
-    tell_images(alloc, case, images.as_slice(), told)
-}
-
-fn tell_images(
-    alloc: Global,
-    case: &Case,
-    images: &[Vec<u8>],
-    told: &mut Vec<u8>,
-) -> io::Result<()> {
-    let outcomes = outcomes(alloc, case, images)?;
+    let images = images(alloc, before, after.octets())?;
+    let outcomes = outcomes(alloc, case, images.as_slice())?;
     tell_outcomes(outcomes.as_slice(), told)
 }
 
@@ -387,7 +341,7 @@ fn tell_outcomes(outcomes: &[Outcome], told: &mut Vec<u8>) -> io::Result<()> {
 
 fn tell_outcome(outcome: &Outcome, told: &mut Vec<u8>) -> io::Result<()> {
     write!(told, "  {}: ", outcome.images)?;
-    told.extend_from_slice(outcome.answers.as_slice())?;
+    told.write_all(outcome.answers.as_slice())?;
     writeln!(told)
 }
 
@@ -404,14 +358,16 @@ fn outcomes(alloc: Global, case: &Case, images: &[Vec<u8>]) -> io::Result<Vec<Ou
 /// The answers to the looks that an end gives which is loaded from an image.
 fn answers_of(alloc: Global, case: &Case, image: &[u8]) -> io::Result<Vec<u8>> {
     let mut answers = Vec::new(alloc);
-    look(alloc, case, image, &mut answers)?;
-    Ok(answers)
-}
-
-fn look(alloc: Global, case: &Case, image: &[u8], answers: &mut Vec<u8>) -> io::Result<()> {
     let loaded = case.load_end(alloc, image, Vec::new(alloc))?;
-    go_on(alloc, case, loaded, case.looks.as_slice(), ", ", answers)?;
-    Ok(())
+    go_on(
+        alloc,
+        case,
+        loaded,
+        case.looks.as_slice(),
+        ", ",
+        &mut answers,
+    )?;
+    Ok(answers)
 }
 
 /// Counts an image by its answers.
