@@ -144,12 +144,12 @@ finished() {
 }
 
 {
-  questions 1 64 | row "1 family of 64 registrations" "$count" ""
-  questions 256 64 | row "256 families of 64 registrations" "$count" ""
+  questions 1 64 | row "1 family of 64 registrations" "$count" Active
+  questions 256 64 | row "256 families of 64 registrations" "$count" Active
 } >"$work/families"
 ratio question "$work/families"
 {
-  questions 256 1 | row "256 families of 1 registration" "$count" ""
+  questions 256 1 | row "256 families of 1 registration" "$count" Active
   tail -1 "$work/families"
 } >"$work/registrations"
 ratio question "$work/registrations"

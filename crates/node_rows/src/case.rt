@@ -196,10 +196,12 @@ fn live_on(
         if played.is_err() {
             break;
         }
-        if *line == "apart" {
+        played = if *line == "apart" {
             node = rebuilt(rt.alloc(), node);
-        }
-        played = life.play(&mut node, between, line);
+            write!(life.told, "{between}apart:")
+        } else {
+            life.play(&mut node, between, line)
+        };
     }
     let disk = crash(node);
     played?;

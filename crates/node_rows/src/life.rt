@@ -9,7 +9,8 @@
 //! - `hear HEARD`: the word that has waited longest is answered so.
 //! - `answer SERIAL HEARD`: the word of the family with this number is.
 //! - `records`: what is held and what stands. `kept N`: what the family has answered the call with this key.
-//! - `times N COMMAND, ..`: these commands, as often, but once at least. Of their calls the last ones are told.
+//! - `times N COMMAND, ..`: these commands, as often, but once at least. Of their calls the last ones are told; none of
+//!   the others may be refused by the node.
 //! - `timed N COMMAND, ..`: the same. Standard error tells how many nanoseconds they took.
 //! - Each other is a call, as `acts` says.
 
@@ -97,7 +98,6 @@ impl<'a> Life<'a> {
     fn carry_out(&mut self, node: &mut MemNode, command: &str) -> io::Result<()> {
         let (word, rest) = front(command);
         match word {
-            "apart" => Ok(()),
             "next" => self.client.turn(),
             "anew" => self.client.set_new_retry(),
             "key" => self.client.set_key(self.rt.alloc(), rest),
@@ -131,7 +131,7 @@ impl<'a> Life<'a> {
             self.client.begin(key)?;
         }
         if self.is_quiet {
-            return Ok(());
+            return only_if(made.is_ok());
         }
         tell_made(&made, &mut self.told)
     }
@@ -139,7 +139,9 @@ impl<'a> Life<'a> {
     /// The clock of the node goes on.
     fn tick(&mut self, node: &mut MemNode) -> io::Result<()> {
         let ticked = tick(node, self.client.now, &mut self.client.out);
-        if !self.is_quiet {
+        if self.is_quiet {
+            only_if(ticked.is_ok())?;
+        } else {
             tell_ticked(&ticked, &mut self.told)?;
         }
         self.tell_words()
@@ -174,6 +176,7 @@ impl<'a> Life<'a> {
         answer: &Result<StepAnswer, NodeFault>,
     ) -> io::Result<()> {
         if self.is_quiet {
+            only_if(answer.is_ok())?;
             return self.tell_words();
         }
         tell_answered(answer, &mut self.told)?;
@@ -199,5 +202,14 @@ impl<'a> Life<'a> {
         }
         self.client.waiting.push_back(outward.number)?;
         Ok(())
+    }
+}
+
+/// Refuses where a call was refused that isn't told.
+fn only_if(is_ok: bool) -> io::Result<()> {
+    if is_ok {
+        Ok(())
+    } else {
+        Err(ErrorKind::Other.into())
     }
 }
