@@ -1,5 +1,6 @@
 pub mod NameLemmas
 pub mod PieceLemmas
+pub mod RowLemmas
 pub mod LinesRead
 pub mod PlainWords
 pub mod LinesPlain

@@ -1,10 +1,12 @@
 -- How words are written one after another.
-use Rattle.std.proofs.Common.{◌≡◌, ℕ, ◌+◌, ◌<◌, List, [], ◌∷◌, ◌++◌, length, get_or, take, drop, map, refl, sym, ap, ◌∙◌, append_assoc, arith}
+use Rattle.std.proofs.Common.{◌≡◌, ℕ, zero, suc, ◌+◌, ◌<◌, List, [], ◌∷◌, ◌++◌, length, get_or, take, drop, map, refl, sym, ap, ◌∙◌, append_assoc, arith}
 use Rattle.std.proofs.lemmas.List.{take-append-drop, take_more, length-take}
 use Rattle.std.proofs.Math.Seq.{take-append_seam}
+use Rattle.std.proofs.lemmas.Bool.{lt-ltb}
 use Rattle.std.specs.List.{join_with_byte}
+use Rattle.std.specs.Prelude.{nat_lt}
 use Rattle.ots_model.specs.Piece.{word_of}
-use Rattle.ots_model.specs.Pieces.{part_of, parts_of}
+use Rattle.ots_model.specs.Pieces.{gap, part_of, parts_of}
 use Rattle.ots_model.specs.declared.piece.Piece.{Piece}
 
 -- pieces, parted by single spaces
@@ -39,3 +41,9 @@ pub more_joined : (words : List Piece) (i : ℕ) (word : Piece) → 0 < i → i 
 more_joined words i word some low e =
     ap joined (take_more words i word low ∙ ap (λ (w : Piece). take i words ++ w ∷ []) (sym e))
     ∙ joined-push (take i words) word (omega (arith, length-take i words))
+
+-- one more word, behind a space where words stand in front of it
+pub word_joined : (words : List Piece) (i : ℕ) (word : Piece) → i < length words → word ≡ get_or words i word
+    → joined (take (i + 1) words) ≡ joined (take i words) ++ (gap (nat_lt 0 i) ++ word_of (part_of word))
+word_joined words zero word low e = first_joined words word low e
+word_joined words (suc i) word low e = rw (lt-ltb 0 (suc i) (omega arith)) (more_joined words (suc i) word (omega arith) low e)

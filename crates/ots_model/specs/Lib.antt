@@ -5,6 +5,8 @@ pub mod Numbered
 pub mod Words
 pub mod Piece
 pub mod Pieces
+pub mod Rows
+pub mod RowInside
 pub mod Line
 pub mod LineLaws
 pub mod Safe

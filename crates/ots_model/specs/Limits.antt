@@ -12,3 +12,7 @@ name_limit = 12
 -- how many octets a reference has at most
 abbrev pub reference_limit : ℕ
 reference_limit = 1024
+
+-- how many octets of a line are put together before they are written, at most
+abbrev pub row_limit : ℕ
+row_limit = 96

@@ -16,6 +16,10 @@ word_of (Fixed octets) = octets
 word_of (Named name) = name
 word_of (Number number) = decimal number
 
+-- words, parted by single spaces
+abbrev pub spaced : List Part → List ℕ
+spaced parts = join_with_byte 32 (map word_of parts)
+
 -- words as a line: parted by single spaces, and a line feed behind them
 abbrev pub line_of : List Part → List ℕ
 line_of parts = join_with_byte 32 (map word_of parts) ++ 10 ∷ []

@@ -17,6 +17,7 @@ mod line;
 mod name;
 mod octets;
 mod piece;
+mod row;
 mod safety;
 mod service;
 pub mod tree;

@@ -1,5 +1,6 @@
-ghost use Rattle.std.specs.Prelude.{◌≡◌, ◌↔◌, IsTrue, IfSome, IfNone};
+ghost use Rattle.std.specs.Prelude.{◌≡◌, ◌↔◌, ◌-◌, ◌++◌, length, replicate, IsTrue, IfSome, IfNone};
 ghost use Rattle.std.specs.List.{list_all};
+ghost use Rattle.ots_model.specs.Limits.{name_limit};
 ghost use Rattle.ots_model.specs.Name.{IsName, is_name_octet};
 
 use std::marker::Model;
@@ -54,6 +55,13 @@ impl Name {
         ensures name { IsName self.now }
     {
         &self.octets[..self.length as usize]
+    }
+
+    /// The octets of the name, and zeros behind them.
+    pub(crate) fn padded(&self) -> &[u8; NAME_LIMIT]
+        ensures { result.now ≡ self.now ++ replicate (name_limit - length self.now) 0 }
+    {
+        &self.octets
     }
 }
 

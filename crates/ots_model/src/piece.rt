@@ -1,9 +1,10 @@
 ghost use Rattle.std.specs.Prelude.{◌≡◌, ◌++◌, length, take, OnOk, OnErr};
-ghost use Rattle.ots_model.specs.Piece.{word_of, line_of};
-ghost use Rattle.ots_model.specs.Pieces.{IsWritten, part_of, parts_of};
+ghost use Rattle.ots_model.specs.Piece.{word_of, spaced, line_of};
+ghost use Rattle.ots_model.specs.Pieces.{IsWritten, gap, part_of, parts_of};
+ghost use Rattle.ots_model.specs.Rows.{Puts};
 
 use crate::name::Name;
-use itoa::Buffer;
+use crate::row::Row;
 use std::alloc::AllocError;
 
 /// A word of a line.
@@ -18,18 +19,16 @@ pub enum Piece<'a> {
 }
 
 impl Piece<'_> {
-    /// Writes the word at the end. Want of memory leaves what stood there.
-    fn write(&self, lines: &mut Vec<u8>) -> Result<(), AllocError>
-        ensures ok { OnOk result (lines.new.items ≡ lines.old.items ++ word_of (part_of self.now)) }
-        ensures err { OnErr result (lines.new.items ≡ lines.old.items) }
+    /// Puts the word at the end.
+    fn put(&self, lines: &mut Vec<u8>, row: &mut Row) -> Result<(), AllocError>
+        ensures ok { OnOk result
+            (Puts lines.old.items row.old (word_of (part_of self.now)) lines.new.items row.new) }
+        ensures err { OnErr result (take (length lines.old.items) lines.new.items ≡ lines.old.items) }
     {
         match self {
-            Piece::Text(text) => lines.extend_from_slice(text),
-            Piece::Named(name) => lines.extend_from_slice(name.octets()),
-            Piece::Number(number) => {
-                let mut buffer = Buffer::new();
-                lines.extend_from_slice(buffer.format(*number).as_bytes())
-            }
+            Piece::Text(text) => row.put(lines, text),
+            Piece::Named(name) => row.put_name(lines, name),
+            Piece::Number(number) => row.put_number(lines, *number),
         }
     }
 }
@@ -47,16 +46,38 @@ pub fn write_line(lines: &mut Vec<u8>, words: &[Piece<'_>]) -> Result<(), AllocE
 }
 
 /// Writes the words of a line, and a line feed. Want of memory leaves what stood there in front.
+#[tactic(auto, using(crate::proofs::RowLemmas::line_written, crate::proofs::RowLemmas::front_trans))]
 fn write_words(lines: &mut Vec<u8>, words: &[Piece<'_>]) -> Result<(), AllocError>
     ensures ok { OnOk result (lines.new.items ≡ lines.old.items ++ line_of (parts_of words.now)) }
     ensures err { OnErr result (take (length lines.old.items) lines.new.items ≡ lines.old.items) }
 {
+    let mut row = Row::new();
+    put_words(lines, &mut row, words)?;
+    row.push(lines, b'\n')?;
+    row.flush(lines)?;
+    Ok(())
+}
+
+/// Puts words, parted by single spaces, at the end.
+#[tactic(auto, using(crate::proofs::RowLemmas::front_trans))]
+fn put_words(lines: &mut Vec<u8>, row: &mut Row, words: &[Piece<'_>]) -> Result<(), AllocError>
+    ensures ok { OnOk result (Puts lines.old.items row.old (spaced (parts_of words.now)) lines.new.items row.new) }
+    ensures err { OnErr result (take (length lines.old.items) lines.new.items ≡ lines.old.items) }
+{
     for (index, word) in words.iter().enumerate() {
-        if index > 0 {
-            lines.push(b' ')?;
-        }
-        word.write(lines)?;
+        part(lines, row, index > 0)?;
+        word.put(lines, row)?;
     }
-    lines.push(b'\n')?;
+    Ok(())
+}
+
+/// Puts a space in front of a word that isn't the first.
+fn part(lines: &mut Vec<u8>, row: &mut Row, parted: bool) -> Result<(), AllocError>
+    ensures ok { OnOk result (Puts lines.old.items row.old (gap parted) lines.new.items row.new) }
+    ensures err { OnErr result (take (length lines.old.items) lines.new.items ≡ lines.old.items) }
+{
+    if parted {
+        return row.push(lines, b' ');
+    }
     Ok(())
 }
