@@ -1,5 +1,6 @@
 pub mod Limits
 pub mod Outbox
+pub mod OutboxInside
 pub mod Held
 pub mod Waiting
 pub mod Hearing
