@@ -11,7 +11,7 @@ use Rattle.txn_tree.specs.Calls.{top_alone}
 use Rattle.txn_tree.specs.declared.row.Row.{Row}
 use Rattle.resource_votes.specs.Ballots.{Ballots, no_ballots}
 use Rattle.resource_votes.specs.declared.registration.Registration.{Registration}
-use Rattle.two_phase.specs.Stages.{Standing, Waiting}
+use Rattle.two_phase.specs.Stages.{Standing, Waiting, no_room}
 pub use Rattle.coordinator.specs.declared.call.Ending.{Ending}
 pub use Rattle.coordinator.specs.declared.call.Ending.TheVariants.{TellsRollback, TellsCommit, RollsBackUpdates}
 pub use Rattle.coordinator.specs.declared.call.Leg.{Leg}
@@ -81,7 +81,7 @@ new_family key deadline = record {
   rows = top_alone;
   ballots = no_ballots;
   calls = None ∷ [];
-  completion = Waiting 0;
+  completion = Waiting no_room;
   closed = None;
   serial = 0;
   entries = [];

@@ -1,6 +1,6 @@
 -- What holds of every step of every family: whose word each one that goes out is, that an outcome stays, and what changes nothing
 -- (Transaction Service, nested transactions and the operations of interface Resource).
-use Rattle.std.specs.Prelude.{◌≡◌, ℕ, ◌⊎◌, Bool, List, [], ◌∷◌, ◌++◌, Option, Some, None}
+use Rattle.std.specs.Prelude.{◌≡◌, ◌⊎◌, Bool, List, [], ◌∷◌, ◌++◌, Option, Some, None}
 use Rattle.std.specs.List.{AllByRecursion}
 use Rattle.ots_model.specs.declared.completion.CallNumber.{CallNumber}
 use Rattle.ots_model.specs.declared.completion.Stood.{Stood}
@@ -16,7 +16,7 @@ use Rattle.two_phase.specs.Course as course
 use Rattle.two_phase.specs.Course.{Course}
 use Rattle.two_phase.specs.LawsOfReached.{TreeBecomes, IsReached}
 use Rattle.two_phase.specs.Stages as stages
-use Rattle.two_phase.specs.Stages.{Standing, Waiting, Going as UnderWay}
+use Rattle.two_phase.specs.Stages.{Standing, Room, Waiting, Going as UnderWay}
 use Rattle.coordinator.specs.declared.event.Act.TheVariants as acts
 use Rattle.coordinator.specs.declared.event.Event.{Event}
 use Rattle.coordinator.specs.Family.{Family, waiting_for}
@@ -28,9 +28,9 @@ use Rattle.coordinator.specs.Step.{entry_of, Stepped, family_step}
 -- what the completion of a family becomes by any number of steps: it begins once, by asking or by rolling back, and goes on
 pub data Proceeds : Standing → Standing → Type 0 where
   still : (s : Standing) → Proceeds s s
-  asks : (room : ℕ) (participants : List Registration) (asked : Bool) (first : CallNumber) (one_phase : Bool)
+  asks : (room : Room) (participants : List Registration) (asked : Bool) (first : CallNumber) (one_phase : Bool)
       → Proceeds (Waiting room) (stages.started participants asked first one_phase)
-  rolls_back : (room : ℕ) (participants : List Registration) (asked : Bool) (first : CallNumber) (one_phase : Bool) (reason : Reason)
+  rolls_back : (room : Room) (participants : List Registration) (asked : Bool) (first : CallNumber) (one_phase : Bool) (reason : Reason)
       → Proceeds (Waiting room) (stages.started_rollback participants asked first one_phase reason)
   goes_on : (c later : Course) → TreeBecomes c later → Proceeds (UnderWay c) (UnderWay later)
   further : (s between later : Standing) → Proceeds s between → Proceeds between later → Proceeds s later

@@ -1,14 +1,15 @@
 -- What comes last changes nothing of what stands before it.
-use Rattle.std.proofs.Common.{◌≡◌, ◌∙◌, ◌⊎◌, inl, inr, refl, ap, sym, subst, ℕ, zero, suc, ◌+◌, ◌<◌, List, [], ◌∷◌, ◌++◌, length, Option, Some, None, is_some, arith, length-append, if◌then◌else◌}
+use Rattle.std.proofs.Common.{◌≡◌, ◌∙◌, ◌⊎◌, inl, inr, refl, ap, sym, subst, ℕ, zero, suc, ◌+◌, ◌<◌, ◌≤◌, List, [], ◌∷◌, ◌++◌, length, Option, Some, None, is_some, arith, length-append, if◌then◌else◌}
+use Rattle.std.specs.Prelude.{max}
 use Rattle.std.specs.List.{slice_get, cons_option}
 use Rattle.std.specs.Option.{option_map, IsSome}
 use Rattle.std.proofs.lemmas.List.{map-append}
 use Rattle.resource_votes.specs.Ballots.{numbered}
 use Rattle.resource_votes.specs.declared.registration.Registration.{Registration}
-use Rattle.two_phase.specs.Stages.{Standing, Waiting, Going as UnderWay}
+use Rattle.two_phase.specs.Stages.{Standing, Waiting, Going as UnderWay, longest}
 use Rattle.coordinator.specs.Family.{Call, Duty}
 use Rattle.family_rules.specs.Calls.{AllTasks, AreTasks, all_seated, call_in, duties_in, duty_in, plain_call, seated}
-use Rattle.family_rules.specs.Room.{spare}
+use Rattle.family_rules.specs.Room.{spare, reach}
 use Rattle.family_rules.specs.Order.{AreInOrder}
 use Rattle.family_rules.specs.StateInside.{HasPlaces}
 use Rattle.family_rules.specs.declared.call.Call.{Call as KeptCall}
@@ -82,14 +83,18 @@ order_at rs r (suc i) x last order is = order_by rs r x i last order (found_last
 pub order_stays : (rs : List Registration) (r : Registration) → r.index ≡ length rs + 1 → AreInOrder rs → AreInOrder (rs ++ r ∷ [])
 order_stays rs r last order = λ n x is. order_at rs r n x last order is
 
-more_places : (s : Standing) (count : ℕ) → 0 < spare s count → HasPlaces s (count + 1)
-more_places (Waiting room) count some = omega (arith, some)
-more_places (UnderWay c) count some = tt
+longest_more : (rs : List Registration) (r : Registration) → longest (rs ++ r ∷ []) ≡ max (longest rs) (length r.to)
+longest_more [] r = omega arith
+longest_more (x ∷ rs) r = let e = longest_more rs r in omega (arith, e)
 
-pub places_stay : (s : Standing) (rs : List Registration) (r : Registration) → 0 < spare s (length rs) → HasPlaces s (length (rs ++ r ∷ []))
-places_stay s rs r some =
-    let one : length rs + 1 ≡ length (rs ++ r ∷ []) = sym (length-append rs (r ∷ [])) in
-    subst (λ (n : ℕ). HasPlaces s n) one (more_places s (length rs) some)
+pub places_stay : (s : Standing) (rs : List Registration) (r : Registration) → HasPlaces s rs → 0 < spare s (length rs) → length r.to ≤ reach s
+    → HasPlaces s (rs ++ r ∷ [])
+places_stay (Waiting room) rs r places some fits =
+    let one : length (rs ++ r ∷ []) ≡ length rs + 1 = length-append rs (r ∷ []) in
+    let long = places.1 in
+    let more = longest_more rs r in
+    (omega (arith, one, some), omega (arith, long, more, fits))
+places_stay (UnderWay c) rs r places some fits = tt
 
 -- ---- a seat comes last, on which no call is under way
 

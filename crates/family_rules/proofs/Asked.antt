@@ -1,5 +1,5 @@
 -- What a family's call answers that registers something, by what its registrations answered.
-use Rattle.std.proofs.Common.{◌≡◌, ◌==◌, ◌∙◌, refl, ap, sym, subst, ℕ, ◌+◌, ◌-◌, ◌<◌, Bool, true, false, if◌then◌else◌, List, [], ◌∷◌, length, Option, Some, None, Result, Ok, Err, arith, length-append}
+use Rattle.std.proofs.Common.{◌≡◌, ◌==◌, ◌∙◌, refl, ap, sym, subst, ℕ, ◌+◌, ◌-◌, ◌<◌, ◌≤◌, Bool, true, false, if◌then◌else◌, List, [], ◌∷◌, length, Option, Some, None, Result, Ok, Err, arith, length-append}
 use Rattle.std.specs.Result.{IfOk, OnOk, OnErr}
 use Rattle.std.specs.Prelude.{nat_le, min, vec_capacity, vec_len}
 use Rattle.std.proofs.Math.Nat.{min-le_left, min-le_right}
@@ -15,7 +15,7 @@ use Rattle.resource_votes.specs.declared.registration.VoteFault.{VoteFault}
 use Rattle.family_rules.specs.Asking.{Registers}
 use Rattle.coordinator.specs.Family.{Call}
 use Rattle.family_rules.specs.Calls.{all_seated}
-use Rattle.family_rules.specs.Room.{spare}
+use Rattle.family_rules.specs.Room.{spare, reach}
 use Rattle.family_rules.specs.StateInside.{AreFew, AreOnce, IsSound, shown}
 use Rattle.family_rules.specs.declared.state.State.TheInside.{Inside}
 use Rattle.family_rules.proofs.Added.{all_stay, order_stays, places_stay}
@@ -75,10 +75,10 @@ sound_same s v p is = subst (λ (x : Ballots). IsSound (record s { votes = recor
 
 -- one more registration
 one_more : (s : Inside) (v : VotesParts) (b : ℕ) (to : List ℕ) (aware : Bool) (lists : List (List ℕ)) → IsSound s
-    → 0 < spare s.completion (length s.votes.ballots.registrations) → AreFew lists (length s.votes.ballots.registrations + 1)
+    → 0 < spare s.completion (length s.votes.ballots.registrations) → length to ≤ reach s.completion → AreFew lists (length s.votes.ballots.registrations + 1)
     → AreOnce lists (length s.votes.ballots.registrations + 1)
     → IsSound (record s { votes = record v { ballots = record (entered b to aware s.votes.ballots) { lists = lists } } })
-one_more s v b to aware lists p some few once =
+one_more s v b to aware lists p some fits few once =
     let rs : List Registration = s.votes.ballots.registrations in
     let r : Registration = record { index = length rs + 1; branch = b; to = to; aware = aware } in
     let more = length-append rs (r ∷ []) in
@@ -92,22 +92,22 @@ one_more s v b to aware lists p some few once =
       lists = omega (arith, few, more);
       once = subst (λ (n : ℕ). AreOnce lists n) (sym more) once;
       tasks = all_stay rs r s.seats.items p.tasks;
-      places = places_stay s.completion rs r some;
+      places = places_stay s.completion rs r p.places some fits;
       tally = p.tally;
       outs = p.outs;
       outs_room = p.outs_room;
     }
 
 pub sound_registered : (s : Inside) (v : VotesParts) (b : ℕ) (to : List ℕ) (aware : Bool) → IsSound s → 0 < spare s.completion (length s.votes.ballots.registrations)
-    → v.ballots ≡ registered b to aware s.votes.ballots → IsSound (record s { votes = v })
-sound_registered s v b to aware p some is = subst (λ (x : Ballots). IsSound (record s { votes = record v { ballots = x } })) (sym is)
-    (one_more s v b to aware _ p some (added_few s.votes.ballots.lists b (length s.votes.ballots.registrations + 1) (length s.votes.ballots.registrations) p.lists)
+    → length to ≤ reach s.completion → v.ballots ≡ registered b to aware s.votes.ballots → IsSound (record s { votes = v })
+sound_registered s v b to aware p some fits is = subst (λ (x : Ballots). IsSound (record s { votes = record v { ballots = x } })) (sym is)
+    (one_more s v b to aware _ p some fits (added_few s.votes.ballots.lists b (length s.votes.ballots.registrations + 1) (length s.votes.ballots.registrations) p.lists)
     (added_once s.votes.ballots.lists b (length s.votes.ballots.registrations) p.once))
 
 pub sound_aware : (s : Inside) (v : VotesParts) (b : ℕ) (to : List ℕ) → IsSound s → 0 < spare s.completion (length s.votes.ballots.registrations)
-    → v.ballots ≡ registered_aware b to s.votes.ballots → IsSound (record s { votes = v })
-sound_aware s v b to p some is = subst (λ (x : Ballots). IsSound (record s { votes = record v { ballots = x } })) (sym is)
-    (one_more s v b to true _ p some (let few = p.lists in omega (arith, few)) (more_once s.votes.ballots.lists (length s.votes.ballots.registrations) p.once))
+    → length to ≤ reach s.completion → v.ballots ≡ registered_aware b to s.votes.ballots → IsSound (record s { votes = v })
+sound_aware s v b to p some fits is = subst (λ (x : Ballots). IsSound (record s { votes = record v { ballots = x } })) (sym is)
+    (one_more s v b to true _ p some fits (let few = p.lists in omega (arith, few)) (more_once s.votes.ballots.lists (length s.votes.ballots.registrations) p.once))
 
 pub sound_sync : (s : Inside) (v : VotesParts) (b : ℕ) (to : List ℕ) → IsSound s → length s.votes.ballots.synchronizations < synchronization_limit
     → v.ballots ≡ registered_sync b to s.votes.ballots → IsSound (record s { votes = v })

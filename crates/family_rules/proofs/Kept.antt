@@ -1,21 +1,22 @@
 -- What a state keeps stays so.
 use Rattle.std.proofs.Common.{◌≡◌, ◌≢◌, refl, ap, sym, subst, ℕ, zero, suc, ◌+◌, ◌<◌, ◌≤◌, if◌then◌else◌, List, [], ◌∷◌, ◌++◌, length, map, get_or, Option, Some, None, is_some, false, arith, length-append}
 use Rattle.std.specs.Prelude.{◌==◌, slice_set, sum_by, replicate}
-use Rattle.std.specs.List.{cons_option, filter_map}
+use Rattle.std.specs.List.{cons_option, filter_map, slice_get}
 use Rattle.std.proofs.lemmas.Bool.Decides.{nat_tests}
 use Rattle.std.proofs.lemmas.Grind.{common_steps}
 use Rattle.std.proofs.lemmas.List.{get_or-set_other}
+use Rattle.std.proofs.lemmas.Option.{same_Some}
 use Rattle.std.proofs.lemmas.List.Sums.{sum_by-append, sum_by-cons}
 use Rattle.ots_model.specs.declared.completion.CallNumber.{CallNumber}
 use Rattle.ots_model.specs.declared.completion.Heard.{Heard}
 use Rattle.ots_model.specs.declared.completion.Stood.{Stood}
-use Rattle.resource_votes.specs.Ballots.{Ballots, numbered, participants}
+use Rattle.resource_votes.specs.Ballots.{Ballots, no_ballots, numbered, participants}
 use Rattle.resource_votes.specs.History.{times}
 use Rattle.resource_votes.specs.Lists.{list_at, added_to, handed_lists}
 use Rattle.resource_votes.specs.declared.registration.Registration.{Registration}
 use Rattle.decision_journal.specs.declared.record.Registration.{Registration as Recorded}
 use Rattle.two_phase.specs.Stages as stages
-use Rattle.two_phase.specs.Stages.{Standing, Waiting, Going as UnderWay, HasRoom}
+use Rattle.two_phase.specs.Stages.{Standing, Waiting, Going as UnderWay, HasRoom, longest, no_room}
 use Rattle.family_rules.specs.declared.call.Seat.{Seat}
 use Rattle.family_rules.specs.Calls.{AreTasks, AllTasks}
 use Rattle.family_rules.specs.Order.{AreInOrder}
@@ -157,27 +158,55 @@ pub found_few : {A B : Type 0} (h : A → Option B) (xs : List A) → length (fi
 found_few h [] = omega arith
 found_few h (x ∷ xs) = let r = found_few h xs in grind (arith, common_steps, r)
 
-pub places_reserved : (n count : ℕ) (s : Standing) → count ≤ n → HasPlaces (stages.after_reserve n s) count
-places_reserved n count (Waiting room) h = omega (arith, h)
-places_reserved n count (UnderWay c) h = tt
+-- nobody needs room
+pub none_placed : (s : Standing) (b : Ballots) → s ≡ Waiting no_room → b ≡ no_ballots → HasPlaces s b.registrations
+none_placed s b is none =
+    let empty : HasPlaces (Waiting no_room) [] = (omega arith, omega arith) in
+    subst (λ (x : Standing). HasPlaces x b.registrations) (sym is) (subst (λ (x : Ballots). HasPlaces (Waiting no_room) x.registrations) (sym none) empty)
+
+pub places_reserved : (n octets : ℕ) (rs : List Registration) (s : Standing) → HasPlaces s rs → HasPlaces (stages.after_reserve n octets s) rs
+places_reserved n octets rs (Waiting room) h = let count = h.0 in let long = h.1 in (omega (arith, count), omega (arith, long))
+places_reserved n octets rs (UnderWay c) h = tt
+
+-- none is longer than the longest
+one_of : (rs : List Registration) (i : ℕ) (r : Registration) → slice_get rs i ≡ Some r → length r.to ≤ longest rs
+one_of [] i r at = absurd (cc (at))
+one_of (x ∷ rs) zero r at = let e : length x.to ≡ length r.to = ap (λ (y : Registration). length y.to) (same_Some x r at) in omega (arith, e)
+one_of (x ∷ rs) (suc i) r at = let more = one_of rs i r at in omega (arith, more)
+
+one_numbered : (rs : List Registration) (n : ℕ) (r : Registration) → numbered rs n ≡ Some r → length r.to ≤ longest rs
+one_numbered rs zero r at = absurd (cc (at))
+one_numbered rs (suc i) r at = one_of rs i r at
+
+found_within : (rs : List Registration) (xs : List ℕ) → longest (filter_map (numbered rs) xs) ≤ longest rs
+found_within rs [] = omega arith
+found_within rs (x ∷ xs) = by_found (numbered rs x) refl (found_within rs xs)
+  where
+    by_found : (o : Option Registration) → numbered rs x ≡ o → longest (filter_map (numbered rs) xs) ≤ longest rs
+        → longest (cons_option o (filter_map (numbered rs) xs)) ≤ longest rs
+    by_found None is more = more
+    by_found (Some r) is more = let one = one_numbered rs x r is in omega (arith, one, more)
 
 -- a completion that hasn't started has room for the participants of the top-level transaction
-pub has_room : (s : Standing) (b : Ballots) → HasPlaces s (length b.registrations) → AreFew b.lists (length b.registrations) → is_some (stages.number s) ≡ false
-    → HasRoom s (length (participants 0 b))
+pub has_room : (s : Standing) (b : Ballots) → HasPlaces s b.registrations → AreFew b.lists (length b.registrations) → is_some (stages.number s) ≡ false
+    → HasRoom s (participants 0 b)
 has_room (Waiting room) b places few is =
     let found = found_few (numbered b.registrations) (list_at b.lists 0) in
     let all = within_total b.lists 0 in
-    omega (arith, found, all, places, few)
+    let count = places.0 in
+    let long = places.1 in
+    let within = found_within b.registrations (list_at b.lists 0) in
+    (omega (arith, found, all, count, few), omega (arith, within, long))
 has_room (UnderWay c) b places few is = absurd (cc (is))
 
-pub places_answered : (n : CallNumber) (h : Heard) (s : Standing) (count : ℕ) → HasPlaces s count → HasPlaces (stages.after_answer n h s) count
-places_answered n h (Waiting room) count places = places
-places_answered n h (UnderWay c) count places = tt
+pub places_answered : (n : CallNumber) (h : Heard) (s : Standing) (rs : List Registration) → HasPlaces s rs → HasPlaces (stages.after_answer n h s) rs
+places_answered n h (Waiting room) rs places = places
+places_answered n h (UnderWay c) rs places = tt
 
-pub places_decided : (stood : Stood) (s : Standing) (count : ℕ) → HasPlaces s count → HasPlaces (stages.after_decided stood s) count
-places_decided stood (Waiting room) count places = places
-places_decided stood (UnderWay c) count places = tt
+pub places_decided : (stood : Stood) (s : Standing) (rs : List Registration) → HasPlaces s rs → HasPlaces (stages.after_decided stood s) rs
+places_decided stood (Waiting room) rs places = places
+places_decided stood (UnderWay c) rs places = tt
 
-pub places_reread : (found : Option ℕ) (s : Standing) (count : ℕ) → HasPlaces s count → HasPlaces (stages.after_reread found s) count
-places_reread found (Waiting room) count places = places
-places_reread found (UnderWay c) count places = tt
+pub places_reread : (found : Option ℕ) (s : Standing) (rs : List Registration) → HasPlaces s rs → HasPlaces (stages.after_reread found s) rs
+places_reread found (Waiting room) rs places = places
+places_reread found (UnderWay c) rs places = tt

@@ -1,5 +1,6 @@
 -- A completion that hasn't started says the same whatever its room.
 use Rattle.std.proofs.Common.{◌≡◌, ◌<◌, ◌≤◌, ℕ, true, Option, None, is_some, refl, arith}
+use Rattle.ots_model.specs.Limits.{reference_limit}
 use Rattle.ots_model.specs.declared.completion.CallNumber.{CallNumber}
 use Rattle.ots_model.specs.declared.completion.Heard.{Heard}
 use Rattle.ots_model.specs.declared.completion.Stood.{Stood}
@@ -7,7 +8,7 @@ use Rattle.two_phase.specs.Course.{Course}
 use Rattle.two_phase.specs.Stages as stages
 use Rattle.two_phase.specs.Stages.{Standing, Waiting, Going as UnderWay}
 use Rattle.coordinator.specs.Closing.{begun}
-use Rattle.family_rules.specs.Room.{spare}
+use Rattle.family_rules.specs.Room.{spare, reach}
 use Rattle.family_rules.specs.StateInside.{unroomed}
 
 pub unroomed_outcome : (s : Standing) → stages.outcome (unroomed s) ≡ stages.outcome s
@@ -22,19 +23,27 @@ pub unroomed_alone : (s : Standing) → stages.decides_alone (unroomed s) ≡ st
 unroomed_alone (Waiting room) = refl
 unroomed_alone (UnderWay c) = refl
 
-pub unroomed_reserved : (n : ℕ) (s : Standing) → unroomed (stages.after_reserve n s) ≡ unroomed s
-unroomed_reserved n (Waiting room) = refl
-unroomed_reserved n (UnderWay c) = refl
+pub unroomed_reserved : (n octets : ℕ) (s : Standing) → unroomed (stages.after_reserve n octets s) ≡ unroomed s
+unroomed_reserved n octets (Waiting room) = refl
+unroomed_reserved n octets (UnderWay c) = refl
 
 -- there is room where it was taken
-pub spare_reserved : (n count : ℕ) (s : Standing) → count < n → 0 < spare (stages.after_reserve n s) count
-spare_reserved n count (Waiting room) h = omega arith
-spare_reserved n count (UnderWay c) h = omega arith
+pub spare_reserved : (n octets count : ℕ) (s : Standing) → count < n → 0 < spare (stages.after_reserve n octets s) count
+spare_reserved n octets count (Waiting room) h = omega arith
+spare_reserved n octets count (UnderWay c) h = omega arith
+
+pub reach_reserved : (n octets : ℕ) (s : Standing) → octets ≤ reference_limit → octets ≤ reach (stages.after_reserve n octets s)
+reach_reserved n octets (Waiting room) h = omega arith
+reach_reserved n octets (UnderWay c) h = h
 
 -- and no less than there was
-pub spare_kept : (n count : ℕ) (s : Standing) → spare s count ≤ spare (stages.after_reserve n s) count
-spare_kept n count (Waiting room) = omega (arith)
-spare_kept n count (UnderWay c) = omega arith
+pub spare_kept : (n octets count : ℕ) (s : Standing) → spare s count ≤ spare (stages.after_reserve n octets s) count
+spare_kept n octets count (Waiting room) = omega (arith)
+spare_kept n octets count (UnderWay c) = omega arith
+
+pub reach_kept : (n octets : ℕ) (s : Standing) → reach s ≤ reach (stages.after_reserve n octets s)
+reach_kept n octets (Waiting room) = omega arith
+reach_kept n octets (UnderWay c) = omega arith
 
 pub unroomed_next_word : (s : Standing) → stages.next_word (unroomed s) ≡ stages.next_word s
 unroomed_next_word (Waiting room) = refl

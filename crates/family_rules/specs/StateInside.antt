@@ -1,18 +1,19 @@
 use Rattle.std.specs.Prelude.{◌≡◌, ℕ, ◌+◌, ◌-◌, ◌≤◌, List, length, min, nat_le, sum_by, vec_len, vec_capacity, if◌then◌else◌}
 use Rattle.resource_votes.specs.History.{times}
 use Rattle.resource_votes.specs.Limits.{synchronization_limit}
-use Rattle.two_phase.specs.Stages.{Standing, Waiting, Going as UnderWay}
+use Rattle.resource_votes.specs.declared.registration.Registration.{Registration}
+use Rattle.two_phase.specs.Stages.{Standing, Waiting, Going as UnderWay, Holds, no_room}
 use Rattle.family_rules.specs.Calls.{all_seated, AllTasks}
 use Rattle.family_rules.specs.Order.{AreInOrder}
 use Rattle.coordinator.specs.Limits.{history_limit}
-use Rattle.family_rules.specs.Room.{StateParts, spare}
+use Rattle.family_rules.specs.Room.{StateParts, spare, reach}
 use Rattle.family_rules.specs.Outs.{AreOut}
 use Rattle.family_rules.specs.Tallies.{IsTallied}
 use Rattle.family_rules.specs.declared.state.State.TheInside.{Inside}
 
 -- a completion that hasn't started, without its room
 abbrev pub unroomed : Standing → Standing
-unroomed (Waiting room) = Waiting 0
+unroomed (Waiting room) = Waiting no_room
 unroomed (UnderWay c) = UnderWay c
 
 abbrev pub shown : Inside → StateParts
@@ -32,6 +33,7 @@ shown s = record {
   };
   room = min (min (vec_capacity s.seats - vec_len s.seats) (s.outs.capacity - vec_len s.seats))
       (min (min s.tree.room s.votes.room) (spare s.completion (length s.votes.ballots.registrations)));
+  reach = reach s.completion;
   history_room = vec_capacity s.entries - vec_len s.entries;
 }
 
@@ -46,10 +48,10 @@ share count i = if nat_le i count then 1 else 0
 abbrev pub AreOnce : List (List ℕ) → ℕ → Type 0
 AreOnce lists count = (i : ℕ) → sum_by (times i) lists ≤ share count i
 
--- a completion that hasn't started has room for so many participants
-abbrev pub HasPlaces : Standing → ℕ → Type 0
-HasPlaces (Waiting room) count = count ≤ room
-HasPlaces (UnderWay c) count = Unit {0}
+-- a completion that hasn't started has room for these participants
+abbrev pub HasPlaces : Standing → List Registration → Type 0
+HasPlaces (Waiting room) some = Holds room some
+HasPlaces (UnderWay c) some = Unit {0}
 
 -- the history and the synchronizations keep to their limits; each entry has sent one word at most, and so has the step that
 -- goes on; each transaction has a seat, and what it has left to tell is of registrations that there are; each registration and each
@@ -65,7 +67,7 @@ pub record IsSound (s : Inside) : Type 0 where
   pub lists : AreFew s.votes.ballots.lists (length s.votes.ballots.registrations)
   pub once : AreOnce s.votes.ballots.lists (length s.votes.ballots.registrations)
   pub tasks : AllTasks s.votes.ballots.registrations s.seats.items
-  pub places : HasPlaces s.completion (length s.votes.ballots.registrations)
+  pub places : HasPlaces s.completion s.votes.ballots.registrations
   pub tally : IsTallied s.tally s.seats.items
   pub outs : AreOut s.outs.words s.seats.items
   pub outs_room : vec_len s.seats ≤ s.outs.capacity

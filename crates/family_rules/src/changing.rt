@@ -1,6 +1,6 @@
 // What a family shows of what it keeps, and what a client's call and a step change of it.
 ghost use Rattle.std.specs.Prelude.{◌≡◌, ℕ, ◌<◌, ◌≤◌, ◌+◌, ◌∷◌, ◌++◌, [], length, is_none, false};
-ghost use Rattle.txn_tree.specs.Calls.{created, creating, ended};
+ghost use Rattle.txn_tree.specs.Calls.{creating, ended};
 ghost use Rattle.txn_tree.specs.Limits.{transaction_limit};
 ghost use Rattle.resource_votes.specs.Ballots as ballots;
 ghost use Rattle.coordinator.specs.Family.{call_at};
@@ -127,6 +127,7 @@ impl State {
     pub fn register(&mut self, branch: u32, to: RefBytes, aware: bool) -> Result<u32, VoteFault>
         requires there { branch < length (self.old.family).rows }
         requires room { 0 < self.old.room }
+        requires fits { length to ≤ self.old.reach }
         ensures registered { Registers
             (ballots.registering (self.old.family).rows branch (self.old.family).ballots)
             (length (self.old.family).ballots.registrations + 1)
@@ -141,6 +142,7 @@ impl State {
     pub fn register_aware(&mut self, branch: u32, to: RefBytes) -> Result<u32, VoteFault>
         requires there { branch < length (self.old.family).rows }
         requires room { 0 < self.old.room }
+        requires fits { length to ≤ self.old.reach }
         ensures registered { Registers
             (ballots.registering_aware (self.old.family).rows branch (self.old.family).ballots)
             (length (self.old.family).ballots.registrations + 1)

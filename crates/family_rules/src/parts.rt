@@ -1,4 +1,4 @@
-// What a step gathers besides its tasks, in a block that stays where it is from step to step.
+// What a step gathers besides its tasks, in a block that the next step may use again.
 ghost use Rattle.std.specs.Prelude.{◌≡◌, ◌≤◌, [], None, IsSome, OnOk, vec_capacity};
 
 use crate::draft::Told;

@@ -6,6 +6,7 @@ ghost use Rattle.coordinator.specs.Family.{call_at, new_family};
 ghost use Rattle.coordinator.specs.Phases as phases;
 ghost use Rattle.coordinator.specs.Step as steps;
 ghost use Rattle.coordinator.specs.Table as table;
+ghost use Rattle.ots_model.specs.Limits.{reference_limit};
 ghost use Rattle.two_phase.specs.Stages as stages;
 
 use crate::call::Seat;
@@ -62,7 +63,7 @@ impl Model for State {
 
 impl State {
     /// The top-level transaction of a root alone.
-    #[tactic(auto, using(crate::proofs::Kept::none_few, crate::proofs::Kept::none_once, crate::proofs::Waited::none_out), unfolding(crate::specs::Calls::all_seated))]
+    #[tactic(auto, using(crate::proofs::Kept::none_few, crate::proofs::Kept::none_once, crate::proofs::Kept::none_placed, crate::proofs::Waited::none_out), unfolding(crate::specs::Calls::all_seated))]
     pub fn new(alloc: Global, key: ObjectKey, deadline: Option<u64>) -> Result<State, AllocError>
         ensures made { IfOk result (λ s. s.family ≡ new_family key deadline) }
     {
@@ -89,31 +90,42 @@ impl State {
         })
     }
 
-    /// Takes memory for one more entry, subtransaction and registration.
-    pub fn make_room(&mut self) -> Result<(), AllocError>
+    /// Takes memory for one more entry, subtransaction and registration, whose reference has at most so many octets.
+    pub fn make_room(&mut self, octets: usize) -> Result<(), AllocError>
+        requires short { octets ≤ reference_limit }
         ensures same { self.new.family ≡ self.old.family }
         ensures room { OnOk result (0 < self.new.room) }
+        ensures reach { OnOk result (octets ≤ self.new.reach) }
         ensures history { OnOk result (0 < self.new.history_room) }
         ensures room_kept { self.old.room ≤ self.new.room }
+        ensures reach_kept { self.old.reach ≤ self.new.reach }
         ensures history_kept { self.old.history_room ≤ self.new.history_room }
     {
-        self.make_places()?;
-        self.entries.reserve(1)
+        self.make_places(octets)?;
+        let count = self.entries.len();
+        if count < self.entries.capacity() {
+            return Ok(());
+        }
+        self.entries.reserve(3 * count + 1)
     }
 
-    /// Takes memory for one more subtransaction and registration.
-    #[tactic(auto, using(crate::proofs::Unroomed::unroomed_reserved, crate::proofs::Unroomed::spare_reserved, crate::proofs::Unroomed::spare_kept, crate::proofs::Kept::places_reserved))]
-    fn make_places(&mut self) -> Result<(), AllocError>
+    /// Takes memory for one more subtransaction, and for one more registration whose reference has at most so many octets.
+    #[tactic(auto, using(crate::proofs::Unroomed::unroomed_reserved, crate::proofs::Unroomed::spare_reserved, crate::proofs::Unroomed::spare_kept, crate::proofs::Unroomed::reach_reserved, crate::proofs::Unroomed::reach_kept, crate::proofs::Kept::places_reserved))]
+    fn make_places(&mut self, octets: usize) -> Result<(), AllocError>
+        requires short { octets ≤ reference_limit }
         ensures same { self.new.family ≡ self.old.family }
         ensures room { OnOk result (0 < self.new.room) }
+        ensures reach { OnOk result (octets ≤ self.new.reach) }
         ensures room_kept { self.old.room ≤ self.new.room }
+        ensures reach_kept { self.old.reach ≤ self.new.reach }
         ensures history { self.new.history_room ≡ self.old.history_room }
     {
         self.seats.reserve(1)?;
         self.outs.reserve(self.seats.capacity())?;
         self.tree.reserve()?;
         self.votes.reserve()?;
-        self.completion.reserve(self.votes.count() + 1)
+        self.completion
+            .reserve_within(self.votes.count() + 1, octets)
     }
 
     /// Memory for what a step brings: for so many answers and effects, and for so many tasks.

@@ -57,6 +57,12 @@ reference_in (acts.RegisterSynchronization to) = Some to
 reference_in (acts.RegisterSubtranAware to) = Some to
 reference_in _ = None
 
+-- how long it is, where the one that is registered may take part
+abbrev pub length_in : Act → ℕ
+length_in (acts.RegisterResource to aware) = length to
+length_in (acts.RegisterSubtranAware to) = length to
+length_in _ = 0
+
 -- the name that it is answered, where it asks for one
 abbrev pub name_in : Act → ℕ → Family → Option (List ℕ)
 name_in acts.GetTransactionName b f = Some (name_of f b)

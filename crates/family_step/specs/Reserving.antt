@@ -1,5 +1,5 @@
 -- What is made ready for the step of an event.
-use Rattle.std.specs.Prelude.{◌≡◌, ◌+◌, ◌<◌, true, length, Option, Some, None}
+use Rattle.std.specs.Prelude.{◌≡◌, ◌+◌, ◌<◌, ◌≤◌, true, length, Option, Some, None}
 use Rattle.std.specs.Option.{option_map}
 use Rattle.std.specs.Vec.{vec_items}
 use Rattle.coordinator.specs.Family.{Family}
@@ -8,7 +8,7 @@ use Rattle.coordinator.specs.declared.event.Event.{Event}
 use Rattle.family_rules.specs.Changes.{nothing_yet}
 use Rattle.family_rules.specs.Going.{CanGo}
 use Rattle.family_rules.specs.Room.{StateParts}
-use Rattle.family_step.specs.Acting.{name_in, reference_in}
+use Rattle.family_step.specs.Acting.{length_in, name_in, reference_in}
 use Rattle.family_step.specs.Asking.{AreReady}
 use Rattle.family_step.specs.declared.ready.Ready.{Ready}
 
@@ -28,6 +28,7 @@ pub record IsStocked (s : StateParts) (r : Ready) : Type 0 where
   pub ready : IsReadyFor r.event s.family r
   pub fits : has_room s.family.entries r.event ≡ true
   pub room : 0 < s.room
+  pub reach : length_in r.event.act ≤ s.reach
   pub history : 0 < s.history_room
 
 abbrev pub IsStockedFor : StateParts → Option Ready → Type 0

@@ -1,5 +1,5 @@
 // What an event does to a family, and what is said at once.
-ghost use Rattle.std.specs.Prelude.{◌≡◌, ◌<◌, ◌≤◌, ◌+◌, ℕ, length};
+ghost use Rattle.std.specs.Prelude.{◌≡◌, ◌<◌, ◌≤◌, ◌+◌, length};
 ghost use Rattle.coordinator.specs.Family.{call_at};
 ghost use Rattle.coordinator.specs.Hearing.{settles};
 ghost use Rattle.coordinator.specs.Moves.{◌▹◌};
@@ -7,7 +7,7 @@ ghost use Rattle.coordinator.specs.Running.{goes_on};
 ghost use Rattle.coordinator.specs.Step as steps;
 ghost use Rattle.coordinator.specs.Table as table;
 ghost use Rattle.family_rules.specs.Going.{ActsBy, CanGo, Does};
-ghost use Rattle.family_step.specs.Acting.{called, carried_out, is_named_there, name_in, reference_in, told};
+ghost use Rattle.family_step.specs.Acting.{called, carried_out, is_named_there, length_in, name_in, reference_in, told};
 
 use crate::registering::{
     create_subtransaction, register_aware, register_resource, register_synchronization,
@@ -35,6 +35,7 @@ pub(crate) fn act(
     out: &mut Draft,
 ) -> Said
     requires to { given.old.to ≡ reference_in (event.now).act }
+    requires fits { length_in (event.now).act ≤ state.old.reach }
     requires name { given.old.name ≡ name_in (event.now).act (event.now).branch state.old.family }
     requires room { 0 < state.old.room }
     requires can { CanGo (length (state.old.family).rows + 8) state.old.family out.old }
@@ -42,10 +43,9 @@ pub(crate) fn act(
         state.new.family out.new result }
     ensures kept { state.old.history_room ≤ state.new.history_room }
 {
-    let branch = event.branch;
     match &event.act {
-        Act::GetStatus => say_status(state.status_of(branch)),
-        Act::GetParentStatus => say_status(state.parent_status_of(branch)),
+        Act::GetStatus => say_status(state.status_of(event.branch)),
+        Act::GetParentStatus => say_status(state.parent_status_of(event.branch)),
         Act::Replay(registration, _) => replay(state, *registration),
         Act::Superior(_) => Said::ObjectNotExist,
         Act::Answer(number, heard) => {
@@ -64,7 +64,7 @@ pub(crate) fn act(
             state.set_deadline(*deadline);
             Said::State(Status::Active)
         }
-        other => call(state, other, branch, given, out),
+        other => call(state, other, event.branch, given, out),
     }
 }
 
@@ -133,6 +133,7 @@ fn answer_at(
 /// A call is carried out, where what its key names is there.
 fn call(state: &mut State, act: &Act, branch: u32, given: &mut Given, out: &mut Draft) -> Said
     requires to { given.old.to ≡ reference_in act.now }
+    requires fits { length_in act.now ≤ state.old.reach }
     requires name { given.old.name ≡ name_in act.now branch state.old.family }
     requires room { 0 < state.old.room }
     requires can { CanGo (length (state.old.family).rows + 4) state.old.family out.old }
@@ -159,6 +160,7 @@ fn is_there(state: &State, act: &Act, branch: u32) -> bool
 fn carry_out(state: &mut State, act: &Act, branch: u32, given: &mut Given, out: &mut Draft) -> Said
     requires there { branch < length (state.old.family).rows }
     requires to { given.old.to ≡ reference_in act.now }
+    requires fits { length_in act.now ≤ state.old.reach }
     requires name { given.old.name ≡ name_in act.now branch state.old.family }
     requires room { 0 < state.old.room }
     requires can { CanGo (length (state.old.family).rows + 4) state.old.family out.old }

@@ -13,7 +13,7 @@ ghost use Rattle.family_step.specs.Asking.{EntryIsCaused, HasStepped, is_reread}
 
 use crate::asking::step_asking;
 use crate::callers::Callers;
-use crate::ready::{Ready, draft_of, has_room, kept};
+use crate::ready::{Ready, draft_of, has_room, kept, registered_length};
 use crate::step::{is_silent, step};
 use coordinator::{Entry, Event, Phase, Said, StepAnswer, histories_grow_by_entries};
 use decision_journal::Journal;
@@ -105,14 +105,11 @@ impl Family {
         ensures room { OnOk result (0 < out.new.room) }
         ensures kept { out.old.room ≤ out.new.room }
     {
-        self.state.make_room()?;
+        self.state.make_room(registered_length(&event.act))?;
         self.callers.reserve()?;
         out.reserve(1)?;
         let draft = draft_of(&mut self.state)?;
-        let alloc = self.state.allocator();
-        let ready = Ready::new(alloc, draft, &self.state, &self.callers, event)?;
-        self.ready = Some(ready);
-        Ok(())
+        Ready::put(&mut self.ready, draft, &self.state, &self.callers, event)
     }
 
     /// The key with which it was made.

@@ -1,13 +1,14 @@
 // What is made ready for a step, so that it takes no memory.
-ghost use Rattle.std.specs.Prelude.{◌≡◌, ◌+◌, ◌≤◌, length, is_some, IfOk};
+ghost use Rattle.std.specs.Prelude.{◌≡◌, ◌+◌, ◌<◌, ◌≤◌, length, is_some, true, Some, IfOk, OnErr, OnOk};
 ghost use Rattle.std.specs.Option.{option_copied, option_map};
 ghost use Rattle.std.specs.Vec.{vec_items};
 ghost use Rattle.coordinator.specs.History as history;
 ghost use Rattle.family_rules.specs.Changes.{nothing_yet};
 ghost use Rattle.family_rules.specs.Going.{CanGo};
-ghost use Rattle.family_step.specs.Acting.{name_in, name_of_said, reference_in};
-ghost use Rattle.family_step.specs.Asking.{AreReady, may_decide, may_name, may_want, waits_for};
+ghost use Rattle.family_step.specs.Acting.{length_in, name_in, name_of_said, reference_in};
+ghost use Rattle.family_step.specs.Asking.{AreReady, may_decide, may_want, waits_for};
 ghost use Rattle.family_step.specs.Callers.{IsIndex, answer_to, answered_later, call_for};
+ghost use Rattle.ots_model.specs.Limits.{reference_limit};
 
 use crate::callers::{CallPlaces, Callers};
 use crate::step::again;
@@ -32,23 +33,31 @@ pub(crate) struct Ready {
 }
 
 impl Ready {
-    ghost use Rattle.family_step.specs.Reserving.{IsReadyFor};
+    ghost use Rattle.family_step.specs.Reserving.{IsStockedFor};
+    ghost use Rattle.family_step.specs.declared.ready.Ready.{Ready as Made};
 
-    /// For this event, with this memory for what its step brings.
-    pub fn new(
-        alloc: Global,
+    /// Makes this ready for an event, with this memory for what its step brings.
+    pub fn put(
+        ready: &mut Option<Ready>,
         draft: Draft,
         state: &State,
         callers: &Callers,
         event: &Event,
-    ) -> Result<Ready, AllocError>
+    ) -> Result<(), AllocError>
         requires nothing { draft.changes ≡ (nothing_yet 0 0).changes }
         requires can { CanGo (length (state.now.family).rows + 8) state.now.family draft }
         requires index { IsIndex (callers.now).places (state.now.family).entries }
-        ensures { IfOk result (λ r. IsReadyFor event.entry.now state.now.family r) }
+        requires fits { history.has_room (state.now.family).entries event.now ≡ true }
+        requires room { 0 < state.now.room }
+        requires reach { length_in (event.now).act ≤ state.now.reach }
+        requires history { 0 < state.now.history_room }
+        ensures event { OnOk result (option_map (λ (r : Made). r.event) ready.new ≡ Some event.entry.now) }
+        ensures stocked { OnOk result (IsStockedFor state.now ready.new) }
+        ensures err { OnErr result (ready.new ≡ ready.old) }
     {
+        let alloc = state.allocator();
         let name = name_asked(alloc, state, event)?;
-        Ok(Ready {
+        *ready = Some(Ready {
             event: copy_event(alloc, event)?,
             answered: copy_answer(alloc, known(state, callers, event))?,
             to: reference_of(alloc, &event.act)?,
@@ -56,7 +65,8 @@ impl Ready {
             name,
             named: named_by(alloc, state, event)?,
             draft,
-        })
+        });
+        Ok(())
     }
 }
 
@@ -72,6 +82,18 @@ pub(crate) fn draft_of(state: &mut State) -> Result<Draft, AllocError>
     match state.most_left().checked_add(128) {
         Some(tasks) => state.draft(room, tasks),
         None => Err(AllocError),
+    }
+}
+
+/// How long the reference is that an act registers, where what it registers may be told the outcome.
+pub(crate) fn registered_length(act: &Act) -> usize
+    ensures length { result ≡ length_in act.now }
+    ensures short { result ≤ reference_limit }
+{
+    match act {
+        Act::RegisterResource(to, _) => to.bytes().len(),
+        Act::RegisterSubtranAware(to) => to.bytes().len(),
+        _ => 0,
     }
 }
 

@@ -13,6 +13,7 @@ use ots_model::RefBytes;
 pub(crate) fn register_resource(state: &mut State, branch: u32, to: RefBytes, aware: bool) -> Said
     requires there { branch < length (state.old.family).rows }
     requires room { 0 < state.old.room }
+    requires fits { length to ≤ state.old.reach }
     ensures acts { ActsAlone state.old.family (table.registers_resource branch to aware)
         state.new.family result }
     ensures kept { state.old.history_room ≤ state.new.history_room }
@@ -31,6 +32,7 @@ pub(crate) fn register_resource(state: &mut State, branch: u32, to: RefBytes, aw
 pub(crate) fn register_aware(state: &mut State, branch: u32, to: RefBytes) -> Said
     requires there { branch < length (state.old.family).rows }
     requires room { 0 < state.old.room }
+    requires fits { length to ≤ state.old.reach }
     ensures acts { ActsAlone state.old.family (table.registers_aware branch to) state.new.family result }
     ensures kept { state.old.history_room ≤ state.new.history_room }
 {

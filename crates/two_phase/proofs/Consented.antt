@@ -1,8 +1,7 @@
 -- The first so many have consented, so a look begins behind them.
 use Rattle.std.proofs.Common.{◌≡◌, refl, ℕ, zero, suc, ◌+◌, ◌<◌, ◌≤◌, List, [], ◌∷◌, ◌++◌, length, get_or, map, take, drop, slice_set, find, position, Option, Some, None, ap, sym, subst, ◌∙◌, ◌||◌, is_none, not, Bool, true, false, if◌then◌else◌, arith}
-use Rattle.std.specs.List.{slice_get, list_any, list_all, position_from}
+use Rattle.std.specs.List.{slice_get, list_any, list_all}
 use Rattle.std.specs.Option.{option_map, option_map_or}
-use Rattle.std.proofs.lemmas.Iterator.Adapters.{position_from-zero}
 use Rattle.std.proofs.lemmas.List.{length-map}
 use Rattle.std.proofs.lemmas.List.Quantifiers.{position-Some}
 use Rattle.std.proofs.lemmas.Option.{same_Some}
@@ -22,15 +21,10 @@ use Rattle.two_phase.proofs.Answered.{opened}
 use Rattle.two_phase.proofs.Opened.{nobody, errand_open}
 use Rattle.two_phase.proofs.Overtaken.{overtaken_ends}
 use Rattle.two_phase.proofs.Stays.{alike_all}
+use Rattle.two_phase.proofs.Behind.{front, rest, found_behind, found_within, set_all}
 use Rattle.two_phase.proofs.Rests.{and_left, and_right, one_alone, votes_is, Says, errand_tells}
 
 -- ---- what stands in front plays no part
-
-pub drop_none : (n : ℕ) (ps : List Party) → length ps ≤ n → [] ≡ drop n ps
-drop_none zero [] h = refl
-drop_none (suc n) [] h = refl
-drop_none zero (p ∷ ps) h = absurd (omega (arith, h))
-drop_none (suc n) (p ∷ ps) h = drop_none n ps (omega (arith, h))
 
 consent_asked : (o : Option Heard) → option_map_or consents o false ≡ true → is_none o ≡ false
 consent_asked None e = absurd (cc (e))
@@ -39,12 +33,6 @@ consent_asked (Some h) e = refl
 consent_kept : (o : Option Heard) → option_map_or consents o false ≡ true → option_map_or (λ h. not (consents h)) o false ≡ false
 consent_kept None e = absurd (cc (e))
 consent_kept (Some h) e = ap not e
-
-front : (f : Party → Bool) (p : Party) (n : ℕ) (ps : List Party) → list_all f (take (suc n) (p ∷ ps)) ≡ true → f p ≡ true
-front f p n ps all = and_left (f p) (list_all f (take n ps)) all
-
-rest : (f : Party → Bool) (p : Party) (n : ℕ) (ps : List Party) → list_all f (take (suc n) (p ∷ ps)) ≡ true → list_all f (take n ps) ≡ true
-rest f p n ps all = and_right (f p) (list_all f (take n ps)) all
 
 unasked_kept : (o : Option Heard) → is_none o ≡ true → option_map_or (λ h. not (consents h)) o false ≡ false
 unasked_kept None e = refl
@@ -76,50 +64,14 @@ all_behind zero ps all = refl
 all_behind (suc n) [] all = refl
 all_behind (suc n) (p ∷ ps) all = rw (front has_consented p n ps all) (all_behind n ps (rest has_consented p n ps all))
 
-from_behind : (i n : ℕ) (ps : List Party) → list_all has_consented (take n ps) ≡ true → position_from is_unasked i ps ≡ position_from is_unasked (i + n) (drop n ps)
-from_behind i zero ps all = let e : i ≡ i + 0 = omega arith in ap (λ j. position_from is_unasked j ps) e
-from_behind i (suc n) [] all = refl
-from_behind i (suc n) (p ∷ ps) all =
-    let e : (i + 1) + n ≡ i + suc n = omega arith in
-    rw (consent_asked p.ballot (front has_consented p n ps all))
-    (from_behind (i + 1) n ps (rest has_consented p n ps all) ∙ ap (λ j. position_from is_unasked j (drop n ps)) e)
-
-later : (f : Party → Bool) (n i : ℕ) (ps : List Party) → position_from f (i + n) ps ≡ option_map (λ j. n + j) (position_from f i ps)
-later f n i [] = refl
-later f n i (p ∷ ps) = by_head (f p) (later f n (i + 1) ps)
-  where
-    by_head : (b : Bool) → position_from f ((i + 1) + n) ps ≡ option_map (λ (j : ℕ). n + j) (position_from f (i + 1) ps)
-        → (if b then Some (i + n) else position_from f ((i + n) + 1) ps) ≡ option_map (λ (j : ℕ). n + j) (if b then Some i else position_from f (i + 1) ps)
-    by_head true more = let e : i + n ≡ n + i = omega arith in ap (λ (j : ℕ). Some j) e
-    by_head false more = let e : (i + n) + 1 ≡ (i + 1) + n = omega arith in ap (λ (j : ℕ). position_from f j ps) e ∙ more
-
-is_from : (f : Party → Bool) (ps : List Party) → position f ps ≡ position_from f 0 ps
-is_from f ps = position_from-zero f ps
-
 pub asked_behind : (n : ℕ) (ps : List Party) → list_all has_consented (take n ps) ≡ true
     → position is_unasked ps ≡ option_map (λ i. n + i) (position is_unasked (drop n ps))
-asked_behind n ps all =
-    is_from is_unasked ps ∙ from_behind 0 n ps all ∙ later is_unasked n 0 (drop n ps) ∙ ap (option_map (λ i. n + i)) (sym (is_from is_unasked (drop n ps)))
-
--- a place behind them is a place of one
-dropped : (n : ℕ) (ps : List Party) (i : ℕ) → i < length (drop n ps) → n + i < length ps
-dropped zero ps i h = omega (arith, h)
-dropped (suc n) [] i h = absurd (omega (arith, h))
-dropped (suc n) (p ∷ ps) i h = let k = dropped n ps i h in omega (arith, k)
+asked_behind n ps all = found_behind has_consented is_unasked (λ p e. consent_asked p.ballot e) n ps all
 
 pub asked_within : (n : ℕ) (ps : List Party) (i : ℕ) (d : Party) → position is_unasked (drop n ps) ≡ Some i → n + i < length ps
-asked_within n ps i d is = dropped n ps i (position-Some is_unasked (drop n ps) i d is).0
+asked_within n ps i d is = found_within is_unasked n ps i d is
 
 -- ---- an answer leaves them so
-
-pub set_all : (f : Party → Bool) (n : ℕ) (ps : List Party) (i : ℕ) (x y : Party) → slice_get ps i ≡ Some x → (f x ≡ true → f y ≡ true)
-    → list_all f (take n ps) ≡ true → list_all f (take n (slice_set ps i y)) ≡ true
-set_all f zero ps i x y at stays all = refl
-set_all f (suc n) [] i x y at stays all = absurd (cc (at))
-set_all f (suc n) (p ∷ ps) zero x y at stays all =
-    rw (stays (ap f (sym (same_Some p x at)) ∙ front f p n ps all), rest f p n ps all) refl
-set_all f (suc n) (p ∷ ps) (suc i) x y at stays all =
-    rw (front f p n ps all, set_all f n ps i x y at stays (rest f p n ps all)) refl
 
 stays_so : (stage : Stage) (h : Heard) (x : Party) → answer_at stage x ≡ None → has_consented x ≡ true → has_consented (heard_at stage h x) ≡ true
 stays_so stages.Asking h x quiet so = let never : false ≡ true = sym (ap (λ o. option_map_or consents o false) quiet) ∙ so in absurd (cc (never))

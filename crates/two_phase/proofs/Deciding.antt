@@ -1,24 +1,27 @@
 -- A decision begins to be wanted by the answer to the last word that asks.
-use Rattle.std.proofs.Common.{◌≡◌, refl, ℕ, ◌+◌, ◌<◌, List, [], ◌∷◌, ◌++◌, length, take, drop, slice_set, Option, Some, None, ap, sym, ◌∙◌, ◌&&◌, is_none, is_some, not, Bool, true, false, if◌then◌else◌}
+use Rattle.std.proofs.Common.{◌≡◌, refl, arith, ℕ, zero, suc, ◌+◌, ◌<◌, ◌≤◌, List, [], ◌∷◌, length, take, drop, slice_set, Option, Some, None, ap, sym, subst, ◌∙◌, ◌&&◌, is_none, is_some, not, Bool, true, false, if◌then◌else◌}
+use Rattle.std.specs.Prelude.{◌==◌}
 use Rattle.std.specs.List.{slice_get, list_all}
+use Rattle.std.proofs.lemmas.Bool.Decides.{nat_tests}
 use Rattle.std.specs.Option.{option_map_or}
 use Rattle.std.proofs.lemmas.List.{length-set, take-set, drop-set, take-append-drop}
 use Rattle.std.proofs.lemmas.List.Folds.{list_all-append}
 use Rattle.std.proofs.lemmas.Option.{slice_get_within}
 use Rattle.ots_model.specs.declared.completion.CallNumber.{CallNumber}
 use Rattle.ots_model.specs.declared.completion.Heard.{Heard}
-use Rattle.ots_model.specs.declared.completion.Stood.{Stood}
 use Rattle.two_phase.specs.Course.{same_number}
+use Rattle.two_phase.specs.CourseInside.{AsksAt, IsAskedAt}
 use Rattle.two_phase.specs.Parties.{consents}
 use Rattle.two_phase.specs.Course.{Course, decides_alone, all_consent, some_commit, wants_decision, others_have_answered, asks_last, is_last_asked, answered, heard_at, heard_by, errand, is_doubtful, is_outside, may_roll_back, overtaken_number}
 use Rattle.two_phase.specs.LawsOfReached.{TreeBecomes}
 use Rattle.two_phase.specs.LawsOfReached.TreeBecomes.{by_word, by_answer, by_record, by_reread, by_rollback}
-use Rattle.two_phase.specs.Parties.{has_consented, has_voted_commit, has_answered}
+use Rattle.two_phase.specs.Parties.{has_consented, has_voted_commit, has_answered, is_unasked}
 use Rattle.two_phase.specs.declared.party.Party.{Party}
 use Rattle.two_phase.specs.declared.party.Stage.{Stage}
 use Rattle.two_phase.specs.declared.party.Stage.TheVariants as stages
 use Rattle.two_phase.specs.declared.party.Errand.{Errand}
 use Rattle.two_phase.proofs.Answered.{heard_is}
+use Rattle.two_phase.proofs.Behind.{drop_none}
 use Rattle.two_phase.proofs.Rests.{and_left, and_right}
 use Rattle.two_phase.proofs.Stays.{alike_all, alike_any, alike_of, if_case}
 
@@ -135,3 +138,54 @@ last_answer_decides _ _ (by_rollback c reason) unwanted wants =
   where
     overtaken_wants : wants_decision (record c { overtaken = Some reason; out = None; number = overtaken_number c }) ≡ true → ⊥
     overtaken_wants w = cc (second_is _ false _ _ _ w)
+
+-- ---- whoever is asked last
+
+unasked_quiet : (o : Option Heard) → is_none o ≡ true → is_some o ≡ false
+unasked_quiet None e = refl
+unasked_quiet (Some h) e = absurd (cc (e))
+
+some_quiet : (qs : List Party) → 0 < length qs → list_all is_unasked qs ≡ true → list_all has_answered qs ≡ false
+some_quiet [] some e = absurd (omega (arith, some))
+some_quiet (q ∷ qs) some e = rw (unasked_quiet q.ballot (and_left (is_unasked q) (list_all is_unasked qs) e)) refl
+
+some_behind : (n : ℕ) (ps : List Party) → n < length ps → 0 < length (drop n ps)
+some_behind zero ps within = within
+some_behind (suc n) [] within = absurd (omega (arith, within))
+some_behind (suc n) (p ∷ ps) within = some_behind n ps (omega (arith, within))
+
+and_no : (a : Bool) → (a && false) ≡ false
+and_no true = refl
+and_no false = refl
+
+quiet_behind : (n : ℕ) (ps : List Party) → n + 1 < length ps → list_all is_unasked (drop (n + 1) ps) ≡ true → others_have_answered n ps ≡ false
+unfolding others_have_answered
+quiet_behind n ps within unasked = rw (some_quiet (drop (n + 1) ps) (some_behind (n + 1) ps within) unasked) (and_no (list_all has_answered (take n ps)))
+
+none_behind : (n : ℕ) (ps : List Party) → length ps ≤ n + 1 → list_all has_consented (take n ps) ≡ true → others_have_answered n ps ≡ true
+unfolding others_have_answered
+none_behind n ps within consented = rw (all_answered (take n ps) consented, sym (drop_none (n + 1) ps within)) refl
+
+-- it is the last one: those in front have consented, and behind nobody was asked
+last_by : (n : ℕ) (ps : List Party) (last : Bool) → n < length ps → list_all has_consented (take n ps) ≡ true → list_all is_unasked (drop (suc n) ps) ≡ true
+    → (n + 1 == length ps) ≡ last → last ≡ others_have_answered n ps
+last_by n ps true within consented unasked is = sym (none_behind n ps (grind (arith, nat_tests, is)) consented)
+last_by n ps false within consented unasked is =
+    let next : suc n ≡ n + 1 = omega arith in
+    sym (quiet_behind n ps (grind (arith, nat_tests, is, within)) (subst (λ (i : ℕ). list_all is_unasked (drop i ps) ≡ true) next unasked))
+
+pub last_is_asked : (n : ℕ) (ps : List Party) → n < length ps → list_all has_consented (take n ps) ≡ true → list_all is_unasked (drop (suc n) ps) ≡ true
+    → (n + 1 == length ps) ≡ others_have_answered n ps
+last_is_asked n ps within consented unasked = last_by n ps (n + 1 == length ps) within consented unasked refl
+
+-- a word that is out and asks goes to the one behind those that have consented
+asked_place : (o : Option Errand) (e : Errand) (n : ℕ) → o ≡ Some e → e.stage ≡ stages.Asking → IsAskedAt o n → n ≡ e.place
+asked_place o e n is asks at = sym (subst (λ (s : Stage). AsksAt s e.place n) asks (subst (λ (x : Option Errand). IsAskedAt x n) is at))
+
+pub in_front : (o : Option Errand) (e : Errand) (n : ℕ) (ps : List Party) → o ≡ Some e → e.stage ≡ stages.Asking → IsAskedAt o n
+    → list_all has_consented (take n ps) ≡ true → list_all has_consented (take e.place ps) ≡ true
+in_front o e n ps is asks at all = subst (λ (i : ℕ). list_all has_consented (take i ps) ≡ true) (asked_place o e n is asks at) all
+
+pub not_behind : (o : Option Errand) (e : Errand) (n : ℕ) (ps : List Party) → o ≡ Some e → e.stage ≡ stages.Asking → IsAskedAt o n
+    → list_all is_unasked (drop (suc n) ps) ≡ true → list_all is_unasked (drop (suc e.place) ps) ≡ true
+not_behind o e n ps is asks at all = subst (λ (i : ℕ). list_all is_unasked (drop (suc i) ps) ≡ true) (asked_place o e n is asks at) all

@@ -1,4 +1,5 @@
 pub mod Answered
+pub mod Reach
 pub mod Opened
 pub mod Overtaken
 pub mod Rests
@@ -11,4 +12,7 @@ pub mod Silence
 pub mod Settling
 pub mod SettledSilent
 pub mod Deciding
+pub mod Through
+pub mod Behind
 pub mod Consented
+pub mod Told

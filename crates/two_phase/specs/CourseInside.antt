@@ -1,10 +1,11 @@
-use Rattle.std.specs.Prelude.{◌≡◌, ℕ, suc, ◌+◌, ◌*◌, ◌^◌, ◌<◌, ◌≤◌, List, take, drop, sum_by, true, Option, Some, None, vec_len}
+use Rattle.std.specs.Prelude.{◌≡◌, ℕ, suc, ◌+◌, ◌*◌, ◌^◌, ◌<◌, ◌≤◌, ◌==◌, if◌then◌else◌, max, min, List, [], ◌∷◌, length, take, drop, sum_by, true, Option, Some, None, vec_len}
 use Rattle.std.specs.List.{slice_get, list_all}
-use Rattle.ots_model.specs.Limits.{registration_limit}
+use Rattle.ots_model.specs.Limits.{reference_limit, registration_limit}
 use Rattle.ots_model.specs.declared.completion.Heard.{Heard}
 use Rattle.ots_model.specs.declared.tree.Reason.{Reason}
 use Rattle.two_phase.specs.Course.{Course}
-use Rattle.two_phase.specs.Parties.{answers, has_consented, is_unasked}
+use Rattle.two_phase.specs.Parties.{answers, has_consented, is_unasked, has_been_told}
+use Rattle.two_phase.specs.StockInside.{AreRoomy}
 use Rattle.two_phase.specs.declared.party.Party.{Party}
 use Rattle.two_phase.specs.declared.party.Stage.{Stage}
 use Rattle.two_phase.specs.declared.party.Stage.TheVariants as stages
@@ -63,7 +64,13 @@ passed stages.Asking place consented = place
 passed stages.Telling place consented = consented
 passed stages.Forgetting place consented = consented
 
--- a word that asks is out to the first behind them
+-- how many in front were told the outcome, once such a word was answered
+abbrev pub told_past : Stage → ℕ → ℕ → ℕ
+told_past stages.Asking place told = told
+told_past stages.Telling place told = if place == told then suc told else told
+told_past stages.Forgetting place told = told
+
+-- a word that asks is out to the first behind those that have consented
 abbrev pub AsksAt : Stage → ℕ → ℕ → Type 0
 AsksAt stages.Asking place consented = place ≡ consented
 AsksAt stages.Telling place consented = Unit {0}
@@ -73,12 +80,23 @@ abbrev pub IsAskedAt : Option Errand → ℕ → Type 0
 IsAskedAt None consented = Unit {0}
 IsAskedAt (Some e) consented = AsksAt e.stage e.place consented
 
--- the numbers don't end, the first so many have consented, behind the next one nobody was asked, and there is a buffer for each word to come
+-- how long the longest of their references is, where none is longer than the limit
+abbrev pub longest : List Party → ℕ
+longest [] = 0
+longest (p ∷ ps) = max (length p.to) (longest ps)
+
+abbrev pub reach : List Party → ℕ
+reach parties = min (longest parties) reference_limit
+
+-- the numbers don't end, the first so many have consented, behind the next one nobody was asked, the first so many were told the outcome,
+-- and there is a buffer for each word to come, with room for each reference
 pub record IsSound (c : Inside) : Type 0 where
   pub few : vec_len c.parties ≤ registration_limit
   pub serial : c.number.serial ≤ 2 ^ 31 + done c.parties.items c.overtaken
   pub unheard : IsOpen c.parties.items c.out
   pub blanks : 0 < vec_len c.parties → 3 * vec_len c.parties + 1 ≤ vec_len c.blanks + done c.parties.items c.overtaken + if_out c.out
+  pub roomy : AreRoomy (reach c.parties.items) c.blanks.items
   pub consented : list_all has_consented (take c.consented c.parties.items) ≡ true
   pub unasked : list_all is_unasked (drop (suc c.consented) c.parties.items) ≡ true
   pub asked_at : IsAskedAt c.out c.consented
+  pub told : list_all has_been_told (take c.told c.parties.items) ≡ true

@@ -1,6 +1,6 @@
 -- To whom a word goes, what an answer changes, and what decides, in every completion of a tree (Transaction Service, the
 -- operations of interface Resource).
-use Rattle.std.specs.Prelude.{◌≡◌, false, List, slice_set, Option, Some, None}
+use Rattle.std.specs.Prelude.{◌≡◌, false, List, slice_set, Some, None}
 use Rattle.std.specs.List.{slice_get}
 use Rattle.ots_model.specs.declared.completion.Heard.{Heard}
 use Rattle.two_phase.specs.Course.{Course, by_votes, decides_alone, errand, heard_at, heard_by, outcome}

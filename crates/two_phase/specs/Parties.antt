@@ -54,6 +54,10 @@ is_unasked p = is_none p.ballot
 abbrev pub has_answered : Party → Bool
 has_answered p = is_some p.ballot
 
+-- it has answered the word that tells the outcome
+abbrev pub has_been_told : Party → Bool
+has_been_told p = is_some p.told
+
 -- why a vote that is no consent rolls the transaction back
 abbrev pub reason_of : ℕ → Heard → Reason
 reason_of g (hears.Voted vote) = reasons.Phase (phase_reasons.Vote g)

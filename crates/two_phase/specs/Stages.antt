@@ -1,5 +1,6 @@
 -- A completion of a tree of transactions, from its making on.
-use Rattle.std.specs.Prelude.{ℕ, ◌≤◌, max, Bool, false, List, [], Option, Some, None}
+use Rattle.std.specs.Prelude.{◌≡◌, ℕ, ◌≤◌, ◌⊎◌, max, min, Bool, false, List, [], ◌∷◌, length, Option, Some, None}
+use Rattle.ots_model.specs.Limits.{reference_limit}
 use Rattle.ots_model.specs.declared.completion.CallNumber.{CallNumber}
 use Rattle.ots_model.specs.declared.completion.Disposition.{Disposition}
 use Rattle.ots_model.specs.declared.completion.Heard.{Heard}
@@ -14,9 +15,17 @@ use Rattle.two_phase.specs.Course as course
 use Rattle.two_phase.specs.Reports as reports
 use Rattle.two_phase.specs.Course.{Course}
 
--- it hasn't started, and has room for so many participants; or it is under way
+-- room for so many participants, whose references have at most so many octets, and for all words to them
+pub record Room : Type 0 where
+  pub places : ℕ
+  pub octets : ℕ
+
+abbrev pub no_room : Room
+no_room = record { places = 0; octets = 0 }
+
+-- it hasn't started, and has that room; or it is under way
 pub data Standing : Type 0 where
-  Waiting : (room : ℕ) → Standing
+  Waiting : (room : Room) → Standing
   Going : (c : Course) → Standing
 
 -- it begins
@@ -27,20 +36,42 @@ started participants asked first one_phase = Going (course.begun participants as
 abbrev pub started_rollback : List Registration → Bool → CallNumber → Bool → Reason → Standing
 started_rollback participants asked first one_phase reason = Going (course.begun_rollback participants asked first one_phase reason)
 
--- it hasn't started, and has room for so many participants
-abbrev pub HasRoom : Standing → ℕ → Type 0
-HasRoom (Waiting room) n = n ≤ room
-HasRoom (Going c) n = ⊥
+-- how long the longest of their references is
+abbrev pub longest : List Registration → ℕ
+longest [] = 0
+longest (r ∷ rs) = max (length r.to) (longest rs)
+
+-- a room has place for these participants, and for their longest reference, of which no more than the limit counts
+abbrev pub Holds : Room → List Registration → Type 0
+Holds room participants = (length participants ≤ room.places) × (min (longest participants) reference_limit ≤ room.octets)
+
+-- a room has place for so many participants, whose references have at most so many octets
+abbrev pub HoldsFor : Room → ℕ → ℕ → Type 0
+HoldsFor room participants octets = (participants ≤ room.places) × ((room.places ≡ 0) ⊎ (octets ≤ room.octets))
+
+-- it hasn't started, and has room for these participants
+abbrev pub HasRoom : Standing → List Registration → Type 0
+HasRoom (Waiting room) participants = Holds room participants
+HasRoom (Going c) participants = ⊥
+
+-- it hasn't started, and has room for so many participants, whose references have at most so many octets; for nobody there is room anyway
+abbrev pub HasRoomFor : Standing → ℕ → ℕ → Type 0
+HasRoomFor (Waiting room) participants octets = HoldsFor room participants octets
+HasRoomFor (Going c) participants octets = ⊥
 
 -- it is under way
 abbrev pub IsGoing : Standing → Type 0
 IsGoing (Waiting room) = ⊥
 IsGoing (Going c) = Unit {0}
 
--- room for so many participants was taken, where it hasn't started
-abbrev pub after_reserve : ℕ → Standing → Standing
-after_reserve participants (Waiting room) = Waiting (max room participants)
-after_reserve participants (Going c) = Going c
+-- room for so many participants, whose references have at most so many octets, was taken beside what there was
+abbrev pub widened : ℕ → ℕ → Room → Room
+widened participants octets room = record { places = max room.places participants; octets = max room.octets octets }
+
+-- the same, where it hasn't started
+abbrev pub after_reserve : ℕ → ℕ → Standing → Standing
+after_reserve participants octets (Waiting room) = Waiting (widened participants octets room)
+after_reserve participants octets (Going c) = Going c
 
 -- from here on: what `Course` says of a completion under way
 abbrev pub next_word : Standing → Option Outward

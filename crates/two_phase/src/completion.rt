@@ -1,13 +1,13 @@
-ghost use Rattle.std.specs.Prelude.{◌≡◌, ◌≢◌, ℕ, ◌^◌, ◌<◌, ◌≤◌, ◌++◌, ◌+◌, length, None, IsTrue, IsOk, IfOk, OnOk, OnErr, vec_len, vec_capacity};
+ghost use Rattle.std.specs.Prelude.{◌≡◌, ◌≢◌, ℕ, ◌^◌, ◌<◌, ◌≤◌, ◌++◌, ◌+◌, None, IsTrue, IsOk, IfOk, OnOk, OnErr, vec_len, vec_capacity};
 ghost use Rattle.std.specs.Option.{SomeIff};
 ghost use Rattle.ots_model.specs.Heard.{of_participant};
-ghost use Rattle.ots_model.specs.Limits.{registration_limit};
 ghost use Rattle.ots_model.specs.declared.completion.Heard.TheVariants.{Lost};
 ghost use Rattle.resource_votes.specs.Limits.{list_count};
 ghost use Rattle.resource_votes.specs.Ballots.{participants};
 ghost use Rattle.two_phase.specs.Course as course;
 ghost use Rattle.two_phase.specs.Stages as stages;
-ghost use Rattle.two_phase.specs.Stages.{Waiting, Going, HasRoom, IsGoing};
+ghost use Rattle.ots_model.specs.Limits.{reference_limit, registration_limit};
+ghost use Rattle.two_phase.specs.Stages.{Waiting, Going, HasRoom, HasRoomFor, IsGoing, no_room};
 
 use crate::course::{Course, is_outside};
 use crate::dispositions::Dispositions;
@@ -15,7 +15,7 @@ use crate::party::Stage;
 use crate::stock::Stock;
 use heuristic_join::report;
 use ots_model::tree::{Heard, Outcome, Outward, Reason};
-use ots_model::{CallNumber, Join, PhaseHeard, Stood};
+use ots_model::{CallNumber, Join, PhaseHeard, REFERENCE_LIMIT, Stood};
 use resource_votes::Votes;
 use std::alloc::{AllocError, Global};
 use std::marker::Model;
@@ -47,7 +47,7 @@ impl Model for Completion {
 impl Completion {
     /// A completion that hasn't started, and has no room.
     pub fn idle(alloc: Global) -> Completion
-        ensures idle { result ≡ Waiting 0 }
+        ensures idle { result ≡ Waiting no_room }
     {
         Completion {
             state: Standing::Waiting(Stock::new(alloc)),
@@ -57,13 +57,24 @@ impl Completion {
     /// Takes room for so many participants and for all words to them, where it hasn't started. Want of memory leaves it
     /// as it was.
     pub fn reserve(&mut self, participants: u32) -> Result<(), AllocError>
-        ensures ok { OnOk result (self.new ≡ stages.after_reserve participants self.old) }
+        ensures ok { OnOk result
+            (self.new ≡ stages.after_reserve participants reference_limit self.old) }
         ensures err { OnErr result (self.new ≡ self.old) }
-        ensures there { HasRoom self.old participants → IsOk result }
+        ensures there { HasRoomFor self.old participants reference_limit → IsOk result }
+        ensures under_way { IsGoing self.old → IsOk result }
+    {
+        self.reserve_within(participants, REFERENCE_LIMIT)
+    }
+
+    /// The same, where their references have at most so many octets: less memory then serves for the words to them.
+    pub fn reserve_within(&mut self, participants: u32, octets: usize) -> Result<(), AllocError>
+        ensures ok { OnOk result (self.new ≡ stages.after_reserve participants octets self.old) }
+        ensures err { OnErr result (self.new ≡ self.old) }
+        ensures there { HasRoomFor self.old participants octets → IsOk result }
         ensures under_way { IsGoing self.old → IsOk result }
     {
         match &mut self.state {
-            Standing::Waiting(stock) => stock.reserve(participants),
+            Standing::Waiting(stock) => stock.reserve(participants, octets),
             Standing::Going(_) => Ok(()),
         }
     }
@@ -80,7 +91,7 @@ impl Completion {
         one_phase: bool,
     )
         requires there { top < list_count }
-        requires room { HasRoom self.old (length (participants top votes.now.ballots)) }
+        requires room { HasRoom self.old (participants top votes.now.ballots) }
         requires serial { first.serial < 2 ^ 31 }
         ensures started { self.new
             ≡ stages.started (participants top votes.now.ballots) asked first one_phase }
@@ -100,7 +111,7 @@ impl Completion {
         reason: Reason,
     )
         requires there { top < list_count }
-        requires room { HasRoom self.old (length (participants top votes.now.ballots)) }
+        requires room { HasRoom self.old (participants top votes.now.ballots) }
         requires serial { first.serial < 2 ^ 31 }
         ensures started { self.new
             ≡ stages.started_rollback (participants top votes.now.ballots) asked first one_phase reason }
@@ -120,7 +131,7 @@ impl Completion {
         overtaken: Option<Reason>,
     )
         requires there { top < list_count }
-        requires room { HasRoom self.old (length (participants top votes.now.ballots)) }
+        requires room { HasRoom self.old (participants top votes.now.ballots) }
         requires serial { first.serial < 2 ^ 31 }
         ensures { self.new ≡ Going
             (record (course.begun (participants top votes.now.ballots) asked first one_phase)

@@ -1,8 +1,10 @@
 // The completion of a tree of transactions, under way.
-ghost use Rattle.std.specs.Prelude.{◌≡◌, ◌+◌, ◌^◌, ◌<◌, ◌≤◌, ◌++◌, length, None, Some, IsOk, OnOk, OnErr, vec_len, vec_capacity};
+ghost use Rattle.std.specs.Prelude.{◌≡◌, ◌+◌, ◌^◌, ◌<◌, ◌≤◌, ◌++◌, min, length, None, Some, IsOk, OnOk, OnErr, vec_len, vec_capacity};
 ghost use Rattle.std.specs.Option.{option_map};
 ghost use Rattle.std.specs.List.{slice_get};
+ghost use Rattle.ots_model.specs.Limits.{reference_limit};
 ghost use Rattle.two_phase.specs.Limits.{registration_limit};
+ghost use Rattle.two_phase.specs.Stages.{longest};
 ghost use Rattle.two_phase.specs.Course as course;
 ghost use Rattle.two_phase.specs.Reports as reports;
 ghost use Rattle.two_phase.specs.declared.party.Stage.TheVariants as stages;
@@ -15,7 +17,7 @@ use crate::parties::{
     make_room, next_asked, next_forgetting, next_told, others_have_answered, some_owed,
 };
 use crate::party::{Errand, Party, Stage, cause_of};
-use crate::room::Blank;
+use crate::room::Buffer;
 use crate::stock::{Stock, enter};
 use heuristic_join::{join_root, join_sub};
 use ots_model::tree::{Outcome, Outward, Reason, Word};
@@ -32,6 +34,8 @@ pub(crate) struct Course {
     pub parties: Vec<Party>,
     /// The first so many have consented, and aren't looked at again.
     pub consented: usize,
+    /// The first so many have answered the word that tells the outcome, and aren't looked at again.
+    pub told: usize,
     pub asked: bool,
     pub one_phase: bool,
     pub number: CallNumber,
@@ -39,7 +43,7 @@ pub(crate) struct Course {
     pub overtaken: Option<Reason>,
     pub stood: Option<Stood>,
     pub reread: Option<Option<u32>>,
-    pub blanks: Vec<Blank>,
+    pub blanks: Vec<Buffer>,
 }
 
 impl Model for Course {
@@ -65,7 +69,8 @@ impl Course {
         one_phase: bool,
         overtaken: Option<Reason>,
     ) -> Course
-        requires room { length walk ≤ stock }
+        requires room { length walk ≤ stock.places }
+        requires fits { min (longest walk) reference_limit ≤ stock.octets }
         requires few { length walk ≤ registration_limit }
         requires serial { first.serial < 2 ^ 31 }
         ensures { result
@@ -73,6 +78,7 @@ impl Course {
     {
         let Stock {
             size: _,
+            octets: _,
             mut parties,
             mut blanks,
         } = stock;
@@ -80,6 +86,7 @@ impl Course {
         Course {
             parties,
             consented: 0,
+            told: 0,
             asked,
             one_phase,
             number: first,
@@ -140,6 +147,7 @@ impl Course {
         if number == self.number {
             let next = following(self.number);
             hear(&mut self.parties, errand, heard);
+            self.told = told_past(errand, self.told);
             self.number = next;
             self.out = None;
         }
@@ -377,7 +385,7 @@ impl Course {
     fn telling(&self, fixed: Outcome) -> Option<Errand>
         ensures { result ≡ course.telling self.now fixed }
     {
-        match next_told(self.decides_alone(), fixed, &self.parties) {
+        match next_told(self.told, self.decides_alone(), fixed, &self.parties) {
             Some(place) => Some(errand_to(Stage::Telling, place)),
             None => self.forgetting(fixed),
         }
@@ -482,9 +490,11 @@ impl Course {
         }
     }
 
-    /// Whether this word is the last that asks.
+    /// Whether this word, which is out, is the last that asks.
+    #[tactic(auto, using(crate::proofs::Deciding::in_front, crate::proofs::Deciding::not_behind))]
     fn asks_last(&self, errand: Errand) -> bool
         requires there { errand.place < length (self.now).parties }
+        requires out { (self.now).out ≡ Some errand }
         ensures { result ≡ course.asks_last (self.now).parties errand }
     {
         match errand.stage {
@@ -536,6 +546,18 @@ fn passed(errand: Errand, consented: usize) -> usize
     match errand.stage {
         Stage::Asking => errand.place,
         Stage::Telling | Stage::Forgetting => consented,
+    }
+}
+
+/// How many in front were told the outcome, once this word was answered.
+fn told_past(errand: Errand, told: usize) -> usize
+    requires { errand.place + 1 < 2 ^ 64 }
+    ensures { result ≡ places.told_past errand.stage errand.place told }
+{
+    if matches!(errand.stage, Stage::Telling) && errand.place == told {
+        told + 1
+    } else {
+        told
     }
 }
 

@@ -4,7 +4,7 @@ ghost use Rattle.std.specs.Option.{option_copied, option_to_list};
 ghost use Rattle.std.specs.List.{slice_get, list_all};
 ghost use Rattle.two_phase.specs.Limits.{disposition_limit, registration_limit};
 ghost use Rattle.two_phase.specs.Course as course;
-ghost use Rattle.two_phase.specs.Parties.{has_answered, has_consented, has_refused, is_unasked};
+ghost use Rattle.two_phase.specs.Parties.{has_been_told, has_consented, has_refused, is_unasked, is_untold};
 ghost use Rattle.two_phase.specs.Reports as reports;
 
 use crate::dispositions::Dispositions;
@@ -21,24 +21,20 @@ pub(crate) fn hear(parties: &mut [Party], errand: Errand, heard: PhaseHeard)
     parties[errand.place].hear(errand.stage, heard);
 }
 
-/// Whether each participant but the one at this place has answered its first word.
-#[tactic(auto, unfolding(crate::specs::Course::others_have_answered))]
+/// Whether each participant but the one at this place has answered its first word, where those in front have consented, and
+/// behind nobody was asked.
+#[tactic(auto, using(crate::proofs::Deciding::last_is_asked))]
 pub(crate) fn others_have_answered(place: usize, parties: &[Party]) -> bool
     requires there { place < length parties.now }
+    requires consented { list_all has_consented (take place parties.now) ≡ true }
+    requires unasked { list_all is_unasked (drop (suc place) parties.now) ≡ true }
     ensures { result ≡ course.others_have_answered place parties.now }
 {
-    all_have_answered(&parties[..place]) && all_have_answered(&parties[place + 1..])
-}
-
-/// Whether each of these has answered its first word.
-fn all_have_answered(parties: &[Party]) -> bool
-    ensures { result ≡ list_all has_answered parties.now }
-{
-    parties.iter().all(|p| p.has_answered())
+    place + 1 == parties.len()
 }
 
 /// Those behind the first so many.
-#[tactic(auto, using(crate::proofs::Consented::drop_none))]
+#[tactic(auto, using(crate::proofs::Behind::drop_none))]
 fn behind(count: usize, parties: &[Party]) -> &[Party]
     ensures { result.now ≡ drop count parties.now }
 {
@@ -114,10 +110,26 @@ fn unasked_of(parties: &[Party]) -> Option<usize>
     parties.iter().position(|p| p.is_unasked())
 }
 
-/// The place of the next participant that is told this outcome.
-#[tactic(auto, unfolding(crate::specs::Course::next_told))]
-pub(crate) fn next_told(alone: bool, fixed: Outcome, parties: &[Party]) -> Option<usize>
+/// The place of the next participant that is told this outcome, where the first so many were told.
+#[tactic(auto, using(crate::proofs::Told::untold_within))]
+pub(crate) fn next_told(
+    told: usize,
+    alone: bool,
+    fixed: Outcome,
+    parties: &[Party],
+) -> Option<usize>
+    requires told { list_all has_been_told (take told parties.now) ≡ true }
     ensures { result ≡ course.next_told alone fixed parties.now }
+{
+    match untold_of(alone, fixed, behind(told, parties)) {
+        Some(further) => Some(told + further),
+        None => None,
+    }
+}
+
+/// The place among these of the first that is still to be told this outcome.
+fn untold_of(alone: bool, fixed: Outcome, parties: &[Party]) -> Option<usize>
+    ensures { result ≡ position (is_untold alone fixed) parties.now }
 {
     parties.iter().position(|p| p.is_untold(alone, fixed))
 }
@@ -154,9 +166,23 @@ fn add(disposition: Option<Disposition>, list: &mut Dispositions)
     }
 }
 
-/// Whether each participant that was to be told this outcome has completed.
-#[tactic(auto, unfolding(crate::specs::Reports::all_through))]
+/// Whether each participant that was to be told this outcome has completed. They are told in order, so the last is looked at
+/// first.
+#[tactic(auto, using(crate::proofs::Through::not_through, crate::proofs::Through::others_through, crate::proofs::Through::none_there))]
 pub(crate) fn all_through(alone: bool, fixed: Outcome, parties: &[Party]) -> bool
+    ensures { result ≡ reports.all_through alone fixed parties.now }
+{
+    match parties.split_last() {
+        Some((last, others)) => {
+            last.is_through(alone, fixed) && are_through(alone, fixed, others)
+        }
+        None => true,
+    }
+}
+
+/// Whether each of these has completed that was to be told this outcome.
+#[tactic(auto, unfolding(crate::specs::Reports::all_through))]
+fn are_through(alone: bool, fixed: Outcome, parties: &[Party]) -> bool
     ensures { result ≡ reports.all_through alone fixed parties.now }
 {
     parties.iter().all(|p| p.is_through(alone, fixed))

@@ -72,13 +72,6 @@ impl Party {
         self.ballot.is_none()
     }
 
-    /// Whether it has answered its first word.
-    pub fn has_answered(&self) -> bool
-        ensures { result ≡ parties.has_answered self.now }
-    {
-        self.ballot.is_some()
-    }
-
     /// Whether this outcome is told to it, where `alone` says that it was to decide alone.
     pub fn is_told(&self, alone: bool, fixed: Outcome) -> bool
         ensures { result ≡ parties.is_told alone fixed self.now }

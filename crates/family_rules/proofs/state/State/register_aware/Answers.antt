@@ -1,4 +1,4 @@
-use Rattle.std.proofs.Common.{◌<◌, ◌+◌, subst, sym, length}
+use Rattle.std.proofs.Common.{◌<◌, ◌≤◌, ◌+◌, subst, sym, length}
 use Rattle.resource_votes.specs.Ballots.{registered_aware, registering_aware}
 use Rattle.family_rules.specs.Asking.{Registers}
 use Rattle.family_rules.specs.Room.{StateParts}
@@ -12,8 +12,9 @@ invariant_of-self c =
     let s = c.self.inside in
     let v = c.register_aware.new.self in
     let some = spare_there s (subst (λ (p : StateParts). 0 < p.room) (sym c.self.view_is) c.requires.room) in
+    let fits = subst (λ (p : StateParts). length c.args.to ≤ p.reach) (sym c.self.view_is) c.requires.fits in
     either_way c.register_aware.result v.ballots (registered_aware c.args.branch c.args.to s.votes.ballots) s.votes.ballots c.register_aware.ensures.ok c.register_aware.ensures.err
-    (λ is. sound_aware s v c.args.branch c.args.to c.self.invariant some.2 is) (λ is. sound_same s v c.self.invariant is)
+    (λ is. sound_aware s v c.args.branch c.args.to c.self.invariant some.2 fits is) (λ is. sound_same s v c.self.invariant is)
 
 pub returns-clause-registered : goal.returns-clause-registered
 returns-clause-registered c =

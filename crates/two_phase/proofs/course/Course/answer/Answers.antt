@@ -5,10 +5,13 @@ use Rattle.std.specs.Vec.{with_items}
 use Rattle.std.proofs.lemmas.List.{length-set, with_items_is}
 use Rattle.ots_model.specs.declared.completion.CallNumber.{CallNumber}
 use Rattle.two_phase.specs.Course.{heard_at, heard_by}
-use Rattle.two_phase.specs.CourseInside.{IsOpen, IsAskedAt, if_out}
+use Rattle.two_phase.specs.CourseInside.{IsOpen, IsAskedAt, if_out, longest, reach}
 use Rattle.two_phase.specs.Parties.{answers}
+use Rattle.two_phase.specs.StockInside.{AreRoomy}
 use Rattle.two_phase.proofs.Answered.{opened, answered_more, heard_is, serial_fits}
 use Rattle.two_phase.proofs.Consented.{heard_consented, heard_unasked}
+use Rattle.two_phase.proofs.Told.{heard_told}
+use Rattle.two_phase.proofs.Reach.{longest_set, heard_to, reach_of}
 use Rattle.two_phase.proofs.course.Course.answer.Goals as goal
 
 pub following-next-requires : goal.following-next-requires
@@ -39,6 +42,9 @@ invariant_of-self c =
     let size : vec_len vec ≡ vec_len c.self.inside.parties = omega arith in
     let out : if_out c.self.inside.out ≡ 1 = ap if_out c.in-Some.is in
     let number : c.following-next.result.serial ≡ c.self.inside.number.serial + 1 = ap (λ (n : CallNumber). n.serial) c.following-next.ensures in
+    let long : longest vec.items ≡ longest ps =
+    ap (λ qs. longest qs) (kept ∙ after) ∙ longest_set ps e.place o.0 (heard_at e.stage c.args.heard o.0) o.1 (heard_to e.stage c.args.heard o.0) in
+    let reached : reach vec.items ≡ reach ps = reach_of vec.items ps long in
     let old = c.self.invariant in
     let asked_at : IsAskedAt (Some e) c.self.inside.consented = subst (λ x. IsAskedAt x c.self.inside.consented) c.in-Some.is old.asked_at in
     record {
@@ -46,7 +52,9 @@ invariant_of-self c =
       serial = omega (arith, number, total, old.serial);
       unheard = tt;
       blanks = λ some. let bound = old.blanks (omega (arith, some, size)) in omega (arith, bound, total, size, out);
+      roomy = subst (λ n. AreRoomy n c.self.inside.blanks.items) (sym reached) old.roomy;
       consented = rw (kept, after) (heard_consented c.self.inside.consented ps e c.args.heard o.0 o.1 o.2 old.consented);
       unasked = rw (kept, after) (heard_unasked c.self.inside.consented ps e c.args.heard o.0 o.1 asked_at old.unasked);
       asked_at = tt;
+      told = rw (c.told_past-self-inside.ensures, kept, after) (heard_told c.self.inside.told ps e c.args.heard o.0 o.1 old.told);
     }

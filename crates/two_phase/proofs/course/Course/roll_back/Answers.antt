@@ -25,7 +25,9 @@ invariant_of-self c =
       serial = omega (arith, number, less, before, none, old.serial);
       unheard = tt;
       blanks = λ some. let bound = old.blanks some in omega (arith, bound, none, out);
+      roomy = old.roomy;
       consented = old.consented;
       unasked = old.unasked;
       asked_at = tt;
+      told = old.told;
     }
