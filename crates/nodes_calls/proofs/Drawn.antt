@@ -1,6 +1,7 @@
 -- An end makes an object, and that becomes a resource.
-use Rattle.std.proofs.Common.{◌≡◌, ℕ, ◌+◌, ◌<◌, List, length, map, get_or, slice_get, slice_set, Option, Some, None, refl, sym, ap, subst, ◌∙◌, arith}
+use Rattle.std.proofs.Common.{◌≡◌, ℕ, ◌+◌, ◌<◌, List, length, map, get_or, slice_get, slice_set, Option, Some, None, refl, sym, ap, subst, ◌∙◌, arith, inr}
 use Rattle.std.specs.Option.{option_and_then, option_map}
+use Rattle.std.proofs.lemmas.List.{set-get_or}
 use Rattle.std.proofs.lemmas.Option.{same_Some, slice_get-map, slice_get_read, slice_get_within}
 use Rattle.ior_refs.specs.declared.key.ObjectKey.{ObjectKey}
 use Rattle.nodes_parts.specs.Kept.{resource_numbered}
@@ -150,3 +151,29 @@ module _ (s new : State) (place : ℕ) (k : Kept) (v : Server) (there : slice_ge
   draws_none manner h =
       let b = none_by k.server refl h in
       (b.1, world_becomes drawn_once b.0 ∙ no_end_becomes place drawn_once (shown s) b.1)
+
+-- ---- what stands at a seat stays as it is
+
+module _ (s new : State) (place : ℕ) (k : Kept) (v : Server) (is : k ≡ get_or s.seats.items place k)
+    (seats : new.seats.items ≡ slice_set s.seats.items place (record k { server = v })) (messages : new.messages ≡ s.messages) (names : new.names ≡ s.names)
+    (same : v ≡ k.server) where
+  seats_stay : new.seats.items ≡ s.seats.items
+  seats_stay =
+      seats ∙ ap (λ (x : Server). slice_set s.seats.items place (record k { server = x })) same
+      ∙ ap (λ (x : Kept). slice_set s.seats.items place x) is ∙ set-get_or s.seats.items place k
+
+  pub world_stays : shown new ≡ shown s
+  world_stays =
+      ap (λ (xs : List Kept). record (shown new) { seats = map seat_of xs }) seats_stay
+      ∙ ap (λ (ms : List Message). record (shown s) { messages = ms; names = new.names.things }) messages
+      ∙ ap (λ (n : Names). record (shown s) { names = n.things }) names
+
+  pub all_nodes_stay : KeepsNodes s new
+  all_nodes_stay = record {
+    names = names;
+    seat_names = ap (λ (xs : List Kept). map (λ (x : Kept). x.name) xs) seats_stay;
+    seats = λ at x there. inr (subst (λ (xs : List Kept). slice_get xs at ≡ Some x) seats_stay there);
+  }
+
+pub none_changed : (s : State) → KeepsNodes s s
+none_changed s = record { names = refl; seat_names = refl; seats = λ at x there. inr there }

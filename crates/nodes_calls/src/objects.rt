@@ -1,5 +1,5 @@
 // The objects that ends make.
-ghost use Rattle.std.specs.Prelude.{◌≡◌, IfOk, OnOk};
+ghost use Rattle.std.specs.Prelude.{◌≡◌, IfErr, IfOk, OnOk};
 ghost use Rattle.nodes_ends.specs.Ending.{KeepsNodes, with_end_there};
 ghost use Rattle.nodes_world.specs.Ends as ends;
 ghost use Rattle.nodes_world.specs.Objects as places;
@@ -7,11 +7,12 @@ ghost use Rattle.nodes_state.specs.Shown.{shown};
 ghost use Rattle.nodes_calls.specs.Drawing.{DrawsObject, HasDrawn, IsLastIn, IsOfEnd};
 
 use ior_refs::ObjectKey;
-use nodes_parts::{place_of, resource_key};
+use nodes_parts::{place_of, reference, resource_key};
 use nodes_state::{Server, State};
 use nodes_world::Manner;
-use ots_model::Name;
-use std::alloc::AllocError;
+use ots_model::{Name, RefBytes};
+use ots_world::WorldFault;
+use std::alloc::{AllocError, Global};
 
 /// An object that an end made to be registered: how it is to be, the key of it, and the name of the end.
 #[derive(Clone, Copy)]
@@ -53,6 +54,34 @@ fn draw_in(server: &mut Server) -> Result<Option<u64>, AllocError>
     match server {
         Server::End(end) => Ok(Some(end.draw()?)),
         _ => Ok(None),
+    }
+}
+
+/// The reference to an object of an end.
+pub(crate) fn reference_to(state: &mut State, object: &Object) -> Result<RefBytes, WorldFault>
+    ensures ok { IfOk result (λ to. to ≡ places.reference (object.now).end (object.now).key) }
+    ensures err { IfErr result (λ fault. fault ≡ WorldFault.Memory) }
+    ensures world { shown state.new ≡ shown state.old }
+    ensures nodes { KeepsNodes state.old state.new }
+    ensures messages { (state.new).messages ≡ (state.old).messages }
+{
+    let place = place_of(&object.key);
+    if place < state.seats.len() {
+        refer_in(&mut state.seats[place].server, state.alloc, object)
+    } else {
+        reference(state.alloc, &object.end, &object.key)
+    }
+}
+
+/// The reference to an object of what stands at a seat.
+fn refer_in(server: &mut Server, alloc: Global, object: &Object) -> Result<RefBytes, WorldFault>
+    ensures ok { IfOk result (λ to. to ≡ places.reference (object.now).end (object.now).key) }
+    ensures err { IfErr result (λ fault. fault ≡ WorldFault.Memory) }
+    ensures same { server.new ≡ server.old }
+{
+    match server {
+        Server::End(end) => end.reference(alloc, &object.end, &object.key),
+        _ => reference(alloc, &object.end, &object.key),
     }
 }
 

@@ -12,15 +12,14 @@ ghost use Rattle.nodes_calls.specs.Drawing.{IsOfEnd};
 ghost use Rattle.nodes_ready.specs.Ready.{IsReady};
 ghost use Rattle.nodes_calls.specs.Registered.{was_registered};
 
-use crate::objects::{Object, draw_object, make_resource};
+use crate::objects::{Object, draw_object, make_resource, reference_to};
 use coordinator::Said;
 use ior_refs::ObjectKey;
 use nodes_clients::{make_call, registering, tell_made};
 use nodes_lines::{tell_aware, tell_known};
-use nodes_parts::reference;
 use nodes_state::State;
 use nodes_world::Manner;
-use ots_model::{Line, Name};
+use ots_model::{Line, Name, RefBytes};
 use ots_world::WorldFault;
 use std::alloc::AllocError;
 
@@ -40,27 +39,31 @@ pub fn register(
     ensures ready { OnOk result (IsReady state.new) }
 {
     match draw_object(state, manner, place)? {
-        Some(object) => register_object(state, lines, &object, transaction, name),
+        Some(object) => {
+            let to = reference_to(state, &object)?;
+            register_object(state, lines, &object, to, transaction, name)
+        }
         None => Ok(()),
     }
 }
 
-/// The client registers the object that an end made last.
+/// The client registers the object that an end made last, to which this reference leads.
 fn register_object(
     state: &mut State,
     lines: &mut Vec<u8>,
     object: &Object,
+    to: RefBytes,
     transaction: &ObjectKey,
     name: &Name,
 ) -> Result<(), WorldFault>
     requires ready { IsReady state.old }
     requires free { world.thing_in (state.old).names.things name.now ≡ None }
     requires made { IsOfEnd object.now (shown state.old) }
+    requires to { to ≡ objects.reference (object.now).end (object.now).key }
     ensures does { Does (clients.registers_object (object.now).manner (object.now).key (object.now).end transaction.now
         name.now (shown state.old)) (shown state.new) lines.old.items lines.new.items result }
     ensures ready { OnOk result (IsReady state.new) }
 {
-    let to = reference(state.alloc, &object.end, &object.key)?;
     let octets = to.bytes().to_vec(state.alloc)?;
     let made = make_call(state, lines, transaction, registering(object.manner, to))?;
     keep_registered(state, lines, object, transaction, name, octets, &made.said)?;

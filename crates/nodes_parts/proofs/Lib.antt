@@ -1,4 +1,5 @@
 pub mod Lists
+mod Placed
 mod Numbered
 mod Ending
 mod NameLemmas
@@ -9,4 +10,3 @@ mod Seams
 mod Filled
 mod Unsynced
 mod Walking
-mod Octets

@@ -8,3 +8,4 @@ pub mod Naming
 pub mod Filling
 pub mod Striking
 pub mod Gated
+pub mod Moulded

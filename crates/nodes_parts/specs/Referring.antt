@@ -27,8 +27,8 @@ LeadsTo reference to before after =
 -- the digest of a reference: the number of its object, and that of its service above it
 abbrev pub digest_of : List ℕ → ℕ
 digest_of r =
-    if nat_lt (length r) 24 then 0
-    else (big_number 8 (drop (length r - 12) r) + big_number 4 (drop (length r - 24) r) * 2 ^ 32) % 2 ^ 64
+    if nat_lt (length r) 28 then 0
+    else (big_number 8 (drop (length r - 16) r) + big_number 4 (drop (length r - 28) r) * 2 ^ 32) % 2 ^ 64
 
 -- the place of the first reference that has a digest
 abbrev pub first_so : ℕ → List (Vec ℕ × Kept) → Option ℕ

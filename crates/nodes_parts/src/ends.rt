@@ -1,16 +1,19 @@
 // Ends, and their resources.
-ghost use Rattle.std.specs.Prelude.{◌≡◌, ◌+◌, ◌-◌, ◌<◌, ◌≤◌, [], length, slice_get, slice_set, None, Some, IfOk, OnErr, OnOk};
+ghost use Rattle.std.specs.Prelude.{◌≡◌, ◌+◌, ◌-◌, ◌<◌, ◌≤◌, [], length, slice_get, slice_set, None, Some, IfErr, IfOk, OnErr, OnOk};
 ghost use Rattle.std.specs.Option.{option_and_then, option_copied, option_map};
 ghost use Rattle.nodes_world.specs.Ends as ends;
+ghost use Rattle.nodes_world.specs.Objects as objects;
 ghost use Rattle.nodes_world.specs.Resolve as resolving;
 ghost use Rattle.nodes_parts.specs.Kept.{AreNumbered, end_of, flat, flat_object, names_cell, place_numbered, resource_numbered};
 
 use crate::cells::Cells;
+use crate::moulds::Mould;
 use coordinator::Said;
 use decision_journal::Put;
 use ior_refs::ObjectKey;
 use ots_model::tree::{Heard, Word};
-use ots_model::{Disposition, PhaseHeard, PhaseWord, ResourceState};
+use ots_model::{Disposition, Name, PhaseHeard, PhaseWord, RefBytes, ResourceState};
+use ots_world::WorldFault;
 use resource_end::{EndFault, State, Word as ToldWord};
 use std::alloc::{AllocError, Global};
 use std::marker::Model;
@@ -50,6 +53,7 @@ impl Resource {
 pub struct End {
     objects: Vec<Option<Resource>>,
     cells: Cells,
+    mould: Option<Mould>,
 }
 
 impl Model for End {
@@ -72,6 +76,7 @@ impl End {
         End {
             objects: Vec::new(alloc),
             cells: Cells::new(alloc),
+            mould: None,
         }
     }
 
@@ -83,6 +88,28 @@ impl End {
     {
         self.objects.push(None)?;
         Ok(self.objects.len() as u64)
+    }
+
+    /// The reference to an object. The end keeps one, from which it makes those that differ in the number alone.
+    pub fn reference(
+        &mut self,
+        alloc: Global,
+        name: &Name,
+        key: &ObjectKey,
+    ) -> Result<RefBytes, WorldFault>
+        ensures ok { IfOk result (λ to. to ≡ objects.reference name.now key.now) }
+        ensures err { IfErr result (λ fault. fault ≡ WorldFault.Memory) }
+        ensures same { self.new ≡ self.old }
+    {
+        if let Some(mould) = &self.mould {
+            if mould.fits(name, key) {
+                return Ok(mould.cast(alloc, key.generation)?);
+            }
+        }
+        let mould = Mould::new(alloc, name, key)?;
+        let to = mould.cast(alloc, key.generation)?;
+        self.mould = Some(mould);
+        Ok(to)
     }
 
     /// The object that was made last, which has this key, is a resource from now on.

@@ -18,6 +18,7 @@ mod disks;
 mod ends;
 mod journals;
 mod messages;
+mod moulds;
 mod names;
 mod objects;
 mod references;

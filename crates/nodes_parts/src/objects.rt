@@ -22,6 +22,9 @@ const AWARE_KIND: u8 = b'A';
 /// The port at which each node and each end listens.
 const SCRIPT_PORT: u16 = 1;
 
+/// Where the number of an object stands in its reference, counted from the end.
+pub(crate) const NUMBER_PLACE: usize = 16;
+
 /// The life of an end, as long as ends don't crash.
 pub const ONLY_LIFE: u32 = 1;
 

@@ -1,8 +1,9 @@
-ghost use Rattle.std.specs.Prelude.{◌≡◌, ◌==◌, ℕ, [], bytes_eq, drop, map, Some, None, if◌then◌else◌, OnOk, OnErr};
+ghost use Rattle.std.specs.Prelude.{◌≡◌, ◌==◌, ℕ, [], drop, map, Some, None, if◌then◌else◌, OnOk, OnErr};
 ghost use Rattle.std.specs.Map.{lookup};
 ghost use Rattle.std.specs.Option.{option_map, option_or};
 ghost use Rattle.nodes_parts.specs.Referring.{LeadsTo, digest_of, entry_of, named, referred_in};
 
+use crate::objects::NUMBER_PLACE;
 use byteorder::{BigEndian, ByteOrder};
 use ior_refs::ObjectKey;
 use ots_model::Name;
@@ -10,10 +11,8 @@ use std::alloc::{AllocError, Global};
 use std::collections::HashMap;
 use std::marker::Model;
 
-/// Where the number of an object's service stands in its reference, and its number there, counted from the end.
-const SERVICE_PLACE: usize = 24;
-
-const NUMBER_PLACE: usize = 12;
+/// Where the low half of the number of an object's service stands in its reference, counted from the end.
+const SERVICE_PLACE: usize = 28;
 
 /// A key, and the name of what has it.
 #[derive(Clone, Copy)]
@@ -91,25 +90,11 @@ fn led_from(entries: &[(Vec<u8>, NamedKey)], place: usize, to: &[u8]) -> Option<
 {
     for at in place..entries.len() {
         let entry = &entries[at];
-        if is_same(to, &entry.0) {
+        if to == entry.0.as_slice() {
             return Some(entry.1);
         }
     }
     None
-}
-
-/// Whether two references hold the same octets. None ends it early, so that many are compared at a time.
-fn is_same(one: &[u8], other: &[u8]) -> bool
-    ensures { result ≡ bytes_eq one.now other.now }
-{
-    if one.len() != other.len() {
-        return false;
-    }
-    let mut same = true;
-    for at in 0..one.len() {
-        same &= one[at] == other[at];
-    }
-    same
 }
 
 /// Where no reference has such a digest yet, the first one stands at this place.

@@ -2,22 +2,59 @@ ghost use Rattle.std.specs.Prelude.{◌≡◌, [], Some, if◌then◌else◌, On
 ghost use Rattle.std.specs.Option.{option_or};
 ghost use Rattle.ior_refs.specs.declared.key.ObjectKey.{ObjectKey as Key};
 ghost use Rattle.nodes_world.specs.Objects.{same_transaction};
-ghost use Rattle.nodes_parts.specs.Index.{name_in, number_of};
+ghost use Rattle.nodes_parts.specs.Index.{digest_of_number, name_in, number_of};
+ghost use Rattle.std.proofs.Common.{rules};
+ghost use Rattle.std.specs.Cmp.Rules.{hashing};
 
 use ior_refs::ObjectKey;
 use ots_model::Name;
 use std::alloc::{AllocError, Global};
 use std::collections::HashMap;
+use std::hash::{Hash, Hasher};
 use std::marker::Model;
 
-/// A transaction, by the numbers in its key.
-#[derive(Clone, Copy, PartialEq, Eq, Hash)]
+/// How far the numbers of branches, of services and of lives lie apart in the digest of a transaction.
+const INDEX_WEIGHT: u64 = 1 << 24;
+
+const SERVICE_WEIGHT: u64 = 1 << 34;
+
+const LIFE_WEIGHT: u64 = 1 << 41;
+
+/// A transaction, by the numbers in its key. It is hashed by one number that few transactions share.
+#[derive(Clone, Copy, PartialEq, Eq)]
 pub struct TransactionNumber {
     service: u64,
     life: u32,
     slot: u32,
     generation: u64,
     index: u32,
+}
+
+impl TransactionNumber {
+    /// A number that few transactions share.
+    fn digest(&self) -> u64
+        ensures { result ≡ digest_of_number self.now }
+    {
+        let index = u64::from(self.index).wrapping_mul(INDEX_WEIGHT);
+        let service = self.service.wrapping_mul(SERVICE_WEIGHT);
+        let life = u64::from(self.life).wrapping_mul(LIFE_WEIGHT);
+        self.generation
+            .wrapping_add(index)
+            .wrapping_add(service)
+            .wrapping_add(life)
+    }
+}
+
+impl Hash for TransactionNumber {
+    ghost use Rattle.std.specs.Hash as fed;
+
+    ghost hash_input = { λ n. fed.u64 (digest_of_number n) };
+
+    ghost respects_eq = { Prim.search (hashing, rules) };
+
+    fn hash<H: Hasher>(&self, state: &mut H) {
+        state.write_u64(self.digest());
+    }
 }
 
 /// The names of transactions, by their keys. Contracts see the entries.

@@ -27,7 +27,7 @@ use Rattle.two_phase.specs.Course as course
 use Rattle.two_phase.specs.Course.{Course}
 use Rattle.two_phase.specs.LawsOfReached.TreeBecomes.{by_answer}
 use Rattle.two_phase.specs.Stages as stages
-use Rattle.two_phase.specs.Stages.{Standing, Waiting, Going as UnderWay}
+use Rattle.two_phase.specs.Stages.{Standing, Room, Waiting, Going as UnderWay}
 use Rattle.two_phase.specs.declared.party.Errand.{Errand}
 use Rattle.two_phase.specs.declared.party.Party.{Party}
 use Rattle.two_phase.specs.declared.party.Stage.{Stage as Round}
@@ -289,7 +289,7 @@ module _ (completions : CompletionLaws) (close : FamiliesCloseLast) (rightly : F
       same_course : {x z : Course} → UnderWay x ≡ UnderWay z → x ≡ z
       same_course same = cc
 
-      no_course : {room : ℕ} {x : Course} → Waiting room ≡ UnderWay x → ⊥
+      no_course : {room : Room} {x : Course} → Waiting room ≡ UnderWay x → ⊥
       no_course same = cc
 
       -- the call at the decision is that of the top-level transaction

@@ -16,7 +16,7 @@ use Rattle.two_phase.specs.Course as course
 use Rattle.two_phase.specs.Course.{Course}
 use Rattle.two_phase.specs.LawsOfReached.TreeBecomes.{by_answer}
 use Rattle.two_phase.specs.Stages as stages
-use Rattle.two_phase.specs.Stages.{Standing, Waiting, Going as UnderWay}
+use Rattle.two_phase.specs.Stages.{Standing, Waiting, Going as UnderWay, no_room}
 use Rattle.two_phase.specs.declared.party.Party.{Party}
 use Rattle.decision_journal.specs.declared.record.JournalRecord.{JournalRecord}
 use Rattle.decision_journal.specs.declared.record.JournalRecord.TheVariants.{Life, Done}
@@ -184,7 +184,7 @@ module _ (rightly : FamiliesStepRightly) (numbers : FamiliesNumberWords) (w : Wo
 
   -- it was there, or is a new one
   came_from : (place : ℕ) (m : Node) → Becomes w place m → (slot : ℕ) (g : Family) → family_in m.families slot ≡ Some g
-      → CameFrom w place slot g ⊎ (g.completion ≡ Waiting 0)
+      → CameFrom w place slot g ⊎ (g.completion ≡ Waiting no_room)
   came_from place _ (loaded_so service rs) slot g there = absurd (none_in slot_limit slot g there)
   came_from place _ (made now seconds n up) slot g there = elim (made_in now seconds n slot g there) [
     | inl old ↦ inl (as_it_was place slot g n up old)
@@ -266,7 +266,7 @@ module _ (rightly : FamiliesStepRightly) (numbers : FamiliesNumberWords) (w : Wo
   named_step v later known_then nodes records place m slot g rs item r up there held among decides named_so = by (nodes place m up)
     where
       -- a new one has no record
-      recorded : g.completion ≡ Waiting 0 → ⊥
+      recorded : g.completion ≡ Waiting no_room → ⊥
       recorded new =
           no (sym (ap stages.outcome new) ∙ (slot_known v later known_then place m up slot g there).recorded.0
           (ap (λ (i : ℕ). has_record v i (is_decision_of g.key)) (slot_place v later known_then place m up slot g there)

@@ -11,7 +11,7 @@ use Rattle.ots_model.specs.declared.completion.Heard.TheVariants as phase_hears
 use Rattle.ots_model.specs.declared.completion.Stood.{Stood}
 use Rattle.ots_model.specs.declared.tree.Heard.{Heard}
 use Rattle.ots_model.specs.declared.tree.Outward.{Outward}
-use Rattle.two_phase.specs.Stages.{Standing, Waiting, Going as UnderWay}
+use Rattle.two_phase.specs.Stages.{Standing, Waiting, Going as UnderWay, no_room}
 use Rattle.two_phase.specs.declared.party.Errand.{Errand}
 use Rattle.two_phase.specs.declared.party.Party.{Party}
 use Rattle.two_phase.specs.declared.party.Stage.{Stage as Round}
@@ -149,7 +149,7 @@ set_in (y ∷ fs) (suc i) zero x g is = inr is
 set_in (y ∷ fs) (suc i) (suc slot) x g is = set_in fs i slot x g is
 
 pub made_in : (now seconds : ℕ) (n : Node) (slot : ℕ) (g : Family) → family_in (creates now seconds n).node.families slot ≡ Some g
-    → (family_in n.families slot ≡ Some g) ⊎ (g.completion ≡ Waiting 0)
+    → (family_in n.families slot ≡ Some g) ⊎ (g.completion ≡ Waiting no_room)
 unfolding creates makes
 made_in now seconds n slot g is = by_slot (free_slot n) is
   where
@@ -157,14 +157,14 @@ made_in now seconds n slot g is = by_slot (free_slot n) is
     make key = new_family key (deadline_after now seconds)
 
     by_number : (i : ℕ) (t : Bool) → family_in (if t then record { node = with_new make i n; answer = Ok (next_key n i) } else makes_no_family n).node.families slot ≡ Some g
-        → (family_in n.families slot ≡ Some g) ⊎ (g.completion ≡ Waiting 0)
+        → (family_in n.families slot ≡ Some g) ⊎ (g.completion ≡ Waiting no_room)
     by_number i true is = elim (set_in n.families i slot (make (next_key n i)) g is) [
       | inl new ↦ inr (ap (λ (x : Family). x.completion) (sym new))
       | inr old ↦ inl old
     ]
     by_number i false is = inl is
 
-    by_slot : (o : Option ℕ) → family_in (makes_in o make n).node.families slot ≡ Some g → (family_in n.families slot ≡ Some g) ⊎ (g.completion ≡ Waiting 0)
+    by_slot : (o : Option ℕ) → family_in (makes_in o make n).node.families slot ≡ Some g → (family_in n.families slot ≡ Some g) ⊎ (g.completion ≡ Waiting no_room)
     by_slot (Some i) is = by_number i _ is
     by_slot None is = inl is
 

@@ -2,7 +2,7 @@ use Rattle.std.proofs.Common.{◌≡◌, ◌==◌, ◌||◌, Bool, true, false, 
 use Rattle.std.specs.List.{list_any}
 use Rattle.std.proofs.lemmas.Cmp.{nat_eq_equiv}
 use Rattle.nodes_parts.specs.Cell.{is_cell}
-use Rattle.nodes_parts.proofs.cells.Cells.add.Goals as goal
+use Rattle.nodes_parts.proofs.cells.Named.add.Goals as goal
 
 -- a choice of `true` is an or
 cond-true_or : (a b : Bool) → cond a true b ≡ (a || b)
