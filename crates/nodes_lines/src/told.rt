@@ -1,4 +1,5 @@
-ghost use Rattle.std.specs.Prelude.{◌≡◌, codes};
+ghost use Rattle.std.specs.Prelude.{◌≡◌, ◌<◌, slice_index, IfOk};
+ghost use Rattle.hex.specs.Hex.{encode_lower, lower_digits};
 ghost use Rattle.nodes_world.specs.Told as told;
 ghost use Rattle.nodes_lines.specs.Telling.{IsTold};
 
@@ -221,9 +222,31 @@ pub fn tell_journal(
 ) -> Result<(), AllocError>
     ensures { IsTold result (told.Journal server octets.now) lines.old.items lines.new.items }
 {
-    let digits = hex::encode(alloc, octets)?;
-    write_line(
-        lines,
-        &[Text(b"journal"), Named(server), Text(digits.as_bytes())],
-    )
+    let digits = digits_of(alloc, octets)?;
+    write_line(lines, &[Text(b"journal"), Named(server), Text(&digits)])
+}
+
+/// Octets in hexadecimal digits.
+fn digits_of(alloc: Global, octets: &[u8]) -> Result<Vec<u8>, AllocError>
+    ensures { IfOk result (λ digits. digits.items ≡ encode_lower octets.now) }
+{
+    let mut digits = vec![in alloc; 0; octets.len().saturating_mul(2)]?;
+    for (at, octet) in octets.iter().enumerate() {
+        digits[2 * at] = digit(*octet / 16);
+        digits[2 * at + 1] = digit(*octet % 16);
+    }
+    Ok(digits)
+}
+
+/// The hexadecimal digit of a number.
+#[tactic(auto, using(crate::proofs::Digits::low_digit, crate::proofs::Digits::high_digit))]
+fn digit(number: u8) -> u8
+    requires { number < 16 }
+    ensures { result ≡ slice_index lower_digits number }
+{
+    if number < 10 {
+        b'0' + number
+    } else {
+        b'a' + (number - 10)
+    }
 }
