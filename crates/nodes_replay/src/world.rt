@@ -125,13 +125,24 @@ impl World {
         ensures agreement { (told : List Told) → HasTold self told
             → EndsSafely self told lines.old.items lines.new.items result }
     {
-        laws_hold();
         self.tell_end(lines)
     }
 
-    /// What `finish` does, the laws apart.
-    fn tell_end(self, lines: &mut Vec<u8>) -> Result<(), WorldFault>
-        ensures finished { HasFinished self lines.old.items lines.new.items result }
+    /// Tells what `finish` tells, and leaves the world to its caller.
+    pub fn tell_end(&self, lines: &mut Vec<u8>) -> Result<(), WorldFault>
+        ensures finished { HasFinished self.now lines.old.items lines.new.items result }
+
+        // The lines so far are safe, and stay so.
+        ensures agreement { (told : List Told) → HasTold self.now told
+            → EndsSafely self.now told lines.old.items lines.new.items result }
+    {
+        laws_hold();
+        self.tell_journals(lines)
+    }
+
+    /// What `tell_end` does, the laws apart.
+    fn tell_journals(&self, lines: &mut Vec<u8>) -> Result<(), WorldFault>
+        ensures finished { HasFinished self.now lines.old.items lines.new.items result }
     {
         match self.fault {
             Some(fault) => Err(fault),

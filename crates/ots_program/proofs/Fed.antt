@@ -1,15 +1,12 @@
 -- Octets that are fed to a player, some after others.
-use Rattle.std.proofs.Common.{◌≡◌, ◌+◌, ◌<◌, ◌≤◌, ℕ, List, [], ◌∷◌, ◌++◌, true, Result, Ok, Err, OnOk, refl, append_assoc, length-append, arith}
+use Rattle.std.proofs.Common.{◌≡◌, ◌+◌, ◌<◌, ◌≤◌, ℕ, List, [], ◌∷◌, ◌++◌, true, Result, Ok, Err, OnOk, refl, append_assoc, length-append, IfErr, sym, subst, arith}
 use Rattle.ots_program.specs.declared.player.Player.{Player}
 use Rattle.ots_program.specs.declared.player.Stop.{Stop}
 use Rattle.ots_program.specs.Limits.{lines_limit, octets_limit}
 use Rattle.ots_program.specs.PlayingInside.{GoesOn, IsFed, Plays, StopsIn, Turns, octets_fed, place_of, row_of}
 use Rattle.ots_program.specs.Replay.{size, turn}
-use Rattle.ots_program.proofs.Told.{Passes-none, Passes-trans, StopsAt-passed}
+use Rattle.ots_program.proofs.Told.{Passes-trans, StopsAt-passed}
 use Rattle.ots_program.proofs.Turned.{Passes-fed}
-
-pub IsFed-none : (p : Player) → Plays p → IsFed p p []
-IsFed-none p plays = record { plays = plays; count = omega arith; passes = λ rest. Passes-none _ _ }
 
 pub IsFed-trans : (a b c : Player) (xs ys : List ℕ) → IsFed a b xs → IsFed b c ys → IsFed a c (xs ++ ys)
 IsFed-trans a b c xs ys h k = record {
@@ -48,3 +45,16 @@ IsFed-line (Ok done) p q octet plays few short feed turned emptied counted measu
   count = rw (emptied, measured) (omega arith);
   passes = Passes-fed (Ok done) p q octet _ _ plays.one_line feed turned emptied counted measured;
 }
+
+-- what is left of a piece is fed behind what was fed of it
+pub stopped_in : (stop : Stop) (a b c : Player) (piece fed part more : List ℕ) → piece ≡ fed ++ (part ++ more) → IsFed a b fed → StopsIn stop b c part → StopsIn stop a c piece
+stopped_in stop a b c piece fed part more split h k =
+    subst (λ (octets : List ℕ). StopsIn stop a c octets) (sym split) (StopsIn-trans stop a b c fed (part ++ more) h (StopsIn-longer stop b c part more k))
+
+pub fed_whole : (result : Result (Unit {0}) Stop) (a b c : Player) (piece fed rest : List ℕ) → piece ≡ fed ++ rest → IsFed a b fed → OnOk result (IsFed b c rest) → OnOk result (IsFed a c piece)
+fed_whole (Err stop) a b c piece fed rest split h k = tt
+fed_whole (Ok done) a b c piece fed rest split h k = subst (λ (octets : List ℕ). IsFed a c octets) (sym split) (IsFed-trans a b c fed rest h k)
+
+pub stopped_whole : (result : Result (Unit {0}) Stop) (a b c : Player) (piece fed rest : List ℕ) → piece ≡ fed ++ rest → IsFed a b fed → IfErr result (λ stop. StopsIn stop b c rest) → IfErr result (λ stop. StopsIn stop a c piece)
+stopped_whole (Ok done) a b c piece fed rest split h k = tt
+stopped_whole (Err stop) a b c piece fed rest split h k = subst (λ (octets : List ℕ). StopsIn stop a c octets) (sym split) (StopsIn-trans stop a b c fed rest h k)

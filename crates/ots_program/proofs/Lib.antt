@@ -3,6 +3,7 @@ pub mod Replays
 pub mod Told
 pub mod Turned
 pub mod Fed
+pub mod Ends
 pub mod Taken
 pub mod Carried
 pub mod Runs

@@ -1,12 +1,8 @@
 -- The lines of octets.
 use Rattle.std.proofs.Common.{◌≡◌, ◌≢◌, ℕ, ◌+◌, ◌<◌, Bool, true, false, cond, eqb, List, [], ◌∷◌, ◌++◌, length, refl, arith}
-use Rattle.std.specs.List.{AllByRecursion}
+use Rattle.ots_program.specs.PlayingInside.{IsOneLine}
 use Rattle.std.proofs.lemmas.Bool.{ne_eqb}
 use Rattle.ots_program.specs.Replay.{Row, rows, onto_first_row, size}
-
--- octets without a line feed
-abbrev pub IsOneLine : List ℕ → Type 0
-IsOneLine text = AllByRecursion (λ octet. octet ≢ 10) text
 
 -- one octet more, at the end
 pub IsOneLine-push : (text : List ℕ) (octet : ℕ) → IsOneLine text → octet ≢ 10 → IsOneLine (text ++ octet ∷ [])

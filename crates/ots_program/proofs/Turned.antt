@@ -1,5 +1,5 @@
 -- What a line's turn makes of a replay.
-use Rattle.std.proofs.Common.{◌≡◌, ℕ, ◌+◌, ◌<◌, ◌≤◌, min, List, [], ◌∷◌, ◌++◌, length, true, false, Result, Ok, Err, OnOk, IfErr, refl, ap, ◌∙◌, append_assoc, append-nil, arith}
+use Rattle.std.proofs.Common.{◌≡◌, ℕ, zero, suc, ◌+◌, ◌<◌, ◌≤◌, min, List, [], ◌∷◌, ◌++◌, length, true, false, Result, Ok, Err, OnOk, IfErr, refl, ap, ◌∙◌, append_assoc, append-nil, length-append, arith}
 use Rattle.nodes_world.specs.Lives.{last_lines}
 use Rattle.nodes_world.specs.World.{World}
 use Rattle.nodes_state.specs.Telling.{Tells, TellsPart}
@@ -8,10 +8,10 @@ use Rattle.ots_program.specs.declared.player.Player.{Player}
 use Rattle.ots_program.specs.declared.player.Stop.{Stop}
 use Rattle.ots_program.specs.declared.player.Stop.TheVariants as stops
 use Rattle.ots_program.specs.Limits.{lines_limit, octets_limit}
-use Rattle.ots_program.specs.PlayingInside.{Passes, StopsAt, Ends, Turns, GoesOn, world_of, lines_of, place_of, row_of, left}
+use Rattle.ots_program.specs.PlayingInside.{IsOneLine, Passes, StopsAt, Ends, Turns, GoesOn, world_of, lines_of, place_of, row_of, left}
 use Rattle.ots_program.specs.Replay.{Replay, Row, Place, Turn, Goes, Stops, Limited, Refused, rows, size, ahead_of, behind, completed, turn, replay_from}
 use Rattle.ots_program.proofs.Replays.{replay-ended, replay-goes, replay-stops, turn-past_lines, turn-past_octets}
-use Rattle.ots_program.proofs.Rows.{IsOneLine, rows-ended, rows-open, rows-begun}
+use Rattle.ots_program.proofs.Rows.{IsOneLine-push, rows-ended, rows-open, rows-begun}
 use Rattle.ots_program.proofs.Told.{Passes-none, StopsAt-passed, Tells-none, Tells-trans, take-shorter}
 
 -- at a limit
@@ -27,6 +27,20 @@ pub StopsAt-past_octets : (p : Place) (text : List ℕ) (octet : ℕ) (rest befo
 StopsAt-past_octets p text octet rest before one h long =
     let b = rows-begun text octet rest one in
     rw b.split (StopsAt-limit p b.row b.others octets_limit before (turn-past_octets p b.row h (omega (arith, b.long))))
+
+-- the same where octets without a line feed come
+pub StopsAt-more_lines : (p : Place) (text octets rest before : List ℕ) → IsOneLine text → 0 < length octets → lines_limit ≤ p.lines → StopsAt (stops.Limit (p.lines + 1) lines_limit) (replay_from p (rows (text ++ (octets ++ rest)))) before before
+StopsAt-more_lines p text [] rest before one some h = absurd (omega (arith, some))
+StopsAt-more_lines p text (octet ∷ octets) rest before one some h = StopsAt-past_lines p text octet (octets ++ rest) before one h
+
+pub StopsAt-more_octets : (left : ℕ) (p : Place) (text octets rest before : List ℕ) → IsOneLine text → IsOneLine octets → p.lines < lines_limit → p.octets + length text + left ≡ octets_limit → left < length octets
+    → StopsAt (stops.Limit (p.lines + 1) octets_limit) (replay_from p (rows (text ++ (octets ++ rest)))) before before
+StopsAt-more_octets left p text [] rest before one more few full long = absurd (omega (arith, long))
+StopsAt-more_octets zero p text (octet ∷ octets) rest before one more few full long =
+    StopsAt-past_octets p text octet (octets ++ rest) before one few (omega (arith, full))
+StopsAt-more_octets (suc left) p text (octet ∷ octets) rest before one more few full long =
+    rw (← append_assoc text (octet ∷ []) (octets ++ rest))
+    (StopsAt-more_octets left p (text ++ octet ∷ []) octets rest before (IsOneLine-push text octet one more.0) more.1 few (omega (arith, full, length-append text (octet ∷ []))) (omega (arith, long)))
 
 -- memory ran out in a turn
 TellsPart-turned : (t : Turn) (p : Place) (row : Row) (others : List Row) (before after : List ℕ) → turn p row ≡ t → TellsPart (lines_of t) before after → StopsAt stops.Memory (replay_from p (row ∷ others)) before after

@@ -22,10 +22,14 @@ world_of (Err fault) = empty
 abbrev pub octets_fed : Player → ℕ
 octets_fed p = p.octets + length p.line.items
 
+-- octets without a line feed
+abbrev pub IsOneLine : List ℕ → Type 0
+IsOneLine text = AllByRecursion (λ octet. octet ≢ 10) text
+
 -- the player plays on, within the limits, and what it has of the next line holds no line feed
 pub record Plays (p : Player) : Type 0 where
   pub stands : p.world ≡ Ok (world_of p.world)
-  pub one_line : AllByRecursion (λ octet. octet ≢ 10) p.line.items
+  pub one_line : IsOneLine p.line.items
   pub octets : octets_fed p ≤ octets_limit
   pub lines : p.lines ≤ lines_limit
   pub begun : p.line.items ≢ [] → p.lines < lines_limit

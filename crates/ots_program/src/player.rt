@@ -1,4 +1,5 @@
-ghost use Rattle.std.specs.Prelude.{◌≡◌, ℕ, ◌+◌, ◌<◌, ◌≤◌, List, [], ◌∷◌, IfErr, Ok, OnErr, OnOk};
+ghost use Rattle.std.specs.Prelude.{◌≡◌, ◌==◌, ℕ, ◌+◌, ◌<◌, ◌≤◌, List, [], ◌∷◌, length, drop, IfErr, Ok, OnErr, OnOk};
+ghost use Rattle.std.specs.List.{position};
 ghost use Rattle.nodes_state.specs.Telling.{Tells, TellsPart};
 ghost use Rattle.nodes_world.specs.Lives.{last_lines};
 ghost use Rattle.ots_program.specs.PlayingInside.{world_of};
@@ -7,6 +8,7 @@ use crate::limits::{LINES_LIMIT, OCTETS_LIMIT};
 use nodes_replay::World;
 use ots_world::{ScriptFault, WorldFault, parse_line};
 use std::alloc::{AllocError, AllocFailed, Global};
+use std::mem::forget;
 
 /// Why a replay stops.
 #[derive(Clone, Copy)]
@@ -72,7 +74,7 @@ pub struct Player {
 impl Player {
     ghost use Rattle.ots_world.specs.Script.{reading};
     ghost use Rattle.ots_program.specs.Limits.{lines_limit, octets_limit};
-    ghost use Rattle.ots_program.specs.PlayingInside.{Ends, IsFed, Passes, Plays, StopsAt, StopsIn, Turns, left, place_of, row_of};
+    ghost use Rattle.ots_program.specs.PlayingInside.{Ends, IsFed, IsOneLine, Passes, Plays, StopsAt, StopsIn, Turns, left, place_of, row_of};
     ghost use Rattle.ots_program.specs.Replay.{completed, replay, size, turn, turn_of};
 
     /// A replay at the start of its script.
@@ -97,10 +99,48 @@ impl Player {
         ensures fed { OnOk result (IsFed self.old self.new piece.now) }
         ensures stops { IfErr result (λ stop. StopsIn stop self.old self.new piece.now) }
     {
-        for octet in piece {
-            self.take(*octet)?;
+        let mut rest = piece;
+        while let Some(end) = line_end(rest) {
+            self.take_part(&rest[..end])?;
+            self.take_feed()?;
+            rest = behind(end, rest);
         }
+        self.take_part(rest)
+    }
+
+    /// Octets of the next line have come.
+    fn take_part(&mut self, octets: &[u8]) -> Result<(), Stop>
+        requires plays { Plays self.old }
+        requires one_line { IsOneLine octets.now }
+        ensures fed { OnOk result (IsFed self.old self.new octets.now) }
+        ensures stops { IfErr result (λ stop. StopsIn stop self.old self.new octets.now) }
+    {
+        if octets.is_empty() {
+            return Ok(());
+        }
+        if self.lines >= LINES_LIMIT {
+            return Err(Stop::Limit(self.lines + 1, LINES_LIMIT));
+        }
+        if octets.len() as u64 > OCTETS_LIMIT - self.octets - self.line.len() as u64 {
+            return Err(Stop::Limit(self.lines + 1, OCTETS_LIMIT));
+        }
+        self.line.extend_from_slice(octets)?;
         Ok(())
+    }
+
+    /// The line feed of the next line has come.
+    fn take_feed(&mut self) -> Result<(), Stop>
+        requires plays { Plays self.old }
+        ensures fed { OnOk result (IsFed self.old self.new (10 ∷ [])) }
+        ensures stops { IfErr result (λ stop. StopsIn stop self.old self.new (10 ∷ [])) }
+    {
+        if self.lines >= LINES_LIMIT {
+            return Err(Stop::Limit(self.lines + 1, LINES_LIMIT));
+        }
+        if self.octets + self.line.len() as u64 >= OCTETS_LIMIT {
+            return Err(Stop::Limit(self.lines + 1, OCTETS_LIMIT));
+        }
+        self.take_line(true)
     }
 
     /// The script has ended, and its last line may lack its line feed; then the journals are told. Answers the lines that
@@ -120,25 +160,6 @@ impl Player {
         } = self;
         let told = tell_journals(world, &mut output);
         (output, told)
-    }
-
-    /// The next octet of the script has come.
-    fn take(&mut self, octet: u8) -> Result<(), Stop>
-        requires plays { Plays self.old }
-        ensures fed { OnOk result (IsFed self.old self.new (octet ∷ [])) }
-        ensures stops { IfErr result (λ stop. StopsIn stop self.old self.new (octet ∷ [])) }
-    {
-        if self.lines >= LINES_LIMIT {
-            return Err(Stop::Limit(self.lines + 1, LINES_LIMIT));
-        }
-        if self.octets + self.line.len() as u64 >= OCTETS_LIMIT {
-            return Err(Stop::Limit(self.lines + 1, OCTETS_LIMIT));
-        }
-        if octet == b'\n' {
-            return self.take_line(true);
-        }
-        self.line.push(octet)?;
-        Ok(())
     }
 
     /// The last line may be there without its line feed.
@@ -196,14 +217,32 @@ impl Player {
     }
 }
 
-/// The journals of the world are told, behind the last line of its script. Memory may run out.
+/// The octets behind the one at this place.
+fn behind(place: usize, octets: &[u8]) -> &[u8]
+    requires { place < length octets.now }
+    ensures { result.now ≡ drop (place + 1) octets.now }
+{
+    &octets[place + 1..]
+}
+
+/// Where the first line feed stands.
+fn line_end(octets: &[u8]) -> Option<usize>
+    ensures { result ≡ position (λ octet. octet == 10) octets.now }
+{
+    octets.iter().position(|octet| *octet == b'\n')
+}
+
+/// The journals of the world are told, behind the last line of its script. Memory may run out. The world isn't taken
+/// apart, which would cost time at the end of a program: where the process goes on, its memory isn't given back.
 fn tell_journals(world: World, output: &mut Vec<u8>) -> Result<(), Stop>
     requires stands { world ≡ Ok (world_of world) }
     ensures told { OnOk result (Tells (last_lines (world_of world)) output.old.items output.new.items) }
     ensures memory { IfErr result (λ stop. stop ≡ Stop.Memory) }
     ensures part { OnErr result (TellsPart (last_lines (world_of world)) output.old.items output.new.items) }
 {
-    match world.finish(output) {
+    let told = world.tell_end(output);
+    forget(world);
+    match told {
         Ok(()) => Ok(()),
         Err(WorldFault::Memory) => Err(Stop::Memory),
         // A world that stands is refused here for nothing else.

@@ -1,6 +1,9 @@
-use Rattle.std.proofs.Common.{take}
+use Rattle.std.proofs.Common.{◌≡◌, ℕ, List, ◌++◌, length}
 use Rattle.ots_program.specs.PlayingInside.{IsFed}
 use Rattle.ots_program.proofs.player.Player.feed.Given as goal
 
-abbrev pub invariant-loop-octet : goal.invariant-loop-octet
-invariant-loop-octet l = IsFed l.initial.self l.self (take l.octet-index l.piece)
+abbrev pub invariant-loop-end : goal.invariant-loop-end
+invariant-loop-end l = (fed : List ℕ) × (l.piece ≡ fed ++ l.rest) × IsFed l.initial.self l.self fed
+
+abbrev pub decreases-loop-end : goal.decreases-loop-end
+decreases-loop-end l = length l.rest
