@@ -104,15 +104,38 @@ fn rows(alloc: Global, case: &Case, images: &[Vec<u8>], end: &[u8]) -> io::Resul
 /// The images that a crash can leave. Each has the front of what was written, and behind it what stood there, or octets
 /// that are 1.
 pub fn images(alloc: Global, before: &[u8], after: &[u8]) -> io::Result<Vec<Vec<u8>>> {
-    let written = difference(before, after);
     let mut images = Vec::new(alloc);
+    add_torn(alloc, before, after, &mut images)?;
+    add_ones(alloc, before, after, &mut images)?;
+    Ok(images)
+}
+
+/// Adds those that have the front of what was written, and what stood behind it.
+fn add_torn(
+    alloc: Global,
+    before: &[u8],
+    after: &[u8],
+    images: &mut Vec<Vec<u8>>,
+) -> io::Result<()> {
+    let written = difference(before, after);
     for count in written.start..=written.end {
         images.push(torn(alloc, before, after, count)?)?;
     }
+    Ok(())
+}
+
+/// Adds those that have the front of what was written, and octets that are 1 behind it.
+fn add_ones(
+    alloc: Global,
+    before: &[u8],
+    after: &[u8],
+    images: &mut Vec<Vec<u8>>,
+) -> io::Result<()> {
+    let written = difference(before, after);
     for count in written.start..written.end {
         images.push(with_ones(alloc, after, count, written.end)?)?;
     }
-    Ok(images)
+    Ok(())
 }
 
 /// The octets, of which those between two places are 1.

@@ -1,5 +1,6 @@
 //! Runs the cases on standard input, each on a journal or a resource end over a disk in memory, and tells what comes of it.
-//! With words on the command line it tells how long calls over a real file take, as `bench` says.
+//! With three words on the command line it tells how long calls over a real file take, as `bench` says; other words are
+//! refused.
 //!
 //! A case begins with a line `== KIND: ..`. The lines behind it say what the disk holds at first, and what is done:
 //!
@@ -33,7 +34,7 @@ use bench::tell_time;
 use case::Case;
 use records::number;
 use std::alloc::Global;
-use std::io::Write;
+use std::io::{ErrorKind, Write};
 use std::{env, io};
 
 mod bench;
@@ -49,13 +50,14 @@ mod records;
 fn main(rt: HostRuntime) -> io::Result<()> {
     let words: Vec<String> = env::args(&rt)?.skip(1).collect(rt.alloc())?;
     match words.as_slice() {
+        [] => tell_cases(&rt),
         [kind, path, count] => tell_time(
             &rt,
             kind.as_str(),
             path.as_str(),
             number(count.as_str())?,
         ),
-        _ => tell_cases(&rt),
+        _ => Err(ErrorKind::InvalidInput.into()),
     }
 }
 

@@ -61,6 +61,11 @@ fn tell_what_happened(
     for answer in finished {
         tell_finished(answer, told)?;
     }
+    tell_effects(effects, told)
+}
+
+/// Tells what happened.
+fn tell_effects(effects: &[Effect], told: &mut Vec<u8>) -> io::Result<()> {
     for effect in effects {
         write!(told, ", {effect:?}")?;
     }
