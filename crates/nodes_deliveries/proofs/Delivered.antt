@@ -22,7 +22,7 @@ use Rattle.nodes_state.specs.Shown.{shown}
 use Rattle.nodes_state.specs.Telling.{Tells}
 use Rattle.nodes_state.specs.declared.state.State.{State}
 use Rattle.nodes_state.proofs.Doing.{does_then, tells_none}
-use Rattle.nodes_deliveries.specs.Arriving.{SaysAt, receiver_at}
+use Rattle.nodes_deliveries.specs.Arriving.{SaysAt, led_at, led_by, receiver_at}
 use Rattle.nodes_ready.proofs.Growing.{KeepsCalls, calls_stay, one_marked}
 use Rattle.nodes_ready.proofs.Keeping.{there_at}
 
@@ -79,6 +79,22 @@ marked_keeps messages place = by_message (slice_get messages place) refl
         → KeepsCalls messages (elim o as (λ _. List Message) [ Some x ↦ slice_set messages place (record x { delivered = true }) | None ↦ messages ])
     by_message (Some m) there = one_marked messages place m (record m { delivered = true }) there refl
     by_message None there = calls_stay messages
+
+-- and leads where it led
+pub led_stays : (s : State) (place : ℕ) (now : List Message) → now ≡ marked_delivered place s.messages
+    → led_at s place ≡ led_at (record s { messages = now }) place
+led_stays s place now is = by_message (slice_get s.messages place) refl ∙ ap led_in (sym is)
+  where
+    leads : Option Message → Option NamedKey
+    leads o = option_and_then (λ (m : Message). led_by s.names.referred m.content) o
+
+    led_in : List Message → Option NamedKey
+    led_in messages = leads (slice_get messages place)
+
+    by_message : (o : Option Message) → slice_get s.messages place ≡ o
+        → leads o ≡ led_in (elim o as (λ _. List Message) [ Some x ↦ slice_set s.messages place (record x { delivered = true }) | None ↦ s.messages ])
+    by_message (Some m) there = ap leads (sym (set_there s.messages place m (record m { delivered = true }) there))
+    by_message None there = ap leads (sym there)
 
 delivers_there : (place : ℕ) (w : World) (m : Message) → slice_get w.messages place ≡ Some m
     → delivers place w ≡ (changes (with_message place (record m { delivered = true }) w) ▹ comes (receiver_of w m.content) (place + 1) m.content)

@@ -13,7 +13,8 @@ use Rattle.nodes_world.specs.declared.message.Message.{Message}
 use Rattle.nodes_world.specs.Deliveries.{receiver_of, sender_of}
 use Rattle.nodes_world.specs.Objects.{place_of}
 use Rattle.nodes_world.specs.World.{NamedKey, World, life_at, message_numbered, referred}
-use Rattle.nodes_deliveries.specs.Arriving.{receiver_at, waits_for, waits_in}
+use Rattle.nodes_state.specs.declared.state.State.{State}
+use Rattle.nodes_deliveries.specs.Arriving.{led_at, led_by, receiver_at, waits_for, waits_in}
 
 -- ---- to whom the message at a place goes
 
@@ -42,6 +43,14 @@ module _ (w : World) (place : ℕ) where
   unfolding receiver_of
   to_sender m request said found there says is =
       receiver_there m (contents.Reply request said) there says ∙ ap (λ (x : Option Message). option_and_then (λ (y : Message). sender_of y.content) x) is
+
+-- ---- the resource to which it leads
+
+pub led_there : (s : State) (place : ℕ) (m : Message) (c : Content) → slice_get s.messages place ≡ Some m → m.content ≡ c
+    → led_at s place ≡ led_by s.names.referred c
+led_there s place m c there says =
+    ap (λ (o : Option Message). option_and_then (λ (x : Message). led_by s.names.referred x.content) o) there
+    ∙ ap (λ (x : Content). led_by s.names.referred x) says
 
 -- ---- who waits for a reply
 

@@ -1,13 +1,35 @@
 // To whom a message goes, and who waits for a reply.
-ghost use Rattle.std.specs.Prelude.{◌≡◌, ◌-◌};
+ghost use Rattle.std.specs.Prelude.{◌≡◌, ◌-◌, IfSome};
+ghost use Rattle.std.specs.Option.{option_map};
 ghost use Rattle.nodes_world.specs.Deliveries as deliveries;
+ghost use Rattle.nodes_parts.specs.Referring.{named};
 ghost use Rattle.nodes_state.specs.Shown.{HasNames, shown};
-ghost use Rattle.nodes_deliveries.specs.Arriving.{receiver_at, waits_for};
+ghost use Rattle.nodes_deliveries.specs.Arriving.{led_at, receiver_at, waits_for};
+ghost use Rattle.nodes_deliveries.specs.declared.waiting.Receiver.{Receiver as Found};
 
-use nodes_parts::place_of;
+use nodes_parts::{NamedKey, place_of};
 use nodes_state::State;
 use nodes_world::{Content, Message};
 use ots_model::CallNumber;
+
+/// Where a message comes: the place of its seat, and the resource there to which a word leads.
+#[derive(Clone, Copy)]
+pub(crate) struct Receiver {
+    pub seat: usize,
+    pub resource: Option<NamedKey>,
+}
+
+impl Receiver {
+    /// A seat, where the message is no word.
+    fn seated(seat: usize) -> Receiver
+        ensures { result ≡ record { seat = seat; resource = None } }
+    {
+        Receiver {
+            seat,
+            resource: None,
+        }
+    }
+}
 
 /// The place of the message with a number.
 pub(crate) fn message_place(number: u32) -> usize
@@ -26,17 +48,25 @@ fn sender_of(message: &Message) -> Option<usize>
     }
 }
 
-/// The place of the seat to which the message at a place goes.
-pub(crate) fn receiver_of(state: &State, place: usize) -> Option<usize>
+/// Where the message at a place comes.
+pub(crate) fn receiver_of(state: &State, place: usize) -> Option<Receiver>
     requires names { HasNames state.now }
-    ensures { result ≡ receiver_at (shown state.now) place }
+    ensures seat { option_map (λ (r : Found). r.seat) result ≡ receiver_at (shown state.now) place }
+    ensures resource { IfSome result (λ r. option_map named r.resource ≡ led_at state.now place) }
 {
     match &state.messages.at(place)?.content {
-        Content::Call { to, .. } => Some(place_of(to)),
+        Content::Call { to, .. } => Some(Receiver::seated(place_of(to))),
         Content::Request { outward, .. } => {
-            Some(place_of(&state.names.referred(outward.to.bytes())?.key))
+            let resource = state.names.referred(outward.to.bytes())?;
+            Some(Receiver {
+                seat: place_of(&resource.key),
+                resource: Some(resource),
+            })
         }
-        Content::Reply { request, .. } => sender_of(state.messages.at(message_place(*request))?),
+        Content::Reply { request, .. } => {
+            let request = state.messages.at(message_place(*request))?;
+            Some(Receiver::seated(sender_of(request)?))
+        }
     }
 }
 

@@ -14,7 +14,7 @@ some_where None e = absurd cc
 pub returns-clause-does : goal.returns-clause-does
 returns-clause-does c = λ content says.
     let there : is_none c.life.result ≡ false = first_of (cc, search rules) in
-    came (shown c.args.state.now) c.args.receiver (c.args.place + 1) content (shown c.reach.new.state) c.args.lines.now.items c.tell_known.new.lines.items
+    came (shown c.args.state.now) c.args.receiver.seat (c.args.place + 1) content (shown c.reach.new.state) c.args.lines.now.items c.tell_known.new.lines.items
     c.reach.new.lines.items c.reach.result (ap (λ (o : Option ℕ). is_some o) (sym c.life.ensures) ∙ some_where c.life.result there)
     (one_told (Known (lines.Recv (c.args.place + 1))) c.args.lines.now.items c.tell_known.new.lines.items c.in_ok-tell_known.ensures)
     (c.reach.ensures.does content says)
