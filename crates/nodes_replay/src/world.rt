@@ -117,7 +117,8 @@ impl World {
         let _within_the_limit = self.state.messages.next_number();
     }
 
-    /// The end of a script: the journal of each node is told. It answers the refusal that the world answers for good.
+    /// The end of a script: the journal of each node is told. It answers the refusal that the world answers for good. This is
+    /// `tell_end`, and lets go of the world.
     pub fn finish(self, lines: &mut Vec<u8>) -> Result<(), WorldFault>
         ensures finished { HasFinished self lines.old.items lines.new.items result }
 
