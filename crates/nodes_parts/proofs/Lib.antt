@@ -4,6 +4,7 @@ mod Numbered
 mod Ending
 mod NameLemmas
 mod Found
+pub mod SharedLemmas
 mod Referred
 mod Waiting
 mod Seams

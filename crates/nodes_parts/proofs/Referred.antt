@@ -1,7 +1,6 @@
 -- How a resource is found by its reference.
 use Rattle.std.proofs.Common.{◌≡◌, ℕ, Bool, true, false, cond, List, [], ◌∷◌, ◌++◌, suc, ◌==◌, ◌<◌, drop, get_or, length, map, Option, Some, None, refl, sym, ap, subst, ◌∙◌}
 use Rattle.std.specs.Bool.{if◌then◌else◌}
-use Rattle.std.specs.Global.{Vec}
 use Rattle.std.specs.Map.{lookup}
 use Rattle.std.specs.Option.{option_map, option_or}
 use Rattle.std.specs.Str.{bytes_eq}
@@ -31,17 +30,17 @@ nothing_by k false false None r same rest e = rest refl
 nothing_by k false false (Some n) r same rest e = absurd (cc)
 
 -- where no reference has its digest, a reference leads nowhere
-nothing_there : (to : List ℕ) (entries : List (Vec ℕ × Kept)) → first_so (digest_of to) entries ≡ None → referred_in (map entry_of entries) to ≡ None
+nothing_there : (to : List ℕ) (entries : List (List ℕ × Kept)) → first_so (digest_of to) entries ≡ None → referred_in (map entry_of entries) to ≡ None
 nothing_there to [] e = refl
 nothing_there to (x ∷ xs) e =
-    nothing_by x.1 (digest_of to == digest_of x.0.items) (bytes_eq to x.0.items) (first_so (digest_of to) xs) (referred_in (map entry_of xs) to)
-    (same_digest to x.0.items) (nothing_there to xs) e
+    nothing_by x.1 (digest_of to == digest_of x.0) (bytes_eq to x.0) (first_so (digest_of to) xs) (referred_in (map entry_of xs) to)
+    (same_digest to x.0) (nothing_there to xs) e
 
 -- what stands before the first one with its digest leads elsewhere
-abbrev LedFrom : List ℕ → List (Vec ℕ × Kept) → ℕ → Type 0
+abbrev LedFrom : List ℕ → List (List ℕ × Kept) → ℕ → Type 0
 LedFrom to entries place = referred_in (map entry_of entries) to ≡ referred_in (map entry_of (drop place entries)) to
 
-led_behind_by : (to : List ℕ) (x : Vec ℕ × Kept) (xs : List (Vec ℕ × Kept)) (place : ℕ) (b d : Bool) (o : Option ℕ) → bytes_eq to x.0.items ≡ d
+led_behind_by : (to : List ℕ) (x : List ℕ × Kept) (xs : List (List ℕ × Kept)) (place : ℕ) (b d : Bool) (o : Option ℕ) → bytes_eq to x.0 ≡ d
     → (d ≡ true → b ≡ true) → ((n : ℕ) → o ≡ Some n → LedFrom to xs n)
     → (if b then Some 0 else option_map suc o) ≡ Some place → LedFrom to (x ∷ xs) place
 led_behind_by to x xs place true d o is same rest e =
@@ -52,32 +51,32 @@ led_behind_by to x xs place false false (Some n) is same rest e =
     subst (λ p. LedFrom to (x ∷ xs) p) (some_same e)
     (ap (λ b. cond b (Some (named x.1)) (referred_in (map entry_of xs) to)) is ∙ rest n refl)
 
-led_behind : (to : List ℕ) (entries : List (Vec ℕ × Kept)) (place : ℕ) → first_so (digest_of to) entries ≡ Some place → LedFrom to entries place
+led_behind : (to : List ℕ) (entries : List (List ℕ × Kept)) (place : ℕ) → first_so (digest_of to) entries ≡ Some place → LedFrom to entries place
 led_behind to [] place e = absurd (cc)
 led_behind to (x ∷ xs) place e =
-    led_behind_by to x xs place (digest_of to == digest_of x.0.items) (bytes_eq to x.0.items) (first_so (digest_of to) xs) refl
-    (same_digest to x.0.items) (λ n. led_behind to xs n) e
+    led_behind_by to x xs place (digest_of to == digest_of x.0) (bytes_eq to x.0) (first_so (digest_of to) xs) refl
+    (same_digest to x.0) (λ n. led_behind to xs n) e
 
-first_found : (firsts : List (ℕ × ℕ)) (entries : List (Vec ℕ × Kept)) (to : List ℕ) (digest : ℕ) (o : Option ℕ) → FindsFirst firsts entries
+first_found : (firsts : List (ℕ × ℕ)) (entries : List (List ℕ × Kept)) (to : List ℕ) (digest : ℕ) (o : Option ℕ) → FindsFirst firsts entries
     → digest ≡ digest_of to → lookup (λ k. digest == k) firsts ≡ o → first_so (digest_of to) entries ≡ o
 first_found firsts entries to digest o finds is found =
     sym (finds (digest_of to)) ∙ ap (λ n. lookup (λ k. n == k) firsts) (sym is) ∙ found
 
 -- where no place is found for its digest, a reference leads nowhere
-pub leads_nowhere : (firsts : List (ℕ × ℕ)) (entries : List (Vec ℕ × Kept)) (to : List ℕ) (digest : ℕ) → FindsFirst firsts entries
+pub leads_nowhere : (firsts : List (ℕ × ℕ)) (entries : List (List ℕ × Kept)) (to : List ℕ) (digest : ℕ) → FindsFirst firsts entries
     → digest ≡ digest_of to → lookup (λ k. digest == k) firsts ≡ None → referred_in (map entry_of entries) to ≡ None
 leads_nowhere firsts entries to digest finds is none = nothing_there to entries (first_found firsts entries to digest None finds is none)
 
 -- where a place is found, it leads where it leads from that place on
-pub leads_from : (firsts : List (ℕ × ℕ)) (entries : List (Vec ℕ × Kept)) (to : List ℕ) (digest place : ℕ) → FindsFirst firsts entries
+pub leads_from : (firsts : List (ℕ × ℕ)) (entries : List (List ℕ × Kept)) (to : List ℕ) (digest place : ℕ) → FindsFirst firsts entries
     → digest ≡ digest_of to → lookup (λ k. digest == k) firsts ≡ Some place
     → referred_in (map entry_of entries) to ≡ referred_in (map entry_of (drop place entries)) to
 leads_from firsts entries to digest place finds is some =
     led_behind to entries place (first_found firsts entries to digest (Some place) finds is some)
 
 -- the reference at a place, and those behind it
-pub leads_here : (entries : List (Vec ℕ × Kept)) (to : List ℕ) (place : ℕ) (e : Vec ℕ × Kept) (b : Bool) → place < length entries
-    → e ≡ get_or entries place e → bytes_eq to e.0.items ≡ b
+pub leads_here : (entries : List (List ℕ × Kept)) (to : List ℕ) (place : ℕ) (e : List ℕ × Kept) (b : Bool) → place < length entries
+    → e ≡ get_or entries place e → bytes_eq to e.0 ≡ b
     → referred_in (map entry_of (drop place entries)) to ≡ cond b (Some (named e.1)) (referred_in (map entry_of (drop (suc place) entries)) to)
 leads_here entries to place e b within is test =
     ap (λ xs. referred_in (map entry_of xs) to) (drop-cons entries place e within ∙ ap (λ x. x ∷ drop (suc place) entries) (sym is))
@@ -111,23 +110,23 @@ first_by false true None n = refl
 first_by false false None n = refl
 first_by false c (Some m) n = refl
 
-first_more : (d : ℕ) (entries : List (Vec ℕ × Kept)) (x : Vec ℕ × Kept)
-    → first_so d (entries ++ x ∷ []) ≡ option_or (first_so d entries) (if d == digest_of x.0.items then Some (length entries) else None)
-first_more d [] x = first_alone (d == digest_of x.0.items)
+first_more : (d : ℕ) (entries : List (List ℕ × Kept)) (x : List ℕ × Kept)
+    → first_so d (entries ++ x ∷ []) ≡ option_or (first_so d entries) (if d == digest_of x.0 then Some (length entries) else None)
+first_more d [] x = first_alone (d == digest_of x.0)
 first_more d (y ∷ ys) x =
-    ap (λ (o : Option ℕ). if d == digest_of y.0.items then Some 0 else option_map suc o) (first_more d ys x)
-    ∙ first_by (d == digest_of y.0.items) (d == digest_of x.0.items) (first_so d ys) (length ys)
+    ap (λ (o : Option ℕ). if d == digest_of y.0 then Some 0 else option_map suc o) (first_more d ys x)
+    ∙ first_by (d == digest_of y.0) (d == digest_of x.0) (first_so d ys) (length ys)
 
 -- its place is found where none before it has its digest
-pub finds_more : (firsts after : List (ℕ × ℕ)) (entries : List (Vec ℕ × Kept)) (x : Vec ℕ × Kept) (digest place : ℕ) → FindsFirst firsts entries
-    → digest ≡ digest_of x.0.items → place ≡ length entries
+pub finds_more : (firsts after : List (ℕ × ℕ)) (entries : List (List ℕ × Kept)) (x : List ℕ × Kept) (digest place : ℕ) → FindsFirst firsts entries
+    → digest ≡ digest_of x.0 → place ≡ length entries
     → ((d : ℕ) → lookup (λ k. d == k) after ≡ option_or (lookup (λ k. d == k) firsts) (if digest == d then Some place else None))
     → FindsFirst after (entries ++ x ∷ [])
 finds_more firsts after entries x digest place finds is at put = λ d.
     put d
     ∙ ap (λ o. option_or o (if digest == d then Some place else None)) (finds d)
     ∙ ap (λ (b : Bool). option_or (first_so d entries) (if b then Some place else None)) (same_turned digest d ∙ ap (λ n. d == n) is)
-    ∙ ap (λ n. option_or (first_so d entries) (if d == digest_of x.0.items then Some n else None)) at
+    ∙ ap (λ n. option_or (first_so d entries) (if d == digest_of x.0 then Some n else None)) at
     ∙ sym (first_more d entries x)
 
 or_picked : (b : Bool) (k : NamedKey) (o p : Option NamedKey) → cond b (Some k) (option_or o p) ≡ option_or (cond b (Some k) o) p
@@ -138,13 +137,13 @@ or_alone : (b : Bool) (k : NamedKey) → cond b (Some k) None ≡ (if b then Som
 or_alone true k = refl
 or_alone false k = refl
 
-referred_more : (entries : List (Vec ℕ × Kept)) (x : Vec ℕ × Kept) (octets : List ℕ)
+referred_more : (entries : List (List ℕ × Kept)) (x : List ℕ × Kept) (octets : List ℕ)
     → referred_in (map entry_of (entries ++ x ∷ [])) octets
-    ≡ option_or (referred_in (map entry_of entries) octets) (if bytes_eq octets x.0.items then Some (named x.1) else None)
-referred_more [] x octets = or_alone (bytes_eq octets x.0.items) (named x.1)
+    ≡ option_or (referred_in (map entry_of entries) octets) (if bytes_eq octets x.0 then Some (named x.1) else None)
+referred_more [] x octets = or_alone (bytes_eq octets x.0) (named x.1)
 referred_more (y ∷ ys) x octets =
-    ap (cond (bytes_eq octets y.0.items) (Some (named y.1))) (referred_more ys x octets)
-    ∙ or_picked (bytes_eq octets y.0.items) (named y.1) (referred_in (map entry_of ys) octets) (if bytes_eq octets x.0.items then Some (named x.1) else None)
+    ap (cond (bytes_eq octets y.0) (Some (named y.1))) (referred_more ys x octets)
+    ∙ or_picked (bytes_eq octets y.0) (named y.1) (referred_in (map entry_of ys) octets) (if bytes_eq octets x.0 then Some (named x.1) else None)
 
 or_chosen : (b : Bool) (o : Option NamedKey) (k : NamedKey) → option_or o (if b then Some k else None) ≡ (if b then option_or o (Some k) else o)
 or_chosen true o k = refl
@@ -152,10 +151,10 @@ or_chosen false None k = refl
 or_chosen false (Some x) k = refl
 
 -- it leads to its resource, where it led nowhere, and others lead where they did
-pub leads_too : (entries : List (Vec ℕ × Kept)) (x : Vec ℕ × Kept) (octets : List ℕ)
+pub leads_too : (entries : List (List ℕ × Kept)) (x : List ℕ × Kept) (octets : List ℕ)
     → referred_in (map entry_of (entries ++ x ∷ [])) octets
-    ≡ (if bytes_eq x.0.items octets then option_or (referred_in (map entry_of entries) octets) (Some (named x.1)) else referred_in (map entry_of entries) octets)
+    ≡ (if bytes_eq x.0 octets then option_or (referred_in (map entry_of entries) octets) (Some (named x.1)) else referred_in (map entry_of entries) octets)
 leads_too entries x octets =
     referred_more entries x octets
-    ∙ ap (λ (b : Bool). option_or (referred_in (map entry_of entries) octets) (if b then Some (named x.1) else None)) (octets_turned octets x.0.items)
-    ∙ or_chosen (bytes_eq x.0.items octets) (referred_in (map entry_of entries) octets) (named x.1)
+    ∙ ap (λ (b : Bool). option_or (referred_in (map entry_of entries) octets) (if b then Some (named x.1) else None)) (octets_turned octets x.0)
+    ∙ or_chosen (bytes_eq x.0 octets) (referred_in (map entry_of entries) octets) (named x.1)

@@ -3,6 +3,7 @@ pub mod Cell
 pub mod Kept
 pub mod KeptInside
 pub mod Index
+pub mod Shared
 pub mod Referring
 pub mod Naming
 pub mod Filling

@@ -1,6 +1,5 @@
 -- Resources by their references, as the code finds them (our profile).
 use Rattle.std.specs.Prelude.{◌≡◌, ◌==◌, ◌+◌, ◌-◌, ◌*◌, ◌%◌, ◌^◌, ℕ, suc, List, [], ◌∷◌, bytes_eq, drop, length, nat_lt, Option, None, Some, if◌then◌else◌}
-use Rattle.std.specs.Global.{Vec}
 use Rattle.std.specs.Map.{lookup}
 use Rattle.std.specs.Option.{option_map, option_or}
 use Rattle.byteorder.specs.Endian.{big_number}
@@ -11,8 +10,8 @@ use Rattle.nodes_parts.specs.declared.references.NamedKey.{NamedKey as Kept}
 abbrev pub named : Kept → NamedKey
 named k = record { name = k.name; key = k.key }
 
-abbrev pub entry_of : Vec ℕ × Kept → List ℕ × NamedKey
-entry_of e = (e.0.items, named e.1)
+abbrev pub entry_of : List ℕ × Kept → List ℕ × NamedKey
+entry_of e = (e.0, named e.1)
 
 -- the resource to which a reference leads
 abbrev pub referred_in : List (List ℕ × NamedKey) → List ℕ → Option NamedKey
@@ -31,10 +30,10 @@ digest_of r =
     else (big_number 8 (drop (length r - 16) r) + big_number 4 (drop (length r - 28) r) * 2 ^ 32) % 2 ^ 64
 
 -- the place of the first reference that has a digest
-abbrev pub first_so : ℕ → List (Vec ℕ × Kept) → Option ℕ
+abbrev pub first_so : ℕ → List (List ℕ × Kept) → Option ℕ
 first_so digest [] = None
-first_so digest (e ∷ es) = if digest == digest_of e.0.items then Some 0 else option_map suc (first_so digest es)
+first_so digest (e ∷ es) = if digest == digest_of e.0 then Some 0 else option_map suc (first_so digest es)
 
 -- the place of the first reference is found by its digest
-abbrev pub FindsFirst : List (ℕ × ℕ) → List (Vec ℕ × Kept) → Type 0
+abbrev pub FindsFirst : List (ℕ × ℕ) → List (List ℕ × Kept) → Type 0
 FindsFirst firsts entries = (digest : ℕ) → lookup (λ k. digest == k) firsts ≡ first_so digest entries

@@ -22,4 +22,5 @@ mod moulds;
 mod names;
 mod objects;
 mod references;
+mod shared;
 mod transactions;

@@ -4,6 +4,7 @@ ghost use Rattle.std.specs.Option.{option_map, option_or};
 ghost use Rattle.nodes_parts.specs.Referring.{LeadsTo, digest_of, entry_of, named, referred_in};
 
 use crate::objects::NUMBER_PLACE;
+use crate::shared::SharedReference;
 use byteorder::{BigEndian, ByteOrder};
 use ior_refs::ObjectKey;
 use ots_model::Name;
@@ -25,7 +26,8 @@ pub struct NamedKey {
 /// the place of the first one that has it. Contracts see the entries.
 #[derive(Drop)]
 pub struct References {
-    entries: Vec<(Vec<u8>, NamedKey)>,
+    alloc: Global,
+    entries: Vec<(SharedReference, NamedKey)>,
     firsts: HashMap<u64, usize>,
 }
 
@@ -47,6 +49,7 @@ impl References {
         ensures none { result ≡ [] }
     {
         References {
+            alloc,
             entries: Vec::new(alloc),
             firsts: HashMap::new(alloc),
         }
@@ -65,11 +68,18 @@ impl References {
         ensures ok { OnOk result (LeadsTo reference.items (named to) self.old self.new) }
         ensures err { OnErr result (self.new ≡ self.old) }
     {
+        let digest = digest_of(&reference);
+        let shared = SharedReference::like(self.alloc, &reference, last_of(&self.entries))?;
         self.entries.reserve(1)?;
-        note(&mut self.firsts, digest_of(&reference), self.entries.len())?;
-        self.entries.push_reserved((reference, to));
+        note(&mut self.firsts, digest, self.entries.len())?;
+        self.entries.push_reserved((shared, to));
         Ok(())
     }
+}
+
+/// The reference that was added last.
+fn last_of(entries: &[(SharedReference, NamedKey)]) -> Option<&SharedReference> {
+    Some(&entries.last()?.0)
 }
 
 /// The digest of a reference, which the references of few objects share.
@@ -85,12 +95,12 @@ fn digest_of(reference: &[u8]) -> u64
 }
 
 /// Of the references from a place on, the resource to which the first one leads that is this one.
-fn led_from(entries: &[(Vec<u8>, NamedKey)], place: usize, to: &[u8]) -> Option<NamedKey>
+fn led_from(entries: &[(SharedReference, NamedKey)], place: usize, to: &[u8]) -> Option<NamedKey>
     ensures { option_map named result ≡ referred_in (map entry_of (drop place entries.now)) to.now }
 {
     for at in place..entries.len() {
         let entry = &entries[at];
-        if to == entry.0.as_slice() {
+        if entry.0.is(to) {
             return Some(entry.1);
         }
     }
