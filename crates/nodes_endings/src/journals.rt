@@ -1,9 +1,7 @@
 // The journals of nodes are told.
-ghost use Rattle.std.specs.Prelude.{◌≡◌, ◌≢◌, ℕ, List, [], IfOk, OnErr};
-ghost use Rattle.decision_journal.specs.Journal.{StandsFor};
-ghost use Rattle.decision_journal.specs.declared.record.JournalRecord.{JournalRecord};
+ghost use Rattle.std.specs.Prelude.{◌≢◌, ℕ, [], OnErr};
 ghost use Rattle.nodes_lives.specs.Loads.{StoresJournal};
-ghost use Rattle.nodes_world.specs.Journals.{journal_octets, records_in};
+ghost use Rattle.nodes_world.specs.Journals.{records_in};
 ghost use Rattle.nodes_world.specs.Lives as lives;
 ghost use Rattle.nodes_state.specs.Seated.{seat_of, server_of};
 ghost use Rattle.nodes_state.specs.Shown.{shown};
@@ -16,7 +14,7 @@ use nodes_parts::last_gates;
 use nodes_state::{Seat, Server, State};
 use nodes_world::records_are_read;
 use ots_model::Name;
-use std::alloc::{AllocError, Global};
+use std::alloc::AllocError;
 
 /// The journal of each node is told, in the order of their making: of one that is down, that which its crash left. Where there
 /// is no node, no memory is wanted.
@@ -26,18 +24,13 @@ pub fn tell_journals(state: &State, lines: &mut Vec<u8>) -> Result<(), AllocErro
     ensures memory { OnErr result (lives.last_lines (shown state.now) ≢ []) }
 {
     for (place, seat) in state.seats.iter().enumerate() {
-        tell_seat(state.alloc, lines, seat, place)?;
+        tell_seat(lines, seat, place)?;
     }
     Ok(())
 }
 
 /// The journal of the node at a seat is told, where one is there.
-fn tell_seat(
-    alloc: Global,
-    lines: &mut Vec<u8>,
-    seat: &Seat,
-    place: usize,
-) -> Result<(), AllocError>
+fn tell_seat(lines: &mut Vec<u8>, seat: &Seat, place: usize) -> Result<(), AllocError>
     requires served { IsServed place (seat.now).server }
     ensures told { TellsOne (lives.journal_lines_of place (seat_of seat.now) (server_of (seat.now).server))
         lines.old.items lines.new.items result }
@@ -46,20 +39,15 @@ fn tell_seat(
     match &seat.server {
         Server::Up(node) => {
             node.kept();
-            tell_octets(alloc, lines, seat.name, node.octets())
+            tell_octets(lines, seat.name, node.octets())
         }
-        Server::Down(octets) => tell_octets(alloc, lines, seat.name, octets.as_slice()),
+        Server::Down(octets) => tell_octets(lines, seat.name, octets.as_slice()),
         Server::End(_) => Ok(()),
     }
 }
 
-/// The journal on a disk is told.
-fn tell_octets(
-    alloc: Global,
-    lines: &mut Vec<u8>,
-    name: Name,
-    octets: &[u8],
-) -> Result<(), AllocError>
+/// The journal on a disk of these octets is told, up to the gate at its end, which is closed.
+fn tell_octets(lines: &mut Vec<u8>, name: Name, octets: &[u8]) -> Result<(), AllocError>
     requires stored { IsStored octets.now }
     ensures told { (service : ℕ) → StoresJournal service octets.now → TellsOne
         (lives.journal_line name service (records_in service octets.now)) lines.old.items lines.new.items result }
@@ -67,18 +55,6 @@ fn tell_octets(
         → lives.journal_line name service (records_in service octets.now) ≢ [] }
 {
     records_are_read();
-    let journal = journal_of(alloc, octets)?;
-    tell_journal(alloc, lines, name, journal.as_slice())
-}
-
-/// The journal on a disk of these octets, up to the gate at its end, which is closed.
-fn journal_of(alloc: Global, octets: &[u8]) -> Result<Vec<u8>, AllocError>
-    requires stored { IsStored octets.now }
-    ensures { IfOk result (λ journal. (service : ℕ) (rs : List JournalRecord) → StandsFor service octets.now rs
-        → journal.items ≡ journal_octets service rs) }
-{
     let end = last_gates(octets).end;
-    let mut journal = octets[..end].to_vec(alloc)?;
-    journal.push(0)?;
-    Ok(journal)
+    tell_journal(lines, name, &octets[..end], 0)
 }

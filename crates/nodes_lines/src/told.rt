@@ -1,5 +1,3 @@
-ghost use Rattle.std.specs.Prelude.{◌≡◌, ◌<◌, slice_index, IfOk};
-ghost use Rattle.hex.specs.Hex.{encode_lower, lower_digits};
 ghost use Rattle.nodes_world.specs.Told as told;
 ghost use Rattle.nodes_lines.specs.Telling.{IsTold};
 
@@ -8,7 +6,7 @@ use coordinator::Said;
 use ots_model::Piece::{Named, Number, Text};
 use ots_model::tree::Word;
 use ots_model::{Line, Name, write_line};
-use std::alloc::{AllocError, Global};
+use std::alloc::AllocError;
 
 /// Tells a line of `ots_model`, one that agreement may speak of.
 #[tactic(auto, unfolding(nodes_world::specs::Told::spelled, nodes_world::specs::Told::words_of, ots_model::specs::Line::spelling))]
@@ -210,43 +208,4 @@ pub fn tell_refused<'a>(
     ensures { IsTold result (told.Refused word.now answer.now) lines.old.items lines.new.items }
 {
     write_line(lines, &[Text(b"no"), Text(word), answer_piece(answer)])
-}
-
-/// The octets of a journal.
-#[tactic(auto, unfolding(nodes_world::specs::Told::spelled, nodes_world::specs::Told::words_of))]
-pub fn tell_journal(
-    alloc: Global,
-    lines: &mut Vec<u8>,
-    server: Name,
-    octets: &[u8],
-) -> Result<(), AllocError>
-    ensures { IsTold result (told.Journal server octets.now) lines.old.items lines.new.items }
-{
-    let digits = digits_of(alloc, octets)?;
-    write_line(lines, &[Text(b"journal"), Named(server), Text(&digits)])
-}
-
-/// Octets in hexadecimal digits.
-fn digits_of(alloc: Global, octets: &[u8]) -> Result<Vec<u8>, AllocError>
-    ensures { IfOk result (λ digits. digits.items ≡ encode_lower octets.now) }
-{
-    let mut digits = vec![in alloc; 0; octets.len().saturating_mul(2)]?;
-    for (at, octet) in octets.iter().enumerate() {
-        digits[2 * at] = digit(*octet / 16);
-        digits[2 * at + 1] = digit(*octet % 16);
-    }
-    Ok(digits)
-}
-
-/// The hexadecimal digit of a number.
-#[tactic(auto, using(crate::proofs::Digits::low_digit, crate::proofs::Digits::high_digit))]
-fn digit(number: u8) -> u8
-    requires { number < 16 }
-    ensures { result ≡ slice_index lower_digits number }
-{
-    if number < 10 {
-        b'0' + number
-    } else {
-        b'a' + (number - 10)
-    }
 }
