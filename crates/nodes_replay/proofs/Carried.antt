@@ -4,7 +4,9 @@ use Rattle.std.proofs.lemmas.List.{append-nil}
 use Rattle.ots_world.specs.declared.fault.WorldFault.{WorldFault}
 use Rattle.ots_world.specs.declared.fault.WorldFault.TheVariants as faults
 use Rattle.ots_world.specs.declared.script.ScriptEvent.{ScriptEvent}
+use Rattle.ots_world.specs.declared.script.ScriptEvent.TheVariants as events
 use Rattle.nodes_world.specs.declared.deed.Deed.{Deed}
+use Rattle.nodes_world.specs.declared.deed.Deed.TheVariants as deeds
 use Rattle.nodes_world.specs.Happenings.{Done}
 use Rattle.nodes_world.specs.Resolve.{resolve}
 use Rattle.nodes_world.specs.Step.{Names, carried_out, carries, carries_named, carries_unless, limit_before, limit_behind, moves_unless, step}
@@ -12,6 +14,7 @@ use Rattle.nodes_world.specs.World.{World}
 use Rattle.nodes_state.specs.Telling.{TellsPart}
 use Rattle.nodes_resolve.specs.Lines.{IsAnswered}
 use Rattle.nodes_replay.specs.Carrying.{CarriesLine}
+use Rattle.nodes_replay.specs.Quiet.{IsQuiet, IsQuietDeed}
 
 -- ---- a deed
 
@@ -56,3 +59,15 @@ line_refused keeps event fault w text a = by keeps (resolve event w) a
         ⊎_elim (λ is. absurd cc)
         (λ is. let same : faults.Memory ≡ fault = cc (is) in
         subst (λ (f : WorldFault). CarriesLine (carries deed w) w w text text (Err f)) same (starved (limit_before deed w) (carried_out deed w) w text)) a
+
+-- a flow is a line of its own deed, whatever the world
+pub flow_carried : (event : ScriptEvent) (count : ℕ) (w new : World) (before after : List ℕ) (r : Result (Unit {0}) WorldFault)
+    → event ≡ events.Flow count → CarriesLine (carries (deeds.Flow count) w) w new before after r
+    → CarriesLine (step event w) w new before after r
+unfolding step resolve
+flow_carried event count w new before after r is c =
+    subst (λ (e : ScriptEvent). CarriesLine (step e w) w new before after r) (sym is) c
+
+pub flow_quiet : (event : ScriptEvent) (count : ℕ) (w : World) → event ≡ events.Flow count → IsQuiet event w → IsQuietDeed (deeds.Flow count) w
+unfolding resolve
+flow_quiet event count w is q = q.deed (deeds.Flow count) (ap (λ (e : ScriptEvent). resolve e w) is)

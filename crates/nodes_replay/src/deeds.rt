@@ -36,8 +36,25 @@ pub(crate) fn carry_line(
     ensures kept { IsErrOf result Names → state.new ≡ state.old }
     ensures quiet { IsQuiet event.now (shown state.old) → ¬ (IsErrOf result Memory) }
 {
+    if let ScriptEvent::Flow(count) = event {
+        return flow_line(state, lines, *count);
+    }
     let deed = resolve(state, event)?;
     carry_out(state, lines, deed)
+}
+
+/// A line that lets messages flow, which needs no names: what `carry_out` does with its deed.
+#[tactic(auto, unfolding(nodes_world::specs::Step::carried_out))]
+fn flow_line(state: &mut State, lines: &mut Vec<u8>, count: u32) -> Result<(), WorldFault>
+    requires ready { IsReady state.old }
+    ensures carries { CarriesLine (stepping.carries (Deed.Flow count) (shown state.old)) (shown state.old)
+        (shown state.new) lines.old.items lines.new.items result }
+    ensures ready { OnOk result (IsReady state.new) }
+    ensures quiet { IsQuietDeed (Deed.Flow count) (shown state.old) → ¬ (IsErrOf result Memory) }
+{
+    flow_waiting(state, lines, count)?;
+    let _within_the_limit = state.messages.next_number();
+    Ok(())
 }
 
 /// A deed is carried out, unless a limit is passed.

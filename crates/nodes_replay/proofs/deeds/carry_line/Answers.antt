@@ -5,8 +5,17 @@ use Rattle.nodes_resolve.specs.Lines.{keeps_octets}
 use Rattle.nodes_state.specs.Shown.{shown}
 use Rattle.nodes_world.specs.Step.{step}
 use Rattle.nodes_replay.specs.Carrying.{CarriesLine}
-use Rattle.nodes_replay.proofs.Carried.{line_carried, line_refused}
+use Rattle.nodes_replay.proofs.Carried.{flow_carried, flow_quiet, line_carried, line_refused}
 use Rattle.nodes_replay.proofs.deeds.carry_line.Goals as goal
+
+pub returns-in-Flow-clause-carries : goal.returns-in-Flow-clause-carries
+returns-in-Flow-clause-carries c =
+    flow_carried c.args.event.now c.in-Flow.count (shown c.args.state.now) (shown c.flow_line.new.state) c.args.lines.now.items
+    c.flow_line.new.lines.items c.flow_line.result c.in-Flow.is c.flow_line.ensures.carries
+
+pub returns-in-Flow-clause-quiet : goal.returns-in-Flow-clause-quiet
+returns-in-Flow-clause-quiet c quiet =
+    c.flow_line.ensures.quiet (flow_quiet c.args.event.now c.in-Flow.count (shown c.args.state.now) c.in-Flow.is quiet)
 
 pub returns-in_err-deed-clause-carries : goal.returns-in_err-deed-clause-carries
 returns-in_err-deed-clause-carries c =
