@@ -1,5 +1,5 @@
 -- Octets of a script up to a line feed, and without one.
-use Rattle.std.proofs.Common.{◌≡◌, ◌==◌, ℕ, zero, suc, ◌+◌, ◌<◌, Bool, true, false, cond, List, [], ◌∷◌, ◌++◌, length, get_or, take, drop, Some, None, refl, sym, ◌∙◌, arith}
+use Rattle.std.proofs.Common.{◌≡◌, ◌==◌, ℕ, zero, suc, ◌+◌, ◌<◌, Bool, true, false, cond, List, [], ◌∷◌, ◌++◌, length, get_or, take, drop, Some, None, refl, sym, ◌∙◌, append_assoc, arith}
 use Rattle.std.specs.List.{position, position_from}
 use Rattle.std.proofs.lemmas.Bool.{eqb-true, eqb-false}
 use Rattle.std.proofs.lemmas.Iterator.Adapters.{position_from-zero}
@@ -30,11 +30,11 @@ before (suc end) [] h = tt
 before (suc end) (octet ∷ octets) h =
     (eqb-false octet 10 (h 0 (omega arith)), before end octets (λ k less. h (suc k) (omega (arith, less))))
 
--- what stands in front of the first one, it, and what stands behind it
+-- what stands in front of the first one, with it, and what stands behind it
 pub record Parts (octets : List ℕ) (end : ℕ) : Type 0 where
   pub within : end < length octets
   pub one_line : IsOneLine (take end octets)
-  pub parts : octets ≡ take end octets ++ 10 ∷ drop (end + 1) octets
+  pub parts : octets ≡ (take end octets ++ 10 ∷ []) ++ drop (end + 1) octets
 
 pub first_feed : (octets : List ℕ) (end : ℕ) → position is_feed octets ≡ Some end → Parts octets end
 first_feed octets end h =
@@ -43,5 +43,5 @@ first_feed octets end h =
     record {
       within = p.0;
       one_line = before end octets p.2;
-      parts = sym (take-append-drop end octets) ∙ rw (drop_more octets end 0 p.0, feed) refl;
+      parts = sym (take-append-drop end octets) ∙ rw (drop_more octets end 0 p.0, feed) refl ∙ sym (append_assoc (take end octets) (10 ∷ []) (drop (end + 1) octets));
     }

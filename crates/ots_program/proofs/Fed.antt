@@ -1,9 +1,9 @@
 -- Octets that are fed to a player, some after others.
-use Rattle.std.proofs.Common.{◌≡◌, ◌+◌, ◌<◌, ◌≤◌, ℕ, List, [], ◌∷◌, ◌++◌, true, Result, Ok, Err, OnOk, refl, append_assoc, length-append, IfErr, sym, subst, arith}
+use Rattle.std.proofs.Common.{◌≡◌, ◌+◌, ◌<◌, ◌≤◌, ℕ, List, [], ◌∷◌, ◌++◌, true, length, Result, Ok, Err, OnOk, refl, append_assoc, length-append, IfErr, sym, ap, subst, arith}
 use Rattle.ots_program.specs.declared.player.Player.{Player}
 use Rattle.ots_program.specs.declared.player.Stop.{Stop}
 use Rattle.ots_program.specs.Limits.{lines_limit, octets_limit}
-use Rattle.ots_program.specs.PlayingInside.{GoesOn, IsFed, Plays, StopsIn, Turns, octets_fed, place_of, row_of}
+use Rattle.ots_program.specs.PlayingInside.{GoesOn, IsEmptied, IsFed, IsOneLine, Plays, StopsIn, Turns, left, place_of, row_of}
 use Rattle.ots_program.specs.Replay.{size, turn}
 use Rattle.ots_program.proofs.Told.{Passes-trans, StopsAt-passed}
 use Rattle.ots_program.proofs.Turned.{Passes-fed}
@@ -24,9 +24,9 @@ pub StopsIn-longer : (stop : Stop) (a b : Player) (xs ys : List ℕ) → StopsIn
 StopsIn-longer stop a b xs ys h = λ rest. rw (append_assoc xs ys rest) (h (ys ++ rest))
 
 -- behind a line the player plays on
-Plays-line : (p q : Player) (before after : List ℕ) → p.lines < lines_limit → p.octets + size (row_of p true) ≤ octets_limit → GoesOn (turn (place_of p) (row_of p true)) q.world before after
-    → q.line.items ≡ [] → q.lines ≡ p.lines + 1 → q.octets ≡ p.octets + size (row_of p true) → Plays q
-Plays-line p q before after few short goes emptied counted measured = record {
+Plays-line : (p q : Player) (text before after : List ℕ) → p.lines < lines_limit → p.octets + size (row_of text true) ≤ octets_limit → GoesOn (turn (place_of p) (row_of text true)) q.world before after
+    → q.line.items ≡ [] → q.lines ≡ p.lines + 1 → q.octets ≡ p.octets + size (row_of text true) → Plays q
+Plays-line p q text before after few short goes emptied counted measured = record {
   stands = rw goes.stands refl;
   one_line = rw emptied tt;
   octets = rw (emptied, measured) (omega arith);
@@ -34,17 +34,53 @@ Plays-line p q before after few short goes emptied counted measured = record {
   begun = λ some. absurd (some emptied);
 }
 
--- a line feed came
-pub IsFed-line : (result : Result (Unit {0}) Stop) (p q : Player) (octet : ℕ) → Plays p → p.lines < lines_limit → octets_fed p < octets_limit → octet ≡ 10
-    → Turns result (turn (place_of p) (row_of p true)) q.world p.output.items q.output.items
-    → OnOk result (q.line.items ≡ []) → OnOk result (q.lines ≡ p.lines + 1) → OnOk result (q.octets ≡ p.octets + size (row_of p true))
-    → OnOk result (IsFed p q (octet ∷ []))
-IsFed-line (Err stop) p q octet plays few short feed turned emptied counted measured = tt
-IsFed-line (Ok done) p q octet plays few short feed turned emptied counted measured = record {
-  plays = Plays-line p q _ _ few (omega arith) turned emptied counted measured;
-  count = rw (emptied, measured) (omega arith);
-  passes = Passes-fed (Ok done) p q octet _ _ plays.one_line feed turned emptied counted measured;
+-- a line came, with its line feed
+pub IsFed-line : (result : Result (Unit {0}) Stop) (p q : Player) (text : List ℕ) → IsOneLine text → p.line.items ≡ [] → p.lines < lines_limit → p.octets + length text < octets_limit
+    → Turns result (turn (place_of p) (row_of text true)) q.world p.output.items q.output.items
+    → q.line.items ≡ [] → OnOk result (q.lines ≡ p.lines + 1) → OnOk result (q.octets ≡ p.octets + size (row_of text true))
+    → OnOk result (IsFed p q (text ++ 10 ∷ []))
+IsFed-line (Err stop) p q text one none few short turned emptied counted measured = tt
+IsFed-line (Ok done) p q text one none few short turned emptied counted measured = record {
+  plays = Plays-line p q text _ _ few (omega arith) turned emptied counted measured;
+  count = rw (none, emptied, measured) (omega (arith, length-append text (10 ∷ [])));
+  passes = Passes-fed (Ok done) p q text _ _ one none turned emptied counted measured;
 }
+
+-- ---- a line that came in several pieces
+
+pub Plays-emptied : (p q : Player) → Plays p → IsEmptied p q → Plays q
+Plays-emptied p q h e = record {
+  stands = rw e.world h.stands;
+  one_line = rw e.line tt;
+  octets = rw (e.line, e.octets) (omega (arith, h.octets));
+  lines = omega (arith, h.lines, e.lines);
+  begun = λ some. absurd (some e.line);
+}
+
+pub place_kept : (p q : Player) → IsEmptied p q → place_of q ≡ place_of p
+place_kept p q e = rw (e.world, e.lines, e.octets) refl
+
+-- what was taken out of a player comes again, with more behind it
+again : (p q : Player) (more rest : List ℕ) → IsEmptied p q → left q ((p.line.items ++ more) ++ rest) ≡ left p (more ++ rest)
+again p q more rest e = rw (e.world, e.lines, e.octets, e.line, append_assoc p.line.items more rest) refl
+
+fed_again : (p q r : Player) (more : List ℕ) → IsEmptied p q → IsFed q r (p.line.items ++ more) → IsFed p r more
+fed_again p q r more e h = record {
+  plays = h.plays;
+  count = omega (arith, h.count, e.octets, ap (λ (xs : List ℕ). length xs) e.line, length-append p.line.items more);
+  passes = λ rest. rw (again p q more rest e, e.output) at (h.passes rest);
+}
+
+pub fed_joined : (result : Result (Unit {0}) Stop) (a p q r : Player) (octets text more : List ℕ) → IsFed a p octets → IsEmptied p q → text ≡ p.line.items → OnOk result (IsFed q r (text ++ more))
+    → OnOk result (IsFed a r (octets ++ more))
+fed_joined (Err stop) a p q r octets text more h e same k = tt
+fed_joined (Ok done) a p q r octets text more h e same k = IsFed-trans a p r octets more h (fed_again p q r more e (rw same at k))
+
+pub stopped_joined : (result : Result (Unit {0}) Stop) (a p q r : Player) (octets text more : List ℕ) → IsFed a p octets → IsEmptied p q → text ≡ p.line.items → IfErr result (λ stop. StopsIn stop q r (text ++ more))
+    → IfErr result (λ stop. StopsIn stop a r (octets ++ more))
+stopped_joined (Ok done) a p q r octets text more h e same k = tt
+stopped_joined (Err stop) a p q r octets text more h e same k =
+    StopsIn-trans stop a p r octets more h (λ rest. rw (again p q more rest e, e.output) at ((rw same at k) rest))
 
 -- what is left of a piece is fed behind what was fed of it
 pub stopped_in : (stop : Stop) (a b c : Player) (piece fed part more : List ℕ) → piece ≡ fed ++ (part ++ more) → IsFed a b fed → StopsIn stop b c part → StopsIn stop a c piece

@@ -99,14 +99,14 @@ StopsAt-open (Err stop) p (octet ∷ text) now before after one some h =
     rw (append-nil text, rows-open octet text one) (StopsAt-turned stop p (record { text = octet ∷ text; ended = false }) [] now before after h)
 
 -- a line with its line feed
-pub Passes-fed : (result : Result (Unit {0}) Stop) (p q : Player) (octet : ℕ) (before after : List ℕ) → IsOneLine p.line.items → octet ≡ 10 → Turns result (turn (place_of p) (row_of p true)) q.world before after
-    → OnOk result (q.line.items ≡ []) → OnOk result (q.lines ≡ p.lines + 1) → OnOk result (q.octets ≡ p.octets + size (row_of p true))
-    → OnOk result ((rest : List ℕ) → Passes (left p (octet ∷ rest)) (left q rest) before after)
-Passes-fed (Err stop) p q octet before after one feed h emptied counted measured = tt
-Passes-fed (Ok done) p q octet before after one feed h emptied counted measured =
-    λ rest. rw (feed, rows-ended p.line.items rest one, emptied, counted, measured) (Passes-turned (place_of p) (row_of p true) (rows rest) q.world before after h)
+pub Passes-fed : (result : Result (Unit {0}) Stop) (p q : Player) (text before after : List ℕ) → IsOneLine text → p.line.items ≡ [] → Turns result (turn (place_of p) (row_of text true)) q.world before after
+    → q.line.items ≡ [] → OnOk result (q.lines ≡ p.lines + 1) → OnOk result (q.octets ≡ p.octets + size (row_of text true))
+    → OnOk result ((rest : List ℕ) → Passes (left p ((text ++ 10 ∷ []) ++ rest)) (left q rest) before after)
+Passes-fed (Err stop) p q text before after one none h emptied counted measured = tt
+Passes-fed (Ok done) p q text before after one none h emptied counted measured =
+    λ rest. rw (none, append_assoc text (10 ∷ []) rest, rows-ended text rest one, emptied, counted, measured) (Passes-turned (place_of p) (row_of text true) (rows rest) q.world before after h)
 
-pub StopsAt-fed : (result : Result (Unit {0}) Stop) (p : Player) (octet : ℕ) (now : Standing) (before after : List ℕ) → IsOneLine p.line.items → octet ≡ 10 → Turns result (turn (place_of p) (row_of p true)) now before after → IfErr result (λ stop. (rest : List ℕ) → StopsAt stop (left p (octet ∷ rest)) before after)
-StopsAt-fed (Ok done) p octet now before after one feed h = tt
-StopsAt-fed (Err stop) p octet now before after one feed h =
-    λ rest. rw (feed, rows-ended p.line.items rest one) (StopsAt-turned stop (place_of p) (row_of p true) (rows rest) now before after h)
+pub StopsAt-fed : (result : Result (Unit {0}) Stop) (p : Player) (text : List ℕ) (now : Standing) (before after : List ℕ) → IsOneLine text → p.line.items ≡ [] → Turns result (turn (place_of p) (row_of text true)) now before after → IfErr result (λ stop. (rest : List ℕ) → StopsAt stop (left p ((text ++ 10 ∷ []) ++ rest)) before after)
+StopsAt-fed (Ok done) p text now before after one none h = tt
+StopsAt-fed (Err stop) p text now before after one none h =
+    λ rest. rw (none, append_assoc text (10 ∷ []) rest, rows-ended text rest one) (StopsAt-turned stop (place_of p) (row_of text true) (rows rest) now before after h)

@@ -38,9 +38,9 @@ pub record Plays (p : Player) : Type 0 where
 abbrev pub place_of : Player → Place
 place_of p = record { world = world_of p.world; lines = p.lines; octets = p.octets }
 
--- the next line, where it is whole
-abbrev pub row_of : Player → Bool → Row
-row_of p ended = record { text = p.line.items; ended = ended }
+-- a line that is whole, with its line feed or without
+abbrev pub row_of : List ℕ → Bool → Row
+row_of text ended = record { text = text; ended = ended }
 
 -- the replay that is left, where these octets are still to come
 abbrev pub left : Player → List ℕ → Replay
@@ -64,6 +64,14 @@ StopsAt (stops.Script line) r before after = (r.ending ≡ Refused line) × Tell
 StopsAt (stops.Limit line number) r before after =
     (r.ending ≡ Limited line number) × ((k : ℕ) × Tells (r.lines ++ take k r.further) before after)
 StopsAt stops.Memory r before after = TellsPart (r.lines ++ r.further) before after
+
+-- what had come of the next line was taken out of a player
+pub record IsEmptied (old new : Player) : Type 0 where
+  pub line : new.line.items ≡ []
+  pub world : new.world ≡ old.world
+  pub lines : new.lines ≡ old.lines
+  pub octets : new.octets ≡ old.octets
+  pub output : new.output ≡ old.output
 
 -- octets were fed to a player, which stopped in them, whatever comes behind them
 abbrev pub StopsIn : Stop → Player → Player → List ℕ → Type 0

@@ -1,4 +1,4 @@
-ghost use Rattle.std.specs.Prelude.{◌≡◌, ◌==◌, ℕ, ◌+◌, ◌<◌, ◌≤◌, List, [], ◌∷◌, length, drop, IfErr, Ok, OnErr, OnOk};
+ghost use Rattle.std.specs.Prelude.{◌≡◌, ◌==◌, ℕ, ◌+◌, ◌<◌, ◌≤◌, List, [], ◌∷◌, ◌++◌, length, drop, IfErr, Ok, OnErr, OnOk};
 ghost use Rattle.std.specs.List.{position};
 ghost use Rattle.nodes_state.specs.Telling.{Tells, TellsPart};
 ghost use Rattle.nodes_world.specs.Lives.{last_lines};
@@ -8,7 +8,7 @@ use crate::limits::{LINES_LIMIT, OCTETS_LIMIT};
 use nodes_replay::World;
 use ots_world::{ScriptFault, WorldFault, parse_line};
 use std::alloc::{AllocError, AllocFailed, Global};
-use std::mem::forget;
+use std::mem::{forget, replace};
 
 /// Why a replay stops.
 #[derive(Clone, Copy)]
@@ -61,7 +61,7 @@ impl<T: Drop> From<AllocFailed<T>> for Stop {
 pub struct Player {
     pub alloc: Global,
     pub world: World,
-    /// What has come of the next line.
+    /// What has come of the next line, where that came in several pieces.
     pub line: Vec<u8>,
     /// How many lines were read.
     pub lines: u64,
@@ -74,7 +74,7 @@ pub struct Player {
 impl Player {
     ghost use Rattle.ots_world.specs.Script.{reading};
     ghost use Rattle.ots_program.specs.Limits.{lines_limit, octets_limit};
-    ghost use Rattle.ots_program.specs.PlayingInside.{Ends, IsFed, IsOneLine, Passes, Plays, StopsAt, StopsIn, Turns, left, place_of, row_of};
+    ghost use Rattle.ots_program.specs.PlayingInside.{Ends, IsEmptied, IsFed, IsOneLine, Passes, Plays, StopsAt, StopsIn, Turns, left, place_of, row_of};
     ghost use Rattle.ots_program.specs.Replay.{completed, replay, size, turn, turn_of};
 
     /// A replay at the start of its script.
@@ -101,11 +101,25 @@ impl Player {
     {
         let mut rest = piece;
         while let Some(end) = line_end(rest) {
-            self.take_part(&rest[..end])?;
-            self.take_feed()?;
+            self.take_front(&rest[..end])?;
             rest = behind(end, rest);
         }
         self.take_part(rest)
+    }
+
+    /// What is left of the next line has come, and its line feed. Where that is all of the line, it isn't copied.
+    fn take_front(&mut self, octets: &[u8]) -> Result<(), Stop>
+        requires plays { Plays self.old }
+        requires one_line { IsOneLine octets.now }
+        ensures fed { OnOk result (IsFed self.old self.new (octets.now ++ 10 ∷ [])) }
+        ensures stops { IfErr result (λ stop. StopsIn stop self.old self.new (octets.now ++ 10 ∷ [])) }
+    {
+        if self.line.is_empty() {
+            return self.take_whole(octets);
+        }
+        self.take_part(octets)?;
+        let line = self.take_out();
+        self.take_whole(line.as_slice())
     }
 
     /// Octets of the next line have come.
@@ -128,19 +142,31 @@ impl Player {
         Ok(())
     }
 
-    /// The line feed of the next line has come.
-    fn take_feed(&mut self) -> Result<(), Stop>
+    /// What has come of the next line.
+    fn take_out(&mut self) -> Vec<u8>
         requires plays { Plays self.old }
-        ensures fed { OnOk result (IsFed self.old self.new (10 ∷ [])) }
-        ensures stops { IfErr result (λ stop. StopsIn stop self.old self.new (10 ∷ [])) }
+        ensures line { result ≡ self.old.line }
+        ensures emptied { IsEmptied self.old self.new }
+        ensures plays { Plays self.new }
+    {
+        replace(&mut self.line, Vec::new(self.alloc))
+    }
+
+    /// A line has come, and its line feed.
+    fn take_whole(&mut self, text: &[u8]) -> Result<(), Stop>
+        requires plays { Plays self.old }
+        requires none { self.old.line.items ≡ [] }
+        requires one_line { IsOneLine text.now }
+        ensures fed { OnOk result (IsFed self.old self.new (text.now ++ 10 ∷ [])) }
+        ensures stops { IfErr result (λ stop. StopsIn stop self.old self.new (text.now ++ 10 ∷ [])) }
     {
         if self.lines >= LINES_LIMIT {
             return Err(Stop::Limit(self.lines + 1, LINES_LIMIT));
         }
-        if self.octets + self.line.len() as u64 >= OCTETS_LIMIT {
+        if text.len() as u64 >= OCTETS_LIMIT - self.octets {
             return Err(Stop::Limit(self.lines + 1, OCTETS_LIMIT));
         }
-        self.take_line(true)
+        self.take_line(text, true)
     }
 
     /// The script has ended, and its last line may lack its line feed; then the journals are told. Answers the lines that
@@ -174,38 +200,38 @@ impl Player {
         if self.line.is_empty() {
             return Ok(());
         }
-        self.take_line(false)
+        let line = self.take_out();
+        self.take_line(line.as_slice(), false)
     }
 
-    /// The next line is whole, with its line feed or without.
-    fn take_line(&mut self, ended: bool) -> Result<(), Stop>
+    /// A line is whole, with its line feed or without.
+    fn take_line(&mut self, text: &[u8], ended: bool) -> Result<(), Stop>
         requires plays { Plays self.old }
         requires lines { self.old.lines < lines_limit }
-        requires octets { self.old.octets + size (row_of self.old ended) ≤ octets_limit }
-        ensures turned { Turns result (turn (place_of self.old) (row_of self.old ended))
+        requires octets { self.old.octets + size (row_of text.now ended) ≤ octets_limit }
+        ensures turned { Turns result (turn (place_of self.old) (row_of text.now ended))
             self.new.world self.old.output.items self.new.output.items }
-        ensures emptied { OnOk result (self.new.line.items ≡ []) }
+        ensures line { self.new.line ≡ self.old.line }
         ensures counted { OnOk result (self.new.lines ≡ self.old.lines + 1) }
-        ensures measured { OnOk result (self.new.octets ≡ self.old.octets + size (row_of self.old ended)) }
+        ensures measured { OnOk result (self.new.octets ≡ self.old.octets + size (row_of text.now ended)) }
     {
-        self.carry_out()?;
+        self.carry_out(text)?;
         self.lines += 1;
-        self.octets += self.line.len() as u64 + u64::from(ended);
-        self.line.clear();
+        self.octets += text.len() as u64 + u64::from(ended);
         Ok(())
     }
 
-    /// What the next line says is carried out.
-    fn carry_out(&mut self) -> Result<(), Stop>
+    /// What a line says is carried out.
+    fn carry_out(&mut self, text: &[u8]) -> Result<(), Stop>
         requires plays { Plays self.old }
         requires lines { self.old.lines < lines_limit }
-        ensures turned { Turns result (turn_of (place_of self.old) (reading self.old.line.items))
+        ensures turned { Turns result (turn_of (place_of self.old) (reading text.now))
             self.new.world self.old.output.items self.new.output.items }
         ensures line { self.new.line ≡ self.old.line }
         ensures lines { self.new.lines ≡ self.old.lines }
         ensures octets { self.new.octets ≡ self.old.octets }
     {
-        match parse_line(self.alloc, self.line.as_slice()) {
+        match parse_line(self.alloc, text) {
             Ok(Some(event)) => match self.world.step(&event, &mut self.output) {
                 Ok(()) => Ok(()),
                 Err(fault) => Err(Stop::by_world(fault, self.lines + 1)),
