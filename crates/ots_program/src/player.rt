@@ -61,7 +61,7 @@ impl<T: Drop> From<AllocFailed<T>> for Stop {
 pub struct Player {
     pub alloc: Global,
     pub world: World,
-    /// What has come of the next line, where that came in several pieces.
+    /// What has come of the next line in the pieces so far.
     pub line: Vec<u8>,
     /// How many lines were read.
     pub lines: u64,
@@ -142,7 +142,7 @@ impl Player {
         Ok(())
     }
 
-    /// What has come of the next line.
+    /// Gives what has come of the next line. Then nothing has.
     fn take_out(&mut self) -> Vec<u8>
         requires plays { Plays self.old }
         ensures line { result ≡ self.old.line }

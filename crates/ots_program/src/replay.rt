@@ -14,7 +14,7 @@ use ots_outside::Sink;
 use std::alloc::Global;
 
 /// Replays the script on the source, of which it reads at most 8,192 octets at once. Its lines go to the sink. Where the script
-/// comes to its end the memory of its world isn't given back: that would only take time, where the program ends then.
+/// comes to its end the memory of its world isn't given back, which would cost time at the end of a program.
 pub fn replay_script<P: Pieces, K: Sink>(alloc: Global, source: &mut P, sink: &mut K) -> Status
     ensures replays { Replays result (P.remaining source.old) (K.taken sink.old) (K.taken sink.new) }
     ensures end { IsDoneAtEnd result (P.remaining source.old) (P.remaining source.new) }
