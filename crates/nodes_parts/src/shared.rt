@@ -1,14 +1,14 @@
-// References that share their octets, where they differ in the numbers of their objects alone.
+// References that share the octets in front of the numbers of their objects.
 ghost use Rattle.std.specs.Prelude.{◌≡◌, ◌++◌, ◌+◌, length, bytes_eq, IfOk};
-ghost use Rattle.nodes_parts.specs.Shared.{IsTail, tail_octets};
+ghost use Rattle.nodes_parts.specs.Shared.{IsParted, IsTail, tail_octets};
 
 use crate::objects::NUMBER_PLACE;
 use std::alloc::{AllocError, Global};
 use std::marker::Model;
 use std::rc::Rc;
 
-/// A reference. Its octets from the number of its object on are its own; those in front of them are shared with references
-/// like it. One that is too short for a number has only octets that are shared. Contracts see its octets.
+/// A reference. Its octets from the number of its object on are its own; those in front of them may be shared with others. One
+/// that is too short for a number has only these. Contracts see its octets.
 #[derive(Drop)]
 pub struct SharedReference {
     front: Rc<Vec<u8>>,
@@ -74,7 +74,7 @@ fn has_parts(octets: &[u8], front: &[u8], tail: &[u8]) -> bool
     are_same(behind, tail) && before == front
 }
 
-/// Whether octets are the same as others that are as many. So few are compared sooner one by one.
+/// Whether octets are the same as others that are as many. They are few, and are compared one by one.
 fn are_same(octets: &[u8], others: &[u8]) -> bool
     requires { length octets.now ≡ length others.now }
     ensures { result ≡ bytes_eq octets.now others.now }
@@ -91,6 +91,7 @@ fn are_same(octets: &[u8], others: &[u8]) -> bool
 fn parts(octets: &[u8]) -> (&[u8], Option<[u8; NUMBER_PLACE]>)
     ensures whole { octets.now ≡ result.0.now ++ tail_octets result.1 }
     ensures tail { IsTail result.1 }
+    ensures parted { IsParted octets.now result.1 }
 {
     if octets.len() < NUMBER_PLACE {
         return (octets, None);
