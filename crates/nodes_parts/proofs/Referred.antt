@@ -1,14 +1,14 @@
 -- How a resource is found by its reference.
-use Rattle.std.proofs.Common.{◌≡◌, ℕ, Bool, true, false, cond, List, [], ◌∷◌, ◌++◌, suc, ◌==◌, ◌<◌, drop, get_or, length, map, Option, Some, None, refl, sym, ap, subst, ◌∙◌}
+use Rattle.std.proofs.Common.{◌≡◌, ℕ, Bool, true, false, cond, List, [], ◌∷◌, ◌++◌, zero, suc, ◌==◌, ◌<◌, ◌⊎◌, inl, inr, drop, get_or, length, map, slice_get, Option, Some, None, is_some, refl, sym, ap, subst, ◌∙◌}
 use Rattle.std.specs.Bool.{if◌then◌else◌}
 use Rattle.std.specs.Map.{lookup}
-use Rattle.std.specs.Option.{option_map, option_or}
+use Rattle.std.specs.Option.{option_and_then, option_map, option_or}
 use Rattle.std.specs.Str.{bytes_eq}
 use Rattle.std.proofs.Math.Seq.{drop-cons}
 use Rattle.std.proofs.lemmas.Bool.Decides.{Decides-eqb}
 use Rattle.std.proofs.lemmas.Slice.Eq.{bytes_eq-Decides}
 use Rattle.nodes_world.specs.World.{NamedKey}
-use Rattle.nodes_parts.specs.Referring.{FindsFirst, entry_of, digest_of, first_so, named, referred_in}
+use Rattle.nodes_parts.specs.Referring.{FindsFirst, LeadThere, entry_of, digest_of, first_so, led_at, named, referred_in}
 use Rattle.nodes_parts.specs.declared.references.NamedKey.{NamedKey as Kept}
 
 same_octets : (xs ys : List ℕ) → bytes_eq xs ys ≡ true → xs ≡ ys
@@ -158,3 +158,65 @@ leads_too entries x octets =
     referred_more entries x octets
     ∙ ap (λ (b : Bool). option_or (referred_in (map entry_of entries) octets) (if b then Some (named x.1) else None)) (octets_turned octets x.0)
     ∙ or_chosen (bytes_eq x.0 octets) (referred_in (map entry_of entries) octets) (named x.1)
+
+-- ---- each reference leads to the resource that stands beside it
+
+some_is : {d e : List ℕ × Kept} → Some d ≡ Some e → d ≡ e
+some_is h = cc
+
+-- what stands among others and one more stands among them, or is that one
+stood_before : (entries : List (List ℕ × Kept)) (x : List ℕ × Kept) (place : ℕ) (e : List ℕ × Kept)
+    → slice_get (entries ++ x ∷ []) place ≡ Some e → (slice_get entries place ≡ Some e) ⊎ (e ≡ x)
+stood_before [] x zero e at = inr (sym (some_is at))
+stood_before [] x (suc place) e at = absurd (cc)
+stood_before (y ∷ ys) x zero e at = inl at
+stood_before (y ∷ ys) x (suc place) e at = stood_before ys x place e at
+
+led_as_before : (entries : List (List ℕ × Kept)) (x : List ℕ × Kept) (to : List ℕ) (leads : NamedKey) → referred_in (map entry_of entries) to ≡ Some leads
+    → referred_in (map entry_of (entries ++ x ∷ [])) to ≡ Some leads
+led_as_before entries x to leads led =
+    referred_more entries x to ∙ ap (λ o. option_or o (if bytes_eq to x.0 then Some (named x.1) else None)) led
+
+same_as_itself : (xs : List ℕ) → bytes_eq xs xs ≡ true
+same_as_itself xs = (bytes_eq-Decides xs xs).1 refl
+
+led_newly : (entries : List (List ℕ × Kept)) (x : List ℕ × Kept) → referred_in (map entry_of entries) x.0 ≡ None
+    → referred_in (map entry_of (entries ++ x ∷ [])) x.0 ≡ Some (named x.1)
+led_newly entries x nowhere =
+    referred_more entries x x.0
+    ∙ ap (λ o. option_or o (if bytes_eq x.0 x.0 then Some (named x.1) else None)) nowhere
+    ∙ ap (λ (b : Bool). if b then Some (named x.1) else None) (same_as_itself x.0)
+
+led_there_by : (entries : List (List ℕ × Kept)) (x : List ℕ × Kept) (place : ℕ) (e : List ℕ × Kept) → LeadThere entries
+    → referred_in (map entry_of entries) x.0 ≡ None → (slice_get entries place ≡ Some e) ⊎ (e ≡ x)
+    → referred_in (map entry_of (entries ++ x ∷ [])) e.0 ≡ Some (named e.1)
+led_there_by entries x place e there nowhere (inl at) = led_as_before entries x e.0 (named e.1) (there place e at)
+led_there_by entries x place e there nowhere (inr is) =
+    subst (λ y. referred_in (map entry_of (entries ++ x ∷ [])) y.0 ≡ Some (named y.1)) (sym is) (led_newly entries x nowhere)
+
+-- and so with one more that led nowhere
+pub lead_there_too : (entries : List (List ℕ × Kept)) (x : List ℕ × Kept) → LeadThere entries → referred_in (map entry_of entries) x.0 ≡ None
+    → LeadThere (entries ++ x ∷ [])
+lead_there_too entries x there nowhere = λ place e at. led_there_by entries x place e there nowhere (stood_before entries x place e at)
+
+led_by : (entries : List (List ℕ × Kept)) (to : List ℕ) (leads : NamedKey) (o : Option (List ℕ × Kept)) (e : List ℕ × Kept) (b : Bool)
+    → o ≡ Some e → bytes_eq to e.0 ≡ b → referred_in (map entry_of entries) e.0 ≡ Some (named e.1)
+    → (if b then Some (named e.1) else None) ≡ Some leads → referred_in (map entry_of entries) to ≡ Some leads
+led_by entries to leads o e true is same led found = ap (referred_in (map entry_of entries)) (same_octets to e.0 same) ∙ led ∙ found
+led_by entries to leads o e false is same led found = absurd (cc)
+
+led_where : (entries : List (List ℕ × Kept)) (place : ℕ) (to : List ℕ) (leads : NamedKey) (o : Option (List ℕ × Kept)) → LeadThere entries
+    → slice_get entries place ≡ o → option_and_then (λ (e : List ℕ × Kept). if bytes_eq to e.0 then Some (named e.1) else None) o ≡ Some leads
+    → referred_in (map entry_of entries) to ≡ Some leads
+led_where entries place to leads None there at found = absurd (cc)
+led_where entries place to leads (Some e) there at found =
+    led_by entries to leads (Some e) e (bytes_eq to e.0) refl refl (there place e at) found
+
+-- where the one at a place is this one, it leads to the resource there
+pub leads_at : (entries : List (List ℕ × Kept)) (place : ℕ) (to : List ℕ) (leads : NamedKey) → LeadThere entries
+    → led_at entries place to ≡ Some leads → referred_in (map entry_of entries) to ≡ Some leads
+leads_at entries place to leads there found = led_where entries place to leads (slice_get entries place) there refl found
+
+pub none_is : (o : Option Kept) → is_some o ≡ false → option_map named o ≡ None
+none_is None e = refl
+none_is (Some k) e = absurd (cc)

@@ -21,6 +21,7 @@ mod messages;
 mod moulds;
 mod names;
 mod objects;
+mod places;
 mod references;
 mod shared;
 mod transactions;

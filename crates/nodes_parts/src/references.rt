@@ -1,9 +1,10 @@
 ghost use Rattle.std.specs.Prelude.{◌≡◌, ◌==◌, ℕ, [], drop, map, Some, None, if◌then◌else◌, OnOk, OnErr};
 ghost use Rattle.std.specs.Map.{lookup};
 ghost use Rattle.std.specs.Option.{option_map, option_or};
-ghost use Rattle.nodes_parts.specs.Referring.{LeadsTo, digest_of, entry_of, named, referred_in};
+ghost use Rattle.nodes_parts.specs.Referring.{LeadsTo, digest_of, entry_of, led_at, named, numbers_in, referred_in};
 
 use crate::objects::NUMBER_PLACE;
+use crate::places::Places;
 use crate::shared::SharedReference;
 use byteorder::{BigEndian, ByteOrder};
 use ior_refs::ObjectKey;
@@ -22,25 +23,26 @@ pub struct NamedKey {
     pub key: ObjectKey,
 }
 
-/// The resources that have names, by their references: in the order of their making, and for each digest of references
-/// the place of the first one that has it. Contracts see the entries.
+/// The resources that have names, by their references: in the order of their making, for each digest of references the place
+/// of the first one that has it, and the places that their numbers lead to. Contracts see the entries.
 #[derive(Drop)]
 pub struct References {
     alloc: Global,
     entries: Vec<(SharedReference, NamedKey)>,
     firsts: HashMap<u64, usize>,
+    places: Places,
 }
 
 impl Model for References {
     ghost use Rattle.std.specs.Prelude.{List, ℕ, map};
     ghost use Rattle.nodes_world.specs.World.{NamedKey};
-    ghost use Rattle.nodes_parts.specs.Referring.{FindsFirst, entry_of};
+    ghost use Rattle.nodes_parts.specs.Referring.{Finds, entry_of};
 
     ghost Value = { List (List ℕ × NamedKey) };
 
     ghost view = { λ r. map entry_of r.entries.items };
 
-    ghost invariant = { λ r. FindsFirst r.firsts.entries r.entries.items };
+    ghost invariant = { λ r. Finds r.firsts.entries r.entries.items };
 }
 
 impl References {
@@ -52,6 +54,7 @@ impl References {
             alloc,
             entries: Vec::new(alloc),
             firsts: HashMap::new(alloc),
+            places: Places::new(alloc),
         }
     }
 
@@ -59,39 +62,75 @@ impl References {
     pub fn referred(&self, to: &[u8]) -> Option<NamedKey>
         ensures referred { option_map named result ≡ referred_in self.now to.now }
     {
+        if let Some(place) = self.places.place(numbers_in(to)) {
+            if let Some(resource) = led_at(&self.entries, place, to) {
+                return Some(resource);
+            }
+        }
         let place = *self.firsts.get(&digest_of(to))?;
         led_from(&self.entries, place, to)
     }
 
-    /// A reference that led nowhere leads to this resource from now on.
+    /// A reference that led nowhere leads to this resource from now on. One that leads somewhere goes on to lead there.
     pub fn add(&mut self, reference: Vec<u8>, to: NamedKey) -> Result<(), AllocError>
         ensures ok { OnOk result (LeadsTo reference.items (named to) self.old self.new) }
         ensures err { OnErr result (self.new ≡ self.old) }
     {
+        if self.referred(&reference).is_some() {
+            return Ok(());
+        }
         let digest = digest_of(&reference);
-        let shared = SharedReference::like(self.alloc, &reference, last_of(&self.entries))?;
+        let numbers = numbers_in(&reference);
+        let shared = SharedReference::like(self.alloc, &reference, self.neighbour(numbers))?;
+        self.places.put(numbers, self.entries.len())?;
         self.entries.reserve(1)?;
         note(&mut self.firsts, digest, self.entries.len())?;
         self.entries.push_reserved((shared, to));
         Ok(())
     }
+
+    /// A reference that may be like one with these numbers: that of the object before, at the same service, or the last one.
+    fn neighbour(&self, numbers: Option<(u32, u64)>) -> Option<&SharedReference> {
+        let place = self.places.place(one_before(numbers));
+        let place = place.unwrap_or(self.entries.len().saturating_sub(1));
+        Some(&self.entries.get(place)?.0)
+    }
 }
 
-/// The reference that was added last.
-fn last_of(entries: &[(SharedReference, NamedKey)]) -> Option<&SharedReference> {
-    Some(&entries.last()?.0)
+/// The numbers of the object before, at the same service.
+fn one_before(numbers: Option<(u32, u64)>) -> Option<(u32, u64)> {
+    let (service, number) = numbers?;
+    Some((service, number.checked_sub(1)?))
+}
+
+/// The resource to which the reference at a place leads, where it is this one.
+fn led_at(entries: &[(SharedReference, NamedKey)], place: usize, to: &[u8]) -> Option<NamedKey>
+    ensures { option_map named result ≡ led_at entries.now place to.now }
+{
+    let (reference, resource) = entries.get(place)?;
+    reference.is(to).then_some(*resource)
+}
+
+/// The number of the service in a reference, its low half, and that of the object, where it is long enough for both.
+fn numbers_in(reference: &[u8]) -> Option<(u32, u64)>
+    ensures { result ≡ numbers_in reference.now }
+{
+    if reference.len() < SERVICE_PLACE {
+        return None;
+    }
+    let service = BigEndian::read_u32(&reference[reference.len() - SERVICE_PLACE..]);
+    let number = BigEndian::read_u64(&reference[reference.len() - NUMBER_PLACE..]);
+    Some((service, number))
 }
 
 /// The digest of a reference, which the references of few objects share.
 fn digest_of(reference: &[u8]) -> u64
     ensures { result ≡ digest_of reference.now }
 {
-    if reference.len() < SERVICE_PLACE {
-        return 0;
+    match numbers_in(reference) {
+        Some((service, number)) => number.wrapping_add(u64::from(service) << 32),
+        None => 0,
     }
-    let service = BigEndian::read_u32(&reference[reference.len() - SERVICE_PLACE..]);
-    let number = BigEndian::read_u64(&reference[reference.len() - NUMBER_PLACE..]);
-    number.wrapping_add(u64::from(service) << 32)
 }
 
 /// Of the references from a place on, the resource to which the first one leads that is this one.
