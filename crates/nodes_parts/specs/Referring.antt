@@ -4,6 +4,7 @@ use Rattle.std.specs.Map.{lookup}
 use Rattle.std.specs.Option.{option_and_then, option_map, option_or}
 use Rattle.byteorder.specs.Endian.{big_number}
 use Rattle.nodes_world.specs.World.{NamedKey}
+use Rattle.nodes_parts.specs.declared.places.Numbers.{Numbers}
 use Rattle.nodes_parts.specs.declared.references.NamedKey.{NamedKey as Kept}
 
 -- as it is defined
@@ -23,10 +24,11 @@ LeadsTo reference to before after =
     (octets : List ℕ) → referred_in after octets
     ≡ (if bytes_eq reference octets then option_or (referred_in before octets) (Some to) else referred_in before octets)
 
--- the low half of the number of its service, and the number of its object
-abbrev pub numbers_in : List ℕ → Option (ℕ × ℕ)
+-- the numbers in a reference that is long enough: the low half of that of its service, and that of its object
+abbrev pub numbers_in : List ℕ → Option Numbers
 numbers_in r =
-    if nat_lt (length r) 28 then None else Some (big_number 4 (drop (length r - 28) r), big_number 8 (drop (length r - 16) r))
+    if nat_lt (length r) 28 then None
+    else Some (record { service = big_number 4 (drop (length r - 28) r); object = big_number 8 (drop (length r - 16) r) })
 
 -- the digest of a reference: the number of its object, and that of its service above it
 abbrev pub digest_of : List ℕ → ℕ

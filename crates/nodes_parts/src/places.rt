@@ -1,16 +1,23 @@
 // Where references stand, by the numbers in them.
-ghost use Rattle.std.specs.Prelude.{◌≤◌, OnOk, vec_len};
-
 use std::alloc::{AllocError, Global};
 
 /// How many services have a row at most.
 const SERVICE_LIMIT: usize = 128;
 
 /// How many numbers a row has at most.
-const NUMBER_LIMIT: usize = 131_072;
+const NUMBER_LIMIT: u64 = 131_072;
 
-/// For each service a row of places, by the numbers of its objects, which it draws one after the other. It tells where to look
-/// first, and what stands there is compared; so contracts don't see it. Its parts lie closer together than those of a map.
+/// The numbers in a reference.
+#[derive(Clone, Copy)]
+pub(crate) struct Numbers {
+    /// The low half of the number of its service.
+    pub service: u32,
+    /// The number of its object.
+    pub object: u64,
+}
+
+/// For each service a row of places, by the numbers of its objects. It tells where to look first; what stands there is compared,
+/// so contracts don't see it.
 #[derive(Drop)]
 pub(crate) struct Places {
     alloc: Global,
@@ -26,54 +33,37 @@ impl Places {
         }
     }
 
-    /// Where to look first for a reference with these numbers of its service and its object.
-    pub(crate) fn place(&self, numbers: Option<(u32, u64)>) -> Option<usize> {
-        let (service, number) = numbers?;
-        let row = self.rows.get(service as usize)?;
-        let place = (*row.get(usize::try_from(number).ok()?)?)?;
+    /// Where to look first for a reference with these numbers.
+    pub(crate) fn get(&self, numbers: Numbers) -> Option<usize> {
+        let row = self.rows.get(numbers.service as usize)?;
+        let object = usize::try_from(numbers.object).ok()?;
+        let place = row.get(object).copied().flatten()?;
         Some(place as usize)
     }
 
-    /// A reference with these numbers stands at this place from now on.
-    pub(crate) fn put(
-        &mut self,
-        numbers: Option<(u32, u64)>,
-        place: usize,
-    ) -> Result<(), AllocError> {
-        let Some((service, number)) = numbers else {
-            return Ok(());
-        };
-        let (Ok(number), Ok(place)) = (usize::try_from(number), u32::try_from(place)) else {
-            return Ok(());
-        };
-        let service = service as usize;
-        if service >= SERVICE_LIMIT || number >= NUMBER_LIMIT {
+    /// Where the reference with the highest number of a service stands.
+    pub(crate) fn last(&self, service: u32) -> Option<usize> {
+        let row = self.rows.get(service as usize)?;
+        let place = row.last().copied().flatten()?;
+        Some(place as usize)
+    }
+
+    /// A reference with these numbers stands at this place from now on. Numbers past the limits lead nowhere.
+    pub(crate) fn insert(&mut self, numbers: Numbers, place: usize) -> Result<(), AllocError> {
+        let service = numbers.service as usize;
+        if service >= SERVICE_LIMIT || numbers.object >= NUMBER_LIMIT {
             return Ok(());
         }
-        self.make_rows(service + 1)?;
+        if self.rows.len() <= service {
+            let alloc = self.alloc;
+            self.rows.resize_with(service + 1, || Vec::new(alloc))?;
+        }
         let row = &mut self.rows[service];
-        lengthen(row, number + 1)?;
-        row[number] = Some(place);
-        Ok(())
-    }
-
-    /// Makes rows, so that there are as many at least.
-    fn make_rows(&mut self, count: usize) -> Result<(), AllocError>
-        ensures { OnOk result (count ≤ vec_len self.new.rows) }
-    {
-        for _row in self.rows.len()..count {
-            self.rows.push(Vec::new(self.alloc))?;
+        let object = numbers.object as usize;
+        if row.len() <= object {
+            row.resize(object + 1, None)?;
         }
+        row[object] = u32::try_from(place).ok();
         Ok(())
     }
-}
-
-/// Lengthens a row with no places, so that it has as many numbers at least.
-fn lengthen(row: &mut Vec<Option<u32>>, count: usize) -> Result<(), AllocError>
-    ensures { OnOk result (count ≤ vec_len row.new) }
-{
-    for _number in row.len()..count {
-        row.push(None)?;
-    }
-    Ok(())
 }

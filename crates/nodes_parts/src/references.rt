@@ -4,7 +4,7 @@ ghost use Rattle.std.specs.Option.{option_map, option_or};
 ghost use Rattle.nodes_parts.specs.Referring.{LeadsTo, digest_of, entry_of, led_at, named, numbers_in, referred_in};
 
 use crate::objects::NUMBER_PLACE;
-use crate::places::Places;
+use crate::places::{Numbers, Places};
 use crate::shared::SharedReference;
 use byteorder::{BigEndian, ByteOrder};
 use ior_refs::ObjectKey;
@@ -62,10 +62,11 @@ impl References {
     pub fn referred(&self, to: &[u8]) -> Option<NamedKey>
         ensures referred { option_map named result ≡ referred_in self.now to.now }
     {
-        if let Some(place) = self.places.place(numbers_in(to)) {
-            if let Some(resource) = led_at(&self.entries, place, to) {
-                return Some(resource);
-            }
+        if let Some(numbers) = numbers_in(to)
+            && let Some(place) = self.places.get(numbers)
+            && let Some(resource) = led_at(&self.entries, place, to)
+        {
+            return Some(resource);
         }
         let place = *self.firsts.get(&digest_of(to))?;
         led_from(&self.entries, place, to)
@@ -82,25 +83,19 @@ impl References {
         let digest = digest_of(&reference);
         let numbers = numbers_in(&reference);
         let shared = SharedReference::like(self.alloc, &reference, self.neighbour(numbers))?;
-        self.places.put(numbers, self.entries.len())?;
         self.entries.reserve(1)?;
+        index(&mut self.places, numbers, self.entries.len())?;
         note(&mut self.firsts, digest, self.entries.len())?;
         self.entries.push_reserved((shared, to));
         Ok(())
     }
 
-    /// A reference that may be like one with these numbers: that of the object before, at the same service, or the last one.
-    fn neighbour(&self, numbers: Option<(u32, u64)>) -> Option<&SharedReference> {
-        let place = self.places.place(one_before(numbers));
-        let place = place.unwrap_or(self.entries.len().saturating_sub(1));
-        Some(&self.entries.get(place)?.0)
+    /// A reference that may be like one with these numbers: that with the highest number of the same service, or the last one.
+    fn neighbour(&self, numbers: Option<Numbers>) -> Option<&SharedReference> {
+        let place = numbers.and_then(|numbers| self.places.last(numbers.service));
+        let entry = place.and_then(|place| self.entries.get(place));
+        Some(&entry.or(self.entries.last())?.0)
     }
-}
-
-/// The numbers of the object before, at the same service.
-fn one_before(numbers: Option<(u32, u64)>) -> Option<(u32, u64)> {
-    let (service, number) = numbers?;
-    Some((service, number.checked_sub(1)?))
 }
 
 /// The resource to which the reference at a place leads, where it is this one.
@@ -111,16 +106,24 @@ fn led_at(entries: &[(SharedReference, NamedKey)], place: usize, to: &[u8]) -> O
     reference.is(to).then_some(*resource)
 }
 
-/// The number of the service in a reference, its low half, and that of the object, where it is long enough for both.
-fn numbers_in(reference: &[u8]) -> Option<(u32, u64)>
+/// A reference with these numbers, where it has some, stands at this place from now on.
+fn index(places: &mut Places, numbers: Option<Numbers>, place: usize) -> Result<(), AllocError> {
+    match numbers {
+        Some(numbers) => places.insert(numbers, place),
+        None => Ok(()),
+    }
+}
+
+/// The numbers in a reference, where it is long enough for them.
+fn numbers_in(reference: &[u8]) -> Option<Numbers>
     ensures { result ≡ numbers_in reference.now }
 {
     if reference.len() < SERVICE_PLACE {
         return None;
     }
     let service = BigEndian::read_u32(&reference[reference.len() - SERVICE_PLACE..]);
-    let number = BigEndian::read_u64(&reference[reference.len() - NUMBER_PLACE..]);
-    Some((service, number))
+    let object = BigEndian::read_u64(&reference[reference.len() - NUMBER_PLACE..]);
+    Some(Numbers { service, object })
 }
 
 /// The digest of a reference, which the references of few objects share.
@@ -128,7 +131,9 @@ fn digest_of(reference: &[u8]) -> u64
     ensures { result ≡ digest_of reference.now }
 {
     match numbers_in(reference) {
-        Some((service, number)) => number.wrapping_add(u64::from(service) << 32),
+        Some(numbers) => numbers
+            .object
+            .wrapping_add(u64::from(numbers.service) << 32),
         None => 0,
     }
 }
