@@ -35,12 +35,9 @@ fn register(alloc: Global, tree: &Tree, votes: &mut Votes) -> Option<()>
 }
 
 /// The completion of the top-level transaction, which has begun, where there is memory for it.
-fn begun(alloc: Global, votes: &Votes) -> Option<Completion> {
-    let mut completion = Completion::idle(alloc);
-    let count = votes.participants(0).count() as u32;
-    completion.reserve(count).ok()?;
-    completion.start(votes, 0, true, FIRST, false);
-    Some(completion)
+fn begun(alloc: Global) -> Option<Completion> {
+    let votes = two_registered(alloc)?;
+    Completion::begin(alloc, &votes, 0, true, FIRST, false).ok()
 }
 
 /// The next word is answered so, and a record stands.
@@ -74,10 +71,7 @@ fn check_committed(rt: &impl Abort, completion: &Completion) {
 /// Where the N-th allocation is made to fail, this shows that nothing behind `reserve` asks for memory.
 #[test]
 fn what_comes_behind_reserve_needs_no_memory(rt: HostRuntime) -> Result<(), Fail> {
-    let Some(votes) = two_registered(rt.alloc()) else {
-        return Ok(());
-    };
-    match begun(rt.alloc(), &votes) {
+    match begun(rt.alloc()) {
         Some(mut completion) => check(&rt, &mut completion),
         None => Ok(()),
     }
