@@ -1,16 +1,21 @@
 //! Tests of devices in memory, of which calls need memory, and over streams of `std::io`.
 
-use ots_outside::{Disk, Failed, MemSink, Sink, Source, StdSink, StdSource, SureDisk};
+use ots_outside::{Disk, DiskRefusal, Failed, MemSink, Sink, Source, StdSink, StdSource, SureDisk};
 use std::io;
 use std::io::{ErrorKind, Read, Write};
 use std::test::Fail;
+
+/// Writes at the front of a disk, and syncs.
+fn keep<D: Disk>(disk: &mut D, octets: &[u8]) -> Result<(), DiskRefusal> {
+    disk.write_at(0, octets)?;
+    disk.sync()
+}
 
 #[test]
 fn memory_is_taken_where_there_is_some(rt: HostRuntime) -> Result<(), Fail> {
     MemSink::new(rt.alloc(), Vec::new(rt.alloc())).reserve(4)?;
     let mut disk = SureDisk::new(rt.alloc(), Vec::new(rt.alloc()))?;
-    assert!(rt; disk.write_at(0, b"abcd") == Ok(()));
-    assert!(rt; disk.sync() == Ok(()));
+    assert!(rt; keep(&mut disk, b"abcd") == Ok(()));
     Ok(())
 }
 

@@ -18,14 +18,18 @@ const LITTLE: [u8; 40] = [
 
 fn written(alloc: Global, order: Order) -> Result<Octets, CdrFault> {
     let mut writer = Writer::encapsulation(alloc, order)?;
+    write_all(&mut writer)?;
+    Ok(writer.finish())
+}
+
+fn write_all(writer: &mut Writer) -> Result<(), CdrFault> {
     writer.octet(7)?;
     writer.ushort(0x0102)?;
     writer.boolean(true)?;
     writer.ulong(0x0102_0304)?;
     writer.string(b"hi")?;
     writer.octets(&[170, 187])?;
-    writer.ulonglong(0x0102_0304_0506_0708)?;
-    Ok(writer.finish())
+    writer.ulonglong(0x0102_0304_0506_0708)
 }
 
 /// What is read of such an encapsulation.
