@@ -24,11 +24,18 @@ fn resource(alloc: Global) -> Result<ObjectRef, Fail> {
     Ok(make_ref(alloc, type_id, &Endpoint { host, port: 1 }, &key)?)
 }
 
+/// A reference that is read from the octets of this one.
+fn read_again(alloc: Global, reference: &ObjectRef) -> Result<ObjectRef, Fail> {
+    let octets = reference.to_bytes(alloc)?;
+    Ok(ObjectRef::from_bytes(alloc, &octets)?)
+}
+
 #[test]
 fn our_own_reference_has_its_octets(rt: HostRuntime) -> Result<(), Fail> {
     let made = resource(rt.alloc())?;
     let digits = hex::encode(rt.alloc(), made.bytes())?;
     assert!(rt; digits.as_str() == RESOURCE);
+    assert!(rt; read_again(rt.alloc(), &made)?.bytes() == made.bytes());
     Ok(())
 }
 

@@ -29,6 +29,7 @@ fn write_all(writer: &mut Writer) -> Result<(), CdrFault> {
     writer.ulong(0x0102_0304)?;
     writer.string(b"hi")?;
     writer.octets(&[170, 187])?;
+    writer.align(8)?;
     writer.ulonglong(0x0102_0304_0506_0708)
 }
 
