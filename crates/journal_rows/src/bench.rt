@@ -13,17 +13,16 @@
 //!   `puts_beside`: they put 1,024 each, while so many others are unfinished, each of which holds a cell.
 //!
 //! But for `load` and `load_end` what comes before the calls isn't counted.
-ghost use Rattle.std.specs.Prelude.{◌<◌, ◌≤◌, ◌^◌};
 
 use crate::end_calls::{commit, fresh, load_end, prepare, put, roll_back};
 use crate::journals::{AREA_LIMIT, append, append_outcome, done, load, standing};
 use crate::records::{decision, record_of};
-use decision_journal::Journal;
+use decision_journal::{Journal, JournalFault};
 use ior_refs::ObjectKey;
-use ots_model::PhaseHeard;
 use ots_model::tree::Heard;
+use ots_model::{CallNumber, PhaseHeard};
 use ots_outside::{Disk, DiskRefusal, FileDisk};
-use recovery_coord::{Outbox, Recovered};
+use recovery_coord::{Held, Outbox, Recovered};
 use resource_end::{EndFault, ResourceEnd};
 use std::alloc::Global;
 use std::fs::File;
@@ -50,8 +49,8 @@ pub fn tell_time(rt: &HostRuntime, kind: &str, path: &str, count: u32) -> io::Re
     options.read(true).write(true).create(true);
     let disk = FileDisk::new(options.open(rt, path)?, None);
     match kind {
-        "bare" => time_writes(rt, disk, count, 286, &DECISION),
-        "bare_dones" => time_writes(rt, disk, count, 10, &DONE),
+        "bare" => time_writes(rt, disk, count, &DECISION),
+        "bare_dones" => time_writes(rt, disk, count, &DONE),
         "load_end" | "ends" | "puts" | "puts_beside" => time_end(rt, disk, kind, count),
         _ => time_journal(rt, disk, kind, count),
     }
@@ -70,30 +69,27 @@ fn made<F: Drop>(answer: Result<(), F>) -> io::Result<()> {
     }
 }
 
-/// Makes so many writes of these octets, each so far behind the last, with their gates and syncs.
-fn time_writes(
-    rt: &HostRuntime,
-    disk: FileDisk,
-    count: u32,
-    length: u64,
-    octets: &[u8],
-) -> io::Result<()>
-    requires { length ≤ 286 }
-{
+/// Makes so many writes of these octets, one behind the other, with their gates and syncs.
+fn time_writes(rt: &HostRuntime, disk: FileDisk, count: u32, octets: &[u8]) -> io::Result<()> {
     let mut disk = disk;
     let start = Instant::now(rt)?;
-    for place in 0..u64::from(count) {
-        made(write_twice(&mut disk, 26 + length * place, octets))?;
-    }
+    made(write_all(&mut disk, count, octets))?;
     tell_took(rt, start)
 }
 
-fn write_twice(disk: &mut FileDisk, gate: u64, octets: &[u8]) -> Result<(), DiskRefusal>
-    requires { gate < 2 ^ 63 }
-{
-    disk.write_at(gate + 1, octets)?;
-    disk.sync()?;
-    disk.write_at(gate, &[1])?;
+fn write_all(disk: &mut FileDisk, count: u32, octets: &[u8]) -> Result<(), DiskRefusal> {
+    let mut gate = 26_u64;
+    for _ in 0..count {
+        write_at(disk, gate.saturating_add(1), octets)?;
+        write_at(disk, gate, &[1])?;
+        gate = gate.saturating_add(octets.len() as u64);
+    }
+    Ok(())
+}
+
+/// Writes octets, and syncs.
+fn write_at(disk: &mut FileDisk, place: u64, octets: &[u8]) -> Result<(), DiskRefusal> {
+    disk.write_at(place, octets)?;
     disk.sync()
 }
 
@@ -143,8 +139,15 @@ fn make_call(alloc: Global, journal: &mut FileJournal, kind: &str) -> io::Result
 }
 
 fn append_decision(alloc: Global, journal: &mut FileJournal) -> io::Result<()> {
-    match append(journal, decision(alloc)?)? {
-        Ok(_) => Ok(()),
+    let item = decision(alloc)?;
+    appended(append(journal, item)?)?;
+    Ok(())
+}
+
+/// The place of a record that was appended.
+fn appended(answer: Result<u32, JournalFault>) -> io::Result<u32> {
+    match answer {
+        Ok(place) => Ok(place),
         Err(_) => Err(ErrorKind::Other.into()),
     }
 }
@@ -162,38 +165,57 @@ fn done_at(journal: &mut FileJournal, index: usize) -> io::Result<()> {
 
 /// Appends the record by which cells prepare, and their outcome.
 fn append_cells(alloc: Global, journal: &mut FileJournal) -> io::Result<()> {
-    match append(journal, record_of(alloc, "cells")?)? {
-        Ok(place) => append_end(journal, place),
-        Err(_) => Err(ErrorKind::Other.into()),
-    }
+    let item = record_of(alloc, "cells")?;
+    let place = appended(append(journal, item)?)?;
+    append_end(journal, place)
 }
 
 fn append_end(journal: &mut FileJournal, place: u32) -> io::Result<()> {
-    match append_outcome(journal, place)? {
-        Some(Ok(_)) => Ok(()),
-        _ => Err(ErrorKind::Other.into()),
-    }
+    let Some(answer) = append_outcome(journal, place)? else {
+        return Err(ErrorKind::Other.into());
+    };
+    appended(answer)?;
+    Ok(())
 }
 
 /// Tells again what stands, with so many words, each of which is done.
 fn retell(alloc: Global, journal: &FileJournal, count: u32) -> io::Result<()> {
-    let mut recovered = Recovered::from(alloc, journal)?;
+    let mut recovered = recovered(alloc, journal)?;
     let mut out = Outbox::new(alloc);
-    recovered.redrive(&mut out)?;
+    redrive(&mut recovered, &mut out)?;
     for _ in 0..count {
         answer_next(&mut recovered, &mut out);
     }
-    if recovered.records().iter().all(|held| held.is_complete()) {
-        Ok(())
-    } else {
-        Err(ErrorKind::InvalidData.into())
+    only_complete(recovered.records())
+}
+
+fn recovered(alloc: Global, journal: &FileJournal) -> io::Result<Recovered> {
+    Ok(Recovered::from(alloc, journal)?)
+}
+
+fn redrive(recovered: &mut Recovered, out: &mut Outbox) -> io::Result<()> {
+    recovered.redrive(out)?;
+    Ok(())
+}
+
+/// Refuses where a decision isn't complete.
+fn only_complete(records: &[Held]) -> io::Result<()> {
+    for held in records {
+        if !held.is_complete() {
+            return Err(ErrorKind::InvalidData.into());
+        }
     }
+    Ok(())
 }
 
 fn answer_next(recovered: &mut Recovered, out: &mut Outbox) {
     if let Some(word) = out.take() {
-        recovered.heard(&word.number, &Heard::Phase(PhaseHeard::Done));
+        hear_done(recovered, &word.number);
     }
+}
+
+fn hear_done(recovered: &mut Recovered, number: &CallNumber) {
+    recovered.heard(number, &Heard::Phase(PhaseHeard::Done));
 }
 
 /// Loads the end that a disk holds, and makes its calls.
@@ -252,12 +274,17 @@ fn put_all(end: &mut FileEnd, cells: u32) -> Result<(), EndFault> {
     let mut key = fresh(end, b'R')?;
     for number in 0..PUTS {
         if let Some(0) = number.checked_rem(cells) {
-            roll_back(end, &key)?;
-            key = fresh(end, b'R')?;
+            key = next_key(end, &key)?;
         }
         put(end, &key, 613 * u64::from(number) % 1024, 1)?;
     }
     Ok(())
+}
+
+/// Rolls a resource back, and makes the next one.
+fn next_key(end: &mut FileEnd, key: &ObjectKey) -> Result<ObjectKey, EndFault> {
+    told(roll_back(end, key))?;
+    fresh(end, b'R')
 }
 
 fn commit_all(end: &mut FileEnd, count: u32) -> Result<(), EndFault> {
@@ -268,11 +295,16 @@ fn commit_all(end: &mut FileEnd, count: u32) -> Result<(), EndFault> {
 }
 
 /// A resource puts a cell, prepares and commits. The cells of those that follow one another stand apart.
-fn commit_one(end: &mut FileEnd, value: u64) -> Result<(), EndFault>
-    requires { value < 2 ^ 32 }
-{
-    let key = fresh_with(end, 613 * value, value)?;
-    prepare(end, &key)?;
-    commit(end, &key)?;
-    Ok(())
+fn commit_one(end: &mut FileEnd, value: u64) -> Result<(), EndFault> {
+    let key = fresh_with(end, value.saturating_mul(613), value)?;
+    told(prepare(end, &key))?;
+    told(commit(end, &key))
+}
+
+/// An answer of which it is kept only whether it came.
+fn told(answer: Result<Heard, EndFault>) -> Result<(), EndFault> {
+    match answer {
+        Ok(_) => Ok(()),
+        Err(fault) => Err(fault),
+    }
 }

@@ -5,11 +5,12 @@
 //! - `done PLACE`, `reopen`: these calls.
 //! - `bytes`: the octets that the journal gives. `disk`: those that its disk reads. `standing`: what stands.
 
+use crate::ends::tell_text;
 use crate::journals::{
     MemJournal, append_outcome, bytes, disk_octets, done, life, reopen, standing,
 };
 use crate::records::{append_record, number};
-use decision_journal::{CellsEnd, JournalRecord, Put, Puts, Standing};
+use decision_journal::{CellsEnd, JournalFault, JournalRecord, Put, Puts, Standing};
 use ots_model::RefBytes;
 use std::alloc::Global;
 use std::io;
@@ -50,7 +51,7 @@ fn tell_append(
     for _ in 0..count {
         answer = append_record(alloc, journal, words)?;
     }
-    write!(told, "{answer:?}")
+    tell_place(&answer, told)
 }
 
 /// The same, where the words begin with how many times.
@@ -68,25 +69,31 @@ fn tell_appends(
 
 fn tell_outcome(journal: &mut MemJournal, place: &str, told: &mut Vec<u8>) -> io::Result<()> {
     match append_outcome(journal, number(place)?)? {
-        Some(answer) => write!(told, "{answer:?}"),
-        None => write!(told, "it can't follow"),
+        Some(answer) => tell_place(&answer, told),
+        None => tell_text("it can't follow", told),
     }
 }
 
 fn tell_done(journal: &mut MemJournal, place: &str, told: &mut Vec<u8>) -> io::Result<()> {
-    let answer = done(journal, number(place)?);
-    write!(told, "{answer:?}")
+    tell_made(&done(journal, number(place)?), told)
 }
 
 fn tell_reopen(journal: &mut MemJournal, told: &mut Vec<u8>) -> io::Result<()> {
-    let answer = reopen(journal);
+    tell_made(&reopen(journal), told)
+}
+
+fn tell_place(answer: &Result<u32, JournalFault>, told: &mut Vec<u8>) -> io::Result<()> {
+    write!(told, "{answer:?}")
+}
+
+fn tell_made(answer: &Result<(), JournalFault>, told: &mut Vec<u8>) -> io::Result<()> {
     write!(told, "{answer:?}")
 }
 
 fn tell_bytes(alloc: Global, journal: &mut MemJournal, told: &mut Vec<u8>) -> io::Result<()> {
     let mut octets = Vec::new(alloc);
-    let answer = bytes(journal, &mut octets);
-    write!(told, "{answer:?} ")?;
+    tell_made(&bytes(journal, &mut octets), told)?;
+    tell_text(" ", told)?;
     tell_octets(alloc, octets.as_slice(), told)
 }
 
@@ -108,11 +115,6 @@ fn tell_places(standing: &[Standing], told: &mut Vec<u8>) -> io::Result<()> {
     Ok(())
 }
 
-/// How many records stand, where those of cells count too.
-pub fn count_records(journal: &MemJournal) -> usize {
-    standing(journal).len()
-}
-
 /// Tells the records that stand, but for so many of the first.
 pub fn tell_records(journal: &MemJournal, known: usize, told: &mut Vec<u8>) -> io::Result<()> {
     for standing in standing(journal).get(known..).unwrap_or(&[]) {
@@ -130,9 +132,13 @@ fn tell_record(item: &JournalRecord, told: &mut Vec<u8>) -> io::Result<()> {
         JournalRecord::CellsOnePhase(life, number, puts) => {
             tell_one_phase(*life, *number, puts, told)
         }
-        JournalRecord::CellsOutcome(place, end) => write!(told, "; {} {place}", end_word(*end)),
-        _ => write!(told, "; another record"),
+        JournalRecord::CellsOutcome(place, end) => tell_ended(*place, *end, told),
+        _ => tell_text("; another record", told),
     }
+}
+
+fn tell_ended(place: u32, end: CellsEnd, told: &mut Vec<u8>) -> io::Result<()> {
+    write!(told, "; {} {place}", end_word(end))
 }
 
 fn tell_prepared(
@@ -162,7 +168,7 @@ fn tell_puts(puts: &[Put], told: &mut Vec<u8>) -> io::Result<()> {
 fn tell_ends(count: usize, first: &Put, last: &Put, told: &mut Vec<u8>) -> io::Result<()> {
     write!(told, " {count} cells:")?;
     tell_put(first, told)?;
-    write!(told, " to")?;
+    tell_text(" to", told)?;
     tell_put(last, told)
 }
 

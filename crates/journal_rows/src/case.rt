@@ -1,9 +1,10 @@
-use crate::calls::{call, tell_standing};
+use crate::calls::{call, tell_records, tell_standing};
 use crate::crashes::tell_crashes;
 use crate::end_calls::{LoadedEnd, load_end};
 use crate::end_runs::{tell_end, tell_stops, tell_words};
-use crate::journals::{Loaded, MemJournal, disk_of, into_disk, load};
-use crate::records::{add_octets, low_octet, number, numbers};
+use crate::ends::tell_text;
+use crate::journals::{Loaded, MemJournal, disk_of, into_disk, load, standing};
+use crate::records::{add_octets, low_octet, number};
 use decision_journal::JournalFault;
 use ots_outside::{Back, MemDisk};
 use std::alloc::Global;
@@ -166,7 +167,8 @@ impl<'a> Case<'a> {
     ) -> io::Result<bool> {
         let disk = self.run(alloc, failing, between, told)?;
         write!(told, "{between}then ")?;
-        self.tell_load(alloc, disk.octets(), told)?;
+        self.tell_load(alloc, disk.octets(), None, told)?;
+        writeln!(told)?;
         Ok(disk.faults() > 0)
     }
 
@@ -186,40 +188,79 @@ impl<'a> Case<'a> {
     fn tell_changed(&self, alloc: Global, line: &str, told: &mut Vec<u8>) -> io::Result<()> {
         write!(told, "{line}: ")?;
         let octets = changed(alloc, line, self.octets.as_slice())?;
-        self.tell_load(alloc, octets.as_slice(), told)
+        self.tell_load(alloc, octets.as_slice(), None, told)?;
+        writeln!(told)
     }
 
-    /// Tells what a load of these octets finds.
-    fn tell_load(&self, alloc: Global, octets: &[u8], told: &mut Vec<u8>) -> io::Result<()> {
+    /// Tells what a load of these octets finds, or the records that stand behind so many. The result is how many stand.
+    pub fn tell_load(
+        &self,
+        alloc: Global,
+        octets: &[u8],
+        known: Option<usize>,
+        told: &mut Vec<u8>,
+    ) -> io::Result<usize> {
         let loaded = self.load(alloc, octets, Vec::new(alloc))?;
-        tell_loaded(&loaded, told)
+        tell_loaded(&loaded, known, told)
     }
 }
 
-fn tell_loaded(loaded: &Loaded, told: &mut Vec<u8>) -> io::Result<()> {
+fn tell_loaded(loaded: &Loaded, known: Option<usize>, told: &mut Vec<u8>) -> io::Result<usize> {
     match loaded {
-        Ok(journal) => tell_standing(journal, told)?,
-        Err(back) => write!(told, "{:?}", back.fault)?,
+        Ok(journal) => tell_journal(journal, known, told),
+        Err(back) => tell_refusal(back.fault, known, told),
     }
-    writeln!(told)
+}
+
+fn tell_journal(
+    journal: &MemJournal,
+    known: Option<usize>,
+    told: &mut Vec<u8>,
+) -> io::Result<usize> {
+    match known {
+        Some(known) => tell_records(journal, known, told)?,
+        None => tell_standing(journal, told)?,
+    }
+    Ok(standing(journal).len())
+}
+
+fn tell_refusal(
+    fault: JournalFault,
+    known: Option<usize>,
+    told: &mut Vec<u8>,
+) -> io::Result<usize> {
+    if known.is_some() {
+        tell_text("; ", told)?;
+    }
+    tell_fault(fault, told)?;
+    Ok(0)
+}
+
+/// Tells why a journal refused.
+pub fn tell_fault(fault: JournalFault, told: &mut Vec<u8>) -> io::Result<()> {
+    write!(told, "{fault:?}")
 }
 
 /// Tells why a load was refused, and gives the disk back.
 fn give_back(back: Back<MemDisk, JournalFault>, told: &mut Vec<u8>) -> io::Result<MemDisk> {
-    write!(told, "{:?}", back.fault)?;
+    tell_fault(back.fault, told)?;
     Ok(back.value)
 }
 
-/// The octets, of which one is another, and the rest is cut off, as a line says.
+/// The octets, of which one is another, and the rest is cut off, as a line `PLACE OCTET LENGTH` says.
 fn changed(alloc: Global, line: &str, octets: &[u8]) -> io::Result<Vec<u8>> {
-    let mut octets = octets.to_vec(alloc)?;
-    if let [place, other, length] = numbers(alloc, line)?.as_slice() {
-        if let Some(octet) = octets.get_mut(*place as usize) {
-            *octet = low_octet(*other);
-        }
-        octets.truncate(*length as usize);
-    }
+    let (place, rest) = line.split_once(' ').unwrap_or((line, ""));
+    let (other, length) = rest.split_once(' ').unwrap_or((rest, ""));
+    let length = number(length)? as usize;
+    let mut octets = octets.get(..length).unwrap_or(octets).to_vec(alloc)?;
+    set_octet(octets.as_mut_slice(), number(place)?, number(other)?);
     Ok(octets)
+}
+
+fn set_octet(octets: &mut [u8], place: u32, other: u32) {
+    if let Some(octet) = octets.get_mut(place as usize) {
+        *octet = low_octet(other);
+    }
 }
 
 /// The calls of a disk from this one on.

@@ -1,17 +1,17 @@
 //! What a crash leaves, in each call of a disk.
 
 use crate::case::{CALLS, Case};
+use crate::end_runs::tell_looks;
 use crate::journals::{MemJournal, bytes, life};
 use std::alloc::Global;
 use std::io;
 use std::io::Write;
 use std::ops::Range;
 
-/// So many images have the records of so many octets, behind which a load began this life.
+/// So many images come to the same.
 #[derive(Drop)]
-struct Row {
-    records: usize,
-    life: u32,
+pub struct Row {
+    told: Vec<u8>,
     images: u64,
 }
 
@@ -58,24 +58,24 @@ fn tell_between(
 ) -> io::Result<()> {
     let written = difference(before, after);
     write!(told, "{} to {}:", written.start, written.end)?;
-    let images = images(alloc, before, after)?;
-    let rows = rows(alloc, case, images.as_slice(), end)?;
-    tell_rows(rows.as_slice(), told)
-}
-
-fn tell_rows(rows: &[Row], told: &mut Vec<u8>) -> io::Result<()> {
-    for row in rows {
-        tell_row(row, told)?;
-    }
+    let rows = rows(alloc, case, before, after, Some(end))?;
+    tell_rows(rows.as_slice(), [" ", " of ", ""], told)?;
     writeln!(told)
 }
 
-fn tell_row(row: &Row, told: &mut Vec<u8>) -> io::Result<()> {
-    write!(
-        told,
-        " {} of {} and life {}",
-        row.images, row.records, row.life
-    )
+/// Tells how many images come to what, with these words around.
+pub fn tell_rows(rows: &[Row], words: [&str; 3], told: &mut Vec<u8>) -> io::Result<()> {
+    for row in rows {
+        tell_row(row, words, told)?;
+    }
+    Ok(())
+}
+
+fn tell_row(row: &Row, words: [&str; 3], told: &mut Vec<u8>) -> io::Result<()> {
+    let [front, between, behind] = words;
+    write!(told, "{front}{}{between}", row.images)?;
+    told.write_all(row.told.as_slice())?;
+    told.write_all(behind.as_bytes())
 }
 
 /// The places from the first that differs to the last.
@@ -91,50 +91,73 @@ fn difference(before: &[u8], after: &[u8]) -> Range<usize> {
     start..end
 }
 
-/// Loads each image, and counts them by their records.
-fn rows(alloc: Global, case: &Case, images: &[Vec<u8>], end: &[u8]) -> io::Result<Vec<Row>> {
+/// What is told of each image that a crash can leave. It has the front of what was written, and behind it what stood there,
+/// or octets that are 1. Where there is an end, its records are told, else the answers to the looks.
+pub fn rows(
+    alloc: Global,
+    case: &Case,
+    before: &[u8],
+    after: &[u8],
+    end: Option<&[u8]>,
+) -> io::Result<Vec<Row>> {
+    let written = difference(before, after);
+    let ones = with_ones(alloc, after, written.start, written.end)?;
     let mut rows = Vec::new(alloc);
-    for image in images {
-        let (records, life) = records_of(alloc, case, image.as_slice(), end)?;
-        count_image(records, life, &mut rows)?;
-    }
+    let last = written.end.saturating_add(1);
+    count_torn(
+        alloc,
+        case,
+        after,
+        before,
+        written.start..last,
+        end,
+        &mut rows,
+    )?;
+    count_torn(alloc, case, after, ones.as_slice(), written, end, &mut rows)?;
     Ok(rows)
 }
 
-/// The images that a crash can leave. Each has the front of what was written, and behind it what stood there, or octets
-/// that are 1.
-pub fn images(alloc: Global, before: &[u8], after: &[u8]) -> io::Result<Vec<Vec<u8>>> {
-    let mut images = Vec::new(alloc);
-    add_torn(alloc, before, after, &mut images)?;
-    add_ones(alloc, before, after, &mut images)?;
-    Ok(images)
-}
-
-/// Adds those that have the front of what was written, and what stood behind it.
-fn add_torn(
+/// Counts the images that have what was written up to one of these places, and then the octets behind.
+fn count_torn(
     alloc: Global,
-    before: &[u8],
-    after: &[u8],
-    images: &mut Vec<Vec<u8>>,
+    case: &Case,
+    written: &[u8],
+    behind: &[u8],
+    places: Range<usize>,
+    end: Option<&[u8]>,
+    rows: &mut Vec<Row>,
 ) -> io::Result<()> {
-    let written = difference(before, after);
-    for count in written.start..=written.end {
-        images.push(torn(alloc, before, after, count)?)?;
+    for place in places {
+        let image = torn(alloc, written, behind, place)?;
+        count_image(alloc, case, image.as_slice(), end, rows)?;
     }
     Ok(())
 }
 
-/// Adds those that have the front of what was written, and octets that are 1 behind it.
-fn add_ones(
+/// Counts an image with those that come to the same.
+fn count_image(
     alloc: Global,
-    before: &[u8],
-    after: &[u8],
-    images: &mut Vec<Vec<u8>>,
+    case: &Case,
+    image: &[u8],
+    end: Option<&[u8]>,
+    rows: &mut Vec<Row>,
 ) -> io::Result<()> {
-    let written = difference(before, after);
-    for count in written.start..written.end {
-        images.push(with_ones(alloc, after, count, written.end)?)?;
+    let mut told = Vec::new(alloc);
+    match end {
+        Some(end) => tell_records(alloc, case, image, end, &mut told)?,
+        None => tell_looks(alloc, case, image, &mut told)?,
     }
+    add_row(told, rows)
+}
+
+fn add_row(told: Vec<u8>, rows: &mut Vec<Row>) -> io::Result<()> {
+    for row in rows.as_mut_slice() {
+        if row.told == told {
+            row.images = row.images.saturating_add(1);
+            return Ok(());
+        }
+    }
+    rows.push(Row { told, images: 1 })?;
     Ok(())
 }
 
@@ -147,10 +170,10 @@ fn with_ones(alloc: Global, octets: &[u8], start: usize, end: usize) -> io::Resu
     Ok(ones)
 }
 
-/// So many octets of what was written, and what stood behind them.
-fn torn(alloc: Global, before: &[u8], after: &[u8], count: usize) -> io::Result<Vec<u8>> {
-    let mut octets = front(after, count).to_vec(alloc)?;
-    octets.write_all(before.get(count..).unwrap_or(&[]))?;
+/// So many octets of what was written, and the octets behind them.
+fn torn(alloc: Global, written: &[u8], behind: &[u8], count: usize) -> io::Result<Vec<u8>> {
+    let mut octets = front(written, count).to_vec(alloc)?;
+    octets.write_all(behind.get(count..).unwrap_or(&[]))?;
     Ok(octets)
 }
 
@@ -159,45 +182,44 @@ fn front(octets: &[u8], count: usize) -> &[u8] {
     octets.get(..count).unwrap_or(octets)
 }
 
-/// Counts an image by its records.
-fn count_image(records: usize, life: u32, rows: &mut Vec<Row>) -> io::Result<()> {
-    for row in rows.as_mut_slice() {
-        if row.records == records && row.life == life {
-            row.images = row.images.saturating_add(1);
-            return Ok(());
-        }
-    }
-    rows.push(Row {
-        records,
-        life,
-        images: 1,
-    })?;
-    Ok(())
-}
-
-/// How many octets the records of an image have, and the life that its load begins. It has none where the load is refused, or
-/// where they don't stand in front of the end.
-fn records_of(alloc: Global, case: &Case, image: &[u8], end: &[u8]) -> io::Result<(usize, u32)> {
+/// Tells how many octets the records of an image have, and the life that its load begins. It has none where the load is
+/// refused, or where they don't stand in front of the end.
+fn tell_records(
+    alloc: Global,
+    case: &Case,
+    image: &[u8],
+    end: &[u8],
+    told: &mut Vec<u8>,
+) -> io::Result<()> {
     match case.load(alloc, image, Vec::new(alloc))? {
-        Ok(mut journal) => Ok(records_before(alloc, &mut journal, end)),
-        Err(_) => Ok((0, 0)),
+        Ok(mut journal) => tell_before(alloc, &mut journal, end, told),
+        Err(_) => tell_count(0, 0, told),
     }
 }
 
-fn records_before(alloc: Global, journal: &mut MemJournal, end: &[u8]) -> (usize, u32) {
+fn tell_before(
+    alloc: Global,
+    journal: &mut MemJournal,
+    end: &[u8],
+    told: &mut Vec<u8>,
+) -> io::Result<()> {
     let mut octets = Vec::new(alloc);
     match bytes(journal, &mut octets) {
-        Ok(()) => counted(octets.as_slice(), life(journal), end),
-        Err(_) => (0, 0),
+        Ok(()) => tell_counted(octets.as_slice(), life(journal), end, told),
+        Err(_) => tell_count(0, 0, told),
     }
 }
 
-fn counted(octets: &[u8], life: u32, end: &[u8]) -> (usize, u32) {
+fn tell_counted(octets: &[u8], life: u32, end: &[u8], told: &mut Vec<u8>) -> io::Result<()> {
     // Behind the records are the next life, of ten octets, and a gate.
     let count = octets.len().saturating_sub(11);
     if end.starts_with(front(octets, count)) {
-        (count, life)
+        tell_count(count, life, told)
     } else {
-        (0, 0)
+        tell_count(0, 0, told)
     }
+}
+
+fn tell_count(count: usize, life: u32, told: &mut Vec<u8>) -> io::Result<()> {
+    write!(told, "{count} and life {life}")
 }

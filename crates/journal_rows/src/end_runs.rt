@@ -2,12 +2,10 @@
 //! the place of the record that it names, and the others with the life and the number of the resource, its recovery
 //! coordinator where it prepared, and its puts.
 
-use crate::calls::{count_records, tell_records};
 use crate::case::{CALLS, Case, calls_from};
-use crate::crashes::images;
+use crate::crashes::{rows, tell_rows};
 use crate::end_calls::{LoadedEnd, end_disk};
-use crate::ends::{call, tell_fault};
-use crate::journals::Loaded;
+use crate::ends::{call, tell_fault, tell_text};
 use crate::records::number;
 use ots_outside::MemDisk;
 use std::alloc::Global;
@@ -22,13 +20,6 @@ const WORDS: [&str; 5] = [
     "one_phase 1 1",
     "forget 1 1",
 ];
-
-/// So many images come to the same answers.
-#[derive(Drop)]
-struct Outcome {
-    answers: Vec<u8>,
-    images: u64,
-}
 
 /// Makes the calls, and tells each answer, and the records that the call wrote.
 pub fn tell_end(alloc: Global, case: &Case, told: &mut Vec<u8>) -> io::Result<()> {
@@ -131,28 +122,9 @@ fn tell_written(
     after: &[u8],
     told: &mut Vec<u8>,
 ) -> io::Result<()> {
-    let known = count_standing(alloc, case, before)?;
-    let loaded = case.load(alloc, after, Vec::new(alloc))?;
-    tell_more_records(&loaded, known, told)
-}
-
-fn count_standing(alloc: Global, case: &Case, octets: &[u8]) -> io::Result<usize> {
-    let loaded = case.load(alloc, octets, Vec::new(alloc))?;
-    Ok(standing_in(&loaded))
-}
-
-fn standing_in(loaded: &Loaded) -> usize {
-    match loaded {
-        Ok(journal) => count_records(journal),
-        Err(_) => 0,
-    }
-}
-
-fn tell_more_records(loaded: &Loaded, known: usize, told: &mut Vec<u8>) -> io::Result<()> {
-    match loaded {
-        Ok(journal) => tell_records(journal, known, told),
-        Err(back) => write!(told, "; {:?}", back.fault),
-    }
+    let known = case.tell_load(alloc, before, None, &mut Vec::new(alloc))?;
+    case.tell_load(alloc, after, Some(known), told)?;
+    Ok(())
 }
 
 /// Makes these calls, over a disk of which these calls fail, and tells each answer. Gives the disk back.
@@ -229,7 +201,7 @@ fn failing(alloc: Global, call: &str) -> io::Result<Vec<u64>> {
 
 fn tell_loaded(loaded: &LoadedEnd, told: &mut Vec<u8>) -> io::Result<()> {
     match loaded {
-        Ok(_) => write!(told, "ok"),
+        Ok(_) => tell_text("ok", told),
         Err(back) => tell_fault(back.fault, told),
     }
 }
@@ -327,57 +299,13 @@ fn tell_left(
         "",
         &mut Vec::new(alloc),
     )?;
-    let images = images(alloc, before, after.octets())?;
-    let outcomes = outcomes(alloc, case, images.as_slice())?;
-    tell_outcomes(outcomes.as_slice(), told)
+    let rows = rows(alloc, case, before, after.octets(), None)?;
+    tell_rows(rows.as_slice(), ["  ", ": ", "\n"], told)
 }
 
-fn tell_outcomes(outcomes: &[Outcome], told: &mut Vec<u8>) -> io::Result<()> {
-    for outcome in outcomes {
-        tell_outcome(outcome, told)?;
-    }
-    Ok(())
-}
-
-fn tell_outcome(outcome: &Outcome, told: &mut Vec<u8>) -> io::Result<()> {
-    write!(told, "  {}: ", outcome.images)?;
-    told.write_all(outcome.answers.as_slice())?;
-    writeln!(told)
-}
-
-/// Loads an end from each image, makes the looks, and counts the images by the answers.
-fn outcomes(alloc: Global, case: &Case, images: &[Vec<u8>]) -> io::Result<Vec<Outcome>> {
-    let mut outcomes = Vec::new(alloc);
-    for image in images {
-        let answers = answers_of(alloc, case, image.as_slice())?;
-        count_outcome(answers, &mut outcomes)?;
-    }
-    Ok(outcomes)
-}
-
-/// The answers to the looks that an end gives which is loaded from an image.
-fn answers_of(alloc: Global, case: &Case, image: &[u8]) -> io::Result<Vec<u8>> {
-    let mut answers = Vec::new(alloc);
+/// Tells the answers to the looks that an end gives which is loaded from an image.
+pub fn tell_looks(alloc: Global, case: &Case, image: &[u8], told: &mut Vec<u8>) -> io::Result<()> {
     let loaded = case.load_end(alloc, image, Vec::new(alloc))?;
-    go_on(
-        alloc,
-        case,
-        loaded,
-        case.looks.as_slice(),
-        ", ",
-        &mut answers,
-    )?;
-    Ok(answers)
-}
-
-/// Counts an image by its answers.
-fn count_outcome(answers: Vec<u8>, outcomes: &mut Vec<Outcome>) -> io::Result<()> {
-    for outcome in outcomes.as_mut_slice() {
-        if outcome.answers == answers {
-            outcome.images = outcome.images.saturating_add(1);
-            return Ok(());
-        }
-    }
-    outcomes.push(Outcome { answers, images: 1 })?;
+    go_on(alloc, case, loaded, case.looks.as_slice(), ", ", told)?;
     Ok(())
 }

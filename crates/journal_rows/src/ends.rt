@@ -8,6 +8,7 @@
 //! - `prepare L N`, `commit L N`, `rollback L N`, `one_phase L N`, `forget L N`: a word, what it is answered, and what
 //!   that is shown as.
 
+use crate::case::tell_fault as tell_start_fault;
 use crate::end_calls::{
     MemEnd, asks, bind, choose, commit, commit_alone, forget, fresh, get, learn, prepare, put,
     refuse, roll_back, service, unmake,
@@ -15,7 +16,7 @@ use crate::end_calls::{
 use crate::records::{low_octet, number};
 use ior_refs::ObjectKey;
 use ots_model::tree::Heard;
-use ots_model::{CallNumber, Decision, Disposition, PhaseHeard, RefBytes, Status};
+use ots_model::{CallNumber, Decision, Disposition, PhaseHeard, RefBytes, Status, Vote};
 use recovery_coord::Outbox;
 use resource_end::EndFault;
 use std::alloc::Global;
@@ -118,9 +119,13 @@ fn tell_number(number: &CallNumber, to: &RefBytes, told: &mut Vec<u8>) -> io::Re
 /// Makes so many objects with keys of this letter, and tells the last answer.
 fn tell_fresh(end: &mut MemEnd, letter: u8, count: u32, told: &mut Vec<u8>) -> io::Result<()> {
     match fresh_many(end, letter, count) {
-        Ok(key) => write!(told, "{} {}", key.life, key.generation),
+        Ok(key) => tell_key(&key, told),
         Err(fault) => tell_fault(fault, told),
     }
+}
+
+fn tell_key(key: &ObjectKey, told: &mut Vec<u8>) -> io::Result<()> {
+    write!(told, "{} {}", key.life, key.generation)
 }
 
 fn fresh_many(end: &mut MemEnd, letter: u8, count: u32) -> Result<ObjectKey, EndFault> {
@@ -168,7 +173,7 @@ fn call_plain(end: &mut MemEnd, key: &ObjectKey, word: &str, told: &mut Vec<u8>)
     match word {
         "unmake" => {
             unmake(end, key);
-            write!(told, "ok")
+            tell_text("ok", told)
         }
         "refuse" => tell_answer(refuse(end, key), told),
         _ => tell_word(end, key, word, told),
@@ -207,7 +212,7 @@ fn tell_got(answer: Result<Option<u64>, EndFault>, told: &mut Vec<u8>) -> io::Re
 
 fn tell_answer(answer: Result<(), EndFault>, told: &mut Vec<u8>) -> io::Result<()> {
     match answer {
-        Ok(()) => write!(told, "ok"),
+        Ok(()) => tell_text("ok", told),
         Err(fault) => tell_fault(fault, told),
     }
 }
@@ -232,16 +237,31 @@ fn answer_to(end: &mut MemEnd, key: &ObjectKey, word: &str) -> Result<Heard, End
 }
 
 fn tell_heard(heard: &Heard, told: &mut Vec<u8>) -> io::Result<()> {
+    tell_text(heard_word(heard), told)
+}
+
+fn heard_word(heard: &Heard) -> &'static str {
     match heard {
-        Heard::Phase(PhaseHeard::Voted(vote)) => write!(told, "{vote:?}"),
-        Heard::Phase(PhaseHeard::Heuristic(disposition)) => write!(
-            told,
-            "{}",
-            heuristic_word(*disposition)
-        ),
-        Heard::Phase(PhaseHeard::RolledBack) => write!(told, "rolled back"),
-        Heard::Phase(PhaseHeard::NotPrepared) => write!(told, "not prepared"),
-        _ => write!(told, "ok"),
+        Heard::Phase(heard) => phase_word(*heard),
+        _ => "ok",
+    }
+}
+
+fn phase_word(heard: PhaseHeard) -> &'static str {
+    match heard {
+        PhaseHeard::Voted(vote) => vote_word(vote),
+        PhaseHeard::Heuristic(disposition) => heuristic_word(disposition),
+        PhaseHeard::RolledBack => "rolled back",
+        PhaseHeard::NotPrepared => "not prepared",
+        _ => "ok",
+    }
+}
+
+fn vote_word(vote: Vote) -> &'static str {
+    match vote {
+        Vote::VoteCommit => "VoteCommit",
+        Vote::VoteRollback => "VoteRollback",
+        Vote::VoteReadOnly => "VoteReadOnly",
     }
 }
 
@@ -281,10 +301,19 @@ fn heard_of(word: &str) -> Heard {
 /// Tells why a call was refused.
 pub fn tell_fault(fault: EndFault, told: &mut Vec<u8>) -> io::Result<()> {
     match fault {
-        EndFault::Transient(of) => write!(told, "held by {of}"),
-        EndFault::Start(fault) => write!(told, "{fault:?}"),
-        fault => write!(told, "{}", fault_word(fault)),
+        EndFault::Transient(of) => tell_holder(of, told),
+        EndFault::Start(fault) => tell_start_fault(fault, told),
+        fault => tell_text(fault_word(fault), told),
     }
+}
+
+fn tell_holder(of: u64, told: &mut Vec<u8>) -> io::Result<()> {
+    write!(told, "held by {of}")
+}
+
+/// Tells these words.
+pub fn tell_text(text: &str, told: &mut Vec<u8>) -> io::Result<()> {
+    told.write_all(text.as_bytes())
 }
 
 fn fault_word(fault: EndFault) -> &'static str {

@@ -29,15 +29,6 @@ pub fn number(word: &str) -> io::Result<u32> {
     Ok(word.parse().ok().ok_or(ErrorKind::InvalidInput)?)
 }
 
-/// The numbers of a line.
-pub fn numbers(alloc: Global, line: &str) -> io::Result<Vec<u32>> {
-    let mut numbers = Vec::new(alloc);
-    for word in line.split(' ') {
-        numbers.push(number(word)?)?;
-    }
-    Ok(numbers)
-}
-
 /// The lowest octet of a number.
 pub fn low_octet(number: u32) -> u8 {
     number.to_be_bytes()[3]
