@@ -14,6 +14,39 @@ use std::io::Write;
 /// How many calls of a disk are looked at.
 pub const CALLS: u64 = 64;
 
+/// What is told of a case.
+#[derive(Clone, Copy)]
+enum Kind {
+    Garbage,
+    Fails,
+    Crashes,
+    End,
+    Words,
+    Stops,
+    Calls,
+}
+
+/// The words by which kinds are named.
+const KINDS: [(&str, Kind); 6] = [
+    ("garbage", Kind::Garbage),
+    ("fails", Kind::Fails),
+    ("crashes", Kind::Crashes),
+    ("end", Kind::End),
+    ("words", Kind::Words),
+    ("stops", Kind::Stops),
+];
+
+/// That of the case with this first line.
+fn kind_of(head: &str) -> Kind {
+    let (word, _) = head.split_once(':').unwrap_or((head, ""));
+    for (name, kind) in KINDS {
+        if name == word {
+            return kind;
+        }
+    }
+    Kind::Calls
+}
+
 /// What a disk holds, and what is done with it.
 #[derive(Drop)]
 pub struct Case<'a> {
@@ -67,15 +100,14 @@ impl<'a> Case<'a> {
 
     /// Tries the case, and tells what came.
     pub fn tell(&self, alloc: Global, head: &str, told: &mut Vec<u8>) -> io::Result<()> {
-        let (kind, _) = head.split_once(':').unwrap_or((head, ""));
-        match kind {
-            "garbage" => self.tell_garbage(alloc, told),
-            "fails" => self.tell_fails(alloc, told),
-            "crashes" => tell_crashes(alloc, self, told),
-            "end" => tell_end(alloc, self, told),
-            "words" => tell_words(alloc, self, told),
-            "stops" => tell_stops(alloc, self, told),
-            _ => self.tell_calls(alloc, told),
+        match kind_of(head) {
+            Kind::Garbage => self.tell_garbage(alloc, told),
+            Kind::Fails => self.tell_fails(alloc, told),
+            Kind::Crashes => tell_crashes(alloc, self, told),
+            Kind::End => tell_end(alloc, self, told),
+            Kind::Words => tell_words(alloc, self, told),
+            Kind::Stops => tell_stops(alloc, self, told),
+            Kind::Calls => self.tell_calls(alloc, told),
         }
     }
 
