@@ -1,5 +1,5 @@
 //! Tests that cases can't be: of lines that no case prints, of values as octets, of a reference that is made, names and
-//! hashes, of devices and of a journal in a file, of memory that is taken ahead, and of completions under failing
+//! hashes, of devices and of a journal in a file, of a stream of messages, and of completions under failing
 //! allocations.
 //! They stand in a crate of their own, since a crate with tests is proved once more with them.
 #![tactic(auto)]
