@@ -1,4 +1,5 @@
-ghost use Rattle.std.specs.Prelude.{◌≡◌};
+ghost use Rattle.std.specs.Prelude.{◌≡◌, false, codes};
+ghost use Rattle.std.specs.Str.{bytes_eq};
 ghost use Rattle.ots_world.specs.Script.{Gives, WantsMemory, event_of_names, event_of_one, event_of_server, event_of_three, event_of_two, stop};
 
 use crate::script::words::{
@@ -7,9 +8,21 @@ use crate::script::words::{
 use crate::script::{ScriptEvent, ScriptFault};
 use std::alloc::Global;
 
-// The event of a line with one word behind the first.
+// The event of a line with one word behind the first. Lines that let messages flow are most of a long script.
 #[tactic(auto, unfolding(crate::specs::Script::event_of_one))]
 pub(super) fn event_of_one(word: &[u8], first: &[u8]) -> Option<ScriptEvent>
+    ensures { result ≡ event_of_one word.now first.now }
+{
+    match word {
+        b"flow" => quantity(first).map(ScriptEvent::Flow),
+        _ => other_event_of_one(word, first),
+    }
+}
+
+// The same of a line whose first word isn't `flow`.
+#[tactic(auto, unfolding(crate::specs::Script::event_of_one))]
+fn other_event_of_one(word: &[u8], first: &[u8]) -> Option<ScriptEvent>
+    requires other { bytes_eq word.now (codes "flow") ≡ false }
     ensures { result ≡ event_of_one word.now first.now }
 {
     if word == b"node".as_slice() {
@@ -32,8 +45,6 @@ pub(super) fn event_of_one(word: &[u8], first: &[u8]) -> Option<ScriptEvent>
         name(first).map(ScriptEvent::Crash)
     } else if word == b"restart".as_slice() {
         name(first).map(ScriptEvent::Restart)
-    } else if word == b"flow".as_slice() {
-        quantity(first).map(ScriptEvent::Flow)
     } else if word == b"deliver".as_slice() {
         number(first).map(ScriptEvent::Deliver)
     } else if word == b"lose".as_slice() {
