@@ -28,6 +28,10 @@ use txn_tree::Tree;
 /// The branch of the top-level transaction.
 pub const TOP: u32 = 0;
 
+/// For how many entries memory is taken at first: those of a transaction with a full list of participants, which so are never
+/// moved.
+const FIRST_ENTRIES: usize = 256;
+
 /// What a family is. Contracts see it as its definition has it, and for how many more entries, subtransactions and
 /// registrations memory is taken.
 #[derive(Drop)]
@@ -106,7 +110,7 @@ impl State {
         if count < self.entries.capacity() {
             return Ok(());
         }
-        self.entries.reserve(3 * count + 1)
+        self.entries.reserve((3 * count).max(FIRST_ENTRIES))
     }
 
     /// Takes memory for one more subtransaction, and for one more registration whose reference has at most so many octets.
