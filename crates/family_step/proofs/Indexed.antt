@@ -22,6 +22,7 @@ use Rattle.family_step.specs.Earlier.{AnswersAreBefore, AreThere, EntriesAreBefo
 use Rattle.family_step.proofs.Earlier.{entries_pushed, steps_earlier}
 use Rattle.family_step.proofs.Later.{later_is}
 use Rattle.family_step.proofs.Positions.{position_next, position_passes, position_push, position_within}
+use Rattle.family_step.specs.declared.ready.Ready.{Ready}
 
 there : {X : Type 0} (xs : List X) (i : ℕ) → i < length xs → is_some (slice_get xs i) ≡ true
 there [] i less = absurd (omega (arith, less))
@@ -374,3 +375,8 @@ module _ (entries : List Entry) (place : ℕ) where
     noted_unkeyed after keyed some = λ k.
         some k ∙ sym (or_none (option_map (told_by entries e.finished place k) (call_in before k)))
         ∙ ap (with_key k) (sym keyed) ∙ ap (λ (o : Option Entry). noted entries place o k (call_in before k)) (sym is)
+
+-- no event is ready where none is shown
+pub no_ready : (r : Option Ready) → option_map (λ (x : Ready). x.event) r ≡ None → r ≡ None
+no_ready None none = refl
+no_ready (Some r) none = absurd (cc none)

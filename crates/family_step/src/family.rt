@@ -13,7 +13,7 @@ ghost use Rattle.family_step.specs.Asking.{EntryIsCaused, HasStepped, is_reread}
 
 use crate::asking::step_asking;
 use crate::callers::Callers;
-use crate::ready::{Ready, draft_of, has_room, kept, registered_length};
+use crate::ready::{Ready, has_room, kept, make_ready};
 use crate::step::{is_silent, step};
 use coordinator::{Entry, Event, Phase, Said, StepAnswer, histories_grow_by_entries};
 use decision_journal::Journal;
@@ -49,7 +49,7 @@ impl Model for Family {
     ghost invariant = { IsSound };
 }
 
-/// Why no memory was taken for a step.
+/// Why a step isn't made, or no memory is taken for it.
 #[derive(Clone, Copy, Debug, PartialEq, Eq)]
 pub enum FamilyFault {
     /// Memory ran out.
@@ -90,26 +90,13 @@ impl Family {
         if !has_room(&self.state, &self.callers, event) {
             return Err(FamilyFault::History(event.act.history_limit()));
         }
-        match self.make_ready(event, out) {
-            Ok(()) => Ok(()),
+        match make_ready(&mut self.state, &mut self.callers, event, out) {
+            Ok(ready) => {
+                self.ready = Some(ready);
+                Ok(())
+            }
             Err(_) => Err(FamilyFault::Memory),
         }
-    }
-
-    /// Takes memory for the step of an event for which the history has room.
-    fn make_ready(&mut self, event: &Event, out: &mut Outbox) -> Result<(), AllocError>
-        requires fits { history.has_room (self.old.family).entries event.now ≡ true }
-        ensures ok { OnOk result (self.new ≡ record self.old { ready = Some event.entry.now }) }
-        ensures err { OnErr result (self.new ≡ self.old) }
-        ensures words { out.new.words ≡ out.old.words }
-        ensures room { OnOk result (0 < out.new.room) }
-        ensures kept { out.old.room ≤ out.new.room }
-    {
-        self.state.make_room(registered_length(&event.act))?;
-        self.callers.reserve()?;
-        out.reserve(1)?;
-        let draft = draft_of(&mut self.state)?;
-        Ready::put(&mut self.ready, draft, &self.state, &self.callers, event)
     }
 
     /// The key with which it was made.
@@ -272,5 +259,56 @@ impl Family {
         let answer = step_asking(&mut self.state, ready, journal, out);
         self.callers.note(self.state.entries(), place);
         answer
+    }
+
+    /// Takes memory for the step of an event, and makes it: `reserve` and `step` in one. Memory that was taken for an event before
+    /// is given back, also where this is refused. No call tells a family yet that its journal was read again.
+    pub fn apply<D: Disk>(
+        &mut self,
+        journal: &mut Journal<D>,
+        event: &Event,
+        out: &mut Outbox,
+    ) -> Result<StepAnswer, FamilyFault>
+        requires given { is_reread (event.now).act ≡ false }
+        ensures stepped { IfOk result (λ answer. HasStepped D.told D.faults (self.old).family event.entry.now journal.old
+            journal.new (self.new).family answer out.old.words out.new.words) }
+        ensures cause { OnOk result (EntryIsCaused D.wants_memory (D.told journal.new.disk) (D.faults journal.old.disk)
+            (D.faults journal.new.disk) ((self.old).family).entries ((self.new).family).entries) }
+        ensures fits { OnOk result (history.has_room ((self.old).family).entries event.entry.now ≡ true) }
+        ensures later { D.faults journal.old.disk ≤ D.faults journal.new.disk }
+        ensures ready { (self.new).ready ≡ None }
+        ensures key { ((self.new).family).key ≡ ((self.old).family).key }
+        ensures same { OnErr result ((self.new).family ≡ (self.old).family) }
+        ensures journal { OnErr result (journal.new ≡ journal.old) }
+        ensures unsaid { OnErr result (out.new.words ≡ out.old.words) }
+        ensures kept { OnErr result (out.old.room ≤ out.new.room) }
+        ensures history { IsErrOf result (FamilyFault.History (history.limit_of (event.entry.now).act))
+            ↔ (history.has_room ((self.old).family).entries event.entry.now ≡ false) }
+        ensures memory { history.has_room ((self.old).family).entries event.entry.now ≡ true
+            → IsErr result → IsErrOf result FamilyFault.Memory }
+    {
+        families_stay_sound();
+        families_number_words();
+        histories_grow_by_entries();
+        self.let_go();
+        if !has_room(&self.state, &self.callers, event) {
+            return Err(FamilyFault::History(event.act.history_limit()));
+        }
+        let Ok(ready) = make_ready(&mut self.state, &mut self.callers, event, out) else {
+            return Err(FamilyFault::Memory);
+        };
+        let place = self.state.entry_count();
+        let answer = step_asking(&mut self.state, ready, journal, out);
+        self.callers.note(self.state.entries(), place);
+        Ok(answer)
+    }
+
+    /// Gives back the memory that was taken for a step. Where there is none, nothing is written.
+    fn let_go(&mut self)
+        ensures { self.new ≡ record self.old { ready = None } }
+    {
+        if self.ready.is_some() {
+            self.ready = None;
+        }
     }
 }

@@ -1,5 +1,5 @@
 // What is made ready for a step, so that it takes no memory.
-ghost use Rattle.std.specs.Prelude.{◌≡◌, ◌+◌, ◌<◌, ◌≤◌, length, is_some, true, Some, IfOk, OnErr, OnOk};
+ghost use Rattle.std.specs.Prelude.{◌≡◌, ◌+◌, ◌<◌, ◌≤◌, length, is_some, true, IfOk, OnOk};
 ghost use Rattle.std.specs.Option.{option_copied, option_map};
 ghost use Rattle.std.specs.Vec.{vec_items};
 ghost use Rattle.coordinator.specs.History as history;
@@ -7,7 +7,8 @@ ghost use Rattle.family_rules.specs.Changes.{nothing_yet};
 ghost use Rattle.family_rules.specs.Going.{CanGo};
 ghost use Rattle.family_step.specs.Acting.{length_in, name_in, name_of_said, reference_in};
 ghost use Rattle.family_step.specs.Asking.{AreReady, may_decide, may_want, waits_for};
-ghost use Rattle.family_step.specs.Callers.{IsIndex, answer_to, answered_later, call_for};
+ghost use Rattle.family_step.specs.Callers.{IsIndex, IsKept, answer_to, answered_later, call_for};
+ghost use Rattle.family_step.specs.Reserving.{IsStocked};
 ghost use Rattle.ots_model.specs.Limits.{reference_limit};
 
 use crate::callers::{CallPlaces, Callers};
@@ -16,6 +17,7 @@ use coordinator::{Act, Entry, Event, Finished, Said, copy_event};
 use decision_journal::Registration;
 use family_rules::{Draft, State};
 use ots_model::{Octets, RefBytes, RetryKey};
+use recovery_coord::Outbox;
 use std::alloc::{AllocError, Global};
 
 /// What was made ready for the step of an event: a copy of it, what it was answered where it is a call that comes again, the
@@ -33,17 +35,13 @@ pub(crate) struct Ready {
 }
 
 impl Ready {
-    ghost use Rattle.family_step.specs.Reserving.{IsStockedFor};
-    ghost use Rattle.family_step.specs.declared.ready.Ready.{Ready as Made};
-
-    /// Makes this ready for an event, with this memory for what its step brings.
-    pub fn put(
-        ready: &mut Option<Ready>,
+    /// Makes all this ready for an event, with this memory for what its step brings.
+    fn new(
         draft: Draft,
         state: &State,
         callers: &Callers,
         event: &Event,
-    ) -> Result<(), AllocError>
+    ) -> Result<Ready, AllocError>
         requires nothing { draft.changes ≡ (nothing_yet 0 0).changes }
         requires can { CanGo (length (state.now.family).rows + 8) state.now.family draft }
         requires index { IsIndex (callers.now).places (state.now.family).entries }
@@ -51,13 +49,12 @@ impl Ready {
         requires room { 0 < state.now.room }
         requires reach { length_in (event.now).act ≤ state.now.reach }
         requires history { 0 < state.now.history_room }
-        ensures event { OnOk result (option_map (λ (r : Made). r.event) ready.new ≡ Some event.entry.now) }
-        ensures stocked { OnOk result (IsStockedFor state.now ready.new) }
-        ensures err { OnErr result (ready.new ≡ ready.old) }
+        ensures event { IfOk result (λ ready. ready.event ≡ event.entry.now) }
+        ensures stocked { IfOk result (λ ready. IsStocked state.now ready) }
     {
         let alloc = state.allocator();
         let name = name_asked(alloc, state, event)?;
-        *ready = Some(Ready {
+        Ok(Ready {
             event: copy_event(alloc, event)?,
             answered: copy_answer(alloc, known(state, callers, event))?,
             to: reference_of(alloc, &event.act)?,
@@ -65,13 +62,43 @@ impl Ready {
             name,
             named: named_by(alloc, state, event)?,
             draft,
-        });
-        Ok(())
+        })
     }
 }
 
+/// Takes memory for the step of an event for which the history has room, and room for its word. Nothing changes but for how
+/// much memory is taken.
+pub(crate) fn make_ready(
+    state: &mut State,
+    callers: &mut Callers,
+    event: &Event,
+    out: &mut Outbox,
+) -> Result<Ready, AllocError>
+    requires serial { (state.old.family).serial ≤ length (state.old.family).entries }
+    requires index { IsIndex (callers.old).places (state.old.family).entries }
+    requires fits { history.has_room (state.old.family).entries event.now ≡ true }
+    ensures event { IfOk result (λ ready. ready.event ≡ event.entry.now) }
+    ensures stocked { IfOk result (λ ready. IsStocked state.new ready) }
+    ensures noted { OnOk result (0 < callers.new.room) }
+    ensures family { state.new.family ≡ state.old.family }
+    ensures room_kept { state.old.room ≤ state.new.room }
+    ensures reach_kept { state.old.reach ≤ state.new.reach }
+    ensures history_kept { state.old.history_room ≤ state.new.history_room }
+    ensures places { IsKept callers.old.places callers.new.places }
+    ensures places_room { callers.old.room ≤ callers.new.room }
+    ensures words { out.new.words ≡ out.old.words }
+    ensures room { OnOk result (0 < out.new.room) }
+    ensures kept { out.old.room ≤ out.new.room }
+{
+    state.make_room(registered_length(&event.act))?;
+    callers.reserve()?;
+    out.reserve(1)?;
+    let draft = draft_of(state)?;
+    Ready::new(draft, state, callers, event)
+}
+
 /// Memory for what a step brings.
-pub(crate) fn draft_of(state: &mut State) -> Result<Draft, AllocError>
+fn draft_of(state: &mut State) -> Result<Draft, AllocError>
     requires serial { (state.old.family).serial ≤ length (state.old.family).entries }
     ensures nothing { IfOk result (λ d. d.changes ≡ (nothing_yet 0 0).changes) }
     ensures can { IfOk result (λ d.
@@ -86,7 +113,7 @@ pub(crate) fn draft_of(state: &mut State) -> Result<Draft, AllocError>
 }
 
 /// How long the reference is that an act registers, where what it registers may be told the outcome.
-pub(crate) fn registered_length(act: &Act) -> usize
+fn registered_length(act: &Act) -> usize
     ensures length { result ≡ length_in act.now }
     ensures short { result ≤ reference_limit }
 {

@@ -89,12 +89,12 @@ module _ (items : List (Option FamilyParts)) (slot : ℕ) (x : Option FamilyPart
 
 -- ---- why no memory was taken for it
 
-pub no_room : (b : Bool) (fault : FamilyFault) (n : ℕ) → fault ≡ steps.History n
-    → (b ≡ true → IsErr {T = Unit {0}} (Err fault) → IsErrOf {T = Unit {0}} (Err fault) steps.Memory) → b ≡ false
+pub no_room : {A : Type 0} (b : Bool) (fault : FamilyFault) (n : ℕ) → fault ≡ steps.History n
+    → (b ≡ true → IsErr {T = A} (Err fault) → IsErrOf {T = A} (Err fault) steps.Memory) → b ≡ false
 no_room false fault n is memory = refl
 no_room true fault n is memory = let e = memory refl refl in absurd cc
 
-pub room_left : (b : Bool) (fault : FamilyFault) (n : ℕ) → fault ≡ steps.Memory
-    → (IsErrOf {T = Unit {0}} (Err fault) (steps.History n) ↔ (b ≡ false)) → b ≡ true
+pub room_left : {A : Type 0} (b : Bool) (fault : FamilyFault) (n : ℕ) → fault ≡ steps.Memory
+    → (IsErrOf {T = A} (Err fault) (steps.History n) ↔ (b ≡ false)) → b ≡ true
 room_left true fault n is history = refl
 room_left false fault n is history = let e = history.1 refl in absurd cc

@@ -1,5 +1,5 @@
 // A call to a node: a step of a family, or the answer of a record.
-ghost use Rattle.std.specs.Prelude.{◌≡◌, ◌⊎◌, ◌<◌, ◌≤◌, ◌∷◌, [], IsSome, false, true, None, Some, is_some, filter, slice_get, OnErr, IfOk, IfErr, if◌then◌else◌};
+ghost use Rattle.std.specs.Prelude.{◌≡◌, ◌⊎◌, ◌≤◌, ◌∷◌, ◌↔◌, [], IsSome, false, true, None, Some, is_some, filter, slice_get, IsErr, IsErrOf, OnOk, OnErr, IfOk, IfErr, if◌then◌else◌};
 ghost use Rattle.std.specs.List.{list_any};
 ghost use Rattle.std.specs.Option.{option_and_then};
 ghost use Rattle.coordinator.specs.declared.said.Entry.{Entry as Written};
@@ -141,38 +141,43 @@ fn step_family<D: Disk>(
     ensures fault { IfErr result (λ fault. applying.IsStepFault (family.old).family event.entry.now fault) }
 {
     let _ = journal.disk();
-    match family.reserve(event, out) {
-        Ok(()) => Ok(step_reserved(family, event, journal, recovered, out)),
+    match apply_to(family, event, journal, recovered, out) {
+        Ok(answer) => Ok(answer),
         Err(FamilyFault::History(_)) => Err(NodeFault::NoResources),
         Err(FamilyFault::Memory) => Err(NodeFault::Memory),
     }
 }
 
-/// The same of a step for which memory was taken.
-fn step_reserved<D: Disk>(
+/// The same, with the fault that the family gives.
+fn apply_to<D: Disk>(
     family: &mut Family,
     event: &Event,
     journal: &mut Journal<D>,
     recovered: &mut Recovered,
     out: &mut Outbox,
-) -> StepAnswer
-    requires reserved { (family.old).ready ≡ Some event.now }
+) -> Result<StepAnswer, FamilyFault>
     requires given { is_reread (event.now).act ≡ false }
-    requires room { 0 < out.old.room }
-    ensures stepped { HasSteppedIn D.wants_memory D.told D.faults (family.old).family event.entry.now
-        journal.old journal.new recovered.old recovered.new (family.new).family
-        result out.old.words out.new.words }
+    ensures stepped { IfOk result (λ answer. HasSteppedIn D.wants_memory D.told D.faults (family.old).family
+        event.entry.now journal.old journal.new recovered.old recovered.new (family.new).family
+        answer out.old.words out.new.words) }
+    ensures fits { OnOk result (history.has_room ((family.old).family).entries event.entry.now ≡ true) }
     ensures later { D.faults journal.old.disk ≤ D.faults journal.new.disk }
     ensures key { ((family.new).family).key ≡ ((family.old).family).key }
+    ensures same { OnErr result (applying.IsUnmoved (family.old).family (family.new).family journal.old journal.new
+        recovered.old recovered.new out.old.words out.new.words) }
+    ensures history { IsErrOf result (FamilyFault.History (history.limit_of (event.entry.now).act))
+        ↔ (history.has_room ((family.old).family).entries event.entry.now ≡ false) }
+    ensures memory { history.has_room ((family.old).family).entries event.entry.now ≡ true
+        → IsErr result → IsErrOf result FamilyFault.Memory }
 {
     families_close_last();
     let failed = journal.failed();
     let count = family.entries().len();
-    let answer = family.step(journal, event, out);
+    let answer = family.apply(journal, event, out)?;
     let stood = stood_at(family.entries(), count);
     let_go_done(stood, &answer, recovered);
     keep_once(failed, stood, journal.standing(), recovered);
-    answer
+    Ok(answer)
 }
 
 /// What the journal answered in the step of the entry at this place.

@@ -12,7 +12,7 @@ use Rattle.coordinator.specs.declared.said.StepAnswer.{StepAnswer}
 use Rattle.family_step.specs.Asking.{EntryIsCaused, IsCaused}
 use Rattle.service_node.specs.Applying.{is_done, let_go, records_without}
 use Rattle.service_node.proofs.Reserved.{caused_told, kept_where, let_go_told, stood_told, told_at}
-use Rattle.service_node.proofs.applying.step_reserved.Goals as goal
+use Rattle.service_node.proofs.applying.apply_to.Goals as goal
 
 pub returns-clause-stepped : goal.returns-clause-stepped
 returns-clause-stepped g c =
@@ -21,10 +21,10 @@ returns-clause-stepped g c =
     let f = c.args.family.now.family in
     let e = c.args.event.now in
     let j = c.args.journal.now in
-    let k = c.step-answer.new.journal in
+    let k = c.apply.new.journal in
     let held = c.args.recovered.now in
     let mid = c.let_go_done.new.recovered in
-    let st = c.step-answer.ensures.stepped in
+    let st = c.in_ok-answer.ensures.stepped in
     let stood_is : c.stood_at-stood.result ≡ st.stood =
     c.stood_at-stood.ensures
     ∙ ap (λ (xs : List Entry). told_at xs (length c.entries-count.result.now)) (c.entries.ensures.entries ∙ ap (λ (x : Family). x.entries) st.family_is)
@@ -41,7 +41,7 @@ returns-clause-stepped g c =
       asked = st.asked;
       caused = caused_told told counts f e j k st.stood (IsCaused g.D.Disk.wants_memory (told k.disk) (counts j.disk) (counts k.disk))
           (subst (λ (x : Family). EntryIsCaused g.D.Disk.wants_memory (told k.disk) (counts j.disk) (counts k.disk) f.entries x.entries) st.family_is
-          c.step-answer.ensures.cause)
+          c.in_ok-answer.ensures.cause)
           st.asked;
       family_is = st.family_is;
       answer_is = st.answer_is;
