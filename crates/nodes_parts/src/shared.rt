@@ -1,11 +1,15 @@
 // References that share the octets in front of the numbers of their objects.
-ghost use Rattle.std.specs.Prelude.{◌≡◌, ◌++◌, ◌+◌, length, bytes_eq, IfOk};
+ghost use Rattle.std.specs.Prelude.{◌≡◌, ◌++◌, ◌+◌, ◌≤◌, length, take, drop, bytes_eq, IfOk};
 ghost use Rattle.nodes_parts.specs.Shared.{IsParted, IsTail, tail_octets};
 
 use crate::objects::NUMBER_PLACE;
 use std::alloc::{AllocError, Global};
 use std::marker::Model;
 use std::rc::Rc;
+use std::simd::prelude::*;
+
+/// How many octets a word has.
+const WORD: usize = 16;
 
 /// A reference. Its octets from the number of its object on are its own; those in front of them may be shared with others. One
 /// that is too short for a number has only these. Contracts see its octets.
@@ -71,7 +75,39 @@ fn has_parts(octets: &[u8], front: &[u8], tail: &[u8]) -> bool
     ensures { result ≡ bytes_eq octets.now (front.now ++ tail.now) }
 {
     let (before, behind) = octets.split_at(front.len());
-    are_same(behind, tail) && before == front
+    are_same_by_words(behind, tail) && are_same_by_words(before, front)
+}
+
+/// Whether octets are the same as others that are as many. They are compared a word at a time, and the last word may overlap the
+/// one before it.
+fn are_same_by_words(octets: &[u8], others: &[u8]) -> bool
+    requires { length octets.now ≡ length others.now }
+    ensures { result ≡ bytes_eq octets.now others.now }
+{
+    if octets.len() < WORD {
+        return are_same(octets, others);
+    }
+    let last = octets.len() - WORD;
+    let mut at = 0;
+    while at < last {
+        if !is_same_word(octets, others, at) {
+            return false;
+        }
+        at += WORD;
+    }
+    is_same_word(octets, others, last)
+}
+
+/// Whether octets have the same word at a place as others.
+fn is_same_word(octets: &[u8], others: &[u8], at: usize) -> bool
+    requires within { at + 16 ≤ length octets.now }
+    requires other_within { at + 16 ≤ length others.now }
+    ensures { result ≡ bytes_eq (take 16 (drop at octets.now)) (take 16 (drop at others.now)) }
+{
+    u8x16::from_slice(&octets[at..])
+        .simd_ne(u8x16::from_slice(&others[at..]))
+        .to_bitmask()
+        == 0
 }
 
 /// Whether octets are the same as others that are as many. They are few, and are compared one by one.
