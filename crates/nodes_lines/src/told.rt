@@ -2,18 +2,82 @@ ghost use Rattle.nodes_world.specs.Told as told;
 ghost use Rattle.nodes_lines.specs.Telling.{IsTold};
 
 use crate::answer::answer_piece;
+use crate::words::{phase_word, state_word};
 use coordinator::Said;
 use ots_model::Piece::{Named, Number, Text};
 use ots_model::tree::Word;
-use ots_model::{Line, Name, write_line};
+use ots_model::{Line, Name, PhaseWord, ResourceState, Vote, write_line};
 use std::alloc::AllocError;
 
-/// Tells a line of `ots_model`, one that agreement may speak of.
+/// Tells a line of `ots_model`, one that agreement may speak of. The commonest ones are written by functions of their own, which
+/// is quicker.
 #[tactic(auto, unfolding(nodes_world::specs::Told::spelled, nodes_world::specs::Told::words_of, ots_model::specs::Line::spelling))]
 pub fn tell_known(lines: &mut Vec<u8>, line: Line) -> Result<(), AllocError>
     ensures { IsTold result (told.Known line) lines.old.items lines.new.items }
 {
-    line.write(lines)
+    match line {
+        Line::Send {
+            message,
+            word,
+            registration,
+        } => tell_phase(lines, message, word, registration),
+        Line::Recv { message } => tell_received(lines, message),
+        Line::Voted { registration, vote } => tell_voted(lines, registration, vote),
+        Line::State { resource, state } => tell_state(lines, resource, state),
+        other => other.write(lines),
+    }
+}
+
+/// A word of the two phases goes out.
+#[tactic(auto, unfolding(nodes_world::specs::Told::spelled, nodes_world::specs::Told::words_of, ots_model::specs::Line::parts))]
+fn tell_phase(
+    lines: &mut Vec<u8>,
+    message: u32,
+    word: PhaseWord,
+    registration: Name,
+) -> Result<(), AllocError>
+    ensures { IsTold result (told.Known (Line.Send message word registration)) lines.old.items lines.new.items }
+{
+    let number = Number(u64::from(message));
+    write_line(
+        lines,
+        &[
+            Text(b"send"),
+            number,
+            Text(phase_word(word)),
+            Named(registration),
+        ],
+    )
+}
+
+/// A message was delivered.
+#[tactic(auto, unfolding(nodes_world::specs::Told::spelled, nodes_world::specs::Told::words_of, ots_model::specs::Line::parts))]
+fn tell_received(lines: &mut Vec<u8>, message: u32) -> Result<(), AllocError>
+    ensures { IsTold result (told.Known (Line.Recv message)) lines.old.items lines.new.items }
+{
+    write_line(lines, &[Text(b"recv"), Number(u64::from(message))])
+}
+
+/// A registration's vote was counted.
+#[tactic(auto, unfolding(nodes_world::specs::Told::spelled, nodes_world::specs::Told::words_of, ots_model::specs::Line::parts))]
+fn tell_voted(lines: &mut Vec<u8>, registration: Name, vote: Vote) -> Result<(), AllocError>
+    ensures { IsTold result (told.Known (Line.Voted registration vote)) lines.old.items lines.new.items }
+{
+    write_line(
+        lines,
+        &[Text(b"vote"), Named(registration), Text(vote.text())],
+    )
+}
+
+/// A resource is in a new state.
+#[tactic(auto, unfolding(nodes_world::specs::Told::spelled, nodes_world::specs::Told::words_of, ots_model::specs::Line::parts))]
+fn tell_state(lines: &mut Vec<u8>, resource: Name, state: ResourceState) -> Result<(), AllocError>
+    ensures { IsTold result (told.Known (Line.State resource state)) lines.old.items lines.new.items }
+{
+    write_line(
+        lines,
+        &[Text(b"state"), Named(resource), Text(state_word(state))],
+    )
 }
 
 /// A node or an end goes down.

@@ -1,8 +1,10 @@
 ghost use Rattle.std.specs.Prelude.{◌≡◌};
 ghost use Rattle.std.specs.Option.{option_copied};
+ghost use Rattle.ots_model.specs.Words as words;
 ghost use Rattle.nodes_world.specs.Told as told;
 
 use coordinator::Act;
+use ots_model::{PhaseWord, ResourceState};
 
 /// What a client calls, by the operation's name in the standard. What no client calls has none.
 pub fn operation_of(act: &Act) -> Option<&'static [u8]>
@@ -31,5 +33,29 @@ pub fn operation_of(act: &Act) -> Option<&'static [u8]>
         Act::CreateSubtransaction => Some(b"create_subtransaction"),
         Act::GetTxcontext => Some(b"get_txcontext"),
         _ => None,
+    }
+}
+
+/// A word of the two phases, by its name in interface Resource.
+pub(crate) fn phase_word(word: PhaseWord) -> &'static [u8]
+    ensures { result.now ≡ words.told_word word }
+{
+    match word {
+        PhaseWord::Prepare => b"prepare",
+        PhaseWord::Commit => b"commit",
+        PhaseWord::CommitOnePhase => b"commit_one_phase",
+        PhaseWord::Rollback => b"rollback",
+    }
+}
+
+/// The state of a resource, by its word in a line.
+pub(crate) fn state_word(state: ResourceState) -> &'static [u8]
+    ensures { result.now ≡ words.state_word state }
+{
+    match state {
+        ResourceState::Prepared => b"prepared",
+        ResourceState::Applied => b"applied",
+        ResourceState::Undone => b"undone",
+        ResourceState::Forgotten => b"forgotten",
     }
 }
