@@ -1,8 +1,9 @@
 -- What comes of an event at a seat.
-use Rattle.std.proofs.Common.{◌≡◌, ℕ, Bool, true, false, Option, Some, None, if◌then◌else◌, refl, sym, ap, subst, ◌∙◌}
+use Rattle.std.proofs.Common.{◌≡◌, ℕ, Bool, true, false, List, [], ◌++◌, Option, Some, None, if◌then◌else◌, refl, sym, ap, subst, ◌∙◌}
 use Rattle.std.specs.Option.{option_map}
 use Rattle.ior_refs.specs.declared.key.ObjectKey.{ObjectKey}
 use Rattle.ots_model.specs.declared.completion.Stood.{Stood}
+use Rattle.ots_model.specs.declared.tree.Outward.{Outward}
 use Rattle.ots_outside.specs.Disk.{DiskState}
 use Rattle.recovery_coord.specs.Held.{is_held}
 use Rattle.coordinator.specs.Family.{Family}
@@ -61,10 +62,10 @@ service_keeps k e stood n = applied_keeps (family_for k e n) k e stood n
 
 -- ---- at a seat
 
-pub went_through : (k : ObjectKey) (e : Event) (s : Kept) (n : Living) (a : Answered) → s.server ≡ servers.Up n
-    → HasAnswered k e n (option_map stop_of s.stop) a
-    → WentThrough k e (seat_of s) (seat_of (record s { server = servers.Up a.node; stop = a.stop })) a.answer a.words.words
-went_through k e s n a is h = record {
+pub went_through : (k : ObjectKey) (e : Event) (s : Kept) (n : Living) (a : Answered) (words more : List Outward) → s.server ≡ servers.Up n → words ≡ []
+    → HasAnswered k e n (option_map stop_of s.stop) a words more
+    → WentThrough k e (seat_of s) (seat_of (record s { server = servers.Up a.node; stop = a.stop })) a.answer more
+went_through k e s n a words more is none h = record {
   node = n.node;
   up = ap (λ x. node_in (server_of x)) is;
   stood = h.stood;
@@ -72,14 +73,14 @@ went_through k e s n a is h = record {
   stop = option_map stop_of a.stop;
   asked = ap (λ (d : DiskState). asks (call_wants k e n.node) n.node.service n.node.found d (option_map stop_of s.stop)) (ap (λ x. disk_of x) is) ∙ h.asked;
   answer_is = h.answer;
-  words_are = h.words;
+  words_are = h.words_are ∙ ap (λ (xs : List Outward). xs ++ (applies k e h.stood n.node).words) none;
   later = ap (λ (m : Node). record { name = s.name; clock = s.clock; disk = a.node.disk; stop = option_map stop_of a.stop; server = OfNode (Some m) }) h.node;
 }
 
-pub went_down : (k : ObjectKey) (e : Event) (s : Kept) (n : Living) (x : Stopped) → s.server ≡ servers.Up n
-    → HasStopped k e n (option_map stop_of s.stop) x
+pub went_down : (k : ObjectKey) (e : Event) (s : Kept) (n : Living) (x : Stopped) (more : List Outward) → s.server ≡ servers.Up n
+    → HasStopped k e n (option_map stop_of s.stop) x more
     → WentDown k e (seat_of s) (seat_of (record s { server = servers.Down x.image; stop = None })) x.heard
-went_down k e s n x is h = record {
+went_down k e s n x more is h = record {
   node = n.node;
   up = ap (λ y. node_in (server_of y)) is;
   image = x.image.items;
@@ -88,14 +89,14 @@ went_down k e s n x is h = record {
   later = refl;
 }
 
-pub through_keeps : (k : ObjectKey) (e : Event) (s : Server) (n : Living) (stop : Option Stop) (a : Answered) → s ≡ servers.Up n → HasAnswered k e n stop a
+pub through_keeps : (k : ObjectKey) (e : Event) (s : Server) (n : Living) (stop : Option Stop) (a : Answered) (words more : List Outward) → s ≡ servers.Up n → HasAnswered k e n stop a words more
     → KeepsServer s (servers.Up a.node)
-through_keeps k e s n stop a is h =
+through_keeps k e s n stop a words more is h =
     subst (λ (x : Server). KeepsServer x (servers.Up a.node)) (sym is) (ap (λ (m : Node). m.service) h.node ∙ service_keeps k e h.stood n.node)
 
-pub down_keeps : (k : ObjectKey) (e : Event) (s : Server) (n : Living) (stop : Option Stop) (x : Stopped) → s ≡ servers.Up n → HasStopped k e n stop x
+pub down_keeps : (k : ObjectKey) (e : Event) (s : Server) (n : Living) (stop : Option Stop) (x : Stopped) (more : List Outward) → s ≡ servers.Up n → HasStopped k e n stop x more
     → KeepsServer s (servers.Down x.image)
-down_keeps k e s n stop x is h = subst (λ (y : Server). KeepsServer y (servers.Down x.image)) (sym is) h.holds
+down_keeps k e s n stop x more is h = subst (λ (y : Server). KeepsServer y (servers.Down x.image)) (sym is) h.holds
 
 pub same_keeps : (s : Server) → KeepsServer s s
 same_keeps (servers.Up n) = refl

@@ -44,15 +44,15 @@ pub record WentDown (k : ObjectKey) (e : Event) (before after : Seat) (heard : L
   pub heard_is : heard ≡ heard_by (family_for k e node) e.act
   pub later : after ≡ record before { server = OfNode None; disk = at_first image; stop = None }
 
-abbrev pub HasCome : ObjectKey → Event → Seat → Seat → Came → Type 0
-HasCome k e before after came.Nothing = (node_in before.server ≡ None) × (after ≡ before)
-HasCome k e before after (came.Through p) = WentThrough k e before after p.answer p.words.words
-HasCome k e before after (came.Down heard) = WentDown k e before after heard
+abbrev pub HasCome : ObjectKey → Event → Seat → Seat → Came → List Outward → Type 0
+HasCome k e before after came.Nothing words = (node_in before.server ≡ None) × (after ≡ before)
+HasCome k e before after (came.Through answer) words = WentThrough k e before after answer words
+HasCome k e before after (came.Down heard) words = WentDown k e before after heard
 
 -- so it is with the seat at a place, and nothing else has changed
-pub record HasComeAt (k : ObjectKey) (e : Event) (place : ℕ) (old new : State) (came : Came) : Type 0 where
+pub record HasComeAt (k : ObjectKey) (e : Event) (place : ℕ) (old new : State) (came : Came) (words : List Outward) : Type 0 where
   pub before : Seat
   pub there : slice_get (shown old).seats place ≡ Some before
   pub later : Seat
-  pub come : HasCome k e before later came
+  pub come : HasCome k e before later came words
   pub world : shown new ≡ with_seat place later (shown old)

@@ -12,11 +12,12 @@ ghost use Rattle.nodes_clients.specs.Carrying.{HasCarried, passed_lines, passes}
 ghost use Rattle.nodes_clients.specs.Keeping.{KeepsSeats};
 
 use crate::answering::{family_for, names_before_stop, recorded_at, tell_answer, tell_crash};
-use crate::coming::{Came, Passed, come_at};
+use crate::coming::{Came, come_at};
 use coordinator::{Event, NodeFault, StepAnswer};
 use ior_refs::ObjectKey;
 use nodes_state::State;
 use ots_world::WorldFault;
+use recovery_coord::Outbox;
 use std::alloc::AllocError;
 
 /// An event comes to the node at a place, where one is up: it is told what happened, and its words go out; or the node
@@ -43,14 +44,32 @@ pub fn carry(
     let name = seat.name;
     let recorded = recorded_at(seat, &event.act);
     let roster = names_before_stop(state.alloc, seat, &state.names, key)?;
-    match come_at(state, place, key, event)? {
+    let mut words = Outbox::new(state.alloc);
+    match come_at(state, place, key, event, &mut words)? {
         Came::Nothing => Ok(None),
-        Came::Through(passed) => go_through(state, lines, place, key, event, recorded, passed),
+        Came::Through(answer) => {
+            go_through(
+                state,
+                lines,
+                place,
+                key,
+                event,
+                recorded,
+                Passed { answer, words },
+            )
+        }
         Came::Down(heard) => {
             tell_crash(lines, &state.names, &roster, heard.items(), name)?;
             Ok(None)
         }
     }
+}
+
+/// A call that went through: what it is answered, or why it is refused, and the words that go out.
+#[derive(Drop)]
+struct Passed {
+    answer: Result<StepAnswer, NodeFault>,
+    words: Outbox,
 }
 
 /// A call went through at the node at a place: what happened is told, and its words go out.

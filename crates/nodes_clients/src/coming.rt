@@ -1,5 +1,5 @@
 // What becomes of a seat to which an event comes.
-ghost use Rattle.std.specs.Prelude.{◌≡◌, ◌<◌, false, length, IfOk, IfErr, OnOk};
+ghost use Rattle.std.specs.Prelude.{◌≡◌, ◌<◌, [], false, length, IfOk, IfErr, OnOk};
 ghost use Rattle.ots_world.specs.declared.fault.WorldFault.TheVariants.{Memory};
 ghost use Rattle.service_node.specs.Given.{node_makes};
 ghost use Rattle.nodes_state.specs.Seated.{seat_of};
@@ -16,41 +16,37 @@ use recovery_coord::Outbox;
 use std::alloc::Global;
 use std::mem;
 
-/// A call that went through: what it is answered, or why it is refused, and the words that go out.
-#[derive(Drop)]
-pub(crate) struct Passed {
-    pub answer: Result<StepAnswer, NodeFault>,
-    pub words: Outbox,
-}
-
 /// What has come of an event at a seat.
 #[derive(Drop)]
 pub(crate) enum Came {
     /// No node is up there.
     Nothing,
-    /// The call went through.
-    Through(Passed),
+    /// The call went through, and is answered so or refused.
+    Through(Result<StepAnswer, NodeFault>),
     /// The node has crashed inside a write, and this had happened before.
     Down(Effects),
 }
 
-/// An event comes to the seat at a place: a node that is up there goes on, or crashes.
+/// An event comes to the seat at a place: a node that is up there goes on, with the words that go out in `words`, or crashes.
 pub(crate) fn come_at(
     state: &mut State,
     place: usize,
     key: &ObjectKey,
     event: &Event,
+    words: &mut Outbox,
 ) -> Result<Came, WorldFault>
     requires there { place < length (state.old).seats.items }
     requires named { HasNames state.old }
     requires given { node_makes (event.now).act ≡ false }
-    ensures come { IfOk result (λ came. HasComeAt key.now event.entry.now place state.old state.new came) }
+    requires none { words.old.words ≡ [] }
+    ensures come { IfOk result
+        (λ came. HasComeAt key.now event.entry.now place state.old state.new came words.new.words) }
     ensures seats { OnOk result (KeepsSeats state.old state.new) }
     ensures names { OnOk result ((state.new).names ≡ (state.old).names) }
     ensures named { OnOk result (HasNames state.new) }
     ensures fault { IfErr result (λ fault. fault ≡ Memory) }
 {
-    Ok(come_to(state.alloc, &mut state.seats[place], key, event)?)
+    Ok(come_to(state.alloc, &mut state.seats[place], key, event, words)?)
 }
 
 /// An event comes to a seat: a node that is up there goes on, or crashes.
@@ -59,10 +55,12 @@ fn come_to(
     seat: &mut Seat,
     key: &ObjectKey,
     event: &Event,
+    words: &mut Outbox,
 ) -> Result<Came, WorldFault>
     requires given { node_makes (event.now).act ≡ false }
+    requires none { words.old.words ≡ [] }
     ensures come { IfOk result
-        (λ came. HasCome key.now event.entry.now (seat_of seat.old) (seat_of seat.new) came) }
+        (λ came. HasCome key.now event.entry.now (seat_of seat.old) (seat_of seat.new) came words.new.words) }
     ensures keeps { OnOk result (KeepsSeat seat.old seat.new) }
     ensures fault { IfErr result (λ fault. fault ≡ Memory) }
 {
@@ -73,14 +71,11 @@ fn come_to(
             return Ok(Came::Nothing);
         }
     };
-    match node.call(key, event, mem::replace(&mut seat.stop, None))? {
+    match node.call(key, event, mem::replace(&mut seat.stop, None), words)? {
         Called::Answered(answered) => {
             seat.server = Server::Up(answered.node);
             seat.stop = answered.stop;
-            Ok(Came::Through(Passed {
-                answer: answered.answer,
-                words: answered.words,
-            }))
+            Ok(Came::Through(answered.answer))
         }
         Called::Stopped(stopped) => {
             seat.server = Server::Down(stopped.image);

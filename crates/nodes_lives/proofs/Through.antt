@@ -1,5 +1,5 @@
 -- A call to a node that is up goes through, or memory was wanted in it.
-use Rattle.std.proofs.Common.{◌≡◌, ◌⊎◌, inl, inr, ℕ, Bool, true, false, List, [], ◌++◌, Option, sym, ap, ◌∙◌}
+use Rattle.std.proofs.Common.{◌≡◌, ◌⊎◌, inl, inr, ℕ, Bool, true, false, List, ◌++◌, Option, sym, ap, ◌∙◌}
 use Rattle.std.specs.Prelude.{Result}
 use Rattle.ior_refs.specs.declared.key.ObjectKey.{ObjectKey}
 use Rattle.ots_model.specs.declared.completion.Stood.{Stood}
@@ -21,33 +21,33 @@ use Rattle.nodes_lives.specs.Writing.{Writes, is_memory}
 use Rattle.nodes_lives.proofs.Applying.{node_now, runs_on, writes}
 
 -- it went through
-pub record Goes (k : ObjectKey) (e : Event) (loaded : List ℕ) (end : ℕ) (s t : NodeState MemDiskState) (said : Result StepAnswer NodeFault) (more : List Outward) : Type 0 where
+pub record Goes (k : ObjectKey) (e : Event) (loaded : List ℕ) (end : ℕ) (s t : NodeState MemDiskState) (said : Result StepAnswer NodeFault) (words more : List Outward) : Type 0 where
   pub stood : Option Stood
   pub runs : IsRunning t loaded (end_from t.journal.disk.disk.reads end)
   pub writes : Writes k e loaded (record { node = s.node; disk = s.journal.disk.disk }) t.journal.disk.disk stood end (end_from t.journal.disk.disk.reads end)
   pub node : t.node ≡ (applies k e stood s.node).node
   pub answer : said ≡ (applies k e stood s.node).answer
-  pub words : more ≡ (applies k e stood s.node).words
+  pub words_are : more ≡ words ++ (applies k e stood s.node).words
 
 module _ (wants : Bool) (counts : MemDiskState → ℕ) (read : RecordsAreRead) (keep : NodesKeepDecisions) (law : HeldRecordsStood) (once : CompletesOnce) (k : ObjectKey) (e : Event)
     (s t : NodeState MemDiskState) (loaded : List ℕ) (end : ℕ) (r : IsRunning s loaded end) (current : IsCurrent told s.journal) (said : Result StepAnswer NodeFault)
-    (words more : List Outward) (none : words ≡ []) (other : is_memory said ≡ false) (works : t.journal.failed ≡ false) where
-  by_applied : IsApplied wants told counts k e s t said words more → Goes k e loaded end s t said more
+    (words more : List Outward) (other : is_memory said ≡ false) (works : t.journal.failed ≡ false) where
+  by_applied : IsApplied wants told counts k e s t said words more → Goes k e loaded end s t said words more
   by_applied a = record {
     stood = a.stood;
     runs = runs_on counts read keep law once k e s t loaded end r current a.stood a.asked works a.node_is;
     writes = writes counts read keep law once k e s t loaded end r current a.stood a.asked works a.node_is;
     node = node_now counts read keep law once k e s t loaded end r current a.stood a.asked works a.node_is;
     answer = a.answer_is;
-    words = a.words_are ∙ ap (λ (xs : List Outward). xs ++ (applies k e a.stood s.node).words) none;
+    words_are = a.words_are;
   }
 
-  by_want : IsUnapplied k e s t said words more → Goes k e loaded end s t said more
+  by_want : IsUnapplied k e s t said words more → Goes k e loaded end s t said words more
   by_want u = absurd (no (sym other ∙ ap is_memory u.fault))
     where
       no : false ≡ true → ⊥
       no same = cc
 
-  pub goes : IsApplied wants told counts k e s t said words more ⊎ IsUnapplied k e s t said words more → Goes k e loaded end s t said more
+  pub goes : IsApplied wants told counts k e s t said words more ⊎ IsUnapplied k e s t said words more → Goes k e loaded end s t said words more
   goes (inl a) = by_applied a
   goes (inr u) = by_want u

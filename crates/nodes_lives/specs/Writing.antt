@@ -3,6 +3,7 @@ use Rattle.std.specs.Prelude.{◌≡◌, ℕ, Bool, true, false, List, [], ◌�
 use Rattle.ior_refs.specs.declared.key.ObjectKey.{ObjectKey}
 use Rattle.ots_model.specs.declared.completion.Stood.{Stood}
 use Rattle.ots_model.specs.declared.completion.Stood.TheVariants as answers
+use Rattle.ots_model.specs.declared.tree.Outward.{Outward}
 use Rattle.ots_outside.specs.Disk.{DiskState}
 use Rattle.decision_journal.specs.Journal.{StandsFor}
 use Rattle.decision_journal.specs.Laws.{CanAppend, IsSettled, appended, behind_gate}
@@ -47,13 +48,13 @@ pub data Writes (k : ObjectKey) (e : Event) (loaded : List ℕ) (before : Living
       → Writes k e loaded before after stood end now
 
 -- the call went through, as long as no stop comes
-pub record HasGoneThrough (k : ObjectKey) (e : Event) (before : Running) (t : Through) : Type 0 where
+pub record HasGoneThrough (k : ObjectKey) (e : Event) (before : Running) (t : Through) (words more : List Outward) : Type 0 where
   pub stood : Option Stood
   pub writes : Writes k e before.loaded.items (living before) (t.running.node.value.journal.disk.disk) stood before.end t.running.end
   pub loaded : t.running.loaded.items ≡ before.loaded.items
   pub node : t.running.node.value.node ≡ (applies k e stood before.node.value.node).node
   pub answer : t.answer ≡ (applies k e stood before.node.value.node).answer
-  pub words : t.words.words ≡ (applies k e stood before.node.value.node).words
+  pub words_are : more ≡ words ++ (applies k e stood before.node.value.node).words
 
 -- a call was refused for want of memory
 abbrev pub is_memory : Result StepAnswer NodeFault → Bool

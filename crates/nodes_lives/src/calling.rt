@@ -23,14 +23,13 @@ use std::alloc::{AllocError, Global};
 /// How many writes an append makes.
 const APPEND_WRITES: u64 = 2;
 
-/// A call that went through: the node behind it, the stop that is still to come, what the call is answered or why it is
-/// refused, and the words that go out.
+/// A call that went through: the node behind it, the stop that is still to come, and what the call is answered or why it is
+/// refused.
 #[derive(Drop)]
 pub struct Answered {
     pub node: LiveNode,
     pub stop: Option<Stop>,
     pub answer: Result<StepAnswer, NodeFault>,
-    pub words: Outbox,
 }
 
 /// A crash inside a write in a call: the octets that it has left of the disk, and what had happened before, in order.
@@ -51,20 +50,23 @@ pub enum Called {
 
 impl LiveNode {
     /// A call or an answer comes to the object with this key, and a stop may be to come. The event is none that a node
-    /// tells its families itself. Where memory runs out, the node is gone.
+    /// tells its families itself. The words that go out are put behind those that wait; where the node crashes, no word waits.
+    /// Where memory runs out, the node is gone.
     pub fn call(
         self,
         key: &ObjectKey,
         event: &Event,
         stop: Option<Stop>,
+        words: &mut Outbox,
     ) -> Result<Called, WorldFault>
         requires given { node_makes (event.now).act ≡ false }
-        ensures called { IfOk result (λ c. HasCalled key.now event.entry.now self (option_map stop_of stop) c) }
+        ensures called { IfOk result (λ c. HasCalled key.now event.entry.now self (option_map stop_of stop) c
+            words.old.words words.new.words) }
         ensures fault { IfErr result (λ fault. fault ≡ Memory) }
     {
         match stop {
-            Some(stop) => call_before(self.running, key, event, stop),
-            None => Ok(went_on(apply(self.running, key, event)?, None)),
+            Some(stop) => call_before(self.running, key, event, stop, words),
+            None => Ok(went_on(apply(self.running, key, event, words)?, None)),
         }
     }
 }
@@ -76,7 +78,6 @@ fn went_on(through: Through, stop: Option<Stop>) -> Called
       node = living through.running;
       stop = stop;
       answer = through.answer;
-      words = through.words;
     }) }
 {
     Called::Answered(Answered {
@@ -85,7 +86,6 @@ fn went_on(through: Through, stop: Option<Stop>) -> Called
         },
         stop,
         answer: through.answer,
-        words: through.words,
     })
 }
 
@@ -95,17 +95,19 @@ fn call_before(
     key: &ObjectKey,
     event: &Event,
     mut stop: Stop,
+    words: &mut Outbox,
 ) -> Result<Called, WorldFault>
     requires runs { Runs running }
     requires given { node_makes (event.now).act ≡ false }
-    ensures called { IfOk result (λ c. HasCalled key.now event.entry.now (living running) (Some (stop_of stop)) c) }
+    ensures called { IfOk result (λ c. HasCalled key.now event.entry.now (living running) (Some (stop_of stop)) c
+        words.old.words words.new.words) }
     ensures fault { IfErr result (λ fault. fault ≡ Memory) }
 {
     stopped_appends_are_safe();
     families_close_last();
     completes_once();
     let last = running.end;
-    let through = apply(running, key, event)?;
+    let through = apply(running, key, event, words)?;
     let end = through.running.end;
     if end == last {
         return Ok(went_on(through, Some(stop)));
@@ -122,6 +124,7 @@ fn call_before(
     let alloc = through.running.alloc;
     let image = strike(alloc, appended, &stop)?;
     let heard = told_before(alloc, &through.answer)?;
+    *words = Outbox::new(alloc);
     Ok(Called::Stopped(Stopped { image, heard }))
 }
 

@@ -44,12 +44,11 @@ impl Running {
     }
 }
 
-/// A call that went through: the node behind it, what it is answered or why it is refused, and the words that go out.
+/// A call that went through: the node behind it, and what it is answered or why it is refused.
 #[derive(Drop)]
 pub(crate) struct Through {
     pub(crate) running: Running,
     pub(crate) answer: Result<StepAnswer, NodeFault>,
-    pub(crate) words: Outbox,
 }
 
 /// The disk of a node whose journal has not failed holds its records, and nothing else.
@@ -61,11 +60,18 @@ pub(crate) fn is_current(running: &Running)
     let _disk = running.node.journal().disk();
 }
 
-/// A call to a node, while no stop comes. Where its journal fails, memory ran out.
-pub(crate) fn apply(running: Running, key: &ObjectKey, event: &Event) -> Result<Through, WorldFault>
+/// A call to a node, while no stop comes; the words that go out are put behind those that wait. Where its journal fails, memory
+/// ran out.
+pub(crate) fn apply(
+    running: Running,
+    key: &ObjectKey,
+    event: &Event,
+    words: &mut Outbox,
+) -> Result<Through, WorldFault>
     requires runs { Runs running }
     requires given { node_makes (event.now).act ≡ false }
-    ensures through { IfOk result (λ t. HasGoneThrough key.now event.entry.now running t) }
+    ensures through { IfOk result
+        (λ t. HasGoneThrough key.now event.entry.now running t words.old.words words.new.words) }
     ensures runs { IfOk result (λ t. Runs t.running) }
     ensures fault { IfErr result (λ fault. fault ≡ Memory) }
 {
@@ -75,17 +81,12 @@ pub(crate) fn apply(running: Running, key: &ObjectKey, event: &Event) -> Result<
     completes_once();
     is_current(&running);
     let mut running = running;
-    let mut words = Outbox::new(running.alloc);
-    let answer = running.node.apply(key, event, &mut words);
+    let answer = running.node.apply(key, event, words);
     if is_memory(&answer) || running.has_failed() {
         return Err(WorldFault::Memory);
     }
     running.end = end_from(running.octets(), running.end);
-    Ok(Through {
-        running,
-        answer,
-        words,
-    })
+    Ok(Through { running, answer })
 }
 
 /// The gate behind the record of this one, or this one where it isn't open.

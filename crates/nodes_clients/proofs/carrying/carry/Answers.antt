@@ -31,8 +31,8 @@ returns-in_default-clause-carried c =
 pub returns-in-Nothing-clause-carried : goal.returns-in-Nothing-clause-carried
 returns-in-Nothing-clause-carried c =
     let s = c.args.state.now in
-    let h : HasComeAt c.args.key.now c.args.event.now c.args.place s c.come_at.new.state came.Nothing
-    = subst (λ x. HasComeAt c.args.key.now c.args.event.now c.args.place s c.come_at.new.state x) c.in-Nothing.is c.in_ok-come_at.ensures.come in
+    let h : HasComeAt c.args.key.now c.args.event.now c.args.place s c.come_at.new.state came.Nothing c.come_at.new.words.words
+    = subst (λ x. HasComeAt c.args.key.now c.args.event.now c.args.place s c.come_at.new.state x c.come_at.new.words.words) c.in-Nothing.is c.in_ok-come_at.ensures.come in
     let come : (node_in h.before.server ≡ None) × (h.later ≡ h.before) = h.come in
     carried_nowhere c.args.place c.args.key.now c.args.event.now (shown s) h.before h.later h.there (shown c.come_at.new.state) c.args.lines.now.items come.0
     (h.world ∙ same_seat_put (shown s) c.args.place h.before h.later h.there come.1)
@@ -43,14 +43,15 @@ returns-in-Through-clause-carried c =
     let t = c.come_at.new.state in
     let k = c.args.key.now in
     let e = c.args.event.now in
-    let passed = c.in-Through.passed in
-    let h : HasComeAt k e c.args.place s t (came.Through passed)
-    = subst (λ x. HasComeAt k e c.args.place s t x) c.in-Through.is c.in_ok-come_at.ensures.come in
-    let gone : WentThrough k e h.before h.later passed.answer passed.words.words = h.come in
+    let answer = c.in-Through.answer in
+    let words = c.come_at.new.words.words in
+    let h : HasComeAt k e c.args.place s t (came.Through answer) c.come_at.new.words.words
+    = subst (λ x. HasComeAt k e c.args.place s t x c.come_at.new.words.words) c.in-Through.is c.in_ok-come_at.ensures.come in
+    let gone : WentThrough k e h.before h.later answer words = h.come in
     let there = slice_get-map seat_of s.seats.items c.args.place ∙ ap (λ o. option_map seat_of o)
     (read_at _ _ _ _ c.deref.ensures.value c.get.ensures.lookup.3 ∙ ap (λ (o : Option (Bor Kept)). option_copied o) c.in-Some.is) in
     let same = seat_same (seat_of c.in-Some.seat.now) h.before _ there h.there in
-    carried_through c.args.place k e (shown s) h.before h.later h.there passed.answer passed.words.words gone c.recorded_at-recorded.result (shown t)
+    carried_through c.args.place k e (shown s) h.before h.later h.there answer words gone c.recorded_at-recorded.result (shown t)
     (shown c.go_through.new.state) c.args.lines.now.items c.go_through.new.lines.items c.go_through.result
     (c.recorded_at-recorded.ensures gone.node (ap (λ (x : Seat). node_in x.server) same ∙ gone.up)) h.world
     (c.go_through.ensures.carried (shown s) (applies k e gone.stood gone.node).node
@@ -69,8 +70,8 @@ returns-in_err-tell_crash-in-Down-clause-carried c =
     let e = c.args.event.now in
     let heard = c.in-Down.heard in
     let p = err_from_is_err_and c.from_residual-in_err-tell_crash-in-Down.result c.from_residual-in_err-tell_crash-in-Down.ensures.1 in
-    let h : HasComeAt k e c.args.place s t (came.Down heard)
-    = subst (λ x. HasComeAt k e c.args.place s t x) c.in-Down.is c.in_ok-come_at.ensures.come in
+    let h : HasComeAt k e c.args.place s t (came.Down heard) c.come_at.new.words.words
+    = subst (λ x. HasComeAt k e c.args.place s t x c.come_at.new.words.words) c.in-Down.is c.in_ok-come_at.ensures.come in
     let gone : WentDown k e h.before h.later heard = h.come in
     let there = slice_get-map seat_of s.seats.items c.args.place ∙ ap (λ o. option_map seat_of o)
     (read_at _ _ _ _ c.deref.ensures.value c.get.ensures.lookup.3 ∙ ap (λ (o : Option (Bor Kept)). option_copied o) c.in-Some.is) in
@@ -95,8 +96,8 @@ returns-clause-carried c =
     let k = c.args.key.now in
     let e = c.args.event.now in
     let heard = c.in-Down.heard in
-    let h : HasComeAt k e c.args.place s t (came.Down heard)
-    = subst (λ x. HasComeAt k e c.args.place s t x) c.in-Down.is c.in_ok-come_at.ensures.come in
+    let h : HasComeAt k e c.args.place s t (came.Down heard) c.come_at.new.words.words
+    = subst (λ x. HasComeAt k e c.args.place s t x c.come_at.new.words.words) c.in-Down.is c.in_ok-come_at.ensures.come in
     let gone : WentDown k e h.before h.later heard = h.come in
     let there = slice_get-map seat_of s.seats.items c.args.place ∙ ap (λ o. option_map seat_of o)
     (read_at _ _ _ _ c.deref.ensures.value c.get.ensures.lookup.3 ∙ ap (λ (o : Option (Bor Kept)). option_copied o) c.in-Some.is) in

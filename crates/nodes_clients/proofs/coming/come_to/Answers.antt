@@ -9,9 +9,9 @@ pub returns-in-Answered-clause-keeps : goal.returns-in-Answered-clause-keeps
 returns-in-Answered-clause-keeps c =
     let was : c.args.seat.now.server ≡ servers.Up c.in-Up.node = cc in
     let stop = option_map stop_of c.replace-2.result in
-    let called : HasAnswered c.args.key.now c.args.event.now c.in-Up.node stop c.in-Answered.answered
-    = subst (λ x. HasCalled c.args.key.now c.args.event.now c.in-Up.node stop x) c.in-Answered.is c.in_ok-answered.ensures.called in
+    let called : HasAnswered c.args.key.now c.args.event.now c.in-Up.node stop c.in-Answered.answered c.args.words.now.words c.call.new.words.words
+    = subst (λ x. HasCalled c.args.key.now c.args.event.now c.in-Up.node stop x c.args.words.now.words c.call.new.words.words) c.in-Answered.is c.in_ok-answered.ensures.called in
     record {
       name = refl;
-      server = through_keeps c.args.key.now c.args.event.now c.args.seat.now.server c.in-Up.node stop c.in-Answered.answered was called;
+      server = through_keeps c.args.key.now c.args.event.now c.args.seat.now.server c.in-Up.node stop c.in-Answered.answered c.args.words.now.words c.call.new.words.words was called;
     }

@@ -1,10 +1,12 @@
 use Rattle.std.proofs.Common.{◌-◌, ℕ, List, Some, refl, sym, ap, subst, ◌∙◌}
 use Rattle.std.proofs.lemmas.Result.{err_from_is_err_and}
+use Rattle.recovery_coord.specs.Outbox.{OutboxParts}
 use Rattle.nodes_world.specs.Journals.{Stops}
 use Rattle.nodes_parts.specs.declared.disks.Appended.{Appended}
 use Rattle.nodes_lives.specs.Calling.{HasCalled, stop_of}
 use Rattle.nodes_lives.specs.First.{told_before}
 use Rattle.nodes_lives.specs.Shown.{living}
+use Rattle.nodes_lives.specs.declared.calling.Called.{Called}
 use Rattle.nodes_lives.proofs.Calls.{asked_nearer, asked_same, asked_stops, has_gone, has_heard, image_holds}
 use Rattle.nodes_lives.proofs.Coming.{has_answered}
 use Rattle.nodes_lives.proofs.calling.call_before.Goals as goal
@@ -14,8 +16,8 @@ returns-then-end-last-clause-called c =
     let through = c.in_ok-through.through in
     let later = through.running.node.value.journal.disk.disk in
     let before = living c.args.running in
-    subst (HasCalled c.args.key.now c.args.event.now before (Some (stop_of c.args.stop))) (sym c.went_on.ensures)
-    (has_answered c.args.key.now c.args.event.now c.args.running through (Some (stop_of c.args.stop)) (Some c.args.stop) c.in_ok-through.ensures.through
+    subst (λ (x : Called). HasCalled c.args.key.now c.args.event.now before (Some (stop_of c.args.stop)) x c.args.words.now.words c.apply.new.words.words) (sym c.went_on.ensures)
+    (has_answered c.args.key.now c.args.event.now c.args.running through (Some (stop_of c.args.stop)) (Some c.args.stop) c.args.words.now.words c.apply.new.words.words c.in_ok-through.ensures.through
     (λ stood writes. asked_same c.args.key.now c.args.event.now c.args.running.loaded.items before later stood c.args.running.end through.running.end writes c.if-end-last.true (Some (stop_of c.args.stop))))
 
 pub returns-then-stop-gt-APPEND_WRITES-clause-called :
@@ -24,9 +26,9 @@ returns-then-stop-gt-APPEND_WRITES-clause-called c =
     let through = c.in_ok-through.through in
     let later = through.running.node.value.journal.disk.disk in
     let before = living c.args.running in
-    subst (HasCalled c.args.key.now c.args.event.now before (Some (stop_of c.args.stop))) (sym c.went_on-then-stop-gt-APPEND_WRITES.ensures)
+    subst (λ (x : Called). HasCalled c.args.key.now c.args.event.now before (Some (stop_of c.args.stop)) x c.args.words.now.words c.apply.new.words.words) (sym c.went_on-then-stop-gt-APPEND_WRITES.ensures)
     (has_answered c.args.key.now c.args.event.now c.args.running through (Some (stop_of c.args.stop))
-    (Some (record { write = c.args.stop.write - 2; image = c.args.stop.image })) c.in_ok-through.ensures.through
+    (Some (record { write = c.args.stop.write - 2; image = c.args.stop.image })) c.args.words.now.words c.apply.new.words.words c.in_ok-through.ensures.through
     (λ stood writes. asked_nearer c.args.key.now c.args.event.now c.args.running.loaded.items before later stood c.args.running.end through.running.end writes c.if-end-last.false
     (stop_of c.args.stop) c.if-stop-gt-APPEND_WRITES.true))
 
@@ -60,6 +62,7 @@ returns-clause-called c =
       heard = c.in_ok-heard.ensures ∙ ap told_before g.answer
           ∙ has_heard c.args.key.now c.args.event.now c.args.running.loaded.items before later g.stood c.args.running.end through.running.end
           c.families_close_last.ensures c.completes_once.ensures c.requires.given g.writes c.if-end-last.false;
+      unsaid = ap (λ (o : OutboxParts). o.words) c.new.ensures;
     }
 
 pub returns-in_err-heard-clause-fault : goal.returns-in_err-heard-clause-fault
