@@ -7,3 +7,7 @@ pub mod Laws
 pub mod Memory
 pub mod MemDisk
 pub mod Streams
+pub mod Doors
+pub mod Links
+pub mod Spawning
+pub mod Net

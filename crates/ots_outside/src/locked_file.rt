@@ -1,0 +1,133 @@
+ghost use Rattle.std.specs.Prelude.{◌≡◌, ◌≤◌, OnErr, IfErr};
+ghost use Rattle.ots_outside.specs.declared.disk.DiskRefusal.TheVariants.{Failed as DiskFailed};
+ghost use Rattle.ots_outside.specs.Faults.{LeavesFaults};
+ghost use Rattle.ots_outside.specs.Source.{HasRisen};
+
+use crate::disk::{Disk, DiskRefusal};
+use crate::file_disk::FileDisk;
+use crate::source::Failed;
+use std::fs::{File, Files, TryLockError};
+use std::io;
+use std::io::ErrorKind;
+use std::path::Path;
+
+/// A disk over a file that no other disk of this kind is over. Where the file can't be opened, or another has it, each call
+/// fails, which counts as one fault, and nothing is written.
+#[derive(Drop)]
+pub struct LockedFile {
+    disk: Option<FileDisk>,
+    faults: u64,
+}
+
+impl LockedFile {
+    /// A disk over the file of this name, which is made where there is none.
+    pub fn open<R: Files<File = File>>(rt: &R, name: &str) -> LockedFile {
+        LockedFile {
+            disk: open_locked(rt, name).ok(),
+            faults: 0,
+        }
+    }
+
+    /// The refusal of a call for which there is no disk.
+    fn refuse(faults: &mut u64) -> DiskRefusal
+        ensures refusal { result ≡ DiskFailed }
+        ensures cause { HasRisen faults.old faults.new }
+        ensures later { faults.old ≤ faults.new }
+    {
+        Failed::counted(faults);
+        DiskRefusal::Failed
+    }
+}
+
+/// A disk over the file of this name, which is locked.
+fn open_locked<R: Files<File = File>>(rt: &R, name: &str) -> io::Result<FileDisk> {
+    let (file, is_new) = open_or_make(rt, name)?;
+    match file.try_lock() {
+        Ok(()) => {}
+        Err(TryLockError::Error(error)) => return Err(error),
+        Err(TryLockError::WouldBlock) => return Err(ErrorKind::WouldBlock.into()),
+    }
+    if is_new {
+        let folder = File::open(rt, folder_of(name))?;
+        return Ok(FileDisk::new(file, Some(folder)));
+    }
+    Ok(FileDisk::new(file, None))
+}
+
+/// The file of this name, and whether it was just made.
+fn open_or_make<R: Files<File = File>>(rt: &R, name: &str) -> io::Result<(File, bool)> {
+    let mut options = File::options();
+    options.read(true).write(true);
+    match options.open(rt, name) {
+        Ok(file) => Ok((file, false)),
+        Err(error) if error.kind() == ErrorKind::NotFound => {
+            options.create_new(true);
+            Ok((options.open(rt, name)?, true))
+        }
+        Err(error) => Err(error),
+    }
+}
+
+/// The folder in which the file of this name is.
+fn folder_of(name: &str) -> &str {
+    match Path::new(name).parent() {
+        Some(folder) if !folder.as_str().is_empty() => folder.as_str(),
+        _ => ".",
+    }
+}
+
+impl Disk for LockedFile {
+    ghost use Rattle.std.specs.Prelude.{None, false};
+
+    ghost faults = { λ disk. disk.faults };
+
+    ghost told = { λ _. None };
+
+    ghost wants_memory = { false };
+
+    fn fault_count(&self) -> u64 {
+        self.faults
+    }
+
+    fn len(&mut self) -> Result<u64, DiskRefusal> {
+        match &mut self.disk {
+            Some(disk) => counted(&mut self.faults, disk.len()),
+            None => Err(LockedFile::refuse(&mut self.faults)),
+        }
+    }
+
+    fn read_at(&mut self, place: u64, into: &mut [u8]) -> Result<(), DiskRefusal> {
+        match &mut self.disk {
+            Some(disk) => counted(&mut self.faults, disk.read_at(place, into)),
+            None => Err(LockedFile::refuse(&mut self.faults)),
+        }
+    }
+
+    fn write_at(&mut self, place: u64, bytes: &[u8]) -> Result<(), DiskRefusal> {
+        match &mut self.disk {
+            Some(disk) => counted(&mut self.faults, disk.write_at(place, bytes)),
+            None => Err(LockedFile::refuse(&mut self.faults)),
+        }
+    }
+
+    fn sync(&mut self) -> Result<(), DiskRefusal> {
+        match &mut self.disk {
+            Some(disk) => counted(&mut self.faults, disk.sync()),
+            None => Err(LockedFile::refuse(&mut self.faults)),
+        }
+    }
+}
+
+/// What a disk answered, with its failure counted.
+fn counted<T: Drop>(faults: &mut u64, answer: Result<T, DiskRefusal>) -> Result<T, DiskRefusal>
+    requires failed { IfErr answer (λ refusal. refusal ≡ DiskFailed) }
+    ensures same { result ≡ answer }
+    ensures cause { OnErr result (HasRisen faults.old faults.new) }
+    ensures calm { LeavesFaults result faults.old faults.new }
+    ensures later { faults.old ≤ faults.new }
+{
+    if answer.is_err() {
+        Failed::counted(faults);
+    }
+    answer
+}
