@@ -29,11 +29,6 @@ key_in kind numbers = record {
   index = big_number 4 (drop 24 numbers);
 }
 
--- the octets are those of this key, and its kind is one of ours
-pub record SpellsKey (spelled : List ℕ) (key : ObjectKey) : Type 0 where
-  pub octets : spelled ≡ octets_of_key key
-  pub kind : IsTrue (is_kind key.kind)
-
 -- numbers that fit their octets
 pub record AreNumbers (k : ObjectKey) : Type 0 where
   pub kind : k.kind < 2 ^ 8
@@ -42,3 +37,9 @@ pub record AreNumbers (k : ObjectKey) : Type 0 where
   pub slot : k.slot < 2 ^ 32
   pub generation : k.generation < 2 ^ 64
   pub index : k.index < 2 ^ 32
+
+-- the octets are those of this key, whose numbers fit them, and its kind is one of ours
+pub record SpellsKey (spelled : List ℕ) (key : ObjectKey) : Type 0 where
+  pub octets : spelled ≡ octets_of_key key
+  pub numbers : AreNumbers key
+  pub kind : IsTrue (is_kind key.kind)

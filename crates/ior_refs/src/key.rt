@@ -1,5 +1,5 @@
 ghost use Rattle.std.specs.Prelude.{◌≡◌, length, IfSome, IfNone};
-ghost use Rattle.ior_refs.specs.Key.{SpellsKey, key_in, octets_of_key};
+ghost use Rattle.ior_refs.specs.Key.{AreNumbers, SpellsKey, key_in, octets_of_key};
 ghost use Rattle.ior_refs.specs.Reference.{AreOctets};
 
 use byteorder::{BigEndian, ByteOrder};
@@ -61,6 +61,7 @@ pub fn key_of(octets: &[u8]) -> Option<ObjectKey>
 fn key_in(kind: u8, numbers: &[u8]) -> ObjectKey
     requires { length numbers.now ≡ 28 }
     ensures key { result ≡ key_in kind numbers.now }
+    ensures numbers { AreNumbers result }
     ensures octets { AreOctets numbers.now }
 {
     ObjectKey {

@@ -9,7 +9,9 @@ use Rattle.cdr_values.specs.declared.fault.CdrFault.TheVariants.{BadOrder}
 use Rattle.cdr_values.specs.declared.order.Order.{Order}
 use Rattle.cdr_values.specs.declared.order.Order.TheVariants.{Big, Little}
 use Rattle.giop_frames.specs.declared.message.Request.{Request}
-use Rattle.ior_refs.specs.Laws.{ReferencesAreReadExactly}
+use Rattle.giop_frames.specs.declared.message.Target.{Target}
+use Rattle.giop_frames.specs.declared.message.Target.TheVariants as targets
+use Rattle.ior_refs.specs.Laws.{ReferencesAreReadExactly, SameOctetsSameKey}
 use Rattle.ior_refs.specs.declared.key.ObjectKey.{ObjectKey}
 use Rattle.ots_model.specs.declared.service.RetryKey.{RetryKey}
 use Rattle.ots_context.specs.Context.{IsContext}
@@ -19,7 +21,7 @@ use Rattle.ots_context.specs.Reading.{context_in}
 use Rattle.ots_context.specs.declared.context.Context.{Context}
 use Rattle.ots_calls.specs.Call.{operation_of, IsBody}
 use Rattle.ots_calls.specs.Fault.{fault_of, fault_of_context, told_as, or_refuse}
-use Rattle.ots_calls.specs.Laws.{NamesTellOperations, RequestsAreReadExactly}
+use Rattle.ots_calls.specs.Laws.{NamesTellOperations, OneRequestOneCall, RequestsAreReadExactly}
 use Rattle.ots_calls.specs.Reading.{call_at}
 use Rattle.ots_calls.specs.Request.{AreBoth, IsCall, IsFor, called_with}
 use Rattle.ots_calls.specs.Retry.{IsRetry, first_retry, retry_in, retry_in_first}
@@ -165,3 +167,17 @@ requests_only names contexts stand refs laws c r h =
 pub requests_exact : NamesTellOperations → ContextsAreReadExactly → ContextsStandExactly → ReferencesAreReadExactly → ReadingLaws → RequestsAreReadExactly
 requests_exact names contexts stand refs laws c r for =
     (requests_found names contexts stand refs laws c r for, requests_only names contexts stand refs laws c r)
+
+-- ---- one request, one call
+
+same_target : (a b : List ℕ) (t : Target) → t ≡ targets.Key a → t ≡ targets.Key b → a ≡ b
+same_target a b t e f = cc
+
+same_call : (a b : Called) (r : Request) → called_with a.key r ≡ Ok a → called_with b.key r ≡ Ok b → a.key ≡ b.key → a ≡ b
+same_call a b r e f same = ok_is {F = CallFault} a b (sym e ∙ ap (λ (k : ObjectKey). called_with k r) same ∙ f)
+
+pub one_call : RequestsAreReadExactly → SameOctetsSameKey → OneRequestOneCall
+one_call exact same a b r ha hb =
+    let octets = same_target ha.key.octets hb.key.octets r.target ha.key.is_key hb.key.is_key in
+    let key = same a.key b.key ha.key.spelled.numbers hb.key.spelled.numbers (sym ha.key.spelled.octets ∙ octets ∙ hb.key.spelled.octets) in
+    same_call a b r ((exact a r ha.key).1 ha) ((exact b r hb.key).1 hb) key

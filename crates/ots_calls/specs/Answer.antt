@@ -89,6 +89,11 @@ IsOf operation (answers.Plain what) = gives_of what ≡ (row_of operation).gives
 IsOf operation (answers.User exception) = IsTrue (raises operation exception)
 IsOf operation (answers.System exception minor done) = Unit {0}
 
+-- an answer of this service's own: the minor code of a system exception is 0 (our profile)
+abbrev pub IsOwn : Answer → Type 0
+IsOwn (answers.System exception minor done) = minor ≡ 0
+IsOwn answer = Unit {0}
+
 -- what a reader has left is the answer
 abbrev pub Says : Answer → Reading → Type 0
 Says (answers.Plain what) r = IsGiven what r

@@ -22,6 +22,10 @@ abbrev pub RequestsAreReadExactly : Type 0
 RequestsAreReadExactly = (c : Called) (r : Request) → IsFor c.key r.target
     → (called_with c.key r ≡ Ok c) ↔ IsCall c r
 
+-- a request is one call at most
+abbrev pub OneRequestOneCall : Type 0
+OneRequestOneCall = (a b : Called) (r : Request) → IsCall a r → IsCall b r → a ≡ b
+
 -- a reply is read as an answer to a call exactly where it is that answer
 abbrev pub AnswersAreReadExactly : Type 0
 AnswersAreReadExactly = (call : Call) (answer : Answer) (reply : Reply)

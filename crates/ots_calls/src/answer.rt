@@ -1,5 +1,6 @@
 ghost use Rattle.std.specs.Prelude.{◌≡◌};
 ghost use Rattle.ots_calls.specs.Answer.{gives_of, status_number};
+ghost use Rattle.ots_calls.specs.declared.answer.Answer.TheVariants as answers;
 
 use crate::exception::UserException;
 use crate::gives::Gives;
@@ -73,6 +74,13 @@ impl Given {
 }
 
 impl Answer {
+    /// A system exception that this service raises. Its minor code is 0 (our profile).
+    pub fn system(exception: SystemException, completed: Completed) -> Answer
+        ensures { result ≡ answers.System exception 0 completed }
+    {
+        Answer::System(exception, 0, completed)
+    }
+
     /// The reply_status of a reply with this answer.
     pub fn status(&self) -> u32
         ensures { result ≡ status_number self.now }

@@ -9,7 +9,10 @@ pub use fault::CallFault;
 pub use gives::Gives;
 pub use hearing::{heard, heard_in_reply};
 pub use interface::Interface;
-pub use laws::{answers_are_read_exactly, names_tell_operations, requests_are_read_exactly};
+pub use laws::{
+    answers_are_read_exactly, names_tell_operations, one_request_one_call,
+    requests_are_read_exactly,
+};
 pub use operation::{Bare, Handing, Operation};
 pub use replying::write_answer;
 pub use request::read_call;

@@ -5,7 +5,7 @@ ghost use Rattle.cdr_values.specs.Limits.{output_limit};
 ghost use Rattle.cdr_values.specs.declared.order.Order.TheVariants.{Big};
 ghost use Rattle.giop_frames.specs.Encode.{octets_in};
 ghost use Rattle.giop_frames.specs.declared.message.Message.TheVariants as messages;
-ghost use Rattle.ots_calls.specs.Answer.{IsAnswer, IsGiven, IsOf, Says, completed_number, vote_number};
+ghost use Rattle.ots_calls.specs.Answer.{IsAnswer, IsGiven, IsOf, IsOwn, Says, completed_number, vote_number};
 ghost use Rattle.ots_calls.specs.Answering.{answer_with};
 ghost use Rattle.ots_calls.specs.AnswerWriting.{IsUnwritten, answer_body, given_body, given_length, reply_of};
 ghost use Rattle.ots_calls.specs.Call.{operation_of};
@@ -29,7 +29,8 @@ use std::alloc::Global;
 /// refused.
 #[tactic(auto, unfolding(crate::specs::AnswerWriting::reply_of, giop_frames::specs::Encode::refusal_of))]
 pub fn write_answer(alloc: Global, id: u32, c: &Call, a: &Answer) -> Result<Reply, CallFault>
-    requires { given_length a.now < 2 ^ 31 }
+    requires length { given_length a.now < 2 ^ 31 }
+    requires own { IsOwn a.now }
     ensures exact { IfOk result (λ reply. reply_of id a.now ≡ Ok reply) }
     ensures answer { IfOk result (λ reply. IsAnswer c.now a.now reply) }
     ensures again { IfOk result (λ reply. answer_with c.now reply ≡ Ok a.now) }

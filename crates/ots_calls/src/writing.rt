@@ -3,7 +3,7 @@ ghost use Rattle.cdr_values.specs.Limits.{output_limit};
 ghost use Rattle.cdr_values.specs.declared.order.Order.TheVariants.{Big};
 ghost use Rattle.giop_frames.specs.Encode.{octets_in};
 ghost use Rattle.giop_frames.specs.declared.message.Message.TheVariants as messages;
-ghost use Rattle.ior_refs.specs.Key.{is_kind};
+ghost use Rattle.ior_refs.specs.Key.{AreNumbers, is_kind};
 ghost use Rattle.ots_context.specs.Context.{IsContext};
 ghost use Rattle.ots_context.specs.Finding.{first_context};
 ghost use Rattle.ots_context.specs.Writing.{kept_length};
@@ -20,7 +20,7 @@ use crate::laws::requests_are_read_exactly;
 use crate::request::RETRY_CONTEXT;
 use cdr_values::{Order, Writer, encapsulations_are_read_again};
 use giop_frames::{Contexts, Request, ServiceContext, Target};
-use ior_refs::key_octets;
+use ior_refs::{ObjectKey, key_octets};
 use ots_context::{Context, encode_context};
 use ots_model::{Octets, RetryKey};
 use std::alloc::Global;
@@ -93,8 +93,10 @@ fn addressed(
     contexts: Contexts,
     body: Octets,
 ) -> Result<Request, CallFault>
-    ensures { Finds (λ request. request) result (Ok (request_with id c.now contexts body)) }
+    ensures request { Finds (λ request. request) result (Ok (request_with id c.now contexts body)) }
+    ensures numbers { AreNumbers c.now.key }
 {
+    numbers_fit(&c.key);
     Ok(Request {
         id,
         flags: 3,
@@ -104,6 +106,18 @@ fn addressed(
         order: Order::Big,
         body,
     })
+}
+
+/// The numbers of a key fit their octets, by their types.
+fn numbers_fit(key: &ObjectKey)
+    ensures { AreNumbers key.now }
+{
+    let _kind = key.kind;
+    let _service = key.service;
+    let _life = key.life;
+    let _slot = key.slot;
+    let _generation = key.generation;
+    let _index = key.index;
 }
 
 /// The service contexts of a call.
