@@ -71,6 +71,7 @@ sound_same s v p is = subst (λ (x : Ballots). IsSound (record s { votes = recor
   tally = p.tally;
   outs = p.outs;
   outs_room = p.outs_room;
+  top = p.top;
 })
 
 -- one more registration
@@ -96,6 +97,7 @@ one_more s v b to aware lists p some fits few once =
       tally = p.tally;
       outs = p.outs;
       outs_room = p.outs_room;
+      top = p.top;
     }
 
 pub sound_registered : (s : Inside) (v : VotesParts) (b : ℕ) (to : List ℕ) (aware : Bool) → IsSound s → 0 < spare s.completion (length s.votes.ballots.registrations)
@@ -128,6 +130,7 @@ sound_sync s v b to p fits is = subst (λ (x : Ballots). IsSound (record s { vot
       tally = p.tally;
       outs = p.outs;
       outs_room = p.outs_room;
+      top = p.top;
     })
 
 -- the synchronizations are fewer than there may be where one was taken

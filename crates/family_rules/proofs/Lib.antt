@@ -5,6 +5,7 @@ mod Duties
 mod Closes
 mod Rested
 mod Marks
+mod Lives
 mod Heard
 mod AtSeat
 mod Posted

@@ -21,6 +21,6 @@ creates_one None b f rows calls (Err fault) is refused ok index more = absurd (c
 creates_one (Some x) b f rows calls (Ok n) is refused ok index more = absurd (cc (refused))
 creates_one (Some x) b f rows calls (Err fault) is refused ok index more = absurd (cc (is))
 
-pub at_ok : {P : Type 0} (result : Result ℕ TreeFault) → IsOk result → OnOk result P → P
+pub at_ok : {A P : Type 0} (result : Result A TreeFault) → IsOk result → OnOk result P → P
 at_ok (Ok n) is p = p
 at_ok (Err fault) is p = absurd (cc (is))

@@ -1,12 +1,9 @@
 -- The rules by which a call under way goes on, by their cases.
-use Rattle.std.proofs.Common.{◌≡◌, ◌∙◌, refl, ap, sym, ℕ, zero, suc, ◌==◌, ◌&&◌, ◌+◌, ◌<◌, ◌≤◌, Bool, true, false, not, cond, List, [], ◌∷◌, ◌++◌, drop, length, slice_set, Option, Some, None, arith, if◌then◌else◌}
-use Rattle.std.specs.Prelude.{filter}
-use Rattle.std.specs.List.{range_with_len, slice_get}
-use Rattle.std.specs.Option.{option_and_then, option_map_or, IfSome}
+use Rattle.std.proofs.Common.{◌≡◌, ◌∙◌, refl, ap, sym, ℕ, zero, suc, ◌==◌, ◌&&◌, ◌+◌, ◌<◌, ◌≤◌, Bool, true, false, not, List, [], ◌∷◌, ◌++◌, drop, length, slice_set, Option, Some, None, arith, if◌then◌else◌}
+use Rattle.std.specs.List.{slice_get}
+use Rattle.std.specs.Option.{option_and_then, option_map_or}
 use Rattle.std.proofs.lemmas.List.{length-set}
-use Rattle.txn_tree.specs.declared.row.Row.{Row}
-use Rattle.txn_tree.specs.Calls.{ended, deepest, is_deeper, is_live_below, live_under}
-use Rattle.txn_tree.specs.Rows.{parent}
+use Rattle.txn_tree.specs.Calls.{ended, live_under}
 use Rattle.coordinator.specs.Family.{Family, Call, Aim, Duty, call_at, with_call}
 use Rattle.coordinator.specs.declared.call.Leg.TheVariants.{Below, Own}
 use Rattle.coordinator.specs.declared.call.Stage.{Stage}
@@ -16,7 +13,7 @@ use Rattle.family_rules.specs.Calls.{has_left, left_at, told_in}
 use Rattle.family_rules.specs.Changes.{DraftParts, so_far}
 use Rattle.coordinator.specs.Table.{new_call}
 use Rattle.coordinator.specs.Closing.{waits}
-use Rattle.coordinator.specs.Running.{is_held, runs, runs_call, goes_on, tells_first, by_leg, sweeps, sweeps_next, ends_below, duties_below, passes, passes_top, tells_own, own_duties, own_ends, commits_up, is_commit, is_below, has_some, duty_notice}
+use Rattle.coordinator.specs.Running.{is_held, runs, runs_call, goes_on, tells_first, by_leg, sweeps, sweeps_next, ends_below, duties_below, passes, passes_top, tells_own, own_duties, own_ends, commits_up, adopter, is_commit, is_below, has_some, duty_notice}
 use Rattle.family_rules.proofs.Moving.{brings_nothing, chained, does_as}
 
 pub runs_held : (b : ℕ) (c : Call) (f : Family) → is_held b c f ≡ true → waits b c f ≡ runs b c f
@@ -61,7 +58,7 @@ pub tells_own_by : (ds : List Duty) (b : ℕ) (c : Call) (f : Family) → own_du
 unfolding tells_own
 tells_own_by ds b c f h = ap (λ (x : List Duty). tells_first x b (record c { leg = Own }) (own_ends c.aim b (record c { leg = Own })) f) (sym h)
 
-pub commits_by : (o : Option ℕ) (b : ℕ) (c : Call) (f : Family) → parent f.rows b ≡ o → commits_up b o c f ≡ commits_up b (parent f.rows b) c f
+pub commits_by : (o : Option ℕ) (b : ℕ) (c : Call) (f : Family) → adopter f.rows b ≡ o → commits_up b o c f ≡ commits_up b (adopter f.rows b) c f
 commits_by o b c f h = ap (λ (x : Option ℕ). commits_up b x c f) (sym h)
 
 -- what is written over itself stays
@@ -156,44 +153,6 @@ pub begins_free : (b : ℕ) (caller : Option ℕ) (aim : Aim) (f : Family) → (
 begins_free b caller aim f free = runs_free b (new_call caller aim) f (sym (new_held b caller aim f) ∙ free)
 
 -- ---- live subtransactions are rolled back
-
-AreBelow : ℕ → List ℕ → Type 0
-AreBelow n [] = Unit {0}
-AreBelow n (q ∷ qs) = (q < n) × AreBelow n qs
-
-below_by : (b : Bool) (n q : ℕ) (qs : List ℕ) → q < n → AreBelow n qs → AreBelow n (cond b (q ∷ qs) qs)
-unfolding AreBelow
-below_by true n q qs h all = (h, all)
-below_by false n q qs h all = all
-
-below_kept : (p : ℕ → Bool) (n : ℕ) (qs : List ℕ) → AreBelow n qs → AreBelow n (filter p qs)
-unfolding AreBelow
-below_kept p n [] all = tt
-below_kept p n (q ∷ qs) all = below_by (p q) n q (filter p qs) all.0 (below_kept p n qs all.1)
-
-below_range : (n a k : ℕ) → a + k ≤ n → AreBelow n (range_with_len a k)
-unfolding AreBelow
-below_range n a zero h = tt
-below_range n a (suc k) h = (omega (arith, h), below_range n (a + 1) k (omega (arith, h)))
-
-deeper_below : (b : Bool) (n q : ℕ) (o : Option ℕ) (d : ℕ) → q < n → ((e : ℕ) → o ≡ Some e → e < n) → (if b then Some q else o) ≡ Some d → d < n
-deeper_below true n q o d h rest is = let e : q ≡ d = cc (is) in omega (arith, e, h)
-deeper_below false n q o d h rest is = rest d is
-
-deepest_below : (rows : List Row) (n : ℕ) (qs : List ℕ) (d : ℕ) → AreBelow n qs → deepest rows qs ≡ Some d → d < n
-unfolding AreBelow
-deepest_below rows n [] d all is = absurd (cc (is))
-deepest_below rows n (q ∷ qs) d all is =
-    deeper_below (is_deeper rows q (deepest rows qs)) n q (deepest rows qs) d all.0 (λ e h. deepest_below rows n qs e all.1 h) is
-
-live_there : (rows : List Row) (b d : ℕ) → live_under rows b ≡ Some d → d < length rows
-live_there rows b d is =
-    deepest_below rows (length rows) (filter (is_live_below rows b) (range_with_len 0 (length rows))) d
-    (below_kept (is_live_below rows b) (length rows) (range_with_len 0 (length rows)) (below_range (length rows) 0 (length rows) (omega arith))) is
-
-pub live_if : (rows : List Row) (b : ℕ) (o : Option ℕ) → o ≡ live_under rows b → IfSome o (λ d. d < length rows)
-live_if rows b None is = tt
-live_if rows b (Some d) is = live_there rows b d (sym is)
 
 -- the rest stays where a subtransaction below ends
 pub record EndsBelow (f g : Family) (d e : DraftParts) : Type 0 where

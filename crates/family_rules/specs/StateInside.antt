@@ -1,8 +1,9 @@
-use Rattle.std.specs.Prelude.{◌≡◌, ℕ, ◌+◌, ◌-◌, ◌≤◌, List, length, min, nat_le, sum_by, vec_len, vec_capacity, if◌then◌else◌}
+use Rattle.std.specs.Prelude.{◌≡◌, ℕ, ◌+◌, ◌-◌, ◌≤◌, List, length, min, nat_le, sum_by, vec_len, vec_capacity, IsTrue, if◌then◌else◌}
 use Rattle.resource_votes.specs.History.{times}
 use Rattle.resource_votes.specs.Limits.{synchronization_limit}
 use Rattle.resource_votes.specs.declared.registration.Registration.{Registration}
 use Rattle.two_phase.specs.Stages.{Standing, Waiting, Going as UnderWay, Holds, no_room}
+use Rattle.txn_tree.specs.Rows.{is_live_branch}
 use Rattle.family_rules.specs.Calls.{all_seated, AllTasks}
 use Rattle.family_rules.specs.Order.{AreInOrder}
 use Rattle.coordinator.specs.Limits.{history_limit}
@@ -56,7 +57,8 @@ HasPlaces (UnderWay c) some = Unit {0}
 -- the history and the synchronizations keep to their limits; each entry has sent one word at most, and so has the step that
 -- goes on; each transaction has a seat, and what it has left to tell is of registrations that there are; each registration and each
 -- synchronization has the number of its place; each registration is in one list at most; all who are registered can take part;
--- what is counted over the seats is so; and the words are listed that are out, with room for one of each seat
+-- what is counted over the seats is so; the words are listed that are out, with room for one of each seat; and the top has not
+-- ended in its tree, since it ends by its completion
 pub record IsSound (s : Inside) : Type 0 where
   pub few : vec_len s.entries ≤ history_limit
   pub serial : s.serial ≤ vec_len s.entries + 1
@@ -71,3 +73,4 @@ pub record IsSound (s : Inside) : Type 0 where
   pub tally : IsTallied s.tally s.seats.items
   pub outs : AreOut s.outs.words s.seats.items
   pub outs_room : vec_len s.seats ≤ s.outs.capacity
+  pub top : IsTrue (is_live_branch s.tree.rows 0)

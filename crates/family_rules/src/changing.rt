@@ -1,10 +1,11 @@
 // What a family shows of what it keeps, and what a client's call and a step change of it.
-ghost use Rattle.std.specs.Prelude.{◌≡◌, ℕ, ◌<◌, ◌≤◌, ◌+◌, ◌∷◌, ◌++◌, [], length, is_none, false};
+ghost use Rattle.std.specs.Prelude.{◌≡◌, ℕ, ◌<◌, ◌≤◌, ◌+◌, ◌∷◌, ◌++◌, [], length, is_none, false, IsTrue};
 ghost use Rattle.txn_tree.specs.Calls.{creating, ended};
 ghost use Rattle.txn_tree.specs.Limits.{transaction_limit};
 ghost use Rattle.resource_votes.specs.Ballots as ballots;
 ghost use Rattle.coordinator.specs.Family.{call_at};
 ghost use Rattle.coordinator.specs.Limits.{history_limit};
+ghost use Rattle.coordinator.specs.Phases as phases;
 ghost use Rattle.coordinator.specs.Running.{left_by};
 ghost use Rattle.coordinator.specs.Step as steps;
 ghost use Rattle.coordinator.specs.Table as table;
@@ -113,9 +114,11 @@ impl State {
         self.stage = Stage::Finishing;
     }
 
-    /// A subtransaction has ended, rolled back.
+    /// A subtransaction that was open has ended, rolled back.
     pub fn close_sub(&mut self, branch: u32)
         requires there { branch < length (self.old.family).rows }
+        requires below { 0 < branch }
+        requires opened { IsTrue (phases.is_open (phases.column self.old.family branch)) }
         ensures family { self.new.family
             ≡ record self.old.family { rows = ended (self.old.family).rows branch false } }
         ensures kept { self.old.history_room ≤ self.new.history_room }

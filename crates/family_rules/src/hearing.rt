@@ -123,7 +123,7 @@ impl State {
     {
         if self.is_markable(branch) {
             out.show(Effect::Marked(branch));
-            self.tree.set_marked(branch);
+            self.tree.mark(branch).unwrap();
         }
     }
 

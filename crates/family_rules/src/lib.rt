@@ -9,6 +9,7 @@ pub use state::{State, TOP};
 mod call;
 mod changing;
 mod closing;
+mod context;
 mod draft;
 mod hearing;
 mod motion;

@@ -27,7 +27,7 @@ impl State {
     }
 
     /// The otid that a superior gave a transaction, where it did.
-    fn given_otid(&self, branch: u32) -> Option<&Otid>
+    pub(crate) fn given_otid(&self, branch: u32) -> Option<&Otid>
         ensures { option_copied result ≡ names.given_otid self.now.family branch }
     {
         if branch != TOP {

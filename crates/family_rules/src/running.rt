@@ -1,5 +1,5 @@
 // How a call under way goes on.
-ghost use Rattle.std.specs.Prelude.{◌≡◌, ◌≢◌, ◌<◌, ◌+◌, ◌*◌, ◌≤◌, ◌&&◌, length, false, true, not, Some, None, [], IfSome};
+ghost use Rattle.std.specs.Prelude.{◌≡◌, ◌≢◌, ◌<◌, ◌+◌, ◌*◌, ◌≤◌, ◌&&◌, length, false, true, not, Some, None, [], IfSome, IsTrue};
 ghost use Rattle.ots_model.specs.Limits.{registration_limit};
 ghost use Rattle.resource_votes.specs.Ballots.{adopted};
 ghost use Rattle.txn_tree.specs.Calls as tree;
@@ -19,6 +19,7 @@ use crate::call::{Aim, Call, Reply};
 use crate::draft::Draft;
 use crate::state::{State, TOP};
 use coordinator::{Effect, Ending, Leg, Stage};
+use txn_tree::next_is_first;
 
 impl State {
     /// The call that ends a branch goes on, where there is one.
@@ -222,11 +223,11 @@ impl State {
         requires plain { call.owes ≡ false }
         requires can { CanGo 2 self.old.family out.old }
         ensures does { Does self.old.family out.old
-            (λ f. running.commits_up branch (rows.parent f.rows branch) (plain_call call) f)
+            (λ f. running.commits_up branch (running.adopter f.rows branch) (plain_call call) f)
             self.new.family out.new }
         ensures kept { self.old.history_room ≤ self.new.history_room }
     {
-        let Some(above) = self.tree.parent_at(branch) else {
+        let Some(above) = self.adopter(branch) else {
             self.set_call(branch, call);
             return;
         };
@@ -235,10 +236,24 @@ impl State {
         self.end_call(branch, call, Reply::Plain, out);
     }
 
+    /// The parent of a subtransaction that has not ended.
+    fn adopter(&self, branch: u32) -> Option<u32>
+        ensures adopter { result ≡ running.adopter (self.now.family).rows branch }
+        ensures parent { IfSome result (λ above. rows.parent (self.now.family).rows branch ≡ Some above) }
+        ensures live { IfSome result (λ above. IsTrue (rows.is_live_branch (self.now.family).rows branch)) }
+    {
+        if self.tree.is_live_at(branch) {
+            self.tree.parent_at(branch)
+        } else {
+            None
+        }
+    }
+
     /// A subtransaction has ended, committed, and its parent has its list.
     fn adopt(&mut self, branch: u32, above: u32)
         requires there { branch < length (self.old.family).rows }
         requires parent { rows.parent (self.old.family).rows branch ≡ Some above }
+        requires live { IsTrue (rows.is_live_branch (self.old.family).rows branch) }
         ensures does { self.new.family ≡ record self.old.family {
           rows = ended (self.old.family).rows branch true;
           ballots = adopted branch above (self.old.family).ballots;
@@ -255,8 +270,10 @@ impl State {
         requires there { branch < length (self.now.family).rows }
         ensures next { result ≡ tree.live_under (self.now.family).rows branch }
         ensures there { IfSome result (λ below. below < length (self.now.family).rows) }
+        ensures below { IfSome result (λ below. 0 < below) }
+        ensures live { IfSome result (λ below. IsTrue (rows.is_live_branch (self.now.family).rows below)) }
     {
-        let _ = self.tree.count();
+        next_is_first();
         self.tree.live_under(branch)
     }
 

@@ -1,10 +1,11 @@
 // What a call has to tell: it is gathered when a subtransaction ends, and told one by one.
-ghost use Rattle.std.specs.Prelude.{◌≡◌, ◌<◌, ◌≤◌, ◌+◌, ◌*◌, ◌++◌, ◌∷◌, [], List, ℕ, length, map, position, Some, None, IsSome, IfSome};
+ghost use Rattle.std.specs.Prelude.{◌≡◌, ◌<◌, ◌≤◌, ◌+◌, ◌*◌, ◌++◌, ◌∷◌, [], List, ℕ, length, map, position, Some, None, IsSome, IfSome, IsTrue};
 ghost use Rattle.std.specs.List.{slice_get};
 ghost use Rattle.std.specs.Option.{option_and_then};
 ghost use Rattle.std.specs.VecDeque.{deque_capacity, deque_len};
 ghost use Rattle.ots_model.specs.Limits.{registration_limit};
 ghost use Rattle.resource_votes.specs.Ballots.{numbered};
+ghost use Rattle.txn_tree.specs.Rows.{is_live_branch};
 ghost use Rattle.family_rules.specs.declared.call.Call.{Call as KeptCall};
 ghost use Rattle.family_rules.specs.Changes.{with_tasks};
 ghost use Rattle.family_rules.specs.Calls as calls;
@@ -88,6 +89,8 @@ impl State {
     #[tactic(auto, unfolding(coordinator::specs::Running::ends_below))]
     pub(crate) fn end_below(&mut self, branch: u32, out: &mut Draft)
         requires there { branch < length (self.old.family).rows }
+        requires below { 0 < branch }
+        requires live { IsTrue (is_live_branch (self.old.family).rows branch) }
         requires can { CanGo 1 self.old.family out.old }
         ensures moved { Does self.old.family out.old (running.ends_below branch) self.new.family out.new }
         ensures gathered { duties_in (self.new.family).ballots.registrations out.new.changes.tasks

@@ -47,7 +47,7 @@ use Rattle.coordinator.specs.Hearing.{is_markable, marks, marks_parent, is_plain
 use Rattle.coordinator.specs.History.{kept_for, repeated}
 use Rattle.coordinator.specs.Moves.{Moved, Notice, only, ◌▹◌, sends, ends_call, completes_as, shows}
 use Rattle.coordinator.specs.Phases.{column, is_marked, is_open, has_parent_ended}
-use Rattle.coordinator.specs.Running.{word_of, duty_notice, tells_first, commits_up, own_ends, own_duties, tells_own, passes_top, passes, ends_below, duties_below, sweeps_next, sweeps, tells_after, by_leg, is_held, runs, runs_call, goes_on}
+use Rattle.coordinator.specs.Running.{word_of, duty_notice, tells_first, commits_up, adopter, own_ends, own_duties, tells_own, passes_top, passes, ends_below, duties_below, sweeps_next, sweeps, tells_after, by_leg, is_held, runs, runs_call, goes_on}
 use Rattle.coordinator.specs.Step.{Stepped, hears_call, hears_for, hears, goes_on_at, answered, has_timed_out, times_out, ticks, found_at, rereads, acts_on, acted, is_silent_act, quiet, entered, step_by, family_step, Wanted, Appends, WritesDone, wanted_by, wanted_act, wanted}
 use Rattle.coordinator.specs.Table.{Acted, does, new_call, says, on_branch, on_terminator, has_terminator, has_branch, gets_terminator, registers, creates_by, creates_in, creates_subtransaction, marks_only, rolls_back_top, rolls_back_sub, rolls_back, begins_commit, unless_orphan, commits_in, commits, rolls_back_in, rolls_back_asked, registers_resource, registers_synchronization, registers_aware, replays}
 
@@ -201,7 +201,7 @@ commits_up_sends b (Some above) c f =
 commits_up_sends b None c f = waits_sends b c f
 
 own_ends_sends : (aim : Aim) (b : ℕ) (c : Call) (f : Family) → Sends f (own_ends aim b c f)
-own_ends_sends (Commits asked) b c f = commits_up_sends b (parent f.rows b) c f
+own_ends_sends (Commits asked) b c f = commits_up_sends b (adopter f.rows b) c f
 own_ends_sends (RollsBack says) b c f = ends_call_sends b c says f
 
 tells_own_sends : (b : ℕ) (c : Call) (f : Family) → Sends f (tells_own b c f)

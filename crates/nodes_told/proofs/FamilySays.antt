@@ -55,7 +55,7 @@ use Rattle.coordinator.specs.History.{answer_at, answer_of, has_key, is_for, is_
 use Rattle.coordinator.specs.Moves.{Moved, Notice, ◌▹◌, answer_to, completes_as, ends_call, only, sends, shows}
 use Rattle.coordinator.specs.Names.{is_ancestor_of, is_descendant_of, is_related, is_same, name_of, related_by}
 use Rattle.coordinator.specs.Phases.{column, has_parent_ended, is_marked, is_open, phase, top_status, status_of, parent_status_of}
-use Rattle.coordinator.specs.Running.{by_leg, commits_up, duties_below, ends_below, goes_on, is_held, own_duties, own_ends, overtaken_caller, passes, passes_top, runs, runs_call, sweeps, sweeps_next, tells_after, tells_first, tells_own}
+use Rattle.coordinator.specs.Running.{adopter, by_leg, commits_up, duties_below, ends_below, goes_on, is_held, own_duties, own_ends, overtaken_caller, passes, passes_top, runs, runs_call, sweeps, sweeps_next, tells_after, tells_first, tells_own}
 use Rattle.coordinator.specs.Step.{Stepped, acted, acts_on, answered, entered, family_step, found_at, goes_on_at, has_timed_out, hears, hears_call, hears_for, is_silent, new_step, quiet, rereads, step_by, ticks, times_out}
 use Rattle.coordinator.specs.Table.{Acted, aware_refusal, begins_commit, begun_commit, commits, commits_in, creates_by, creates_in, creates_subtransaction, does, gets_terminator, has_branch, has_registration, has_terminator, marks_only, new_call, on_branch, on_terminator, registers, registers_aware, registers_resource, registers_synchronization, replay_by, replays, rolls_back, rolls_back_asked, rolls_back_in, rolls_back_sub, rolls_back_top, says, status_said, sync_refusal, tree_refusal, unless_orphan, vote_refusal}
 use Rattle.nodes_told.specs.Reading.{IsAnswer}
@@ -353,7 +353,7 @@ commits_up_reads b (Some above) c f is k =
 commits_up_reads b None c f is k = waits_reads b c f is k
 
 own_ends_reads : (aim : Aim) (b : ℕ) (c : Call) (f : Family) → AimReads aim → AimReads c.aim → FamilyReads f → MovedReads (own_ends aim b c f)
-own_ends_reads (Commits asked) b c f aims is k = commits_up_reads b (parent f.rows b) c f is k
+own_ends_reads (Commits asked) b c f aims is k = commits_up_reads b (adopter f.rows b) c f is k
 own_ends_reads (RollsBack answer) b c f aims is k = ends_call_reads b c answer f aims k
 
 tells_own_reads : (b : ℕ) (c : Call) (f : Family) → AimReads c.aim → FamilyReads f → MovedReads (tells_own b c f)

@@ -12,7 +12,6 @@ use Rattle.ots_model.specs.declared.tree.Reason.TheVariants as reasons
 use Rattle.resource_votes.specs.Ballots.{adopted}
 use Rattle.resource_votes.specs.declared.registration.Registration.{Registration}
 use Rattle.txn_tree.specs.Calls.{ended, live_under}
-use Rattle.txn_tree.specs.Rows.{parent}
 use Rattle.two_phase.specs.Course as course
 use Rattle.two_phase.specs.Course.{Course}
 use Rattle.two_phase.specs.Stages as stages
@@ -32,7 +31,7 @@ use Rattle.coordinator.specs.declared.said.Said.TheVariants as said
 use Rattle.coordinator.specs.Family.{Family, Aim, Call, Commits, RollsBack, Duty, call_at}
 use Rattle.coordinator.specs.Moves.{Moved, Notice, only, ◌▹◌, outward, shows, sends, ends_call, completes_as}
 use Rattle.coordinator.specs.Closing.{asked_of, asking, rolling_back, begun, begins, decides, decides_by, rests, afterwards, tells_next, next_told, notice_of, finishes, next_synchronization, calls_next, gives_up, before, waits}
-use Rattle.coordinator.specs.Running.{duty_notice, tells_first, commits_up, own_ends, own_duties, tells_own, passes_top, passes, ends_below, duties_below, sweeps_next, sweeps, is_held, tells_after, by_leg, runs, runs_call, goes_on}
+use Rattle.coordinator.specs.Running.{duty_notice, tells_first, commits_up, adopter, own_ends, own_duties, tells_own, passes_top, passes, ends_below, duties_below, sweeps_next, sweeps, is_held, tells_after, by_leg, runs, runs_call, goes_on}
 use Rattle.coordinator.specs.Phases.{is_marked}
 use Rattle.family_laws.specs.Sound.{called}
 use Rattle.nodes_world.specs.AgreementInside.{AreReady, AsksOne, Awaited, IsAwaited, IsBare, IsOutcomeWord, IsWithin, TellsOne, decides_out, notice_at, notice_out, out_at}
@@ -366,7 +365,7 @@ commits_up_ask b (Some p) c f idle =
 commits_up_ask b None c f idle = waits_ask b c f idle
 
 own_ends_ask : (aim : Aim) (b : ℕ) (c : Call) (f : Family) → IsIdle c → AskRule f (own_ends aim b c f)
-own_ends_ask (Commits asked) b c f idle = commits_up_ask b (parent f.rows b) c f idle
+own_ends_ask (Commits asked) b c f idle = commits_up_ask b (adopter f.rows b) c f idle
 own_ends_ask (RollsBack says) b c f idle = ends_ask b c says f
 
 tells_own_ask : (b : ℕ) (c : Call) (f : Family) → c.out ≡ None → AskRule f (tells_own b c f)

@@ -18,7 +18,7 @@ use Rattle.ots_model.specs.declared.tree.Outward.{Outward}
 use Rattle.ots_model.specs.declared.tree.Reason.{Reason}
 use Rattle.ots_model.specs.declared.tree.Reason.TheVariants as reasons
 use Rattle.txn_tree.specs.Calls.{ended, marked, live_under}
-use Rattle.txn_tree.specs.Rows.{parent}
+use Rattle.txn_tree.specs.Rows.{parent, is_live_branch}
 use Rattle.txn_tree.specs.declared.row.Row.{Row}
 use Rattle.resource_votes.specs.Ballots.{Ballots, adopted, numbered, participants}
 use Rattle.resource_votes.specs.Lists.{list_at}
@@ -41,7 +41,7 @@ use Rattle.coordinator.specs.declared.said.Said.TheVariants as said
 use Rattle.coordinator.specs.Family.{Family, Aim, Call, Commits, RollsBack, Duty, call_at, number_of}
 use Rattle.coordinator.specs.Moves.{Moved, Notice, only, ◌▹◌, shows, sends, ends_call, fixed_now, completes_as}
 use Rattle.coordinator.specs.Closing.{asked_of, asking, asked_ones, rolling_back, begun, begins, decides, decides_by, rests, afterwards, tells_next, tells_synchronizations, next_told, finishes, next_synchronization, calls_next, gives_up, before, waits}
-use Rattle.coordinator.specs.Running.{aware_of, commit_duties, duty_notice, duty_to, undo_duties, tells_first, commits_up, own_ends, own_duties, tells_own, passes_top, passes, left_below, left_by, ends_below, duties_below, sweeps_next, sweeps, is_held, tells_after, by_leg, runs, runs_call, goes_on}
+use Rattle.coordinator.specs.Running.{aware_of, commit_duties, duty_notice, duty_to, undo_duties, tells_first, commits_up, adopter, own_ends, own_duties, tells_own, passes_top, passes, left_below, left_by, ends_below, duties_below, sweeps_next, sweeps, is_held, tells_after, by_leg, runs, runs_call, goes_on}
 use Rattle.coordinator.specs.declared.call.Ending.{Ending}
 use Rattle.coordinator.specs.declared.call.Ending.TheVariants.{TellsRollback, TellsCommit, RollsBackUpdates}
 use Rattle.coordinator.specs.Phases.{is_marked}
@@ -738,15 +738,20 @@ joins_keep b p f less tidy = record {
   kept = kept_itself f.completion;
 }
 
-commits_up_keep : (b : ℕ) (o : Option ℕ) (c : Call) (f : Family) → parent f.rows b ≡ o → IsFit f.ballots.registrations c → Rule f (commits_up b o c f)
+-- who adopts is the parent
+adopts : (live : Bool) (o : Option ℕ) (p : ℕ) → (if live then o else None) ≡ Some p → o ≡ Some p
+adopts true o p is = is
+adopts false o p is = absurd (cc is)
+
+commits_up_keep : (b : ℕ) (o : Option ℕ) (c : Call) (f : Family) → adopter f.rows b ≡ o → IsFit f.ballots.registrations c → Rule f (commits_up b o c f)
 unfolding commits_up joined
 commits_up_keep b (Some p) c f up left tidy =
-    then_keeps f (shows (effects.SubtransactionEnded b true ∷ []) (joined b p f)) (ends_call b c said.Plain) (joins_keep b p f (tidy.below b p up))
+    then_keeps f (shows (effects.SubtransactionEnded b true ∷ []) (joined b p f)) (ends_call b c said.Plain) (joins_keep b p f (tidy.below b p (adopts (is_live_branch f.rows b) (parent f.rows b) p up)))
     (ends_keep b c said.Plain (joined b p f)) tidy
 commits_up_keep b None c f up left tidy = waits_keep b c f left tidy
 
 own_ends_keep : (aim : Aim) (b : ℕ) (c : Call) (f : Family) → IsFit f.ballots.registrations c → Rule f (own_ends aim b c f)
-own_ends_keep (Commits asked) b c f left = commits_up_keep b (parent f.rows b) c f refl left
+own_ends_keep (Commits asked) b c f left = commits_up_keep b (adopter f.rows b) c f refl left
 own_ends_keep (RollsBack says) b c f left = ends_keep b c says f
 
 due_map : (rs : List Registration) (ending : Ending) (some : List Registration) → AllByRecursion (Contains rs) some → AreDue rs (map (duty_to ending) some)

@@ -195,24 +195,17 @@ impl Tree {
         if !self.rows[branch as usize].state.is_live() {
             return Err(TreeFault::Inactive);
         }
-        self.set_marked(branch);
+        self.set_state(branch, State::Marked);
         Ok(())
     }
 
-    /// Ends this branch, however it stands.
+    /// Ends this branch, which has not ended.
     pub fn close(&mut self, branch: u32, committed: bool)
         requires there { branch < length self.old.rows }
+        requires live { IsTrue (ancestry.is_live_branch self.old.rows branch) }
         ensures { self.new ≡ record self.old { rows = calls.ended self.old.rows branch committed } }
     {
         self.set_state(branch, ended(committed));
-    }
-
-    /// Marks this branch, however it stands.
-    pub fn set_marked(&mut self, branch: u32)
-        requires there { branch < length self.old.rows }
-        ensures { self.new ≡ record self.old { rows = calls.marked self.old.rows branch } }
-    {
-        self.set_state(branch, State::Marked);
     }
 
     /// The status of this branch (`get_status`).

@@ -4,6 +4,7 @@ use Rattle.txn_tree.specs.Calls.{ended}
 use Rattle.txn_tree.specs.Rows.{IsParent, parent}
 use Rattle.family_rules.specs.Room.{StateParts}
 use Rattle.family_rules.proofs.Kept.{handed_few, handed_once}
+use Rattle.family_rules.proofs.Lives.{ended_top}
 use Rattle.family_rules.proofs.state.State.adopt.Goals as goal
 
 pub invariant_of-self : goal.invariant_of-self
@@ -33,4 +34,5 @@ invariant_of-self c =
       tally = c.self.invariant.tally;
       outs = c.self.invariant.outs;
       outs_room = c.self.invariant.outs_room;
+      top = ended_top rows b true (omega (arith, earlier)) c.self.invariant.top;
     })

@@ -32,6 +32,7 @@ invariant_of-self c =
       tally = tallied_deciding c.self.inside.tally seats b c.index_mut.result.now c.set_deciding.new.seat within c.index_mut.ensures.value c.self.invariant.tally c.set_deciding.ensures;
       outs = outs_deciding c.self.inside.outs.words seats b c.index_mut.result.now c.set_deciding.new.seat within c.index_mut.ensures.value c.self.invariant.outs c.set_deciding.ensures;
       outs_room = c.self.invariant.outs_room;
+      top = c.self.invariant.top;
     }
 
 pub returns-clause-does : goal.returns-clause-does

@@ -34,6 +34,7 @@ invariant_of-self c =
       outs = outs_set c.self.inside.outs.words c.change.new.self.words seats b c.index_mut-seat.result.now c.set_out.new.seat c.awaited-before.result (c.awaited.result) within c.index_mut-seat.ensures.value c.awaited-before.ensures (c.awaited.ensures) c.self.invariant.outs
           c.change.ensures.times c.change.ensures.count;
       outs_room = omega (arith, c.self.invariant.outs_room, c.change.ensures.capacity);
+      top = c.self.invariant.top;
     }
 
 pub returns-clause-does : goal.returns-clause-does

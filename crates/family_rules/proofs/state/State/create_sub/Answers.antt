@@ -1,7 +1,8 @@
 use Rattle.std.proofs.Common.{◌≡◌, ◌+◌, ◌∙◌, List, ap, refl, subst, sym, length, arith, length-append, ◌<◌}
-use Rattle.std.specs.Prelude.{vec_len}
+use Rattle.std.specs.Prelude.{vec_len, IsTrue}
 use Rattle.std.specs.Result.{IsOk}
 use Rattle.txn_tree.specs.Calls.{created, creating}
+use Rattle.txn_tree.specs.Rows.{is_live_branch}
 use Rattle.txn_tree.specs.declared.row.Row.{Row}
 use Rattle.family_rules.specs.Asking.{Creates}
 use Rattle.family_rules.specs.Calls.{AllTasks, all_seated}
@@ -14,6 +15,7 @@ use Rattle.family_rules.specs.Tallies.{IsTallied}
 use Rattle.family_rules.proofs.Tallied.{tallied_more}
 use Rattle.family_rules.specs.Outs.{AreOut}
 use Rattle.family_rules.proofs.Asked.{seat_there}
+use Rattle.family_rules.proofs.Lives.{created_top}
 use Rattle.family_rules.proofs.Waited.{outs_more}
 use Rattle.family_rules.proofs.state.State.create_sub.Goals as goal
 
@@ -43,6 +45,7 @@ invariant_of-self c =
       outs = subst (λ (xs : List Seat). AreOut s.outs.words xs) (sym c.push_reserved.ensures.items)
           (outs_more s.outs.words s.seats.items _ refl c.self.invariant.outs);
       outs_room = omega (arith, len, some);
+      top = subst (λ (xs : List Row). IsTrue (is_live_branch xs 0)) (sym rows) (created_top s.tree.rows c.args.branch c.self.invariant.top);
     }
 
 pub returns-then-is_ok-clause-made : goal.returns-then-is_ok-clause-made

@@ -7,7 +7,11 @@ use Rattle.family_rules.specs.Room.{StateParts}
 use Rattle.family_rules.specs.StateInside.{shown}
 use Rattle.family_rules.proofs.Duties.{as_many}
 use Rattle.family_rules.proofs.Going.{can_without}
+use Rattle.family_rules.proofs.Lives.{sound_ended}
 use Rattle.family_rules.proofs.state.State.end_below.Goals as goal
+
+pub invariant_of-self : goal.invariant_of-self
+invariant_of-self c = sound_ended c.self.inside c.close.new.self c.args.branch false c.self.invariant c.requires.below c.close.ensures
 
 pub gather_undo-requires-clause-room : goal.gather_undo-requires-clause-room
 gather_undo-requires-clause-room c =

@@ -37,6 +37,7 @@ invariant_of-self c =
       outs = outs_set c.self.inside.outs.words c.change.new.self.words seats b s new c.awaited.result (c.args.call.out) within c.index_mut-seat.ensures.value c.awaited.ensures (refl) c.self.invariant.outs
           c.change.ensures.times c.change.ensures.count;
       outs_room = omega (arith, c.self.invariant.outs_room, c.change.ensures.capacity);
+      top = c.self.invariant.top;
     }
 
 pub change-requires : goal.change-requires

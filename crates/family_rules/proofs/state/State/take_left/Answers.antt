@@ -39,6 +39,7 @@ invariant_of-self c =
       tally = tallied_told c.self.inside.tally seats b s c.take_task.new.seat within c.index_mut.ensures.value c.self.invariant.tally c.take_task.ensures.call c.take_task.ensures.left;
       outs = outs_kept c.self.inside.outs.words seats b s c.take_task.new.seat within c.index_mut.ensures.value c.self.invariant.outs (ap (λ (o : Option KeptCall). out_of o) c.take_task.ensures.call);
       outs_room = c.self.invariant.outs_room;
+      top = c.self.invariant.top;
     }
 
 pub returns-clause-first : goal.returns-clause-first

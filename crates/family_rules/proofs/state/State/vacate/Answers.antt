@@ -64,6 +64,7 @@ invariant_of-self c =
       outs = outs_set c.self.inside.outs.words c.change.new.self.words seats b s c.vacate-caller.new.seat c.awaited.result (None) within c.index_mut-seat.ensures.value c.awaited.ensures (sym (ap (λ (o : Option KeptCall). out_of o) c.vacate-caller.ensures.vacant)) c.self.invariant.outs
           c.change.ensures.times c.change.ensures.count;
       outs_room = omega (arith, c.self.invariant.outs_room, c.change.ensures.capacity);
+      top = c.self.invariant.top;
     }
 
 pub without_call-self-inside-requires : goal.without_call-self-inside-requires
