@@ -5,3 +5,4 @@ mod Rightly
 mod Outcomes
 mod NodesPlayed
 mod Numbers
+mod Objects

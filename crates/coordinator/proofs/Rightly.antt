@@ -31,7 +31,7 @@ use Rattle.coordinator.specs.declared.phase.Column.{Column}
 use Rattle.coordinator.specs.declared.phase.Column.TheVariants as columns
 use Rattle.coordinator.specs.Phases.{column, is_marked, has_parent_ended}
 use Rattle.coordinator.specs.Closing.{asking, rolling_back, begun, begins, decides, decides_by, rests, tells_next, next_told, next_synchronization, calls_next, afterwards, finishes, before, asked_of, asked_ones, gives_up, waits}
-use Rattle.coordinator.specs.Running.{word_of, tells_first, commits_up, own_ends, own_duties, tells_own, passes_top, passes, ends_below, duties_below, sweeps_next, sweeps, tells_after, by_leg, runs, runs_call, goes_on}
+use Rattle.coordinator.specs.Running.{word_of, tells_first, commits_up, adopter, own_ends, own_duties, tells_own, passes_top, passes, ends_below, duties_below, sweeps_next, sweeps, tells_after, by_leg, runs, runs_call, goes_on}
 use Rattle.coordinator.specs.Hearing.{is_markable, marks, marks_parent, is_plain, told_commit, told_end, told_before, reason_of, told_participant, inner_number, told, hears_at, vote_effects, wants_done, answers_doubt, doubts_by, decided, closes, settles}
 use Rattle.coordinator.specs.declared.event.Act.{Act}
 use Rattle.coordinator.specs.declared.event.Act.TheVariants as acts
@@ -218,7 +218,7 @@ commits_up_right b (Some above) c f =
 commits_up_right b None c f = waits_right b c f
 
 own_ends_right : (aim : Aim) (b : ℕ) (c : Call) (f : Family) → Right f.completion (own_ends aim b c f)
-own_ends_right (Commits asked) b c f = commits_up_right b (parent f.rows b) c f
+own_ends_right (Commits asked) b c f = commits_up_right b (adopter f.rows b) c f
 own_ends_right (RollsBack says) b c f = ends_call_right b c says f
 
 tells_own_right : (b : ℕ) (c : Call) (f : Family) → Right f.completion (tells_own b c f)

@@ -41,9 +41,13 @@ same_key k other = k.client == other.client && k.number == other.number
 abbrev pub has_key : RetryKey → Entry → Bool
 has_key k e = option_map_or (same_key k) e.event.key false
 
+-- the place of the first call with this key
+abbrev pub first_with : List Entry → RetryKey → Option ℕ
+first_with entries k = position (has_key k) entries
+
 -- what the call with this key was answered
 unfoldable pub kept : List Entry → RetryKey → Option Said
-kept entries k = option_and_then (answer_at entries) (position (has_key k) entries)
+kept entries k = option_and_then (answer_at entries) (first_with entries k)
 
 -- a repeat is answered that, and else to try again
 abbrev pub repeated : Said → Said

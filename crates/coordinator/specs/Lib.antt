@@ -15,6 +15,8 @@ pub mod Laws
 pub mod Node
 pub mod NodeSlots
 pub mod NodeRecords
+pub mod Objects
+pub mod Contexts
 pub mod NodeCalls
 pub mod NodeTick
 pub mod NodeParts

@@ -11,7 +11,8 @@ use Rattle.ots_model.specs.declared.tree.Word.TheVariants as words
 use Rattle.resource_votes.specs.Ballots.{Ballots, participants, adopted}
 use Rattle.resource_votes.specs.declared.registration.Registration.{Registration}
 use Rattle.txn_tree.specs.Calls.{ended, live_under}
-use Rattle.txn_tree.specs.Rows.{parent}
+use Rattle.txn_tree.specs.Rows.{parent, is_live_branch}
+use Rattle.txn_tree.specs.declared.row.Row.{Row}
 use Rattle.two_phase.specs.Stages as stages
 use Rattle.coordinator.specs.declared.effect.Effect.TheVariants as effects
 use Rattle.coordinator.specs.declared.said.Said.TheVariants as said
@@ -57,9 +58,13 @@ commits_up b (Some above) c f =
     ▹ ends_call b c said.Plain
 commits_up b None c f = waits b c f
 
+-- the parent of a subtransaction that has not ended; one that has ended is committed no more
+abbrev pub adopter : List Row → ℕ → Option ℕ
+adopter rows b = if is_live_branch rows b then parent rows b else None
+
 -- its resources were told
 abbrev pub own_ends : Aim → ℕ → Call → Family → Moved
-own_ends (Commits asked) b c f = commits_up b (parent f.rows b) c f
+own_ends (Commits asked) b c f = commits_up b (adopter f.rows b) c f
 own_ends (RollsBack says) b c f = ends_call b c says f
 
 abbrev pub own_duties : Aim → ℕ → Family → List Duty

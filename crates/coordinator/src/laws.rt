@@ -3,6 +3,7 @@ ghost use Rattle.coordinator.specs.AnswersByPhase.{AnswersByPhase};
 ghost use Rattle.coordinator.specs.Laws.{FamiliesStepRightly, FamilyOutcomesStay, HistoriesGrowByEntries, RepeatsChangeNothing, StaleAnswersChangeNothing};
 ghost use Rattle.coordinator.specs.NodeLaws.{KeysAreNew, LivesRise, NodesKeepNumbers};
 ghost use Rattle.coordinator.specs.NodePlays.{NodesPlay};
+ghost use Rattle.coordinator.specs.Objects.{RecordsHaveWhatTheyAnswer};
 ghost use Rattle.coordinator.specs.Plays.{FamiliesPlay};
 
 use two_phase::a_tree_outcome_stays;
@@ -67,4 +68,9 @@ pub fn keys_are_new()
 /// A load begins the life behind the last one that its records tell. So no life is used twice.
 pub fn lives_rise()
     ensures { LivesRise }
+{}
+
+/// A record has the objects on which it answers calls, and no other.
+pub fn records_have_what_they_answer()
+    ensures { RecordsHaveWhatTheyAnswer }
 {}

@@ -8,7 +8,7 @@ pub use event::{Act, CALL_LIMIT, Event, HISTORY_LIMIT};
 pub use laws::{
     answers_follow_phases, families_play, families_step_rightly, family_outcomes_stay,
     histories_grow_by_entries, keys_are_new, lives_rise, nodes_keep_numbers, nodes_play,
-    repeats_change_nothing, stale_answers_change_nothing,
+    records_have_what_they_answer, repeats_change_nothing, stale_answers_change_nothing,
 };
 pub use node::NodeFault;
 pub use phase::{Column, Phase};

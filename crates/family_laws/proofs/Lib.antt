@@ -12,6 +12,8 @@ mod Telling
 mod Votes
 mod StepsTell
 mod OutcomesAnswered
+mod Tracing
+mod Reasons
 mod Places
 mod Journal
 mod Answered

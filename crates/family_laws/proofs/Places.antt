@@ -36,7 +36,7 @@ use Rattle.coordinator.specs.declared.said.Said.TheVariants as said
 use Rattle.coordinator.specs.Family.{Family, Aim, Call, Commits, RollsBack, Duty, call_at, with_call, waiting_for}
 use Rattle.coordinator.specs.Moves.{Moved, Notice, ◌▹◌, sends, ends_call, completes_as}
 use Rattle.coordinator.specs.Closing.{asked_of, asking, rolling_back, begun, begins, decides, decides_by, rests, afterwards, tells_next, next_told, finishes, next_synchronization, calls_next, gives_up, before}
-use Rattle.coordinator.specs.Running.{duty_notice, tells_first, commits_up, own_ends, own_duties, tells_own, passes_top, passes, ends_below, duties_below, sweeps_next, sweeps, is_held, tells_after, by_leg, runs, runs_call, goes_on}
+use Rattle.coordinator.specs.Running.{duty_notice, tells_first, commits_up, adopter, own_ends, own_duties, tells_own, passes_top, passes, ends_below, duties_below, sweeps_next, sweeps, is_held, tells_after, by_leg, runs, runs_call, goes_on}
 use Rattle.coordinator.specs.Phases.{is_marked, has_parent_ended, column, is_open}
 use Rattle.coordinator.specs.Hearing.{is_markable, marks, marks_parent, is_plain, told_commit, told_end, reason_of, told_before, inner_number, told_participant, told, hears_at, answers_doubt, doubts_by}
 use Rattle.coordinator.specs.Table.{Acted, new_call, on_branch, on_terminator, has_terminator, has_branch, registers, creates_by, creates_in, marks_only, rolls_back_top, rolls_back_sub, rolls_back, begins_commit, unless_orphan, commits_in, rolls_back_in}
@@ -137,7 +137,7 @@ commits_up_still b (Some p) c f = ends_still b c said.Plain (record f { rows = e
 commits_up_still b None c f = (refl, refl)
 
 own_ends_still : (aim : Aim) (b : ℕ) (c : Call) (f : Family) → Still f (own_ends aim b c f)
-own_ends_still (Commits asked) b c f = commits_up_still b (parent f.rows b) c f
+own_ends_still (Commits asked) b c f = commits_up_still b (adopter f.rows b) c f
 own_ends_still (RollsBack says) b c f = ends_still b c says f
 
 tells_own_still : (b : ℕ) (c : Call) (f : Family) → Still f (tells_own b c f)

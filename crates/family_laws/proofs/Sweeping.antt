@@ -26,7 +26,7 @@ use Rattle.coordinator.specs.Family.{Family, Aim, Call, Duty, Commits, RollsBack
 use Rattle.coordinator.specs.Moves.{Moved, outward, shows, ends_call}
 use Rattle.coordinator.specs.Closing.{notice_to, before}
 use Rattle.coordinator.specs.Phases.{is_before, has_ended, has_parent_ended}
-use Rattle.coordinator.specs.Running.{aware_of, duty_to, undo_duties, commit_duties, word_of, duty_notice, tells_first, commits_up, own_ends, own_duties, tells_own, passes_top, passes, left_below, left_by, ends_below, duties_below, sweeps_next, sweeps, is_commit, is_below, has_some, is_held, tells_after, by_leg, runs, runs_call, goes_on}
+use Rattle.coordinator.specs.Running.{aware_of, duty_to, undo_duties, commit_duties, word_of, duty_notice, tells_first, commits_up, adopter, own_ends, own_duties, tells_own, passes_top, passes, left_below, left_by, ends_below, duties_below, sweeps_next, sweeps, is_commit, is_below, has_some, is_held, tells_after, by_leg, runs, runs_call, goes_on}
 use Rattle.family_laws.specs.LawsOfSteps.{MayEnd, Rests}
 use Rattle.family_laws.specs.Sound.{NoneLive, IsSoundLists, IsSoundCompletion, IsInStage, IsPastBelow, IsOfSub, IsListed, IsDue, IsSoundCall, IsSoundFamily, called}
 use Rattle.family_laws.specs.Trees.{IsUpTo, IsCutOff}
@@ -169,7 +169,8 @@ positive b n = grind arith
 
 own_ends_fine : Laws → (aim : Aim) (b : ℕ) (c : Call) (f : Family) → c.aim ≡ aim → b ≢ 0 → MayGo f b aim → But b f → Takes b c f → Fine f (own_ends aim b c f)
 own_ends_fine law (Commits asked) b c f e n go h t =
-    commits_up_fine law b (parent f.rows b) c f refl n ((t.sub (positive b n)).commits asked e) (go asked refl n) h t
+    let live : is_live_branch f.rows b ≡ true = (t.sub (positive b n)).commits asked e in
+    commits_up_fine law b (adopter f.rows b) c f (sym (ap (λ (x : Bool). if x then parent f.rows b else None) live)) n live (go asked refl n) h t
 own_ends_fine law (RollsBack says) b c f e n go h t = ends_fine (is_before f.stage) f.rows b c says f h (λ z. absurd (n z))
 
 own_dues : (aim : Aim) (b : ℕ) (f : Family) → IsSoundLists f.rows f.ballots → ((says : Said) → aim ≡ RollsBack says → IsCutOff f.rows b) → AllByRecursion (IsDue f.rows f.ballots) (own_duties aim b f)

@@ -14,7 +14,6 @@ use Rattle.ots_model.specs.declared.tree.Outward.{Outward}
 use Rattle.ots_model.specs.declared.tree.Reason.{Reason}
 use Rattle.ots_model.specs.declared.tree.Reason.TheVariants as reasons
 use Rattle.txn_tree.specs.Calls.{ended, live_under}
-use Rattle.txn_tree.specs.Rows.{parent}
 use Rattle.txn_tree.specs.declared.row.Row.{Row}
 use Rattle.resource_votes.specs.Ballots.{adopted}
 use Rattle.resource_votes.specs.declared.registration.Registration.{Registration}
@@ -39,7 +38,7 @@ use Rattle.coordinator.specs.Family.{Family, Aim, Call, Commits, RollsBack, Duty
 use Rattle.coordinator.specs.Laws.{IsThere}
 use Rattle.coordinator.specs.Moves.{Moved, Notice, only, ◌▹◌, shows, sends, ends_call, fixed_now, completes_as}
 use Rattle.coordinator.specs.Closing.{asked_of, asking, asked_ones, rolling_back, begun, begins, decides, decides_by, rests, afterwards, tells_next, next_told, finishes, next_synchronization, calls_next, gives_up, before, waits}
-use Rattle.coordinator.specs.Running.{duty_notice, tells_first, commits_up, own_ends, own_duties, tells_own, passes_top, passes, ends_below, duties_below, sweeps_next, sweeps, is_held, tells_after, by_leg, runs, runs_call, goes_on}
+use Rattle.coordinator.specs.Running.{duty_notice, tells_first, commits_up, adopter, own_ends, own_duties, tells_own, passes_top, passes, ends_below, duties_below, sweeps_next, sweeps, is_held, tells_after, by_leg, runs, runs_call, goes_on}
 use Rattle.coordinator.specs.Phases.{is_marked}
 use Rattle.family_laws.specs.LawsOfTelling.{rows_told, AreNumberedFrom, decided_in, HasAnswered, HasVote, IsAnswered, IsVoted}
 use Rattle.family_laws.proofs.Lists.{all_joined}
@@ -365,7 +364,7 @@ commits_up_plain b (Some p) c f =
 commits_up_plain b None c f = waits_plain b c f
 
 own_ends_plain : (aim : Aim) (b : ℕ) (c : Call) (f : Family) → Plain f (own_ends aim b c f)
-own_ends_plain (Commits asked) b c f = commits_up_plain b (parent f.rows b) c f
+own_ends_plain (Commits asked) b c f = commits_up_plain b (adopter f.rows b) c f
 own_ends_plain (RollsBack says) b c f = ends_plain b c says f
 
 tells_own_plain : (b : ℕ) (c : Call) (f : Family) → Plain f (tells_own b c f)

@@ -3,6 +3,7 @@ pub mod Sound
 pub mod LawsOfSteps
 pub mod LawsOfTelling
 pub mod LawsOfJournal
+pub mod Reasons
 pub mod SoundNode
 pub mod HeldDues
 pub mod HeldRecords

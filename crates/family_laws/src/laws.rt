@@ -6,11 +6,13 @@ ghost use Rattle.family_laws.specs.LawsOfJournal.{FamiliesAppendOwn, FamiliesClo
 ghost use Rattle.family_laws.specs.LawsOfSteps.{FamiliesEndInTurn, FamiliesStaySound, FamiliesWordsRest};
 ghost use Rattle.family_laws.specs.LawsOfTelling.{FamiliesHearOutcomesAnswered, FamiliesNumberWords, FamiliesTellEnds, FamiliesTellOutcomes, FamiliesTellVotes};
 ghost use Rattle.family_laws.specs.OwnDecisions.{NodesKeepDecisions};
+ghost use Rattle.family_laws.specs.Reasons.{FamiliesHaveCauses};
 ghost use Rattle.family_laws.specs.SoundNode.{NodesStaySound};
 
 use coordinator::nodes_keep_numbers;
 use two_phase::{
-    a_settled_one_is_through, a_tree_outcome_stays, tree_words_go_rightly, votes_decide,
+    a_settled_one_is_through, a_tree_outcome_stays, tree_outcomes_have_causes,
+    tree_words_go_rightly, votes_decide,
 };
 use txn_tree::{
     all_are_related, ancestry_follows_parents, calls_keep_parents, commit_follows_parents,
@@ -86,6 +88,16 @@ pub fn families_tell_votes()
 pub fn families_hear_outcomes_answered()
     ensures { FamiliesHearOutcomesAnswered }
 {}
+
+/// Where the outcome of a sound family is fixed, there stands behind it what it names: behind a commit the record and each
+/// consent, or the answer of the only participant; behind a rollback the answer, what the record came to, or that it came
+/// from outside; and the event of the reason stands in the history. A new family has in its history what this rests on, and
+/// a step leaves it there.
+pub fn families_have_causes()
+    ensures { FamiliesHaveCauses }
+{
+    tree_outcomes_have_causes();
+}
 
 /// A decision is appended only in the step of an answer, of the family that has heard it, once each participant has consented. Where
 /// the record stands, the family that the step leaves is decided by that place. Where the completion is one that can be reached, its

@@ -42,7 +42,7 @@ use Rattle.coordinator.specs.History.{is_for, kept_for}
 use Rattle.coordinator.specs.Moves.{Moved, Notice, ◌▹◌, answer_to, sends, ends_call, completes_as, shows}
 use Rattle.coordinator.specs.Phases.{column, has_parent_ended, is_marked}
 use Rattle.coordinator.specs.Closing.{afterwards, asked_of, asking, before, begins, calls_next, decides, decides_by, finishes, next_synchronization, next_told, rests, rolling_back, tells_next}
-use Rattle.coordinator.specs.Running.{by_leg, commits_up, duties_below, ends_below, goes_on, is_held, overtaken_caller, own_duties, own_ends, passes, passes_top, runs, runs_call, sweeps, sweeps_next, tells_after, tells_first, tells_own}
+use Rattle.coordinator.specs.Running.{adopter, by_leg, commits_up, duties_below, ends_below, goes_on, is_held, overtaken_caller, own_duties, own_ends, passes, passes_top, runs, runs_call, sweeps, sweeps_next, tells_after, tells_first, tells_own}
 use Rattle.coordinator.specs.Hearing.{answers_doubt, closes, decided, doubts_by, hears_at, inner_number, is_markable, is_plain, marks, marks_parent, settles, told, told_before, told_commit, told_end, told_participant, vote_effects, wants_done}
 use Rattle.coordinator.specs.Table.{Acted, begins_commit, commits, commits_in, creates_by, creates_in, creates_subtransaction, gets_terminator, has_branch, has_terminator, marks_only, new_call, on_branch, on_terminator, registers, registers_aware, registers_resource, registers_synchronization, replays, rolls_back, rolls_back_asked, rolls_back_in, rolls_back_sub, rolls_back_top, unless_orphan}
 use Rattle.coordinator.specs.Step.{acted, acts_on, answered, entered, family_step, found_at, goes_on_at, has_timed_out, hears, hears_call, hears_for, is_silent, quiet, rereads, said_later, step_by, ticks, times_out}
@@ -192,7 +192,7 @@ module _ (n : ℕ) where
   commits_up_fits b None c f fits p = (waits_fits b c f fits p, tt)
 
   own_ends_fits : (aim : Aim) (b : ℕ) (c : Call) (f : Family) → Fits f → IsBefore n c.caller → Keeps (own_ends aim b c f)
-  own_ends_fits (Commits asked) b c f fits p = commits_up_fits b (parent f.rows b) c f fits p
+  own_ends_fits (Commits asked) b c f fits p = commits_up_fits b (adopter f.rows b) c f fits p
   own_ends_fits (RollsBack says) b c f fits p = ends_call_fits b c says f fits p
 
   tells_own_fits : (b : ℕ) (c : Call) (f : Family) → Fits f → IsBefore n c.caller → Keeps (tells_own b c f)

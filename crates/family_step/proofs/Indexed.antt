@@ -8,7 +8,7 @@ use Rattle.std.proofs.lemmas.Option.{slice_get_past}
 use Rattle.ots_model.specs.declared.completion.Stood.{Stood}
 use Rattle.ots_model.specs.declared.service.RetryKey.{RetryKey}
 use Rattle.coordinator.specs.Family.{Family}
-use Rattle.coordinator.specs.History.{answer_at, answer_of, has_key, is_for, is_later, kept, kept_for, later_answer, same_key}
+use Rattle.coordinator.specs.History.{answer_at, answer_of, first_with, has_key, is_for, is_later, kept, kept_for, later_answer, same_key}
 use Rattle.coordinator.specs.Laws.{HistoriesGrowByEntries, entry_made}
 use Rattle.coordinator.specs.Step.{entry_of, family_step}
 use Rattle.coordinator.specs.declared.event.Event.{Event}
@@ -55,6 +55,13 @@ module _ (places : Places) (entries : List Entry) (index : IsIndex places entrie
   pub kept_none : (k : RetryKey) → call_in places k ≡ None → kept entries k ≡ None
   unfolding kept
   kept_none k none = ap (option_and_then (answer_at entries)) (map_none (places_at entries) (position (has_key k) entries) (sym (index k) ∙ none))
+
+  place_of_entry : (o : Option ℕ) → option_map (λ (c : CallPlaces). c.entry) (option_map (places_at entries) o) ≡ o
+  place_of_entry None = refl
+  place_of_entry (Some i) = refl
+
+  pub first_is : (k : RetryKey) → option_map (λ (c : CallPlaces). c.entry) (call_in places k) ≡ first_with entries k
+  first_is k = ap (option_map (λ (c : CallPlaces). c.entry)) (index k) ∙ place_of_entry (first_with entries k)
 
   stands : (o : Option ℕ) (c : CallPlaces) → option_map (places_at entries) o ≡ Some c → (o ≡ Some c.entry) × (places_at entries c.entry ≡ c)
   stands None c e = absurd (cc (e))

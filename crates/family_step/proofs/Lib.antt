@@ -15,3 +15,4 @@ mod Earlier
 mod Positions
 mod Later
 mod Indexed
+mod References

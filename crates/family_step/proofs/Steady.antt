@@ -29,7 +29,7 @@ use Rattle.coordinator.specs.declared.call.Stage.TheVariants.{Going, Finishing, 
 use Rattle.coordinator.specs.Moves.{Moved, ◌▹◌, sends, ends_call, completes_as}
 use Rattle.coordinator.specs.Phases.{column, has_parent_ended, is_marked}
 use Rattle.coordinator.specs.Closing.{afterwards, before, begins, calls_next, decides, decides_by, finishes, next_synchronization, next_told, rests, tells_next}
-use Rattle.coordinator.specs.Running.{by_leg, commits_up, duties_below, ends_below, goes_on, is_held, own_duties, own_ends, passes, passes_top, runs, runs_call, sweeps, sweeps_next, tells_after, tells_first, tells_own}
+use Rattle.coordinator.specs.Running.{adopter, by_leg, commits_up, duties_below, ends_below, goes_on, is_held, own_duties, own_ends, passes, passes_top, runs, runs_call, sweeps, sweeps_next, tells_after, tells_first, tells_own}
 use Rattle.coordinator.specs.Hearing.{answers_doubt, closes, decided, doubts_by, hears_at, is_markable, is_plain, marks, marks_parent, settles, told, told_before, told_commit, told_end, told_participant, wants_done}
 use Rattle.coordinator.specs.Table.{Acted, begins_commit, commits, commits_in, creates_by, creates_in, creates_subtransaction, gets_terminator, has_branch, has_terminator, marks_only, new_call, on_branch, on_terminator, registers, registers_aware, registers_resource, registers_synchronization, replays, rolls_back, rolls_back_asked, rolls_back_in, rolls_back_sub, rolls_back_top, unless_orphan}
 use Rattle.coordinator.specs.Step.{acted, acts_on, answered, goes_on_at, has_timed_out, hears, hears_call, hears_for, rereads, ticks, times_out}
@@ -85,7 +85,7 @@ commits_up_same b None c f = refl
 
 own_ends_same : (aim : Aim) (b : ℕ) (c : Call) (f : Family) → Same f (own_ends aim b c f)
 unfolding ends_call
-own_ends_same (Commits asked) b c f = commits_up_same b (parent f.rows b) c f
+own_ends_same (Commits asked) b c f = commits_up_same b (adopter f.rows b) c f
 own_ends_same (RollsBack says) b c f = refl
 
 tells_own_same : (b : ℕ) (c : Call) (f : Family) → Same f (tells_own b c f)

@@ -5,11 +5,15 @@ ghost use Rattle.coordinator.specs.History as history;
 ghost use Rattle.coordinator.specs.NodeCalls.{answer_of};
 ghost use Rattle.coordinator.specs.Phases as phases;
 ghost use Rattle.coordinator.specs.Step as steps;
+ghost use Rattle.family_laws.specs.Reasons.{OutcomeIsCaused};
 ghost use Rattle.resource_votes.specs.Ballots as ballots;
 ghost use Rattle.resource_votes.specs.Limits.{list_count};
 ghost use Rattle.two_phase.specs.Stages as stages;
 ghost use Rattle.family_rules.specs.Order.{AreInOrder};
 ghost use Rattle.family_step.specs.Asking.{EntryIsCaused, HasStepped, is_reread};
+
+mod context;
+mod naming;
 
 use crate::asking::step_asking;
 use crate::callers::Callers;
@@ -17,7 +21,7 @@ use crate::ready::{Ready, has_room, kept, make_ready};
 use crate::step::{is_silent, step};
 use coordinator::{Entry, Event, Phase, Said, StepAnswer, histories_grow_by_entries};
 use decision_journal::Journal;
-use family_laws::{families_number_words, families_stay_sound};
+use family_laws::{families_have_causes, families_number_words, families_stay_sound};
 use family_rules::State;
 use ior_refs::ObjectKey;
 use ots_model::{RetryKey, Stood};
@@ -65,6 +69,7 @@ impl Family {
         ensures made { IfOk result (λ f. f ≡ record { family = new_family key deadline; ready = None }) }
     {
         families_stay_sound();
+        families_have_causes();
         let state = State::new(alloc, key, deadline)?;
         let callers = Callers::new(alloc);
         Ok(Family {
@@ -191,6 +196,14 @@ impl Family {
         kept(&self.state, &self.callers, key)
     }
 
+    /// The place in the history of the first call with this key, which is the one that `kept` tells of.
+    pub fn first_with(&self, key: &RetryKey) -> Option<usize>
+        ensures { result ≡ history.first_with (self.now.family).entries key.now }
+    {
+        let call = self.callers.find(key)?;
+        Some(call.entry as usize)
+    }
+
     /// The step of an event for which memory was taken, where it asks the journal for nothing. It takes no memory.
     pub fn step_alone(&mut self, event: &Event, out: &mut Outbox) -> StepAnswer
         requires reserved { self.old.ready ≡ Some event.now }
@@ -202,11 +215,14 @@ impl Family {
         } }
         ensures answer { result
             ≡ answer_of self.old.family (steps.step_alone self.old.family event.entry.now) }
+        ensures caused { OutcomeIsCaused (self.new).family }
         ensures words { out.new.words
             ≡ out.old.words ++ (steps.step_alone self.old.family event.entry.now).words }
     {
         let _ = event;
-        self.step_with(None, out)
+        let answer = self.step_with(None, out);
+        self.has_cause();
+        answer
     }
 
     /// The step of the event for which memory was taken, where this is what the journal answers in it.
@@ -223,6 +239,7 @@ impl Family {
             ≡ out.old.words ++ (steps.family_step self.old.family e stood).words) }
     {
         families_stay_sound();
+        families_have_causes();
         histories_grow_by_entries();
         let ready = self.ready.take().unwrap();
         let place = self.state.entry_count();
@@ -246,11 +263,13 @@ impl Family {
             (self.new).family result out.old.words out.new.words }
         ensures cause { EntryIsCaused D.wants_memory (D.told journal.new.disk) (D.faults journal.old.disk)
             (D.faults journal.new.disk) (self.old.family).entries ((self.new).family).entries }
+        ensures caused { OutcomeIsCaused (self.new).family }
         ensures later { D.faults journal.old.disk ≤ D.faults journal.new.disk }
         ensures ready { (self.new).ready ≡ None }
         ensures key { ((self.new).family).key ≡ (self.old.family).key }
     {
         families_stay_sound();
+        families_have_causes();
         families_number_words();
         histories_grow_by_entries();
         let _ = event;
@@ -258,6 +277,7 @@ impl Family {
         let place = self.state.entry_count();
         let answer = step_asking(&mut self.state, ready, journal, out);
         self.callers.note(self.state.entries(), place);
+        self.has_cause();
         answer
     }
 
@@ -270,10 +290,11 @@ impl Family {
         out: &mut Outbox,
     ) -> Result<StepAnswer, FamilyFault>
         requires given { is_reread (event.now).act ≡ false }
-        ensures stepped { IfOk result (λ answer. HasStepped D.told D.faults (self.old).family event.entry.now journal.old
-            journal.new (self.new).family answer out.old.words out.new.words) }
+        ensures stepped { IfOk result (λ answer. HasStepped D.told D.faults (self.old).family event.entry.now
+            journal.old journal.new (self.new).family answer out.old.words out.new.words) }
         ensures cause { OnOk result (EntryIsCaused D.wants_memory (D.told journal.new.disk) (D.faults journal.old.disk)
             (D.faults journal.new.disk) ((self.old).family).entries ((self.new).family).entries) }
+        ensures caused { OnOk result (OutcomeIsCaused (self.new).family) }
         ensures fits { OnOk result (history.has_room ((self.old).family).entries event.entry.now ≡ true) }
         ensures later { D.faults journal.old.disk ≤ D.faults journal.new.disk }
         ensures ready { (self.new).ready ≡ None }
@@ -287,20 +308,17 @@ impl Family {
         ensures memory { history.has_room ((self.old).family).entries event.entry.now ≡ true
             → IsErr result → IsErrOf result FamilyFault.Memory }
     {
-        families_stay_sound();
-        families_number_words();
-        histories_grow_by_entries();
         self.let_go();
-        if !has_room(&self.state, &self.callers, event) {
-            return Err(FamilyFault::History(event.act.history_limit()));
-        }
-        let Ok(ready) = make_ready(&mut self.state, &mut self.callers, event, out) else {
-            return Err(FamilyFault::Memory);
-        };
-        let place = self.state.entry_count();
-        let answer = step_asking(&mut self.state, ready, journal, out);
-        self.callers.note(self.state.entries(), place);
-        Ok(answer)
+        self.reserve(event, out)?;
+        Ok(self.step(journal, event, out))
+    }
+
+    /// Where the outcome of a family is fixed, what it names stands behind it.
+    fn has_cause(&self)
+        ensures { OutcomeIsCaused self.now.family }
+    {
+        families_have_causes();
+        self.state.in_order();
     }
 
     /// Gives back the memory that was taken for a step. Where there is none, nothing is written.

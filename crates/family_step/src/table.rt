@@ -1,5 +1,5 @@
 // What a client's call that ends or marks a transaction does and is answered, by how that stands.
-ghost use Rattle.std.specs.Prelude.{◌≡◌, ◌<◌, ◌≤◌, ◌+◌, ℕ, length, Some, None};
+ghost use Rattle.std.specs.Prelude.{◌≡◌, ◌<◌, ◌≤◌, ◌+◌, ℕ, length, Some, None, IsTrue};
 ghost use Rattle.coordinator.specs.Phases as phases;
 ghost use Rattle.coordinator.specs.Step as steps;
 ghost use Rattle.coordinator.specs.Table as table;
@@ -65,6 +65,7 @@ fn commit_active(
 /// The commit of a marked transaction rolls it back.
 fn commit_marked(state: &mut State, branch: u32, position: u32, out: &mut Draft) -> Said
     requires there { branch < length (state.old.family).rows }
+    requires opened { IsTrue (phases.is_open (phases.column state.old.family branch)) }
     requires can { CanGo (length (state.old.family).rows + 4) state.old.family out.old }
     ensures acts { ActsBy state.old.family out.old
         (λ f. table.unless_orphan branch f
@@ -136,6 +137,7 @@ fn roll_back(
     out: &mut Draft,
 )
     requires there { branch < length (state.old.family).rows }
+    requires opened { IsTrue (phases.is_open (phases.column state.old.family branch)) }
     requires can { CanGo (length (state.old.family).rows + 4) state.old.family out.old }
     ensures does { Does state.old.family out.old (table.rolls_back branch reason caller (said_of reply))
         state.new.family out.new }
@@ -170,6 +172,8 @@ pub(crate) fn roll_back_top(
 #[tactic(auto, unfolding(coordinator::specs::Table::rolls_back_sub))]
 fn roll_back_sub(state: &mut State, branch: u32, caller: Option<u32>, reply: Reply, out: &mut Draft)
     requires there { branch < length (state.old.family).rows }
+    requires below { 0 < branch }
+    requires opened { IsTrue (phases.is_open (phases.column state.old.family branch)) }
     requires can { CanGo (length (state.old.family).rows + 4) state.old.family out.old }
     ensures does { Does state.old.family out.old (table.rolls_back_sub branch caller (said_of reply))
         state.new.family out.new }

@@ -1,5 +1,6 @@
 use Rattle.std.proofs.Common.{◌<◌, Option, IfSome, sym, subst}
 use Rattle.coordinator.specs.Family.{Family}
+use Rattle.family_laws.specs.Reasons.{IsFounded}
 use Rattle.family_laws.specs.Sound.{IsSoundFamily}
 use Rattle.family_step.specs.Reserving.{IsStockedFor}
 use Rattle.family_step.specs.declared.ready.Ready.{Ready}
@@ -16,6 +17,7 @@ invariant_of-self c =
     record {
       serial = c.step-answer.ensures.serial;
       sound = subst (λ (g : Family). IsSoundFamily g) (sym is) (c.families_stay_sound.ensures.steps f e stood c.self.invariant.sound);
+      founded = subst (λ (g : Family). IsFounded g) (sym is) (c.families_have_causes.ensures.steps f e stood c.self.invariant.founded);
       there = there_after f e stood c.step-answer.new.state.family c.histories_grow_by_entries.ensures is c.self.invariant.there;
       index = index_after f e stood c.step-answer.new.state.family c.self.inside.callers.places c.note.new.self.places c.entries.result.now c.entry_count-place.result
           c.histories_grow_by_entries.ensures is c.self.invariant.there c.self.invariant.index c.entries.ensures c.entry_count-place.ensures.count c.note.ensures.noted;
