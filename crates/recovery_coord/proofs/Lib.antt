@@ -5,3 +5,4 @@ mod Lawful
 mod Treed
 mod Waited
 mod Rows
+mod Halving

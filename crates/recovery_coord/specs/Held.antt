@@ -3,6 +3,7 @@
 use Rattle.std.specs.Prelude.{ℕ, ◌==◌, nat_lt, Bool, true, false, not, ◌&&◌, if◌then◌else◌, List, [], ◌∷◌, ◌++◌, length, map, filter, Option, Some, None}
 use Rattle.std.specs.List.{list_any, list_all}
 use Rattle.ots_model.specs.declared.service.Status.TheVariants as status
+use Rattle.decision_journal.specs.Journal.{is_decision_at}
 use Rattle.decision_journal.specs.declared.record.Registration.{Registration}
 use Rattle.decision_journal.specs.declared.record.JournalRecord.{JournalRecord}
 use Rattle.decision_journal.specs.declared.record.JournalRecord.TheVariants.{Life, Decision, Done, Prepared, CellsPrepared, CellsOutcome, CellsOnePhase}
@@ -89,6 +90,14 @@ taken (Some r) records =
 -- without the record at this place
 abbrev pub without : ℕ → List Held → List Held
 without place records = filter (λ r. not (r.place == place)) records
+
+-- a decision or prepared record stands at this place
+abbrev pub stands_at : ℕ → List Standing → Bool
+stands_at place standing = list_any (is_decision_at place) standing
+
+-- without the record at this place, unless one stands there still
+abbrev pub without_done : ℕ → List Standing → List Held → List Held
+without_done place standing records = if stands_at place standing then records else without place records
 
 -- it is a decision, of a tree that decided for itself
 abbrev pub is_decided : Kind → Bool

@@ -1,6 +1,7 @@
-ghost use Rattle.std.specs.Prelude.{◌≡◌, ◌≢◌, ◌==◌, ◌++◌, false, map, find, Some, IfOk, OnOk, OnErr, IsErrOf};
+ghost use Rattle.std.specs.Prelude.{◌≡◌, ◌≢◌, ◌==◌, ◌++◌, false, not, map, find, Some, IfOk, OnOk, OnErr, IsErrOf};
 ghost use Rattle.std.specs.List.{filter_map};
 ghost use Rattle.std.specs.Option.{option_copied, option_to_list};
+ghost use Rattle.decision_journal.specs.Index.{AreInOrder};
 ghost use Rattle.ior_refs.specs.Reference.{canonical_octets, nil};
 ghost use Rattle.recovery_coord.specs.declared.held.Held.{Held as HeldRecord};
 ghost use Rattle.recovery_coord.specs.Held as holding;
@@ -8,6 +9,7 @@ ghost use Rattle.recovery_coord.specs.Hearing as hearing;
 ghost use Rattle.recovery_coord.specs.Telling as telling;
 ghost use Rattle.recovery_coord.specs.Replay as replay;
 
+use crate::finding::stands;
 use crate::held::{Held, Party, held_of};
 use crate::outbox::Outbox;
 use crate::records::{holds, record_at, search};
@@ -211,8 +213,24 @@ impl Recovered {
         Ok(())
     }
 
-    /// The Done of the record at this place stands: it is held no more.
-    pub fn done(&mut self, place: u32)
+    /// Lets the record at this place go, unless a decision or prepared record stands there still. The result tells whether none
+    /// does.
+    pub fn done(&mut self, place: u32, standing: &[Standing]) -> bool
+        requires order { AreInOrder standing.now }
+        ensures done { result ≡ not (holding.stands_at place standing.now) }
+        ensures records { self.new ≡ record self.old {
+          records = holding.without_done place standing.now self.old.records;
+        } }
+    {
+        if stands(standing, place) {
+            return false;
+        }
+        self.release(place);
+        true
+    }
+
+    /// The record at this place is held no more.
+    fn release(&mut self, place: u32)
         ensures { self.new ≡ record self.old { records = holding.without place self.old.records } }
     {
         if let Some(tree) = self.records.let_go(self.alloc, place) {

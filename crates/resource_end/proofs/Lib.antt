@@ -33,3 +33,4 @@ mod Resting
 mod Staying
 mod Leaving
 mod Holders
+mod Refused

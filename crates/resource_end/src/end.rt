@@ -1,6 +1,7 @@
-ghost use Rattle.std.specs.Prelude.{◌≡◌, ◌++◌, ◌+◌, ◌^◌, ◌<◌, ◌≤◌, false, None, Some, IfOk, IfErr, IfSome, IsSome, IsTrue, OnOk};
+ghost use Rattle.std.specs.Prelude.{◌≡◌, ◌++◌, ◌+◌, ◌^◌, ◌<◌, ◌≤◌, false, true, None, Some, IfOk, IfErr, IfSome, IsSome, IsTrue, OnOk};
 ghost use Rattle.ots_outside.specs.Disk.{Tells};
 ghost use Rattle.decision_journal.specs.Limits.{area_limit};
+ghost use Rattle.decision_journal.specs.Asking.{AsksLoad};
 ghost use Rattle.decision_journal.specs.Calls.{IsCurrent};
 ghost use Rattle.decision_journal.specs.Laws.{AppendsAreSafe};
 ghost use Rattle.decision_journal.specs.Journal.{can_follow};
@@ -12,7 +13,7 @@ ghost use Rattle.resource_end.specs.Limits.{object_limit};
 ghost use Rattle.resource_end.specs.Recall.{loaded};
 ghost use Rattle.resource_end.specs.End as end;
 ghost use Rattle.resource_end.specs.Calls as calls;
-ghost use Rattle.resource_end.specs.Faults.{IsLoadCause};
+ghost use Rattle.resource_end.specs.Faults.{AsksRefusedLoad, IsLoadCause, IsNoFault, IsRefusedLoad};
 ghost use Rattle.resource_end.specs.Inside as inside;
 ghost use Rattle.resource_end.specs.Journaling as journaling;
 ghost use Rattle.resource_end.specs.Crashes as crashes;
@@ -100,10 +101,17 @@ impl<D: Disk> ResourceEnd<D> {
             (λ e. Tells (D.told disk) (D.told e.journal.disk) (LoadIsSafe service)) }
         ensures safe_err { IfErr result
             (λ back. Tells (D.told disk) (D.told back.value) (LoadIsSafe service)) }
+        ensures refused { IfErr result (λ back. Tells (D.told disk) (D.told back.value)
+            (IsRefusedLoad service back.fault)) }
         ensures fault { IfErr result (λ back. IsLoadCause area service (D.told disk) (D.faults disk)
             (D.faults back.value) back.fault) }
+        ensures calm_ok { IfOk result (λ e. D.faults e.journal.disk ≡ D.faults disk) }
+        ensures calm_err { IfErr result (λ back. IsNoFault back.fault (D.faults disk) (D.faults back.value)) }
         ensures later_ok { IfOk result (λ e. D.faults disk ≤ D.faults e.journal.disk) }
         ensures later_err { IfErr result (λ back. D.faults disk ≤ D.faults back.value) }
+        ensures asked { IfOk result (λ e. AsksLoad D.asked D.told service true disk e.journal.disk) }
+        ensures begun_err { IfErr result
+            (λ back. AsksRefusedLoad D.asked D.told service back.fault disk back.value) }
     {
         octets_stand_for_one_list();
         let journal = match Journal::load(alloc, disk, area, service) {

@@ -17,6 +17,14 @@ same_number a b e = grind (arith, nat_tests, e)
 is_itself : (a : ℕ) → (a == a) ≡ true
 is_itself a = grind (arith, nat_tests)
 
+pub not_false : (b : Bool) → not b ≡ false → b ≡ true
+not_false true e = refl
+not_false false e = absurd cc
+
+pub not_true : (b : Bool) → not b ≡ true → b ≡ false
+not_true true e = absurd cc
+not_true false e = refl
+
 -- ---- the first that passes a test
 
 pub find_next : {X : Type 0} (q : X → Bool) (xs : List X) (i : ℕ) (x : X) → i < length xs → x ≡ get_or xs i x → find q (take i xs) ≡ None → q x ≡ true → find q xs ≡ Some x
@@ -123,24 +131,6 @@ module _ (standing : List Standing) where
 
     pub still_within : i ≤ length (without x.place rs)
     still_within = omega (arith, lt, ap length front_left, length-take i rs, length-take i (without x.place rs))
-
--- ---- a record is there where it is found
-
-pub any_found : (p : Standing → Bool) (ss : List Standing) (s : Standing) → find p ss ≡ Some s → list_any p ss ≡ true
-any_found p [] s e = absurd cc
-any_found p (x ∷ ss) s e = by_test (any_found p ss s) (p x) e
-  where
-    by_test : (find p ss ≡ Some s → list_any p ss ≡ true) → (b : Bool) → cond b (Some x) (find p ss) ≡ Some s → (b || list_any p ss) ≡ true
-    by_test rest true e = refl
-    by_test rest false e = rest e
-
-pub none_found : (p : Standing → Bool) (ss : List Standing) → find p ss ≡ None → list_any p ss ≡ false
-none_found p [] e = refl
-none_found p (x ∷ ss) e = by_test (none_found p ss) (p x) e
-  where
-    by_test : (find p ss ≡ None → list_any p ss ≡ false) → (b : Bool) → cond b (Some x) (find p ss) ≡ None → (b || list_any p ss) ≡ false
-    by_test rest true e = absurd cc
-    by_test rest false e = rest e
 
 -- ---- records with others in their place
 

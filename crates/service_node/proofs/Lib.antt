@@ -2,7 +2,7 @@ mod Listed
 mod Stands
 mod Whole
 mod Free
-mod Halving
+mod Gone
 mod Begun
 mod Keeping
 mod Asked
@@ -17,3 +17,4 @@ mod Applies
 mod Replied
 mod Stepping
 mod Crashing
+mod Refused

@@ -65,7 +65,7 @@ module _ {D : Type 0} (told : D → Option DiskState) (counts : D → ℕ) (f : 
   nothing_stood None is a = sym a.1
   nothing_stood (Some w) is a = absurd cc
 
-  pub stood_told : IsAsked told counts (wanted f e) before after stood → told_at (family_step f e stood).family.entries (length f.entries) ≡ stood
+  stood_told : IsAsked told counts (wanted f e) before after stood → told_at (family_step f e stood).family.entries (length f.entries) ≡ stood
   unfolding family_step wanted
   stood_told a = by_kept (kept_for f.entries e.key) a
     where
@@ -78,6 +78,12 @@ module _ {D : Type 0} (told : D → Option DiskState) (counts : D → ℕ) (f : 
           → told_at (step_by o f e stood).family.entries (length f.entries) ≡ stood
       by_kept (Some answer) asked = none_told f.entries ∙ sym asked.1
       by_kept None asked = by_silence (is_silent e f) refl asked
+
+  -- and so it is read
+  pub stood_read : (entries : List Entry) (count : ℕ) → entries ≡ (family_step f e stood).family.entries → count ≡ length f.entries
+      → IsAsked told counts (wanted f e) before after stood → told_at entries count ≡ stood
+  stood_read entries count same length_is a =
+      ap (λ (xs : List Entry). told_at xs count) same ∙ ap (told_at (family_step f e stood).family.entries) length_is ∙ stood_told a
 
   -- what it answered has the cause that its entry has
   pub caused_told : (P : Stood → Type 0) → ((entry : Entry) → (family_step f e stood).family.entries ≡ f.entries ++ entry ∷ [] → IfSome entry.stood P)
@@ -121,7 +127,7 @@ is_the_done (effects.SubtransactionEnded b committed) is = absurd cc
 is_the_done (effects.Marked b) is = absurd cc
 is_the_done effects.Doubted is = absurd cc
 
-done_there : (xs : List Effect) → list_any is_done xs ≡ true → Contains xs effects.Done
+pub done_there : (xs : List Effect) → list_any is_done xs ≡ true → Contains xs effects.Done
 done_there [] is = absurd cc
 done_there (x ∷ xs) is = by_test (is_done x) refl is (done_there xs)
   where

@@ -1,12 +1,14 @@
 -- What a call makes of a node and its journal (our profile).
 use Rattle.std.specs.Prelude.{◌≡◌, ℕ, Bool, true, false, List, ◌++◌, slice_set, Option, Some, None, Result, Err}
+use Rattle.std.specs.List.{list_any}
 use Rattle.ior_refs.specs.declared.key.ObjectKey.{ObjectKey}
 use Rattle.ots_model.specs.declared.completion.Stood.{Stood}
 use Rattle.ots_model.specs.declared.completion.Stood.TheVariants as answers
 use Rattle.ots_model.specs.declared.tree.Outward.{Outward}
 use Rattle.ots_outside.specs.Disk.{DiskState}
 use Rattle.decision_journal.specs.State.{JournalState}
-use Rattle.recovery_coord.specs.Held.{Recoveries, without}
+use Rattle.decision_journal.specs.declared.journal.Standing.{Standing}
+use Rattle.recovery_coord.specs.Held.{Recoveries, stands_at, without}
 use Rattle.recovery_coord.specs.declared.held.Held.{Held}
 use Rattle.coordinator.specs.declared.effect.Effect.{Effect}
 use Rattle.coordinator.specs.declared.effect.Effect.TheVariants as effects
@@ -60,6 +62,11 @@ is_done _ = false
 abbrev pub records_without : Option Stood → List Held → List Held
 records_without (Some (answers.Stands place)) records = without place records
 records_without _ records = records
+
+-- where effects tell a Done, none stands any more at the place that the journal answered
+abbrev pub IsGoneWhere : List Effect → Option Stood → List Standing → Type 0
+IsGoneWhere effects stood standing =
+    list_any is_done effects ≡ true → (place : ℕ) → stood ≡ Some (answers.Stands place) → stands_at place standing ≡ false
 
 -- the family in a slot has made its step
 pub record HasSteppedAt {D : Type 0} (wants : Bool) (told : D → Option DiskState) (counts : D → ℕ) (slot : ℕ) (e : Event) (families later : List (Option Family)) (before after : JournalState D)

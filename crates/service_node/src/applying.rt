@@ -9,7 +9,7 @@ ghost use Rattle.decision_journal.specs.Index.{AreInOrder};
 ghost use Rattle.decision_journal.specs.Journal.{is_decision_at};
 ghost use Rattle.family_step.specs.Asking.{is_reread};
 ghost use Rattle.service_node.specs.Applying as applying;
-ghost use Rattle.service_node.specs.Applying.{HasSteppedAt, HasSteppedIn, IsApplied, IsUnapplied, IsUnmovedAt};
+ghost use Rattle.service_node.specs.Applying.{HasSteppedAt, HasSteppedIn, IsApplied, IsGoneWhere, IsUnapplied, IsUnmovedAt};
 ghost use Rattle.service_node.specs.Crashes.{IsCrashSafe};
 ghost use Rattle.service_node.specs.Given.{node_makes};
 ghost use Rattle.service_node.specs.NodeState.{shown};
@@ -175,7 +175,7 @@ fn apply_to<D: Disk>(
     let count = family.entries().len();
     let answer = family.apply(journal, event, out)?;
     let stood = stood_at(family.entries(), count);
-    let_go_done(stood, &answer, recovered);
+    let_go_done(stood, &answer, journal.standing(), recovered);
     keep_once(failed, stood, journal.standing(), recovered);
     Ok(answer)
 }
@@ -203,7 +203,14 @@ fn keep_once(failed: bool, stood: Option<Stood>, standing: &[Standing], recovere
 }
 
 /// Where a step tells that a Done stands, the record is held no more that it names.
-fn let_go_done(stood: Option<Stood>, answer: &StepAnswer, recovered: &mut Recovered)
+fn let_go_done(
+    stood: Option<Stood>,
+    answer: &StepAnswer,
+    standing: &[Standing],
+    recovered: &mut Recovered,
+)
+    requires order { AreInOrder standing.now }
+    requires gone { IsGoneWhere (answer.now).effects stood standing.now }
     ensures { recovered.new ≡ record recovered.old {
       records = if list_any applying.is_done (answer.now).effects
           then applying.records_without stood recovered.old.records else recovered.old.records;
@@ -212,7 +219,7 @@ fn let_go_done(stood: Option<Stood>, answer: &StepAnswer, recovered: &mut Recove
     if let Some(Stood::Stands(place)) = stood
         && has_done(answer.effects.items())
     {
-        recovered.done(place);
+        recovered.done(place, standing);
     }
 }
 

@@ -7,11 +7,10 @@ ghost use Rattle.coordinator.specs.NodeSlots as slots;
 ghost use Rattle.coordinator.specs.Step as steps;
 ghost use Rattle.service_node.specs.NodeState.{shown};
 
-use crate::finding::decision_at;
 use decision_journal::{Journal, Standing};
 use family_step::Family;
 use ots_outside::Disk;
-use recovery_coord::Recovered;
+use recovery_coord::{Recovered, decision_at};
 use std::alloc::{AllocError, Global};
 
 /// The place of the record of a family, where the family is finished.

@@ -5,25 +5,13 @@ ghost use Rattle.decision_journal.specs.Calls.{IsAfterDone, IsRefusedAppend};
 ghost use Rattle.decision_journal.specs.Index.{AreInOrder};
 ghost use Rattle.decision_journal.specs.Journal.{is_decision_at};
 ghost use Rattle.decision_journal.specs.State.{IsReadFault};
-ghost use Rattle.recovery_coord.specs.Held.{without};
+ghost use Rattle.recovery_coord.specs.Held.{stands_at, without};
 ghost use Rattle.service_node.specs.Journaling as journaling;
 
-use crate::finding::decision_at;
 use coordinator::Effect;
 use decision_journal::{Journal, JournalFault, JournalRecord, Standing};
 use ots_outside::Disk;
 use recovery_coord::Recovered;
-
-/// Whether a decision or prepared record stands at this place.
-fn stands(standing: &[Standing], place: u32) -> bool
-    requires order { AreInOrder standing.now }
-    ensures { result ≡ list_any (is_decision_at place) standing.now }
-{
-    match decision_at(standing, place) {
-        Some(_) => true,
-        None => false,
-    }
-}
 
 /// Lets each record go that stands no more.
 fn keep_standing(standing: &[Standing], recovered: &mut Recovered)
@@ -35,10 +23,8 @@ fn keep_standing(standing: &[Standing], recovered: &mut Recovered)
     let mut index = 0;
     while index < recovered.records().len() {
         let place = recovered.records()[index].place;
-        if stands(standing, place) {
+        if !recovered.done(place, standing) {
             index += 1;
-        } else {
-            recovered.done(place);
         }
     }
 }
@@ -57,7 +43,15 @@ pub(crate) fn keep_where(failed: bool, standing: &[Standing], recovered: &mut Re
 }
 
 /// Lets the record at this place go, where its Done stands, and tells that.
-fn let_go(stands: bool, place: u32, recovered: &mut Recovered, happened: &mut Vec<Effect>)
+fn let_go(
+    stands: bool,
+    place: u32,
+    standing: &[Standing],
+    recovered: &mut Recovered,
+    happened: &mut Vec<Effect>,
+)
+    requires order { AreInOrder standing.now }
+    requires gone { stands ≡ true → stands_at place standing.now ≡ false }
     requires room { vec_len happened.old < vec_capacity happened.old }
     ensures records { recovered.new ≡ record recovered.old {
       records = if stands then without place recovered.old.records else recovered.old.records;
@@ -66,7 +60,7 @@ fn let_go(stands: bool, place: u32, recovered: &mut Recovered, happened: &mut Ve
         ≡ (if stands then happened.old.items ++ Effect.Done ∷ [] else happened.old.items) }
 {
     if stands {
-        recovered.done(place);
+        recovered.done(place, standing);
         happened.push_reserved(Effect::Done);
     }
 }
@@ -106,7 +100,7 @@ pub(crate) fn conclude<D: Disk>(
     if let Some(place) = complete {
         let failed = journal.failed();
         let stands = ask_done(journal, place);
-        let_go(stands, place, recovered, happened);
+        let_go(stands, place, journal.standing(), recovered, happened);
         keep_where(failed, journal.standing(), recovered);
     }
 }

@@ -1,5 +1,6 @@
-ghost use Rattle.std.specs.Prelude.{◌≡◌, ◌≤◌, false, None, IfOk, IfErr};
+ghost use Rattle.std.specs.Prelude.{◌≡◌, ◌≤◌, false, true, None, IfOk, IfErr};
 ghost use Rattle.ots_outside.specs.Disk.{Tells};
+ghost use Rattle.decision_journal.specs.Asking.{AsksLoad};
 ghost use Rattle.decision_journal.specs.Calls.{IsCurrent};
 ghost use Rattle.decision_journal.specs.Laws.{AppendsAreSafe};
 ghost use Rattle.decision_journal.specs.Limits.{area_limit};
@@ -95,10 +96,17 @@ impl<D: Disk> Node<D> {
             (λ n. Tells (D.told disk) (D.told n.journal.disk) (LoadIsSafe service)) }
         ensures safe_err { IfErr result
             (λ back. Tells (D.told disk) (D.told back.value) (LoadIsSafe service)) }
+        ensures refused { IfErr result (λ back. Tells (D.told disk) (D.told back.value)
+            (causes.IsRefusedLoad service back.fault)) }
         ensures fault { IfErr result (λ back. causes.IsLoadCause area service (D.told disk) (D.faults disk)
             (D.faults back.value) back.fault) }
+        ensures calm_ok { IfOk result (λ n. D.faults n.journal.disk ≡ D.faults disk) }
+        ensures calm_err { IfErr result (λ back. causes.IsNoFault back.fault (D.faults disk) (D.faults back.value)) }
         ensures later_ok { IfOk result (λ n. D.faults disk ≤ D.faults n.journal.disk) }
         ensures later_err { IfErr result (λ back. D.faults disk ≤ D.faults back.value) }
+        ensures asked { IfOk result (λ n. AsksLoad D.asked D.told service true disk n.journal.disk) }
+        ensures begun_err { IfErr result
+            (λ back. causes.AsksRefusedLoad D.asked D.told service back.fault disk back.value) }
     {
         octets_stand_for_one_list();
         let journal = match Journal::load(alloc, disk, area, service) {

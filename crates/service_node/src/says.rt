@@ -89,7 +89,7 @@ fn recovery_says(key: &ObjectKey, held: &Held, resource: &RefBytes) -> Option<Sa
 }
 
 /// The registration with this number.
-fn party_named(parties: &[Party], index: u32) -> Option<&Party>
+pub(crate) fn party_named(parties: &[Party], index: u32) -> Option<&Party>
     ensures { option_copied result ≡ find (λ p. p.index == index) parties.now }
 {
     parties.iter().find(|party| party.index == index)

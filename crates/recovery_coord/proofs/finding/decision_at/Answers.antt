@@ -3,8 +3,8 @@ use Rattle.std.proofs.lemmas.List.{get_or_default}
 use Rattle.std.proofs.lemmas.List.Sorted.{IsPartitionPoint-from_clause, IsPartitionedBy-ltb}
 use Rattle.decision_journal.specs.Journal.{is_decision_at}
 use Rattle.decision_journal.specs.declared.journal.Standing.{Standing}
-use Rattle.service_node.proofs.Halving.{rising, found_here, none_here}
-use Rattle.service_node.proofs.finding.decision_at.Goals as goal
+use Rattle.recovery_coord.proofs.Halving.{rising, found_here, none_here}
+use Rattle.recovery_coord.proofs.finding.decision_at.Goals as goal
 
 pub returns-then-index-standing : goal.returns-then-index-standing
 returns-then-index-standing c =

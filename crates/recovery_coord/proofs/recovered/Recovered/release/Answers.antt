@@ -2,7 +2,7 @@ use Rattle.std.proofs.Common.{List, subst}
 use Rattle.recovery_coord.specs.declared.held.Held.{Held}
 use Rattle.recovery_coord.specs.Trees.{IsPut, first_in, first_of, parted}
 use Rattle.recovery_coord.proofs.Treed.{index_parted}
-use Rattle.recovery_coord.proofs.recovered.Recovered.done.Goals as goal
+use Rattle.recovery_coord.proofs.recovered.Recovered.release.Goals as goal
 
 pub invariant_of-self : goal.invariant_of-self
 invariant_of-self c =

@@ -4,11 +4,12 @@ ghost use Rattle.std.specs.Option.{option_copied};
 ghost use Rattle.decision_journal.specs.Index.{AreInOrder};
 ghost use Rattle.decision_journal.specs.Journal.{is_decision_at};
 ghost use Rattle.decision_journal.specs.Journal as journals;
+ghost use Rattle.recovery_coord.specs.Held as holding;
 
 use decision_journal::{JournalRecord, Standing};
 
 /// The decision or prepared record at this place.
-pub(crate) fn decision_at(standing: &[Standing], place: u32) -> Option<&Standing>
+pub fn decision_at(standing: &[Standing], place: u32) -> Option<&Standing>
     requires order { AreInOrder standing.now }
     ensures { option_copied result ≡ find (is_decision_at place) standing.now }
 {
@@ -21,6 +22,17 @@ pub(crate) fn decision_at(standing: &[Standing], place: u32) -> Option<&Standing
         return None;
     }
     Some(found)
+}
+
+/// Whether a decision or prepared record stands at this place.
+pub(crate) fn stands(standing: &[Standing], place: u32) -> bool
+    requires order { AreInOrder standing.now }
+    ensures { result ≡ holding.stands_at place standing.now }
+{
+    match decision_at(standing, place) {
+        Some(_) => true,
+        None => false,
+    }
 }
 
 /// Whether it is a decision or prepared record at this place.

@@ -1,7 +1,7 @@
 use Rattle.std.proofs.Common.{sym}
 use Rattle.decision_journal.specs.Journal.{is_decision_at}
-use Rattle.service_node.proofs.Keeping.{any_found, none_found}
-use Rattle.service_node.proofs.hearing.stands.Goals as goal
+use Rattle.recovery_coord.proofs.Halving.{any_found, none_found}
+use Rattle.recovery_coord.proofs.finding.stands.Goals as goal
 
 pub returns-in-Some : goal.returns-in-Some
 returns-in-Some c = sym (any_found (is_decision_at c.args.place) c.args.standing.now _ (sym c.in-Some.ensures))

@@ -1,7 +1,7 @@
 -- What stands in the order of its places, found by its place.
-use Rattle.std.proofs.Common.{◌≡◌, ◌∙◌, inl, inr, ℕ, ◌<◌, ◌≤◌, Bool, true, false, ltb, ltb-true, ltb-false, ◌&&◌, List, [], ◌∷◌, length, get_or, Some, None, refl, sym, ap, subst, arith}
+use Rattle.std.proofs.Common.{◌≡◌, ◌∙◌, inl, inr, ℕ, ◌<◌, ◌≤◌, Bool, true, false, ltb, ltb-true, ltb-false, ◌&&◌, ◌||◌, cond, List, [], ◌∷◌, length, get_or, Some, None, refl, sym, ap, subst, arith}
 use Rattle.std.specs.Prelude.{find, ◌==◌}
-use Rattle.std.specs.List.{slice_get}
+use Rattle.std.specs.List.{list_any, slice_get}
 use Rattle.std.specs.List.Sorted.{IsNonDecreasingBy, IsPartitionPoint}
 use Rattle.std.proofs.lemmas.Bool.{cases_lt}
 use Rattle.std.proofs.lemmas.Bool.Decides.{nat_tests}
@@ -53,3 +53,21 @@ module _ (xs : List Standing) (order : AreInOrder xs) (place i : ℕ) (point : I
           find_at (is_decision_at place) xs
           ∙ ap (slice_get xs) (position_or_len_is (is_decision_at place) xs (length xs) y (omega arith) (λ k lt. at_each k y lt) (λ lt. absurd (omega (arith, lt))))
           ∙ slice_get_past xs (length xs) (omega arith)
+
+-- ---- a record is there where it is found
+
+pub any_found : (p : Standing → Bool) (ss : List Standing) (s : Standing) → find p ss ≡ Some s → list_any p ss ≡ true
+any_found p [] s e = absurd cc
+any_found p (x ∷ ss) s e = by_test (any_found p ss s) (p x) e
+  where
+    by_test : (find p ss ≡ Some s → list_any p ss ≡ true) → (b : Bool) → cond b (Some x) (find p ss) ≡ Some s → (b || list_any p ss) ≡ true
+    by_test rest true e = refl
+    by_test rest false e = rest e
+
+pub none_found : (p : Standing → Bool) (ss : List Standing) → find p ss ≡ None → list_any p ss ≡ false
+none_found p [] e = refl
+none_found p (x ∷ ss) e = by_test (none_found p ss) (p x) e
+  where
+    by_test : (find p ss ≡ None → list_any p ss ≡ false) → (b : Bool) → cond b (Some x) (find p ss) ≡ None → (b || list_any p ss) ≡ false
+    by_test rest true e = absurd cc
+    by_test rest false e = rest e
