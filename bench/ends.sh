@@ -15,8 +15,7 @@ folder=${2:-$work}
 rounds=${3:-9}
 file=$folder/ends.bench
 trap 'rm -rf "$work" "$file"' EXIT
-program=$here/crates/journal_rows/out/journal_rows
-(cd "$here/crates/journal_rows" && rt run </dev/null >/dev/null 2>&1) || true
+scratch journal_bench journal_bench.txt decision_journal ior_refs ots_model ots_outside recovery_coord resource_end
 
 # stored CELLS: the journal of an end in which so many cells are stored, 1,000 by each resource.
 stored() {

@@ -13,8 +13,7 @@ count=${1:-500}
 folder=${2:-$work}
 file=$folder/journal.bench
 trap 'rm -rf "$work" "$file"' EXIT
-program=$here/crates/journal_rows/out/journal_rows
-(cd "$here/crates/journal_rows" && rt run </dev/null >/dev/null 2>&1) || true
+scratch journal_bench journal_bench.txt decision_journal ior_refs ots_model ots_outside recovery_coord resource_end
 
 # least TIMES: the least of these.
 least() { sort -n | head -1; }

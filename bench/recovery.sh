@@ -5,8 +5,7 @@
 set -euo pipefail
 . "$(dirname "$0")/timing.sh"
 file=$work/journal.bench
-program=$here/crates/journal_rows/out/journal_rows
-(cd "$here/crates/journal_rows" && rt run </dev/null >/dev/null 2>&1) || true
+scratch journal_bench journal_bench.txt decision_journal ior_refs ots_model ots_outside recovery_coord resource_end
 
 # journal COUNT REGISTRATIONS: a journal of so many decisions, each with so many registrations of 40 octets.
 journal() {

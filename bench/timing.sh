@@ -47,3 +47,16 @@ rows() {
     echo "$size $(wc -c <"$work/$size.input") $best $(wc -l <"$work/$size.lines")"
   done
 }
+
+# scratch NAME TEXT CRATE..: builds the program whose root is that text of this folder, over these crates, and names it in
+# `program`. It stands beside a copy of the crates, which stays, so that a later run proves only what has changed.
+scratch() {
+  local name=$1 text=$2 top=${TMPDIR:-/tmp}/ots-bench
+  shift 2
+  mkdir -p "$top/crates/$name/src"
+  (cd "$here" && tar --exclude='crates/*/out' -c crates crates.txt) | tar -C "$top" -x
+  cp "$here/bench/$text" "$top/crates/$name/src/main.rt"
+  echo "$name: $*" >>"$top/crates.txt"
+  (cd "$top/crates/$name" && rt run </dev/null >/dev/null 2>&1) || true
+  program=$top/crates/$name/out/$name
+}

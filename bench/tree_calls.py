@@ -1,10 +1,10 @@
 #!/usr/bin/env python3
-"""Calls on a tree of transactions, its registrations and its completion, in the form of `crates/ots_rows`, and what they
+"""Calls on a tree of transactions, its registrations and its completion, in the form of `tree_rows.txt`, and what they
 must answer.
 
 `tree_calls.py calls SEED COUNT BRANCHES` prints about so many random calls on a tree of at most so many branches, and
 `answers` in place of `calls` their answers by the plain accounts below, which know nothing of the program.
-`tree_calls.py cases calls` and `cases answers` print the random cases of `crates/ots_rows` and what they tell.
+`tree_calls.py cases calls` and `cases answers` print random cases and what they tell (see trees.sh).
 `tree_calls.py bench KIND SIZE COUNT` prints about so many calls of a kind on trees of that size (see bench/trees.sh), and
 `setup` in place of `bench` only what makes these trees.
 """
@@ -273,7 +273,7 @@ KINDS = {
     "live": (6, 4), "sweep": (2, 1), "register": (3, 14), "double": (2, 7), "aware": (2, 7), "sync": (2, 5), "told": (4, 6),
     "synchronization": (1, 2), "vote": (3, 6), "participants": (2, 8),
 }
-# the cases of crates/ots_rows: a seed, how many calls, and of how many branches; and seeds of completions
+# the random cases: a seed, how many calls, and of how many branches; and seeds of completions
 CASES = [(seed, 150, 24) for seed in range(1, 9)] + [(seed, 2200, TRANSACTIONS) for seed in range(11, 14)]
 COMPLETIONS = 24, 49, 56, 69, 78
 

@@ -1,14 +1,18 @@
 #!/usr/bin/env bash
-# Makes calls on trees of transactions of growing size, on their registrations and on their completions, by the cases of
-# crates/ots_rows, and prints the processor time per call and how it grows with the size. What the trees take that the calls
+# Makes calls on trees of transactions of growing size, on their registrations and on their completions, by the
+# program of tree_rows.txt, and prints the processor time per call and how it grows with the size. What the trees take that the calls
 # are made on is timed alone, and taken off. Run it anywhere; it builds the program first. How many calls a row makes may be
 # given as an argument.
 set -euo pipefail
 . "$(dirname "$0")/timing.sh"
 calls=${1:-200000}
 clock=processor
-ots=$here/crates/ots_rows/out/ots_rows
-(cd "$here/crates/ots_rows" && rt run </dev/null >/dev/null 2>&1) || true
+scratch tree_rows tree_rows.txt ots_model resource_votes two_phase txn_tree
+ots=$program
+
+# Random calls are answered as by the plain accounts of tree_calls.py.
+python3 "$here/bench/tree_calls.py" cases calls | "$ots" >"$work/told"
+python3 "$here/bench/tree_calls.py" cases answers | cmp - "$work/told"
 
 # row KIND SIZE..: about so many calls of a kind on trees of each size. What is counted is named, with the calls that each
 # takes, by `each` and `times`.

@@ -10,8 +10,7 @@ use crate::journals::{
     MemJournal, append_outcome, bytes, disk_octets, done, life, reopen, standing,
 };
 use crate::records::{append_record, number};
-use decision_journal::{CellsEnd, JournalFault, JournalRecord, Put, Puts, Standing};
-use ots_model::RefBytes;
+use decision_journal::{CellsEnd, JournalRecord, Put};
 use std::alloc::Global;
 use std::io;
 use std::io::{ErrorKind, Write};
@@ -29,10 +28,13 @@ pub fn call(
     let (word, rest) = line.split_once(' ').unwrap_or((line, ""));
     match word {
         "append" => tell_append(alloc, journal, 1, rest, told),
-        "times" => tell_appends(alloc, journal, rest, told),
-        "outcome" => tell_outcome(journal, rest, told),
-        "done" => tell_done(journal, rest, told),
-        "reopen" => tell_reopen(journal, told),
+        "times" => {
+            let (count, words) = rest.split_once(' ').ok_or(ErrorKind::InvalidInput)?;
+            tell_append(alloc, journal, number(count)?, words, told)
+        }
+        "outcome" => tell_outcome(journal, number(rest)?, told),
+        "done" => write!(told, "{:?}", done(journal, number(rest)?)),
+        "reopen" => write!(told, "{:?}", reopen(journal)),
         "bytes" => tell_bytes(alloc, journal, told),
         "disk" => tell_octets(alloc, disk_octets(journal), told),
         _ => tell_standing(journal, told),
@@ -51,64 +53,31 @@ fn tell_append(
     for _ in 0..count {
         answer = append_record(alloc, journal, words)?;
     }
-    tell_place(&answer, told)
+    write!(told, "{answer:?}")
 }
 
-/// The same, where the words begin with how many times.
-fn tell_appends(
-    alloc: Global,
-    journal: &mut MemJournal,
-    words: &str,
-    told: &mut Vec<u8>,
-) -> io::Result<()> {
-    match words.split_once(' ') {
-        Some((count, words)) => tell_append(alloc, journal, number(count)?, words, told),
-        None => Err(ErrorKind::InvalidInput.into()),
-    }
-}
-
-fn tell_outcome(journal: &mut MemJournal, place: &str, told: &mut Vec<u8>) -> io::Result<()> {
-    match append_outcome(journal, number(place)?)? {
-        Some(answer) => tell_place(&answer, told),
+fn tell_outcome(journal: &mut MemJournal, place: u32, told: &mut Vec<u8>) -> io::Result<()> {
+    match append_outcome(journal, place)? {
+        Some(answer) => write!(told, "{answer:?}"),
         None => tell_text("it can't follow", told),
     }
 }
 
-fn tell_done(journal: &mut MemJournal, place: &str, told: &mut Vec<u8>) -> io::Result<()> {
-    tell_made(&done(journal, number(place)?), told)
-}
-
-fn tell_reopen(journal: &mut MemJournal, told: &mut Vec<u8>) -> io::Result<()> {
-    tell_made(&reopen(journal), told)
-}
-
-fn tell_place(answer: &Result<u32, JournalFault>, told: &mut Vec<u8>) -> io::Result<()> {
-    write!(told, "{answer:?}")
-}
-
-fn tell_made(answer: &Result<(), JournalFault>, told: &mut Vec<u8>) -> io::Result<()> {
-    write!(told, "{answer:?}")
-}
-
 fn tell_bytes(alloc: Global, journal: &mut MemJournal, told: &mut Vec<u8>) -> io::Result<()> {
     let mut octets = Vec::new(alloc);
-    tell_made(&bytes(journal, &mut octets), told)?;
-    tell_text(" ", told)?;
+    let answer = bytes(journal, &mut octets);
+    write!(told, "{answer:?} ")?;
     tell_octets(alloc, octets.as_slice(), told)
 }
 
 fn tell_octets(alloc: Global, octets: &[u8], told: &mut Vec<u8>) -> io::Result<()> {
-    let digits = hex::encode(alloc, octets)?;
-    told.write_all(digits.as_bytes())
+    tell_text(hex::encode(alloc, octets)?.as_str(), told)
 }
 
 /// Tells the life, and the places of what stands.
 pub fn tell_standing(journal: &MemJournal, told: &mut Vec<u8>) -> io::Result<()> {
     write!(told, "life {}", life(journal))?;
-    tell_places(standing(journal), told)
-}
-
-fn tell_places(standing: &[Standing], told: &mut Vec<u8>) -> io::Result<()> {
+    let standing = standing(journal);
     for standing in standing.get(..MOST).unwrap_or(standing) {
         write!(told, " {}", standing.place)?;
     }
@@ -127,49 +96,29 @@ pub fn tell_records(journal: &MemJournal, known: usize, told: &mut Vec<u8>) -> i
 fn tell_record(item: &JournalRecord, told: &mut Vec<u8>) -> io::Result<()> {
     match item {
         JournalRecord::CellsPrepared(life, number, recovery, puts) => {
-            tell_prepared(*life, *number, recovery, puts, told)
+            write!(told, "; prepared {life} {number} {:?}", recovery.bytes())?;
+            tell_puts(puts.items(), told)
         }
         JournalRecord::CellsOnePhase(life, number, puts) => {
-            tell_one_phase(*life, *number, puts, told)
+            write!(told, "; one phase {life} {number}")?;
+            tell_puts(puts.items(), told)
         }
-        JournalRecord::CellsOutcome(place, end) => tell_ended(*place, *end, told),
+        JournalRecord::CellsOutcome(place, end) => write!(told, "; {} {place}", end_word(*end)),
         _ => tell_text("; another record", told),
     }
-}
-
-fn tell_ended(place: u32, end: CellsEnd, told: &mut Vec<u8>) -> io::Result<()> {
-    write!(told, "; {} {place}", end_word(end))
-}
-
-fn tell_prepared(
-    life: u32,
-    number: u64,
-    recovery: &RefBytes,
-    puts: &Puts,
-    told: &mut Vec<u8>,
-) -> io::Result<()> {
-    write!(told, "; prepared {life} {number} {:?}", recovery.bytes())?;
-    tell_puts(puts.items(), told)
-}
-
-fn tell_one_phase(life: u32, number: u64, puts: &Puts, told: &mut Vec<u8>) -> io::Result<()> {
-    write!(told, "; one phase {life} {number}")?;
-    tell_puts(puts.items(), told)
 }
 
 /// Tells the cells and their values; of more than 16 how many they are, the first and the last.
 fn tell_puts(puts: &[Put], told: &mut Vec<u8>) -> io::Result<()> {
     match puts {
-        [first, .., last] if puts.len() > 16 => tell_ends(puts.len(), first, last, told),
+        [first, .., last] if puts.len() > 16 => {
+            write!(told, " {} cells:", puts.len())?;
+            tell_put(first, told)?;
+            tell_text(" to", told)?;
+            tell_put(last, told)
+        }
         puts => tell_all(puts, told),
     }
-}
-
-fn tell_ends(count: usize, first: &Put, last: &Put, told: &mut Vec<u8>) -> io::Result<()> {
-    write!(told, " {count} cells:")?;
-    tell_put(first, told)?;
-    tell_text(" to", told)?;
-    tell_put(last, told)
 }
 
 fn tell_all(puts: &[Put], told: &mut Vec<u8>) -> io::Result<()> {

@@ -2,50 +2,15 @@ use crate::calls::{call, tell_records, tell_standing};
 use crate::crashes::tell_crashes;
 use crate::end_calls::{LoadedEnd, load_end};
 use crate::end_runs::{tell_end, tell_stops, tell_words};
-use crate::ends::tell_text;
 use crate::journals::{Loaded, MemJournal, disk_of, into_disk, load, standing};
 use crate::records::{add_octets, low_octet, number};
-use decision_journal::JournalFault;
-use ots_outside::{Back, MemDisk};
+use ots_outside::MemDisk;
 use std::alloc::Global;
 use std::io;
 use std::io::Write;
 
 /// How many calls of a disk are looked at.
 pub const CALLS: u64 = 64;
-
-/// What is told of a case.
-#[derive(Clone, Copy)]
-enum Kind {
-    Garbage,
-    Fails,
-    Crashes,
-    End,
-    Words,
-    Stops,
-    Calls,
-}
-
-/// The words by which kinds are named.
-const KINDS: [(&str, Kind); 6] = [
-    ("garbage", Kind::Garbage),
-    ("fails", Kind::Fails),
-    ("crashes", Kind::Crashes),
-    ("end", Kind::End),
-    ("words", Kind::Words),
-    ("stops", Kind::Stops),
-];
-
-/// That of the case with this first line.
-fn kind_of(head: &str) -> Kind {
-    let (word, _) = head.split_once(':').unwrap_or((head, ""));
-    for (name, kind) in KINDS {
-        if name == word {
-            return kind;
-        }
-    }
-    Kind::Calls
-}
 
 /// What a disk holds, and what is done with it.
 #[derive(Drop)]
@@ -100,35 +65,30 @@ impl<'a> Case<'a> {
 
     /// Tries the case, and tells what came.
     pub fn tell(&self, alloc: Global, head: &str, told: &mut Vec<u8>) -> io::Result<()> {
-        match kind_of(head) {
-            Kind::Garbage => self.tell_garbage(alloc, told),
-            Kind::Fails => self.tell_fails(alloc, told),
-            Kind::Crashes => tell_crashes(alloc, self, told),
-            Kind::End => tell_end(alloc, self, told),
-            Kind::Words => tell_words(alloc, self, told),
-            Kind::Stops => tell_stops(alloc, self, told),
-            Kind::Calls => self.tell_calls(alloc, told),
+        let (kind, _) = head.split_once(':').unwrap_or((head, ""));
+        match kind {
+            "garbage" => self.tell_garbage(alloc, told),
+            "fails" => self.tell_fails(alloc, told),
+            "crashes" => tell_crashes(alloc, self, told),
+            "end" => tell_end(alloc, self, told),
+            "words" => tell_words(alloc, self, told),
+            "stops" => tell_stops(alloc, self, told),
+            _ => {
+                self.tell_run(alloc, Vec::new(alloc), "\n", told)?;
+                Ok(())
+            }
         }
     }
 
-    fn tell_calls(&self, alloc: Global, told: &mut Vec<u8>) -> io::Result<()> {
-        self.tell_run(alloc, Vec::new(alloc), "\n", told)?;
-        Ok(())
-    }
-
+    /// Runs the case once for each call of its disk, which fails.
     fn tell_fails(&self, alloc: Global, told: &mut Vec<u8>) -> io::Result<()> {
         for call in 0..CALLS {
-            if !self.tell_fail(alloc, call, told)? {
+            write!(told, "{call}: ")?;
+            if !self.tell_run(alloc, vec![in alloc; call]?, ", ", told)? {
                 break;
             }
         }
         Ok(())
-    }
-
-    /// Runs the case on a disk of which a call fails. The result is whether it was made.
-    fn tell_fail(&self, alloc: Global, call: u64, told: &mut Vec<u8>) -> io::Result<bool> {
-        write!(told, "{call}: ")?;
-        self.tell_run(alloc, vec![in alloc; call]?, ", ", told)
     }
 
     /// Loads the journal that a disk of these octets holds, of which these calls fail.
@@ -157,21 +117,15 @@ impl<'a> Case<'a> {
         told: &mut Vec<u8>,
     ) -> io::Result<MemDisk> {
         match self.load(alloc, self.octets.as_slice(), failing)? {
-            Ok(journal) => self.run_on(alloc, journal, between, told),
-            Err(back) => give_back(back, told),
+            Ok(mut journal) => {
+                self.make_calls(alloc, &mut journal, between, told)?;
+                Ok(into_disk(journal))
+            }
+            Err(back) => {
+                write!(told, "{:?}", back.fault)?;
+                Ok(back.value)
+            }
         }
-    }
-
-    fn run_on(
-        &self,
-        alloc: Global,
-        journal: MemJournal,
-        between: &str,
-        told: &mut Vec<u8>,
-    ) -> io::Result<MemDisk> {
-        let mut journal = journal;
-        self.make_calls(alloc, &mut journal, between, told)?;
-        Ok(into_disk(journal))
     }
 
     fn make_calls(
@@ -232,15 +186,14 @@ impl<'a> Case<'a> {
         known: Option<usize>,
         told: &mut Vec<u8>,
     ) -> io::Result<usize> {
-        let loaded = self.load(alloc, octets, Vec::new(alloc))?;
-        tell_loaded(&loaded, known, told)
-    }
-}
-
-fn tell_loaded(loaded: &Loaded, known: Option<usize>, told: &mut Vec<u8>) -> io::Result<usize> {
-    match loaded {
-        Ok(journal) => tell_journal(journal, known, told),
-        Err(back) => tell_refusal(back.fault, known, told),
+        match self.load(alloc, octets, Vec::new(alloc))? {
+            Ok(journal) => tell_journal(&journal, known, told),
+            Err(back) => {
+                let gap = if known.is_some() { "; " } else { "" };
+                write!(told, "{gap}{:?}", back.fault)?;
+                Ok(0)
+            }
+        }
     }
 }
 
@@ -254,29 +207,6 @@ fn tell_journal(
         None => tell_standing(journal, told)?,
     }
     Ok(standing(journal).len())
-}
-
-fn tell_refusal(
-    fault: JournalFault,
-    known: Option<usize>,
-    told: &mut Vec<u8>,
-) -> io::Result<usize> {
-    if known.is_some() {
-        tell_text("; ", told)?;
-    }
-    tell_fault(fault, told)?;
-    Ok(0)
-}
-
-/// Tells why a journal refused.
-pub fn tell_fault(fault: JournalFault, told: &mut Vec<u8>) -> io::Result<()> {
-    write!(told, "{fault:?}")
-}
-
-/// Tells why a load was refused, and gives the disk back.
-fn give_back(back: Back<MemDisk, JournalFault>, told: &mut Vec<u8>) -> io::Result<MemDisk> {
-    tell_fault(back.fault, told)?;
-    Ok(back.value)
 }
 
 /// The octets, of which one is another, and the rest is cut off, as a line `PLACE OCTET LENGTH` says.

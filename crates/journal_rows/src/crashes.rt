@@ -3,17 +3,10 @@
 use crate::case::{CALLS, Case};
 use crate::end_runs::tell_looks;
 use crate::journals::{MemJournal, bytes, life};
+use crash_images::{Row, count, difference, images};
 use std::alloc::Global;
 use std::io;
 use std::io::Write;
-use std::ops::Range;
-
-/// So many images come to the same.
-#[derive(Drop)]
-pub struct Row {
-    told: Vec<u8>,
-    images: u64,
-}
 
 /// Tells what a crash in each call of the disk leaves.
 pub fn tell_crashes(alloc: Global, case: &Case, told: &mut Vec<u8>) -> io::Result<()> {
@@ -78,21 +71,8 @@ fn tell_row(row: &Row, words: [&str; 3], told: &mut Vec<u8>) -> io::Result<()> {
     told.write_all(behind.as_bytes())
 }
 
-/// The places from the first that differs to the last.
-fn difference(before: &[u8], after: &[u8]) -> Range<usize> {
-    let mut start = after.len();
-    let mut end = after.len();
-    for (place, octet) in after.iter().enumerate() {
-        if before.get(place) != Some(octet) {
-            start = start.min(place);
-            end = place.saturating_add(1);
-        }
-    }
-    start..end
-}
-
-/// What is told of each image that a crash can leave. It has the front of what was written, and behind it what stood there,
-/// or octets that are 1. Where there is an end, its records are told, else the answers to the looks.
+/// What is told of each image that a crash can leave. Where there is an end, its records are told, else the answers to the
+/// looks.
 pub fn rows(
     alloc: Global,
     case: &Case,
@@ -100,38 +80,11 @@ pub fn rows(
     after: &[u8],
     end: Option<&[u8]>,
 ) -> io::Result<Vec<Row>> {
-    let written = difference(before, after);
-    let ones = with_ones(alloc, after, written.start, written.end)?;
     let mut rows = Vec::new(alloc);
-    let last = written.end.saturating_add(1);
-    count_torn(
-        alloc,
-        case,
-        after,
-        before,
-        written.start..last,
-        end,
-        &mut rows,
-    )?;
-    count_torn(alloc, case, after, ones.as_slice(), written, end, &mut rows)?;
-    Ok(rows)
-}
-
-/// Counts the images that have what was written up to one of these places, and then the octets behind.
-fn count_torn(
-    alloc: Global,
-    case: &Case,
-    written: &[u8],
-    behind: &[u8],
-    places: Range<usize>,
-    end: Option<&[u8]>,
-    rows: &mut Vec<Row>,
-) -> io::Result<()> {
-    for place in places {
-        let image = torn(alloc, written, behind, place)?;
-        count_image(alloc, case, image.as_slice(), end, rows)?;
+    for image in images(alloc, before, after)? {
+        count_image(alloc, case, image.as_slice(), end, &mut rows)?;
     }
-    Ok(())
+    Ok(rows)
 }
 
 /// Counts an image with those that come to the same.
@@ -147,34 +100,7 @@ fn count_image(
         Some(end) => tell_records(alloc, case, image, end, &mut told)?,
         None => tell_looks(alloc, case, image, &mut told)?,
     }
-    add_row(told, rows)
-}
-
-fn add_row(told: Vec<u8>, rows: &mut Vec<Row>) -> io::Result<()> {
-    for row in rows.as_mut_slice() {
-        if row.told == told {
-            row.images = row.images.saturating_add(1);
-            return Ok(());
-        }
-    }
-    rows.push(Row { told, images: 1 })?;
-    Ok(())
-}
-
-/// The octets, of which those between two places are 1.
-fn with_ones(alloc: Global, octets: &[u8], start: usize, end: usize) -> io::Result<Vec<u8>> {
-    let mut ones = octets.to_vec(alloc)?;
-    if let Some(rest) = ones.as_mut_slice().get_mut(start..end) {
-        rest.fill(1);
-    }
-    Ok(ones)
-}
-
-/// So many octets of what was written, and the octets behind them.
-fn torn(alloc: Global, written: &[u8], behind: &[u8], count: usize) -> io::Result<Vec<u8>> {
-    let mut octets = front(written, count).to_vec(alloc)?;
-    octets.write_all(behind.get(count..).unwrap_or(&[]))?;
-    Ok(octets)
+    count(told, rows)
 }
 
 /// So many octets, or all of them.

@@ -4,7 +4,7 @@ use crate::journals::AREA_LIMIT;
 use ior_refs::ObjectKey;
 use ots_model::tree::Heard;
 use ots_model::{Decision, RefBytes};
-use ots_outside::{Back, Disk, MemDisk};
+use ots_outside::{Back, MemDisk};
 use recovery_coord::Outbox;
 use resource_end::{EndFault, ResourceEnd};
 use std::alloc::Global;
@@ -16,12 +16,7 @@ pub type MemEnd = ResourceEnd<MemDisk>;
 pub type LoadedEnd = Result<MemEnd, Back<MemDisk, EndFault>>;
 
 /// Makes the call `ResourceEnd::load`, with an area within the limit.
-pub fn load_end<D: Disk>(
-    alloc: Global,
-    disk: D,
-    area: u64,
-    service: u64,
-) -> Result<ResourceEnd<D>, Back<D, EndFault>> {
+pub fn load_end(alloc: Global, disk: MemDisk, area: u64, service: u64) -> LoadedEnd {
     ResourceEnd::load(alloc, disk, area.min(AREA_LIMIT), service)
 }
 
@@ -41,17 +36,12 @@ pub fn asks(end: &MemEnd, out: &mut Outbox) -> Result<(), EndFault> {
 }
 
 /// Makes the call `fresh`.
-pub fn fresh<D: Disk>(end: &mut ResourceEnd<D>, letter: u8) -> Result<ObjectKey, EndFault> {
+pub fn fresh(end: &mut MemEnd, letter: u8) -> Result<ObjectKey, EndFault> {
     end.fresh(letter)
 }
 
 /// Makes the call `put`.
-pub fn put<D: Disk>(
-    end: &mut ResourceEnd<D>,
-    key: &ObjectKey,
-    cell: u64,
-    value: u64,
-) -> Result<(), EndFault> {
+pub fn put(end: &mut MemEnd, key: &ObjectKey, cell: u64, value: u64) -> Result<(), EndFault> {
     end.put(key, cell, value)
 }
 
@@ -86,17 +76,17 @@ pub fn learn(end: &mut MemEnd, key: &ObjectKey, heard: &Heard) -> Result<(), End
 }
 
 /// Makes the call `prepare`.
-pub fn prepare<D: Disk>(end: &mut ResourceEnd<D>, key: &ObjectKey) -> Result<Heard, EndFault> {
+pub fn prepare(end: &mut MemEnd, key: &ObjectKey) -> Result<Heard, EndFault> {
     end.prepare(key)
 }
 
 /// Makes the call `commit`.
-pub fn commit<D: Disk>(end: &mut ResourceEnd<D>, key: &ObjectKey) -> Result<Heard, EndFault> {
+pub fn commit(end: &mut MemEnd, key: &ObjectKey) -> Result<Heard, EndFault> {
     end.commit(key)
 }
 
 /// Makes the call `rollback`.
-pub fn roll_back<D: Disk>(end: &mut ResourceEnd<D>, key: &ObjectKey) -> Result<Heard, EndFault> {
+pub fn roll_back(end: &mut MemEnd, key: &ObjectKey) -> Result<Heard, EndFault> {
     end.rollback(key)
 }
 

@@ -80,37 +80,13 @@ fn tell_more<'a>(
 
 /// Makes these calls, and tells the last, its answer, and the records that it wrote.
 fn tell_last(alloc: Global, case: &Case, lines: &[&str], told: &mut Vec<u8>) -> io::Result<()> {
-    match lines {
-        [first @ .., _] => tell_behind(alloc, case, first, lines, told),
-        [] => Ok(()),
-    }
-}
-
-fn tell_behind(
-    alloc: Global,
-    case: &Case,
-    first: &[&str],
-    lines: &[&str],
-    told: &mut Vec<u8>,
-) -> io::Result<()> {
+    let first = &lines[..lines.len().saturating_sub(1)];
     let mut known = Vec::new(alloc);
     let before = run(alloc, case, Vec::new(alloc), first, "", &mut known)?;
-    tell_new(alloc, case, lines, known.len(), before.octets(), told)
-}
-
-/// Makes these calls, and tells the answers but for so many octets, and the records that a disk holds more than before.
-fn tell_new(
-    alloc: Global,
-    case: &Case,
-    lines: &[&str],
-    known: usize,
-    before: &[u8],
-    told: &mut Vec<u8>,
-) -> io::Result<()> {
     let mut answers = Vec::new(alloc);
     let after = run(alloc, case, Vec::new(alloc), lines, "", &mut answers)?;
-    told.write_all(answers.get(known..).unwrap_or(&[]))?;
-    tell_written(alloc, case, before, after.octets(), told)?;
+    told.write_all(answers.get(known.len()..).unwrap_or(&[]))?;
+    tell_written(alloc, case, before.octets(), after.octets(), told)?;
     writeln!(told)
 }
 
@@ -168,42 +144,32 @@ fn next_end(
     line: &str,
     told: &mut Vec<u8>,
 ) -> io::Result<LoadedEnd> {
-    let (word, rest) = line.split_once(' ').unwrap_or((line, ""));
-    match word {
-        "fail" | "crash" => {
-            let disk = disk_of(loaded);
-            write!(told, "{gap}{line}: ")?;
-            load_again(alloc, case, disk.octets(), rest, told)
+    write!(told, "{gap}{line}: ")?;
+    match line.split_once(' ').unwrap_or((line, "")) {
+        ("crash", _) => load_again(alloc, case, loaded, Vec::new(alloc), told),
+        ("fail", call) => {
+            let failing = vec![in alloc; u64::from(number(call)?)]?;
+            load_again(alloc, case, loaded, failing, told)
         }
-        _ => tell_call(alloc, loaded, gap, line, told),
+        _ => tell_call(alloc, loaded, line, told),
     }
 }
 
-/// Loads an end from these octets. A call of its disk may be named, which then fails.
+/// Loads an end again from what its disk reads, where these calls of the new disk fail.
 fn load_again(
     alloc: Global,
     case: &Case,
-    octets: &[u8],
-    call: &str,
+    loaded: LoadedEnd,
+    failing: Vec<u64>,
     told: &mut Vec<u8>,
 ) -> io::Result<LoadedEnd> {
-    let loaded = case.load_end(alloc, octets, failing(alloc, call)?)?;
-    tell_loaded(&loaded, told)?;
+    let disk = disk_of(loaded);
+    let loaded = case.load_end(alloc, disk.octets(), failing)?;
+    match &loaded {
+        Ok(_) => tell_text("ok", told)?,
+        Err(back) => tell_fault(back.fault, told)?,
+    }
     Ok(loaded)
-}
-
-fn failing(alloc: Global, call: &str) -> io::Result<Vec<u64>> {
-    match call {
-        "" => Ok(Vec::new(alloc)),
-        call => Ok(vec![in alloc; u64::from(number(call)?)]?),
-    }
-}
-
-fn tell_loaded(loaded: &LoadedEnd, told: &mut Vec<u8>) -> io::Result<()> {
-    match loaded {
-        Ok(_) => tell_text("ok", told),
-        Err(back) => tell_fault(back.fault, told),
-    }
 }
 
 /// The disk of what was loaded.
@@ -218,27 +184,15 @@ fn disk_of(loaded: LoadedEnd) -> MemDisk {
 fn tell_call(
     alloc: Global,
     loaded: LoadedEnd,
-    gap: &str,
     line: &str,
     told: &mut Vec<u8>,
 ) -> io::Result<LoadedEnd> {
     let mut loaded = loaded;
-    call_loaded(alloc, &mut loaded, gap, line, told)?;
-    Ok(loaded)
-}
-
-fn call_loaded(
-    alloc: Global,
-    loaded: &mut LoadedEnd,
-    gap: &str,
-    line: &str,
-    told: &mut Vec<u8>,
-) -> io::Result<()> {
-    write!(told, "{gap}{line}: ")?;
-    match loaded {
-        Ok(end) => call(alloc, end, line, told),
-        Err(back) => tell_fault(back.fault, told),
+    match &mut loaded {
+        Ok(end) => call(alloc, end, line, told)?,
+        Err(back) => tell_fault(back.fault, told)?,
     }
+    Ok(loaded)
 }
 
 /// Makes the calls once for each call of the disk, from which on all fail, and tells the answers and what a crash in that

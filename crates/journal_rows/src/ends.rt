@@ -8,7 +8,6 @@
 //! - `prepare L N`, `commit L N`, `rollback L N`, `one_phase L N`, `forget L N`: a word, what it is answered, and what
 //!   that is shown as.
 
-use crate::case::tell_fault as tell_start_fault;
 use crate::end_calls::{
     MemEnd, asks, bind, choose, commit, commit_alone, forget, fresh, get, learn, prepare, put,
     refuse, roll_back, service, unmake,
@@ -16,7 +15,7 @@ use crate::end_calls::{
 use crate::records::{low_octet, number};
 use ior_refs::ObjectKey;
 use ots_model::tree::Heard;
-use ots_model::{CallNumber, Decision, Disposition, PhaseHeard, RefBytes, Status, Vote};
+use ots_model::{Decision, Disposition, PhaseHeard, RefBytes, Status};
 use recovery_coord::Outbox;
 use resource_end::EndFault;
 use std::alloc::Global;
@@ -26,66 +25,32 @@ use std::io::{ErrorKind, Write};
 /// Makes the call of a line, and tells its answer.
 pub fn call(alloc: Global, end: &mut MemEnd, line: &str, told: &mut Vec<u8>) -> io::Result<()> {
     let words: Vec<&str> = line.split_whitespace().collect(alloc)?;
-    call_words(alloc, end, words.as_slice(), told)
-}
-
-fn call_words(
-    alloc: Global,
-    end: &mut MemEnd,
-    words: &[&str],
-    told: &mut Vec<u8>,
-) -> io::Result<()> {
-    match words {
-        [word] => call_alone(alloc, end, word, told),
-        ["fresh", what] => call_fresh(end, what, told),
-        [_, cell] => tell_cell(end, cell, told),
+    match words.as_slice() {
+        ["fresh"] => tell_fresh(end, b'R', 1, told),
+        ["fresh", "A"] => tell_fresh(end, b'A', 1, told),
+        ["fresh", "Y"] => tell_fresh(end, b'Y', 1, told),
+        ["fresh", count] => tell_fresh(end, b'R', number(count)?, told),
+        ["asks"] => tell_asks(alloc, end, told),
+        ["cell", cell] => write!(told, "{:?}", end.stored(u64::from(number(cell)?))),
         [word, life, of, rest @ ..] => {
             let key = key_of(end, life, of)?;
             call_on(alloc, end, &key, word, rest, told)
         }
-        [] => Err(ErrorKind::InvalidInput.into()),
+        _ => Err(ErrorKind::InvalidInput.into()),
     }
-}
-
-fn call_fresh(end: &mut MemEnd, what: &str, told: &mut Vec<u8>) -> io::Result<()> {
-    match what {
-        "A" => tell_fresh(end, b'A', 1, told),
-        "Y" => tell_fresh(end, b'Y', 1, told),
-        count => tell_fresh(end, b'R', number(count)?, told),
-    }
-}
-
-fn tell_cell(end: &MemEnd, cell: &str, told: &mut Vec<u8>) -> io::Result<()> {
-    write!(told, "{:?}", end.stored(u64::from(number(cell)?)))
 }
 
 /// The key of the object with this life and number.
 fn key_of(end: &MemEnd, life: &str, of: &str) -> io::Result<ObjectKey> {
     let (of, letter) = of.split_once('-').unwrap_or((of, "R"));
     Ok(ObjectKey {
-        kind: kind_of(letter),
+        kind: letter.as_bytes().first().copied().unwrap_or(b'R'),
         service: service(end),
         life: number(life)?,
         slot: 0,
         generation: u64::from(number(of)?),
         index: 0,
     })
-}
-
-fn kind_of(letter: &str) -> u8 {
-    match letter {
-        "A" => b'A',
-        "Y" => b'Y',
-        _ => b'R',
-    }
-}
-
-/// Makes a call that names no resource.
-fn call_alone(alloc: Global, end: &mut MemEnd, word: &str, told: &mut Vec<u8>) -> io::Result<()> {
-    match word {
-        "fresh" => tell_fresh(end, b'R', 1, told),
-        _ => tell_asks(alloc, end, told),
-    }
 }
 
 fn tell_asks(alloc: Global, end: &MemEnd, told: &mut Vec<u8>) -> io::Result<()> {
@@ -99,33 +64,26 @@ fn tell_asks(alloc: Global, end: &MemEnd, told: &mut Vec<u8>) -> io::Result<()> 
 /// Tells the first eight asks.
 fn tell_out(out: &mut Outbox, told: &mut Vec<u8>) -> io::Result<()> {
     for _ in 0..8 {
-        tell_ask(out, told)?;
+        if let Some(ask) = out.take() {
+            let number = ask.number;
+            write!(
+                told,
+                "{} {} {:?} ",
+                number.life,
+                number.generation,
+                ask.to.bytes()
+            )?;
+        }
     }
     Ok(())
-}
-
-fn tell_ask(out: &mut Outbox, told: &mut Vec<u8>) -> io::Result<()> {
-    match out.take() {
-        Some(ask) => tell_number(&ask.number, &ask.to, told),
-        None => Ok(()),
-    }
-}
-
-fn tell_number(number: &CallNumber, to: &RefBytes, told: &mut Vec<u8>) -> io::Result<()> {
-    write!(told, "{} {} ", number.life, number.generation)?;
-    write!(told, "{:?} ", to.bytes())
 }
 
 /// Makes so many objects with keys of this letter, and tells the last answer.
 fn tell_fresh(end: &mut MemEnd, letter: u8, count: u32, told: &mut Vec<u8>) -> io::Result<()> {
     match fresh_many(end, letter, count) {
-        Ok(key) => tell_key(&key, told),
+        Ok(key) => write!(told, "{} {}", key.life, key.generation),
         Err(fault) => tell_fault(fault, told),
     }
-}
-
-fn tell_key(key: &ObjectKey, told: &mut Vec<u8>) -> io::Result<()> {
-    write!(told, "{} {}", key.life, key.generation)
 }
 
 fn fresh_many(end: &mut MemEnd, letter: u8, count: u32) -> Result<ObjectKey, EndFault> {
@@ -220,10 +178,14 @@ fn tell_answer(answer: Result<(), EndFault>, told: &mut Vec<u8>) -> io::Result<(
 /// Tells a resource a word.
 fn tell_word(end: &mut MemEnd, key: &ObjectKey, word: &str, told: &mut Vec<u8>) -> io::Result<()> {
     match answer_to(end, key, word) {
-        Ok(heard) => tell_heard(&heard, told)?,
+        Ok(Heard::Phase(heard)) => tell_heard(heard, told)?,
+        Ok(_) => tell_text("ok", told)?,
         Err(fault) => tell_fault(fault, told)?,
     }
-    tell_changed(end.changed(), told)
+    match end.changed() {
+        Some(shown) => write!(told, ", {shown:?}"),
+        None => Ok(()),
+    }
 }
 
 fn answer_to(end: &mut MemEnd, key: &ObjectKey, word: &str) -> Result<Heard, EndFault> {
@@ -236,47 +198,15 @@ fn answer_to(end: &mut MemEnd, key: &ObjectKey, word: &str) -> Result<Heard, End
     }
 }
 
-fn tell_heard(heard: &Heard, told: &mut Vec<u8>) -> io::Result<()> {
-    tell_text(heard_word(heard), told)
-}
-
-fn heard_word(heard: &Heard) -> &'static str {
+fn tell_heard(heard: PhaseHeard, told: &mut Vec<u8>) -> io::Result<()> {
     match heard {
-        Heard::Phase(heard) => phase_word(*heard),
-        _ => "ok",
-    }
-}
-
-fn phase_word(heard: PhaseHeard) -> &'static str {
-    match heard {
-        PhaseHeard::Voted(vote) => vote_word(vote),
-        PhaseHeard::Heuristic(disposition) => heuristic_word(disposition),
-        PhaseHeard::RolledBack => "rolled back",
-        PhaseHeard::NotPrepared => "not prepared",
-        _ => "ok",
-    }
-}
-
-fn vote_word(vote: Vote) -> &'static str {
-    match vote {
-        Vote::VoteCommit => "VoteCommit",
-        Vote::VoteRollback => "VoteRollback",
-        Vote::VoteReadOnly => "VoteReadOnly",
-    }
-}
-
-fn heuristic_word(disposition: Disposition) -> &'static str {
-    match disposition {
-        Disposition::Committed => "heuristic commit",
-        Disposition::RolledBack => "heuristic rollback",
-        _ => "heuristic hazard",
-    }
-}
-
-fn tell_changed(shown: Option<Status>, told: &mut Vec<u8>) -> io::Result<()> {
-    match shown {
-        Some(shown) => write!(told, ", {shown:?}"),
-        None => Ok(()),
+        PhaseHeard::Voted(vote) => write!(told, "{vote:?}"),
+        PhaseHeard::Heuristic(Disposition::Committed) => tell_text("heuristic commit", told),
+        PhaseHeard::Heuristic(Disposition::RolledBack) => tell_text("heuristic rollback", told),
+        PhaseHeard::Heuristic(_) => tell_text("heuristic hazard", told),
+        PhaseHeard::RolledBack => tell_text("rolled back", told),
+        PhaseHeard::NotPrepared => tell_text("not prepared", told),
+        _ => tell_text("ok", told),
     }
 }
 
@@ -301,27 +231,17 @@ fn heard_of(word: &str) -> Heard {
 /// Tells why a call was refused.
 pub fn tell_fault(fault: EndFault, told: &mut Vec<u8>) -> io::Result<()> {
     match fault {
-        EndFault::Transient(of) => tell_holder(of, told),
-        EndFault::Start(fault) => tell_start_fault(fault, told),
-        fault => tell_text(fault_word(fault), told),
+        EndFault::Transient(of) => write!(told, "held by {of}"),
+        EndFault::Start(fault) => write!(told, "{fault:?}"),
+        EndFault::Inactive => tell_text("inactive", told),
+        EndFault::ObjectNotExist => tell_text("unknown", told),
+        EndFault::PersistStore => tell_text("the disk failed", told),
+        EndFault::NoResources => tell_text("no room", told),
+        _ => tell_text("memory", told),
     }
-}
-
-fn tell_holder(of: u64, told: &mut Vec<u8>) -> io::Result<()> {
-    write!(told, "held by {of}")
 }
 
 /// Tells these words.
 pub fn tell_text(text: &str, told: &mut Vec<u8>) -> io::Result<()> {
     told.write_all(text.as_bytes())
-}
-
-fn fault_word(fault: EndFault) -> &'static str {
-    match fault {
-        EndFault::Inactive => "inactive",
-        EndFault::ObjectNotExist => "unknown",
-        EndFault::PersistStore => "the disk failed",
-        EndFault::NoResources => "no room",
-        _ => "memory",
-    }
 }

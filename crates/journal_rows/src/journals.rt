@@ -5,7 +5,7 @@ ghost use Rattle.decision_journal.specs.Layout.{Fits};
 ghost use Rattle.decision_journal.specs.State.{cells_in};
 
 use decision_journal::{CellsEnd, Journal, JournalFault, JournalRecord, Standing};
-use ots_outside::{Back, Disk, MemDisk};
+use ots_outside::{Back, MemDisk};
 use std::alloc::Global;
 use std::io;
 
@@ -19,12 +19,7 @@ pub type Loaded = Result<MemJournal, Back<MemDisk, JournalFault>>;
 pub const AREA_LIMIT: u64 = 67_108_864;
 
 /// Makes the call `Journal::load`, with an area within the limit.
-pub fn load<D: Disk>(
-    alloc: Global,
-    disk: D,
-    area: u64,
-    service: u64,
-) -> Result<Journal<D>, Back<D, JournalFault>> {
+pub fn load(alloc: Global, disk: MemDisk, area: u64, service: u64) -> Loaded {
     Journal::load(alloc, disk, area.min(AREA_LIMIT), service)
 }
 
@@ -39,7 +34,7 @@ pub fn into_disk(journal: MemJournal) -> MemDisk {
 }
 
 /// Makes the call `done`.
-pub fn done<D: Disk>(journal: &mut Journal<D>, place: u32) -> Result<(), JournalFault> {
+pub fn done(journal: &mut MemJournal, place: u32) -> Result<(), JournalFault> {
     journal.done(place)
 }
 
@@ -59,7 +54,7 @@ pub fn life(journal: &MemJournal) -> u32 {
 }
 
 /// Makes the call `standing`.
-pub fn standing<D: Disk>(journal: &Journal<D>) -> &[Standing] {
+pub fn standing(journal: &MemJournal) -> &[Standing] {
     journal.standing()
 }
 
@@ -69,8 +64,8 @@ pub fn disk_octets(journal: &MemJournal) -> &[u8] {
 }
 
 /// Appends a record that can follow any others, once there is room for it.
-pub fn append<D: Disk>(
-    journal: &mut Journal<D>,
+pub fn append(
+    journal: &mut MemJournal,
     item: JournalRecord,
 ) -> io::Result<Result<u32, JournalFault>>
     requires fits { Fits item }
@@ -82,8 +77,8 @@ pub fn append<D: Disk>(
 }
 
 /// Appends the outcome of the cells which were prepared there, where it can follow.
-pub fn append_outcome<D: Disk>(
-    journal: &mut Journal<D>,
+pub fn append_outcome(
+    journal: &mut MemJournal,
     place: u32,
 ) -> io::Result<Option<Result<u32, JournalFault>>> {
     let item = JournalRecord::CellsOutcome(place, CellsEnd::Applied);

@@ -1,6 +1,4 @@
 //! Runs the cases on standard input, each on a journal or a resource end over a disk in memory, and tells what comes of it.
-//! With three words on the command line it tells how long calls over a real file take, as `bench` says; other words are
-//! refused.
 //!
 //! A case begins with a line `== KIND: ..`. The lines behind it say what the disk holds at first, and what is done:
 //!
@@ -30,14 +28,11 @@
 //! No more than the first 64 calls of a disk are looked at.
 #![tactic(auto)]
 
-use bench::tell_time;
 use case::Case;
-use records::number;
 use std::alloc::Global;
-use std::io::{ErrorKind, Write};
-use std::{env, io};
+use std::io;
+use std::io::Write;
 
-mod bench;
 mod calls;
 mod case;
 mod crashes;
@@ -48,20 +43,6 @@ mod journals;
 mod records;
 
 fn main(rt: HostRuntime) -> io::Result<()> {
-    let words: Vec<String> = env::args(&rt)?.skip(1).collect(rt.alloc())?;
-    match words.as_slice() {
-        [] => tell_cases(&rt),
-        [kind, path, count] => tell_time(
-            &rt,
-            kind.as_str(),
-            path.as_str(),
-            number(count.as_str())?,
-        ),
-        _ => Err(ErrorKind::InvalidInput.into()),
-    }
-}
-
-fn tell_cases(rt: &HostRuntime) -> io::Result<()> {
     let text = io::read_to_string(rt.alloc(), rt.stdin())?;
     let mut out = rt.stdout();
     for case in text.as_str().split("\n== ").skip(1) {

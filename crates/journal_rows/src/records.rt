@@ -89,23 +89,6 @@ pub fn record_of(alloc: Global, words: &str) -> io::Result<JournalRecord>
     })
 }
 
-/// A decision with two references of 116 octets. It can follow any others.
-pub fn decision(alloc: Global) -> io::Result<JournalRecord>
-    ensures fits { IfOk result Fits }
-    ensures follows { IfOk result (λ item. (found : Found) → can_follow found item ≡ true) }
-    ensures cells { IfOk result (λ item. cells_in item ≤ 1) }
-{
-    let items = two_registrations(alloc, zeros(alloc)?, zeros(alloc)?)?;
-    Ok(JournalRecord::Decision(1, 0, 1, None, false, items))
-}
-
-/// A reference of 116 octets.
-fn zeros(alloc: Global) -> io::Result<RefBytes>
-    ensures { IfOk result FitsReference }
-{
-    Ok(RefBytes::from_vec(vec![in alloc; 0; 116]?))
-}
-
 fn reference_of(alloc: Global, word: &str) -> io::Result<RefBytes>
     ensures { IfOk result FitsReference }
 {

@@ -8,7 +8,8 @@
 //! - `tick`: the clock of the node goes on.
 //! - `hear HEARD`: the word that has waited longest is answered so.
 //! - `answer SERIAL HEARD`: the word of the family with this number is.
-//! - `records`: what is held and what stands. `kept N`: what the family has answered the call with this key.
+//! - `records`: what is held and what stands. `kept N`: what the family has answered the call with this
+//!   key, and which entry of its history that call made.
 //! - `times N COMMAND, ..`: these commands, as often, but once at least. Of their calls the last ones are told; none of
 //!   the others may be refused by the node.
 //! - `timed N COMMAND, ..`: the same. Standard error tells how many nanoseconds they took.

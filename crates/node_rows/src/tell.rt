@@ -5,7 +5,7 @@ use coordinator::{Effect, Finished, NodeFault, Said, StepAnswer};
 use decision_journal::Standing;
 use ior_refs::ObjectKey;
 use ots_model::tree::{Outward, Parent, Word};
-use ots_model::{CallNumber, PhaseWord, RetryKey};
+use ots_model::{CallNumber, RetryKey};
 use recovery_coord::Held;
 use service_node::{Happening, Happenings};
 use std::io;
@@ -116,27 +116,18 @@ fn tell_name(word: &Word, told: &mut Vec<u8>) -> io::Result<()> {
     match word {
         Word::AfterCompletion(status) => write!(told, "after_completion {status:?}"),
         Word::CommitSub(Parent::Branch(parent)) => write!(told, "commit_subtransaction {parent}"),
+        Word::Phase(word) => write!(told, "{word:?}"),
         word => write!(told, "{}", word_name(word)),
     }
 }
 
-/// The name of a word that has nothing behind it.
+/// The name of a word beside the two phases that has nothing behind it.
 fn word_name(word: &Word) -> &'static str {
     match word {
-        Word::Phase(word) => phase_name(*word),
         Word::Forget => "forget",
         Word::BeforeCompletion => "before_completion",
         Word::RollbackSub => "rollback_subtransaction",
         _ => "another word",
-    }
-}
-
-fn phase_name(word: PhaseWord) -> &'static str {
-    match word {
-        PhaseWord::Prepare => "prepare",
-        PhaseWord::Commit => "commit",
-        PhaseWord::CommitOnePhase => "commit_one_phase",
-        PhaseWord::Rollback => "rollback",
     }
 }
 
@@ -149,7 +140,7 @@ pub fn tell_phase(node: &MemNode, key: &ObjectKey, told: &mut Vec<u8>) -> io::Re
     }
 }
 
-/// Tells what the call with this key was answered, by the family that is called.
+/// Tells what the call with this key was answered, by the family that is called, and which entry of its history it made.
 pub fn tell_kept(
     node: &MemNode,
     key: &ObjectKey,
@@ -158,13 +149,17 @@ pub fn tell_kept(
 ) -> io::Result<()> {
     write!(told, " ")?;
     match kept(node, key, call) {
-        Some(said) => tell_said(said, told),
+        Some((said, place)) => {
+            tell_said(said, told)?;
+            write!(told, ", in entry {place}")
+        }
         None => write!(told, "no such call"),
     }
 }
 
-fn kept<'a>(node: &'a MemNode, key: &ObjectKey, call: &RetryKey) -> Option<&'a Said> {
-    node.family(key)?.kept(call)
+fn kept<'a>(node: &'a MemNode, key: &ObjectKey, call: &RetryKey) -> Option<(&'a Said, usize)> {
+    let family = node.family(key)?;
+    Some((family.kept(call)?, family.first_with(call)?))
 }
 
 /// Tells the life, the records that are told again, with what each registration waits for, and those that stand.

@@ -2,7 +2,7 @@ ghost use Rattle.std.specs.Prelude.{◌≡◌, false};
 ghost use Rattle.ots_program.specs.Words.{IsShow};
 
 use crate::pieces::Pieces;
-use crate::{input, lines, statuses, trees};
+use crate::{input, lines, statuses};
 use ots_outside::{Failure, MemSink, MemSource};
 use ots_program::{Devices, Word, run, run_plain};
 use std::alloc::Global;
@@ -18,7 +18,6 @@ const MOST: usize = 4000;
 enum Subject {
     Command,
     Lines,
-    Tree,
     Statuses,
 }
 
@@ -26,7 +25,6 @@ impl Subject {
     fn of(words: &str) -> Subject {
         match words.trim() {
             "lines" => Subject::Lines,
-            "tree" => Subject::Tree,
             "statuses" => Subject::Statuses,
             _ => Subject::Command,
         }
@@ -117,7 +115,6 @@ impl Case {
         match self.subject {
             Subject::Command => return self.run(rt, alloc, input),
             Subject::Lines => lines::tell_lines(alloc, &mut told, input)?,
-            Subject::Tree => trees::tell(alloc, &mut told, input)?,
             Subject::Statuses => statuses::tell(alloc, &mut told)?,
         }
         Ok(told)

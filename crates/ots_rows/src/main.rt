@@ -4,7 +4,6 @@
 //! command:
 //!
 //! - `lines`: the input is lines of a script. What each of them means is told, and of a long one how much.
-//! - `tree`: the input is calls on a tree of transactions, by `trees`. What each answers is told.
 //! - `statuses`: there is no input. Each status is told: its number, what it is, and its line on standard error.
 //!
 //! Each part is one of these:
@@ -36,7 +35,6 @@ mod input;
 mod lines;
 mod pieces;
 mod statuses;
-mod trees;
 
 fn main(rt: HostRuntime) -> io::Result<()> {
     let mut out = rt.stdout();

@@ -1,6 +1,6 @@
 //! Tests that cases can't be: of lines that no case prints, of values as octets, of a reference that is made, names and
-//! hashes, of devices and of a journal in a file, of a stream of messages, and of completions under failing
-//! allocations.
+//! hashes, of devices, of the network and threads, of a journal in a file, of a stream of messages, and of completions: where
+//! allocations fail, below a superior, and in doubt.
 //! They stand in a crate of their own, since a crate with tests is proved once more with them.
 #![tactic(auto)]
 
@@ -14,6 +14,8 @@ mod files;
 mod lines;
 #[cfg(test)]
 mod messages;
+#[cfg(test)]
+mod network;
 #[cfg(test)]
 mod references;
 #[cfg(test)]

@@ -81,17 +81,20 @@ fn tell_written(alloc: Global, told: &mut Told, id: u32, call: &Call, answer: &A
     }
 }
 
-/// The reply with an answer, unless that is too long to be written.
+/// The reply with an answer, unless that is too long to be written. The minor code of a system exception becomes 0.
 fn written(
     alloc: Global,
     id: u32,
     call: &Call,
     answer: &Answer,
 ) -> Option<Result<Reply, CallFault>> {
-    if is_answer_short(answer) {
-        Some(write_answer(alloc, id, call, answer))
-    } else {
-        None
+    match answer {
+        Answer::System(exception, _, completed) => {
+            let own = Answer::system(*exception, *completed);
+            Some(write_answer(alloc, id, call, &own))
+        }
+        _ if is_answer_short(answer) => Some(write_answer(alloc, id, call, answer)),
+        _ => None,
     }
 }
 

@@ -3,7 +3,6 @@ ghost use Rattle.std.specs.Prelude.{◌^◌, ◌<◌, ◌≤◌, IsTrue, length}
 ghost use Rattle.ots_context.specs.Writing.{kept_length};
 
 use crate::told::Told;
-use cdr_values::Order;
 use ior_refs::{Iiop, IorFault, ObjectRef, iiop, parse_ior, print_ior};
 use ots_context::{AnyTail, Context, ContextFault, Identity, decode_context, encode_context};
 use ots_model::Octets;
@@ -124,17 +123,10 @@ fn tell_tail(told: &mut Told, tail: &AnyTail) {
             modulo,
             octets,
         } => {
-            told.text(b"\ntail ", order_text(*order));
+            told.value(b"\ntail ", order);
             told.number(b" ", u64::from(*modulo));
             told.digits(b" ", octets.bytes());
         }
-    }
-}
-
-fn order_text(order: Order) -> &'static [u8] {
-    match order {
-        Order::Big => b"big",
-        Order::Little => b"little",
     }
 }
 

@@ -1,0 +1,168 @@
+//! Tests of what is over the network, threads, the system's clock and a locked file, one of each, and of the same in memory.
+
+use ots_model::{Endpoint, Octets};
+use ots_outside::{
+    Address, Clock, Disk, Door, Failed, Job, Link, LinkRefusal, LockedFile, MemClock, MemConn,
+    MemDoor, MemLink, MemSink, MemSource, Sink, Source, Spawner, SystemClock, TcpConn, TcpDoor,
+    TcpLink,
+};
+use std::alloc::Global;
+use std::collections::VecDeque;
+use std::net::{Net, TcpListener, TcpStream};
+use std::sync::Arc;
+use std::sync::atomic::{AtomicU64, Ordering};
+use std::test::Fail;
+use std::{fs, time};
+
+/// A request, and what it is answered: two messages without a body.
+const REQUEST: [u8; 12] = *b"GIOP\x01\x02\x00\x00\x00\x00\x00\x00";
+
+const REPLY: [u8; 12] = *b"GIOP\x01\x02\x00\x01\x00\x00\x00\x00";
+
+/// Answers one connection.
+#[derive(Drop)]
+struct Answerer<R> {
+    door: TcpDoor<R>,
+}
+
+impl<R: Net<Listener = TcpListener, Stream = TcpStream> + time::Clock + Drop> Job for Answerer<R> {
+    fn turn(&mut self) -> bool {
+        if let Ok(Some(mut conn)) = self.door.next() {
+            let _ = answer(&mut conn);
+        }
+        false
+    }
+}
+
+/// Reads a request, and writes the reply.
+fn answer(conn: &mut TcpConn) -> Result<(), Failed> {
+    let mut octets = [0; 12];
+    let mut count = 0;
+    for _ in 0..12 {
+        if count < 12 {
+            count += conn.read(&mut octets[count..])?;
+        }
+    }
+    if octets == REQUEST {
+        conn.write(&REPLY)?;
+    }
+    Ok(())
+}
+
+/// A door on this machine, at a port that the system chooses.
+fn door_here(rt: HostRuntime) -> Result<TcpDoor<HostRuntime>, Fail> {
+    let open = Arc::new(rt.alloc(), AtomicU64::new(0))?;
+    let host = String::from_str(rt.alloc(), "127.0.0.1")?;
+    Ok(TcpDoor::new(rt, open, Address { host, port: 0 }, 64))
+}
+
+#[test]
+fn a_link_is_answered_at_a_door(rt: HostRuntime) -> Result<(), Fail> {
+    let mut door = door_here(rt)?;
+    assert!(rt; door.open().is_ok());
+    let port = door.port().unwrap_or(0);
+    let host = Octets::new(rt.alloc(), b"127.0.0.1")?;
+    assert!(rt; Spawner::on_threads(rt).start(Answerer { door }));
+    let mut link = TcpLink::new(rt, rt.alloc());
+    let mut reply = Vec::new(rt.alloc());
+    let answer = link.invoke(&Endpoint { host, port }, &REQUEST, &mut reply);
+    assert!(rt; answer.is_ok() && reply.as_slice() == REPLY.as_slice());
+    Ok(())
+}
+
+/// Counts its turns, of which there are three.
+#[derive(Drop)]
+struct Counting {
+    turns: Arc<AtomicU64, Global>,
+}
+
+impl Job for Counting {
+    fn turn(&mut self) -> bool {
+        self.turns.fetch_add(1, Ordering::SeqCst) < 2
+    }
+}
+
+#[test]
+fn a_job_is_turned_on_its_thread(rt: HostRuntime) -> Result<(), Fail> {
+    let turns = Arc::new(rt.alloc(), AtomicU64::new(0))?;
+    let job = Counting {
+        turns: Arc::try_clone(&turns)?,
+    };
+    assert!(rt; Spawner::on_threads(rt).start(job));
+    let mut clock = SystemClock::new(rt);
+    for _ in 0..20 {
+        if turns.load(Ordering::SeqCst) < 3 {
+            clock.pause();
+        }
+    }
+    assert!(rt; turns.load(Ordering::SeqCst) == 3);
+    Ok(())
+}
+
+#[test]
+fn the_clock_goes_on(rt: HostRuntime) -> Result<(), Fail> {
+    let mut clock = SystemClock::new(rt);
+    let start = clock.now();
+    clock.pause();
+    clock.pause();
+    // The year 2020 is past.
+    assert!(rt; start > 1_577_836_800 && clock.now() > start);
+    Ok(())
+}
+
+#[test]
+fn a_file_has_one_disk(rt: HostRuntime) -> Result<(), Fail> {
+    let mut disk = LockedFile::open(&rt, "ots_locked_file");
+    assert!(rt; disk.write_at(0, b"abcd").is_ok() && disk.sync().is_ok());
+    let mut other = LockedFile::open(&rt, "ots_locked_file");
+    assert!(rt; other.len().is_err() && other.fault_count() == 1);
+    assert!(rt; disk.len() == Ok(4));
+    fs::remove_file(&rt, "ots_locked_file")?;
+    Ok(())
+}
+
+#[test]
+fn a_link_in_memory_gives_its_answers(rt: HostRuntime) -> Result<(), Fail> {
+    let alloc = rt.alloc();
+    let mut answers = Vec::new(alloc);
+    answers.push(Octets::new(alloc, &REPLY)?)?;
+    let mut link = MemLink::new(alloc, answers, Vec::new(alloc));
+    let host = Octets::new(alloc, b"a")?;
+    let to = Endpoint { host, port: 1 };
+    let mut reply = Vec::new(alloc);
+    assert!(rt; link.invoke(&to, &REQUEST, &mut reply).is_ok());
+    assert!(rt; reply.as_slice() == REPLY.as_slice());
+    assert!(rt; link.invoke(&to, &REQUEST, &mut reply) == Err(LinkRefusal::Failed));
+    assert!(rt; link.faults() == 1 && link.exchanges().len() == 2);
+    Ok(())
+}
+
+#[test]
+fn a_door_in_memory_ends_behind_its_connections(rt: HostRuntime) -> Result<(), Fail> {
+    let alloc = rt.alloc();
+    let mut contents = Vec::new(alloc);
+    contents.extend_from_slice(&REQUEST)?;
+    let mut waiting = VecDeque::new(alloc);
+    waiting.push_back(MemConn {
+        source: MemSource::new(contents, Vec::new(alloc)),
+        sink: MemSink::new(alloc, Vec::new(alloc)),
+    })?;
+    let mut door = MemDoor::new(waiting, Vec::new(alloc));
+    assert!(rt; door.open().is_ok() && matches!(door.next(), Ok(Some(_))));
+    assert!(rt; matches!(door.next(), Ok(None)));
+    Ok(())
+}
+
+#[test]
+fn a_job_may_be_turned_at_once(rt: HostRuntime) -> Result<(), Fail> {
+    let turns = Arc::new(rt.alloc(), AtomicU64::new(0))?;
+    let job = Counting {
+        turns: Arc::try_clone(&turns)?,
+    };
+    let mut spawner: Spawner<HostRuntime> = Spawner::at_once(10, Vec::new(rt.alloc()));
+    assert!(rt; spawner.start(job) && turns.load(Ordering::SeqCst) == 3);
+    let mut clock = MemClock::new(5);
+    clock.pause();
+    assert!(rt; clock.now() == 6);
+    Ok(())
+}
