@@ -1,9 +1,11 @@
 //! What is told of answers.
-ghost use Rattle.std.specs.Prelude.{◌^◌, ◌<◌, IsTrue};
+ghost use Rattle.std.specs.Prelude.{◌^◌, ◌<◌, IfOk, IfSome, IsTrue};
+ghost use Rattle.giop_frames.specs.Encode.{octets_in};
+ghost use Rattle.wire_rows.specs.Short.{IsShortReply};
 ghost use Rattle.ots_calls.specs.AnswerWriting.{given_length};
 
 use crate::calls::{call_in, tell_operation};
-use crate::messages::{front, is_short_reply, tell_encoded};
+use crate::messages::{front, tell_encoded};
 use crate::told::Told;
 use crate::values::{MOST, is_short, tell_fields, tell_reference};
 use giop_frames::{Message, Reply};
@@ -24,34 +26,19 @@ pub fn tell(alloc: Global, told: &mut Told, octets: &[u8]) {
 }
 
 /// Tells the answer to a call that a Reply is.
-fn tell_reply(alloc: Global, told: &mut Told, call: &Call, reply: &Reply) {
+fn tell_reply(alloc: Global, told: &mut Told, call: &Call, reply: &Reply)
+    requires { IsShortReply reply.now }
+{
     tell_operation(told, b"\nanswer to ", call);
-    match read(alloc, call, reply) {
-        Some(Ok(answer)) => {
+    match read_answer(alloc, call, reply) {
+        Ok(answer) => {
             tell_answer(alloc, told, &answer);
             tell_written(alloc, told, reply.id, call, &answer);
         }
-        Some(Err(fault)) => {
+        Err(fault) => {
             told.value(b"\n", &fault);
-            tell_heard_in(alloc, told, call, reply);
+            tell_heard(told, &heard_in_reply(alloc, call, reply));
         }
-        None => told.text(b"\n", b"too long"),
-    }
-}
-
-/// The answer that a Reply is, unless it is too long to be read.
-fn read(alloc: Global, call: &Call, reply: &Reply) -> Option<Result<Answer, CallFault>> {
-    if is_short_reply(reply) {
-        Some(read_answer(alloc, call, reply))
-    } else {
-        None
-    }
-}
-
-/// Tells what is heard in a Reply that is no answer.
-fn tell_heard_in(alloc: Global, told: &mut Told, call: &Call, reply: &Reply) {
-    if is_short_reply(reply) {
-        tell_heard(told, &heard_in_reply(alloc, call, reply));
     }
 }
 
@@ -82,12 +69,9 @@ fn tell_written(alloc: Global, told: &mut Told, id: u32, call: &Call, answer: &A
 }
 
 /// The reply with an answer, unless that is too long to be written. The minor code of a system exception becomes 0.
-fn written(
-    alloc: Global,
-    id: u32,
-    call: &Call,
-    answer: &Answer,
-) -> Option<Result<Reply, CallFault>> {
+fn written(alloc: Global, id: u32, call: &Call, answer: &Answer) -> Option<Result<Reply, CallFault>>
+    ensures { IfSome result (λ made. IfOk made (λ reply. octets_in (Message.Reply reply) < 2 ^ 31)) }
+{
     match answer {
         Answer::System(exception, _, completed) => {
             let own = Answer::system(*exception, *completed);

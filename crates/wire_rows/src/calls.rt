@@ -1,8 +1,10 @@
 //! What is told of calls.
-ghost use Rattle.std.specs.Prelude.{◌^◌, ◌<◌, IsTrue};
+ghost use Rattle.std.specs.Prelude.{◌^◌, ◌<◌, IfOk, IfSome, IsTrue};
+ghost use Rattle.giop_frames.specs.Encode.{octets_in};
+ghost use Rattle.wire_rows.specs.Short.{IsShortRequest};
 ghost use Rattle.ots_calls.specs.Writing.{carried_length, handed_length};
 
-use crate::messages::{front, is_short_request, tell_encoded};
+use crate::messages::{front, tell_encoded};
 use crate::told::Told;
 use crate::values::{MOST, is_short, tell_context, tell_fields, tell_reference};
 use giop_frames::{Message, Request};
@@ -14,29 +16,16 @@ use std::alloc::Global;
 /// Tells the transaction context of the Request that these octets are.
 pub fn tell_within(alloc: Global, told: &mut Told, octets: &[u8]) {
     match request_in(alloc, octets) {
-        Some((request, _)) => tell_found(alloc, told, found(alloc, &request)),
+        Some((request, _)) => tell_found(alloc, told, find_context(alloc, &request)),
         None => told.text(b"\n", b"no request"),
     }
 }
 
-fn found(alloc: Global, request: &Request) -> Option<Result<Option<Context>, ContextFault>> {
-    if is_short_request(request) {
-        Some(find_context(alloc, request))
-    } else {
-        None
-    }
-}
-
-fn tell_found(
-    alloc: Global,
-    told: &mut Told,
-    found: Option<Result<Option<Context>, ContextFault>>,
-) {
+fn tell_found(alloc: Global, told: &mut Told, found: Result<Option<Context>, ContextFault>) {
     match found {
-        Some(Ok(Some(context))) => tell_context(alloc, told, &context),
-        Some(Ok(None)) => told.text(b"\n", b"none"),
-        Some(Err(fault)) => told.value(b"\n", &fault),
-        None => told.text(b"\n", b"too long"),
+        Ok(Some(context)) => tell_context(alloc, told, &context),
+        Ok(None) => told.text(b"\n", b"none"),
+        Err(fault) => told.value(b"\n", &fault),
     }
 }
 
@@ -45,13 +34,12 @@ pub fn tell(alloc: Global, told: &mut Told, octets: &[u8]) {
     let Some((request, _)) = request_in(alloc, octets) else {
         return told.text(b"\n", b"no request");
     };
-    match read(alloc, &request) {
-        Some(Ok(called)) => {
+    match read_call(alloc, &request) {
+        Ok(called) => {
             tell_called(alloc, told, &called);
             tell_written(alloc, told, request.id, &called);
         }
-        Some(Err(fault)) => told.value(b"\n", &fault),
-        None => told.text(b"\n", b"too long"),
+        Err(fault) => told.value(b"\n", &fault),
     }
 }
 
@@ -70,27 +58,20 @@ pub fn repeat(alloc: Global, octets: &[u8], reads: usize, writes: usize) {
 /// The call that these octets begin with, and what stands behind it.
 pub fn call_in(alloc: Global, octets: &[u8]) -> Option<(Called, &[u8])> {
     let (request, behind) = request_in(alloc, octets)?;
-    match read(alloc, &request) {
-        Some(Ok(called)) => Some((called, behind)),
-        _ => None,
+    match read_call(alloc, &request) {
+        Ok(called) => Some((called, behind)),
+        Err(_) => None,
     }
 }
 
 /// The Request that these octets begin with, and what stands behind it.
-fn request_in(alloc: Global, octets: &[u8]) -> Option<(Request, &[u8])> {
+fn request_in(alloc: Global, octets: &[u8]) -> Option<(Request, &[u8])>
+    ensures { IfSome result (λ found. IsShortRequest found.0) }
+{
     let (message, behind) = front(alloc, octets)?;
     match message {
         Message::Request(request) => Some((request, behind)),
         _ => None,
-    }
-}
-
-/// The call that a Request is, unless it is too long to be read.
-fn read(alloc: Global, request: &Request) -> Option<Result<Called, CallFault>> {
-    if is_short_request(request) {
-        Some(read_call(alloc, request))
-    } else {
-        None
     }
 }
 
@@ -150,7 +131,9 @@ fn tell_written(alloc: Global, told: &mut Told, id: u32, called: &Called) {
 }
 
 /// The request of a call, unless that is too long to be written.
-fn written(alloc: Global, id: u32, called: &Called) -> Option<Result<Request, CallFault>> {
+fn written(alloc: Global, id: u32, called: &Called) -> Option<Result<Request, CallFault>>
+    ensures { IfSome result (λ made. IfOk made (λ request. octets_in (Message.Request request) < 2 ^ 31)) }
+{
     if is_call_short(&called.call) && is_context_short(&called.context) {
         Some(write_call(alloc, id, called))
     } else {

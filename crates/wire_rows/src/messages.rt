@@ -1,6 +1,7 @@
 //! What is told of messages.
-ghost use Rattle.std.specs.Prelude.{◌+◌, ◌<◌, ◌≤◌, ◌^◌, All, IfSome, IsTrue, length};
+ghost use Rattle.std.specs.Prelude.{◌+◌, ◌<◌, ◌≤◌, ◌^◌, All, IfOk, IfSome, IsTrue, length};
 ghost use Rattle.giop_frames.specs.Encode.{octets_in, octets_in_contexts, octets_in_target};
+ghost use Rattle.wire_rows.specs.Short.{IsShort, IsShortReply, IsShortRequest};
 
 use crate::told::Told;
 use crate::values::{MOST, short};
@@ -12,13 +13,22 @@ use std::alloc::Global;
 /// How many octets of a field are told.
 const TOLD: usize = 64;
 
-/// What is in front of the octets.
-fn decoded(alloc: Global, octets: &[u8]) -> Result<Decoded, FrameFault> {
-    decode(alloc, short(octets))
+/// What is in front of the octets. A message that is too long to be written is refused here, once for all that is done with it.
+fn decoded(alloc: Global, octets: &[u8]) -> Result<Decoded, FrameFault>
+    ensures { IfOk result (λ found. IsShort found.message) }
+{
+    let found = decode(alloc, short(octets))?;
+    if is_short(&found.message) {
+        Ok(found)
+    } else {
+        Err(FrameFault::NotWritten)
+    }
 }
 
 /// The message in front of the octets, and what stands behind it.
-pub fn front(alloc: Global, octets: &[u8]) -> Option<(Message, &[u8])> {
+pub fn front(alloc: Global, octets: &[u8]) -> Option<(Message, &[u8])>
+    ensures { IfSome result (λ found. IsShort found.0) }
+{
     match decoded(alloc, octets) {
         Ok(found) => Some((found.message, octets.get(found.used as usize..)?)),
         Err(_) => None,
@@ -102,11 +112,12 @@ fn tell_octets(told: &mut Told, what: &[u8], octets: &[u8]) {
 }
 
 /// Tells how a message is written that stands in front of these octets.
-fn tell_written(alloc: Global, told: &mut Told, message: &Message, octets: &[u8]) {
-    match encoded(alloc, message) {
-        Some(Ok(written)) => tell_again(told, &written, octets),
-        Some(Err(fault)) => told.value(b"\nnot written: ", &fault),
-        None => told.text(b"\n", b"too long"),
+fn tell_written(alloc: Global, told: &mut Told, message: &Message, octets: &[u8])
+    requires { octets_in message.now < 2 ^ 31 }
+{
+    match written(alloc, message) {
+        Ok(written) => tell_again(told, &written, octets),
+        Err(fault) => told.value(b"\nnot written: ", &fault),
     }
 }
 
@@ -118,15 +129,7 @@ fn tell_again(told: &mut Told, written: &[u8], octets: &[u8]) {
     }
 }
 
-/// The octets of a message, unless it is too long to be written.
-fn encoded(alloc: Global, message: &Message) -> Option<Result<Vec<u8>, FrameFault>> {
-    if is_short(message) {
-        Some(written(alloc, message))
-    } else {
-        None
-    }
-}
-
+/// The octets of a message.
 fn written(alloc: Global, message: &Message) -> Result<Vec<u8>, FrameFault>
     requires { octets_in message.now < 2 ^ 31 }
 {
@@ -136,16 +139,17 @@ fn written(alloc: Global, message: &Message) -> Result<Vec<u8>, FrameFault>
 }
 
 /// Tells how a message is encoded.
-pub fn tell_encoded(alloc: Global, told: &mut Told, message: &Message) {
-    match encoded(alloc, message) {
-        Some(Ok(written)) => told.digits(b"\nwritten ", &written),
-        Some(Err(fault)) => told.value(b"\nnot encoded: ", &fault),
-        None => told.text(b"\n", b"too long"),
+pub fn tell_encoded(alloc: Global, told: &mut Told, message: &Message)
+    requires { octets_in message.now < 2 ^ 31 }
+{
+    match written(alloc, message) {
+        Ok(written) => told.digits(b"\nwritten ", &written),
+        Err(fault) => told.value(b"\nnot encoded: ", &fault),
     }
 }
 
 fn is_short(message: &Message) -> bool
-    ensures { IsTrue result → octets_in message.now < 2 ^ 31 }
+    ensures { IsTrue result → IsShort message.now }
 {
     match message {
         Message::Request(request) => is_short_request(request),
@@ -157,19 +161,16 @@ fn is_short(message: &Message) -> bool
 }
 
 /// Whether a Request has few octets.
-pub fn is_short_request(request: &Request) -> bool
-    ensures octets { IsTrue result → octets_in (Message.Request request.now) < 2 ^ 31 }
-    ensures body { IsTrue result → length request.now.body < 2 ^ 31 }
-    ensures contexts { IsTrue result → All (λ context. length context.bytes < 2 ^ 31) request.now.contexts }
+fn is_short_request(request: &Request) -> bool
+    ensures { IsTrue result → IsShortRequest request.now }
 {
     let fields = request.operation.bytes().len() <= MOST && request.body.bytes().len() <= MOST;
     fields && is_short_target(&request.target) && are_short(request.contexts.items())
 }
 
 /// Whether a Reply has few octets.
-pub fn is_short_reply(reply: &Reply) -> bool
-    ensures octets { IsTrue result → octets_in (Message.Reply reply.now) < 2 ^ 31 }
-    ensures body { IsTrue result → length reply.now.body < 2 ^ 31 }
+fn is_short_reply(reply: &Reply) -> bool
+    ensures { IsTrue result → IsShortReply reply.now }
 {
     reply.body.bytes().len() <= MOST && are_short(reply.contexts.items())
 }
