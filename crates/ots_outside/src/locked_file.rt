@@ -1,7 +1,7 @@
-ghost use Rattle.std.specs.Prelude.{◌≡◌, ◌≤◌, OnErr, IfErr};
+ghost use Rattle.std.specs.Prelude.{◌≡◌, ◌≤◌, IfErr, IsErrOf, IsTrue, OnErr};
 ghost use Rattle.ots_outside.specs.declared.disk.DiskRefusal.TheVariants.{Failed as DiskFailed};
 ghost use Rattle.ots_outside.specs.Faults.{LeavesFaults};
-ghost use Rattle.ots_outside.specs.Source.{HasRisen};
+ghost use Rattle.ots_outside.specs.Source.{CountsFault, HasRisen, raised};
 
 use crate::disk::{Disk, DiskRefusal};
 use crate::file_disk::FileDisk;
@@ -20,8 +20,12 @@ pub struct LockedFile {
 }
 
 impl LockedFile {
+    ghost use Rattle.ots_outside.specs.Streams.{locked_faults};
+
     /// A disk over the file of this name, which is made where there is none.
-    pub fn open<R: Files<File = File>>(rt: &R, name: &str) -> LockedFile {
+    pub fn open<R: Files<File = File>>(rt: &R, name: &str) -> LockedFile
+        ensures faults { locked_faults result ≡ 0 }
+    {
         LockedFile {
             disk: open_locked(rt, name).ok(),
             faults: 0,
@@ -33,6 +37,7 @@ impl LockedFile {
         ensures refusal { result ≡ DiskFailed }
         ensures cause { HasRisen faults.old faults.new }
         ensures later { faults.old ≤ faults.new }
+        ensures counts { faults.new ≡ raised faults.old }
     {
         Failed::counted(faults);
         DiskRefusal::Failed
@@ -78,8 +83,9 @@ fn folder_of(name: &str) -> &str {
 
 impl Disk for LockedFile {
     ghost use Rattle.std.specs.Prelude.{None, false};
+    ghost use Rattle.ots_outside.specs.Streams.{StaysLost, locked_faults, locked_lost};
 
-    ghost faults = { λ disk. disk.faults };
+    ghost faults = { locked_faults };
 
     ghost told = { λ _. None };
 
@@ -89,28 +95,77 @@ impl Disk for LockedFile {
         self.faults
     }
 
-    fn len(&mut self) -> Result<u64, DiskRefusal> {
+    fn len(&mut self) -> Result<u64, DiskRefusal>
+        // What each disk promises.
+        ensures cause { IsErrOf result DiskFailed → HasRisen (locked_faults self.old) (locked_faults self.new) }
+        ensures calm { LeavesFaults result (locked_faults self.old) (locked_faults self.new) }
+        ensures later { locked_faults self.old ≤ locked_faults self.new }
+
+        // It wants no memory. A refusal counts as one fault, and an Ok as none.
+        ensures failed { IfErr result (λ refusal. refusal ≡ DiskFailed) }
+        ensures faults { CountsFault result (locked_faults self.old) (locked_faults self.new) }
+
+        // Where there is no file, or once a sync has failed, each call fails.
+        ensures lost { StaysLost result (locked_lost self.old) (locked_lost self.new) }
+    {
         match &mut self.disk {
             Some(disk) => counted(&mut self.faults, disk.len()),
             None => Err(LockedFile::refuse(&mut self.faults)),
         }
     }
 
-    fn read_at(&mut self, place: u64, into: &mut [u8]) -> Result<(), DiskRefusal> {
+    fn read_at(&mut self, place: u64, into: &mut [u8]) -> Result<(), DiskRefusal>
+        // What each disk promises.
+        ensures cause { IsErrOf result DiskFailed → HasRisen (locked_faults self.old) (locked_faults self.new) }
+        ensures calm { LeavesFaults result (locked_faults self.old) (locked_faults self.new) }
+        ensures later { locked_faults self.old ≤ locked_faults self.new }
+
+        // It wants no memory. A refusal counts as one fault, and an Ok as none.
+        ensures failed { IfErr result (λ refusal. refusal ≡ DiskFailed) }
+        ensures faults { CountsFault result (locked_faults self.old) (locked_faults self.new) }
+
+        // Where there is no file, or once a sync has failed, each call fails.
+        ensures lost { StaysLost result (locked_lost self.old) (locked_lost self.new) }
+    {
         match &mut self.disk {
             Some(disk) => counted(&mut self.faults, disk.read_at(place, into)),
             None => Err(LockedFile::refuse(&mut self.faults)),
         }
     }
 
-    fn write_at(&mut self, place: u64, bytes: &[u8]) -> Result<(), DiskRefusal> {
+    fn write_at(&mut self, place: u64, bytes: &[u8]) -> Result<(), DiskRefusal>
+        // What each disk promises.
+        ensures cause { IsErrOf result DiskFailed → HasRisen (locked_faults self.old) (locked_faults self.new) }
+        ensures calm { LeavesFaults result (locked_faults self.old) (locked_faults self.new) }
+        ensures later { locked_faults self.old ≤ locked_faults self.new }
+
+        // It wants no memory. A refusal counts as one fault, and an Ok as none.
+        ensures failed { IfErr result (λ refusal. refusal ≡ DiskFailed) }
+        ensures faults { CountsFault result (locked_faults self.old) (locked_faults self.new) }
+
+        // Where there is no file, or once a sync has failed, each call fails.
+        ensures lost { StaysLost result (locked_lost self.old) (locked_lost self.new) }
+    {
         match &mut self.disk {
             Some(disk) => counted(&mut self.faults, disk.write_at(place, bytes)),
             None => Err(LockedFile::refuse(&mut self.faults)),
         }
     }
 
-    fn sync(&mut self) -> Result<(), DiskRefusal> {
+    fn sync(&mut self) -> Result<(), DiskRefusal>
+        // What each disk promises.
+        ensures cause { IsErrOf result DiskFailed → HasRisen (locked_faults self.old) (locked_faults self.new) }
+        ensures calm { LeavesFaults result (locked_faults self.old) (locked_faults self.new) }
+        ensures later { locked_faults self.old ≤ locked_faults self.new }
+
+        // It wants no memory. A refusal counts as one fault, and an Ok as none.
+        ensures failed { IfErr result (λ refusal. refusal ≡ DiskFailed) }
+        ensures faults { CountsFault result (locked_faults self.old) (locked_faults self.new) }
+
+        // Where there is no file, or once a sync has failed, each call fails.
+        ensures lost { StaysLost result (locked_lost self.old) (locked_lost self.new) }
+        ensures fails { OnErr result (IsTrue (locked_lost self.new)) }
+    {
         match &mut self.disk {
             Some(disk) => counted(&mut self.faults, disk.sync()),
             None => Err(LockedFile::refuse(&mut self.faults)),
@@ -125,6 +180,7 @@ fn counted<T: Drop>(faults: &mut u64, answer: Result<T, DiskRefusal>) -> Result<
     ensures cause { OnErr result (HasRisen faults.old faults.new) }
     ensures calm { LeavesFaults result faults.old faults.new }
     ensures later { faults.old ≤ faults.new }
+    ensures faults { CountsFault result faults.old faults.new }
 {
     if answer.is_err() {
         Failed::counted(faults);

@@ -88,15 +88,18 @@ impl MemLink {
         request: &[u8],
         reply: &mut Vec<u8>,
     ) -> Result<bool, AllocError>
-        ensures answered { result ≡ Ok true → next_answer self.old ≡ Some (drop (length reply.old.items) reply.new.items) }
+        ensures answered { result ≡ Ok true
+            → next_answer self.old ≡ Some (drop (length reply.old.items) reply.new.items) }
         ensures front { result ≡ Ok true
             → reply.new.items ≡ reply.old.items ++ drop (length reply.old.items) reply.new.items }
         ensures kept { result ≡ Ok true → self.new ≡ record self.old {
           exchanges = more self.old.exchanges to.now request.now
               (Replied (drop (length reply.old.items) reply.new.items));
         } }
-        ensures failed { result ≡ Ok false → (next_answer self.old ≡ None) × (reply.new.items ≡ reply.old.items)
-            × (self.new ≡ record self.old { exchanges = more self.old.exchanges to.now request.now (Refused LinkFailed) }) }
+        ensures failed { result ≡ Ok false → (next_answer self.old ≡ None) × (reply.new.items ≡ reply.old.items) }
+        ensures refused { result ≡ Ok false → self.new ≡ record self.old {
+          exchanges = more self.old.exchanges to.now request.now (Refused LinkFailed);
+        } }
         ensures err { OnErr result ((self.new ≡ self.old) × (reply.new.items ≡ reply.old.items)) }
     {
         let to = copy_place(self.alloc, to)?;
@@ -144,6 +147,7 @@ impl Link for MemLink {
         // It is answered what is next, or fails where nothing is; where memory is wanted, no exchange is made.
         ensures answered { OnOk result (next_answer self.old ≡ Some (drop (length reply.old.items) reply.new.items)) }
         ensures failed { IsErrOf result LinkFailed → next_answer self.old ≡ None }
+        ensures counts { IsErrOf result LinkFailed → self.new.faults ≡ raised self.old.faults }
         ensures memory { IsErrOf result Memory → self.new.exchanges ≡ self.old.exchanges }
         ensures answers { self.new.answers ≡ self.old.answers }
         ensures failing { self.new.failing ≡ self.old.failing }
