@@ -107,7 +107,8 @@ pub record IsFounded (f : Family) : Type 0 where
 
 -- ---- behind the outcome
 
--- the event of a reason stands in the history
+-- An event of a reason's kind stands in the history. Whose answer it is isn't said: an entry has the number of the word, and not to whom it
+-- went. The completion has that.
 abbrev pub HasEvent : Reason → Family → Type 0
 HasEvent (reasons.Phase (phase_reasons.Vote number)) f = Came (IsHeard (phase_hears.Voted VoteRollback)) f ⊎ Came (IsHeard phase_hears.RolledBack) f
 HasEvent (reasons.Phase (phase_reasons.PrepareLost number)) f = Came (IsHeard phase_hears.Lost) f
@@ -126,7 +127,7 @@ abbrev pub StandsIn : Outcome → Standing → Type 0
 StandsIn fixed (Waiting room) = ⊥
 StandsIn fixed (UnderWay c) = completions.StandsBehind fixed c
 
--- where the outcome is fixed, what it names stands behind it, and the event of a rollback's reason in the history
+-- where the outcome is fixed, what it names stands behind it, and in the history an event of the kind of a rollback's reason
 abbrev pub OutcomeIsCaused : Family → Type 0
 OutcomeIsCaused f = (fixed : Outcome) → stages.outcome f.completion ≡ Some fixed → StandsIn fixed f.completion × HasEvents fixed f
 

@@ -91,8 +91,8 @@ pub fn families_hear_outcomes_answered()
 
 /// Where the outcome of a sound family is fixed, there stands behind it what it names: behind a commit the record and each
 /// consent, or the answer of the only participant; behind a rollback the answer, what the record came to, or that it came
-/// from outside; and the event of the reason stands in the history. A new family has in its history what this rests on, and
-/// a step leaves it there.
+/// from outside; and an event of the reason's kind stands in the history. A new family has in its history what this rests on,
+/// and a step leaves it there.
 pub fn families_have_causes()
     ensures { FamiliesHaveCauses }
 {

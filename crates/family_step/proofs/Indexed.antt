@@ -16,7 +16,7 @@ use Rattle.coordinator.specs.declared.said.Entry.{Entry}
 use Rattle.coordinator.specs.declared.said.Finished.{Finished}
 use Rattle.coordinator.specs.declared.said.Said.{Said}
 use Rattle.coordinator.specs.declared.said.Said.TheVariants as said
-use Rattle.family_step.specs.Callers.{AreAnswered, IsAdded, IsAnswered, IsIndex, IsNoted, Places, answer_to, answered_by, answered_later, answers_at, call_for, call_in, caller_key, is_keyed, key_at, meets, meets_keyed, noted, places_at, same_caller, told_by, unanswered}
+use Rattle.family_step.specs.Callers.{AreAnswered, IsAdded, IsAnswered, IsIndex, IsNoted, Places, answer_to, answered_at, answered_by, answered_later, answering, answers_at, call_for, call_in, caller_key, is_keyed, key_at, meets, meets_keyed, noted, places_at, same_caller, told_by, unanswered}
 use Rattle.family_step.specs.declared.callers.CallPlaces.{CallPlaces}
 use Rattle.family_step.specs.Earlier.{AnswersAreBefore, AreThere, EntriesAreBefore}
 use Rattle.family_step.proofs.Earlier.{entries_pushed, steps_earlier}
@@ -49,6 +49,10 @@ map_none f (Some x) e = absurd (cc (e))
 abbrev stood_at : ℕ → Option ℕ → CallPlaces
 stood_at at o = record { entry = at; answered = o }
 
+-- the place of the entry that answers a call
+abbrev pub place_of : CallPlaces → ℕ
+place_of c = option_map_or (λ x. x) c.answered c.entry
+
 -- ---- what a call is answered
 
 module _ (places : Places) (entries : List Entry) (index : IsIndex places entries) where
@@ -56,12 +60,12 @@ module _ (places : Places) (entries : List Entry) (index : IsIndex places entrie
   unfolding kept
   kept_none k none = ap (option_and_then (answer_at entries)) (map_none (places_at entries) (position (has_key k) entries) (sym (index k) ∙ none))
 
-  place_of_entry : (o : Option ℕ) → option_map (λ (c : CallPlaces). c.entry) (option_map (places_at entries) o) ≡ o
-  place_of_entry None = refl
-  place_of_entry (Some i) = refl
+  place_of_answer : (o : Option ℕ) → option_map place_of (option_map (places_at entries) o) ≡ option_map (answering entries) o
+  place_of_answer None = refl
+  place_of_answer (Some i) = refl
 
-  pub first_is : (k : RetryKey) → option_map (λ (c : CallPlaces). c.entry) (call_in places k) ≡ first_with entries k
-  first_is k = ap (option_map (λ (c : CallPlaces). c.entry)) (index k) ∙ place_of_entry (first_with entries k)
+  pub answered_is : (k : RetryKey) → option_map place_of (call_in places k) ≡ answered_at entries k
+  answered_is k = ap (option_map place_of) (index k) ∙ place_of_answer (first_with entries k)
 
   stands : (o : Option ℕ) (c : CallPlaces) → option_map (places_at entries) o ≡ Some c → (o ≡ Some c.entry) × (places_at entries c.entry ≡ c)
   stands None c e = absurd (cc (e))

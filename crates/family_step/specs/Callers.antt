@@ -4,7 +4,7 @@ use Rattle.std.specs.List.{list_any, slice_get}
 use Rattle.std.specs.Map.{lookup}
 use Rattle.std.specs.Option.{option_and_then, option_map, option_map_or, option_or}
 use Rattle.ots_model.specs.declared.service.RetryKey.{RetryKey}
-use Rattle.coordinator.specs.History.{answer_among, has_key, is_for, is_later, same_key}
+use Rattle.coordinator.specs.History.{answer_among, first_with, has_key, is_for, is_later, same_key}
 use Rattle.coordinator.specs.declared.said.Entry.{Entry}
 use Rattle.coordinator.specs.declared.said.Finished.{Finished}
 use Rattle.coordinator.specs.declared.said.Said.{Said}
@@ -93,6 +93,15 @@ answers_at at e = list_any (is_for at) e.finished
 -- a call at a place, and the first entry that answers it
 abbrev pub places_at : List Entry → ℕ → CallPlaces
 places_at entries at = record { entry = at; answered = position (answers_at at) entries }
+
+-- the place of the entry that answers the call at a place: the first that does so later, or its own, where it was answered at once or has
+-- no answer yet
+abbrev pub answering : List Entry → ℕ → ℕ
+answering entries at = option_map_or (λ x. x) (position (answers_at at) entries) at
+
+-- the place of the entry that answers the first call with a key
+abbrev pub answered_at : List Entry → RetryKey → Option ℕ
+answered_at entries k = option_map (answering entries) (first_with entries k)
 
 -- each key has the place of the first entry with it, and of the first one that answers that
 abbrev pub IsIndex : Places → List Entry → Type 0

@@ -1,6 +1,6 @@
 // The calls of a history, by their retry keys.
 ghost use Rattle.std.specs.Prelude.{◌≡◌, ◌<◌, ◌≤◌, [], OnOk};
-ghost use Rattle.std.specs.Option.{option_copied};
+ghost use Rattle.std.specs.Option.{option_copied, option_map_or};
 ghost use Rattle.family_step.specs.Callers.{AreAnswered, IsAdded, IsAnswered, IsKept, IsNoted, call_in, caller_key, key_at, meets};
 
 use coordinator::{Entry, Finished};
@@ -26,6 +26,16 @@ pub(crate) struct CallPlaces {
 }
 
 impl CallPlaces {
+    /// The place of the entry that answers it, which is its own where none has answered it later.
+    pub(crate) fn answering(self) -> u32
+        ensures { result ≡ option_map_or (λ x. x) self.answered self.entry }
+    {
+        match self.answered {
+            Some(place) => place,
+            None => self.entry,
+        }
+    }
+
     /// The entry at a place answers the call at this position. A call keeps its first answer.
     fn meet(self, position: u32, place: u32) -> CallPlaces
         ensures { result ≡ meets position place self }

@@ -11,6 +11,7 @@ ghost use Rattle.resource_votes.specs.Limits.{list_count};
 ghost use Rattle.two_phase.specs.Stages as stages;
 ghost use Rattle.family_rules.specs.Order.{AreInOrder};
 ghost use Rattle.family_step.specs.Asking.{EntryIsCaused, HasStepped, is_reread};
+ghost use Rattle.family_step.specs.Callers.{answered_at};
 
 mod context;
 mod naming;
@@ -196,12 +197,13 @@ impl Family {
         kept(&self.state, &self.callers, key)
     }
 
-    /// The place in the history of the first call with this key, which is the one that `kept` tells of.
-    pub fn first_with(&self, key: &RetryKey) -> Option<usize>
-        ensures { result ≡ history.first_with (self.now.family).entries key.now }
+    /// The place in the history of the entry that answers the first call with this key. It is the call's own where it was answered
+    /// at once, and where it has no answer yet.
+    pub fn answered_at(&self, key: &RetryKey) -> Option<usize>
+        ensures { result ≡ answered_at (self.now.family).entries key.now }
     {
         let call = self.callers.find(key)?;
-        Some(call.entry as usize)
+        Some(call.answering() as usize)
     }
 
     /// The step of an event for which memory was taken, where it asks the journal for nothing. It takes no memory.

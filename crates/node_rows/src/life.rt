@@ -9,7 +9,8 @@
 //! - `hear HEARD`: the word that has waited longest is answered so.
 //! - `answer SERIAL HEARD`: the word of the family with this number is.
 //! - `records`: what is held and what stands. `kept N`: what the family has answered the call with this
-//!   key, and which entry of its history that call made.
+//!   key, and which entry of its history answers it. `object`: whether there is what the key names. `context`: what a
+//!   request says that belongs to the transaction which the key names.
 //! - `times N COMMAND, ..`: these commands, as often, but once at least. Of their calls the last ones are told; none of
 //!   the others may be refused by the node.
 //! - `timed N COMMAND, ..`: the same. Standard error tells how many nanoseconds they took.
@@ -17,9 +18,10 @@
 
 use crate::acts::{act_of, heard_of};
 use crate::client::{Client, retry_key};
-use crate::node_calls::{MemNode, apply, create, tick};
+use crate::node_calls::{MemNode, apply, context, create, tick};
 use crate::tell::{
-    tell_answered, tell_kept, tell_made, tell_phase, tell_records, tell_ticked, tell_word,
+    tell_answered, tell_context, tell_kept, tell_made, tell_object, tell_phase, tell_records,
+    tell_ticked, tell_word,
 };
 use crate::text::{front, number, pieces};
 use coordinator::{Act, NodeFault, StepAnswer};
@@ -121,6 +123,11 @@ impl<'a> Life<'a> {
                 &retry_key(number(rest)?),
                 &mut self.told,
             ),
+            "object" => tell_object(node, &self.client.key, &mut self.told),
+            "context" => {
+                let context = context(self.rt.alloc(), node, &self.client)?;
+                tell_context(&context, &mut self.told)
+            }
             _ => self.apply(node, act_of(self.rt.alloc(), word, rest)?),
         }
     }

@@ -6,6 +6,8 @@ use crate::client::Client;
 use coordinator::{Act, NodeFault, StepAnswer};
 use decision_journal::Standing;
 use ior_refs::ObjectKey;
+use ots_context::Context;
+use ots_model::{Endpoint, Octets};
 use ots_outside::{Back, MemDisk};
 use recovery_coord::{Held, Outbox};
 use service_node::{Happenings, Node};
@@ -81,4 +83,22 @@ pub fn held(node: &MemNode) -> &[Held] {
 /// Makes the call `journal`.
 pub fn standing(node: &MemNode) -> &[Standing] {
     node.journal().standing()
+}
+
+/// Makes the call `has_object`.
+pub fn has_object(node: &MemNode, key: &ObjectKey) -> bool {
+    node.has_object(key)
+}
+
+/// Makes the call `context` of this client, for a service that stands at `h:1`.
+pub fn context(
+    alloc: Global,
+    node: &MemNode,
+    client: &Client,
+) -> io::Result<Result<Context, NodeFault>> {
+    let at = Endpoint {
+        host: Octets::new(alloc, b"h")?,
+        port: 1,
+    };
+    Ok(node.context(&client.key, client.now, &at))
 }

@@ -1,9 +1,10 @@
 //! Tells answers, words and records.
 
-use crate::node_calls::{MemNode, held, life, standing};
+use crate::node_calls::{MemNode, has_object, held, life, standing};
 use coordinator::{Effect, Finished, NodeFault, Said, StepAnswer};
 use decision_journal::Standing;
 use ior_refs::ObjectKey;
+use ots_context::{Context, Identity};
 use ots_model::tree::{Outward, Parent, Word};
 use ots_model::{CallNumber, RetryKey};
 use recovery_coord::Held;
@@ -140,7 +141,7 @@ pub fn tell_phase(node: &MemNode, key: &ObjectKey, told: &mut Vec<u8>) -> io::Re
     }
 }
 
-/// Tells what the call with this key was answered, by the family that is called, and which entry of its history it made.
+/// Tells what the call with this key was answered, by the family that is called, and which entry of its history answers it.
 pub fn tell_kept(
     node: &MemNode,
     key: &ObjectKey,
@@ -159,7 +160,35 @@ pub fn tell_kept(
 
 fn kept<'a>(node: &'a MemNode, key: &ObjectKey, call: &RetryKey) -> Option<(&'a Said, usize)> {
     let family = node.family(key)?;
-    Some((family.kept(call)?, family.first_with(call)?))
+    Some((family.kept(call)?, family.answered_at(call)?))
+}
+
+/// Tells whether there is the object that a key names.
+pub fn tell_object(node: &MemNode, key: &ObjectKey, told: &mut Vec<u8>) -> io::Result<()> {
+    let there = has_object(node, key);
+    write!(told, "{}", if there { " there" } else { " not there" })
+}
+
+/// Tells the seconds that a context tells, the last octet of the otid, which is the transaction's branch, and the same octets of
+/// its parents.
+pub fn tell_context(context: &Result<Context, NodeFault>, told: &mut Vec<u8>) -> io::Result<()> {
+    let context = match context {
+        Ok(context) => context,
+        Err(fault) => return tell_fault(fault, told),
+    };
+    write!(told, " {} seconds, branch", context.timeout)?;
+    tell_branch(&context.current, told)?;
+    for parent in context.parents.items() {
+        tell_branch(parent, told)?;
+    }
+    Ok(())
+}
+
+fn tell_branch(identity: &Identity, told: &mut Vec<u8>) -> io::Result<()> {
+    match identity.otid.tid() {
+        [.., last] => write!(told, " {last}"),
+        [] => Ok(()),
+    }
 }
 
 /// Tells the life, the records that are told again, with what each registration waits for, and those that stand.

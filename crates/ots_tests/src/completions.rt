@@ -3,8 +3,8 @@ ghost use Rattle.std.specs.Prelude.{◌<◌, length};
 
 use ots_model::tree::{Heard, Outcome, Outward, Reason, Word};
 use ots_model::{
-    CallNumber, Disposition, Doubted, Ground, PhaseHeard, PhaseWord, REFERENCE_LIMIT, RefBytes,
-    Stood, Vote,
+    CallNumber, Disposition, Doubted, Ground, Join, PhaseHeard, PhaseReason, PhaseWord,
+    REFERENCE_LIMIT, RefBytes, Stood, Vote,
 };
 use resource_votes::Votes;
 use std::alloc::Global;
@@ -196,5 +196,32 @@ fn a_vote_is_the_last_one(rt: HostRuntime) -> Result<(), Fail> {
         votes.vote(2, Vote::VoteReadOnly);
     }
     assert!(rt; votes.vote_of(2) == Some(Vote::VoteReadOnly));
+    Ok(())
+}
+
+/// A word that is lost before the outcome rolls back.
+#[test]
+fn a_lost_prepare_rolls_back(rt: HostRuntime) -> Result<(), Fail> {
+    let mut completion = begun(rt.alloc()).ok_or("no completion")?;
+    let outward = completion.next().ok_or("no word")?;
+    completion.lost(&outward.number);
+    let lost = Reason::Phase(PhaseReason::PrepareLost(1));
+    assert!(rt; completion.outcome() == Some(Outcome::Rollback(lost)));
+    assert!(rt; !completion.all_completed() && completion.dispositions().as_slice().is_empty());
+    Ok(())
+}
+
+/// What a subordinate's participants did together, where one of them did the other thing.
+#[test]
+fn a_subordinate_has_done_both(rt: HostRuntime) -> Result<(), Fail> {
+    let mut completion = prepared(rt.alloc())?;
+    completion.roll_back(Reason::Superior);
+    hear(&mut completion, PhaseHeard::Done)?;
+    hear(
+        &mut completion,
+        PhaseHeard::Heuristic(Disposition::Committed),
+    )?;
+    assert!(rt; completion.all_completed() && completion.sub_join() == Join::Mixed);
+    assert!(rt; completion.dispositions().as_slice().len() == 2);
     Ok(())
 }

@@ -19,23 +19,27 @@ const REQUEST: [u8; 12] = *b"GIOP\x01\x02\x00\x00\x00\x00\x00\x00";
 
 const REPLY: [u8; 12] = *b"GIOP\x01\x02\x00\x01\x00\x00\x00\x00";
 
+/// A reply in two parts: the first in little endian with two octets behind its header, the second in big endian with one.
+const PARTS: &[u8] = b"GIOP\x01\x02\x03\x01\x02\x00\x00\x00abGIOP\x01\x02\x00\x07\x00\x00\x00\x01c";
+
 /// Answers one connection.
 #[derive(Drop)]
 struct Answerer<R> {
     door: TcpDoor<R>,
+    reply: &'static [u8],
 }
 
 impl<R: Net<Listener = TcpListener, Stream = TcpStream> + time::Clock + Drop> Job for Answerer<R> {
     fn turn(&mut self) -> bool {
         if let Ok(Some(mut conn)) = self.door.next() {
-            let _ = answer(&mut conn);
+            let _ = answer(&mut conn, self.reply);
         }
         false
     }
 }
 
 /// Reads a request, and writes the reply.
-fn answer(conn: &mut TcpConn) -> Result<(), Failed> {
+fn answer(conn: &mut TcpConn, reply: &[u8]) -> Result<(), Failed> {
     let mut octets = [0; 12];
     let mut count = 0;
     for _ in 0..12 {
@@ -44,7 +48,7 @@ fn answer(conn: &mut TcpConn) -> Result<(), Failed> {
         }
     }
     if octets == REQUEST {
-        conn.write(&REPLY)?;
+        conn.write(reply)?;
     }
     Ok(())
 }
@@ -56,17 +60,36 @@ fn door_here(rt: HostRuntime) -> Result<TcpDoor<HostRuntime>, Fail> {
     Ok(TcpDoor::new(rt, open, Address { host, port: 0 }, 64))
 }
 
+/// A link's answer to a request at this port of this machine.
+fn answered(rt: HostRuntime, port: u16) -> Result<Vec<u8>, Fail> {
+    let host = Octets::new(rt.alloc(), b"127.0.0.1")?;
+    let mut link = TcpLink::new(rt, rt.alloc());
+    let mut octets = Vec::new(rt.alloc());
+    match link.invoke(&Endpoint { host, port }, &REQUEST, &mut octets) {
+        Ok(()) => Ok(octets),
+        Err(_) => Err("no answer".into()),
+    }
+}
+
 #[test]
 fn a_link_is_answered_at_a_door(rt: HostRuntime) -> Result<(), Fail> {
     let mut door = door_here(rt)?;
     assert!(rt; door.open().is_ok());
     let port = door.port().unwrap_or(0);
-    let host = Octets::new(rt.alloc(), b"127.0.0.1")?;
-    assert!(rt; Spawner::on_threads(rt).start(Answerer { door }));
-    let mut link = TcpLink::new(rt, rt.alloc());
-    let mut reply = Vec::new(rt.alloc());
-    let answer = link.invoke(&Endpoint { host, port }, &REQUEST, &mut reply);
-    assert!(rt; answer.is_ok() && reply.as_slice() == REPLY.as_slice());
+    let reply = &REPLY;
+    assert!(rt; Spawner::on_threads(rt).start(Answerer { door, reply }));
+    assert!(rt; answered(rt, port)?.as_slice() == REPLY.as_slice());
+    Ok(())
+}
+
+#[test]
+fn a_link_reads_a_reply_in_parts(rt: HostRuntime) -> Result<(), Fail> {
+    let mut door = door_here(rt)?;
+    assert!(rt; door.open().is_ok());
+    let port = door.port().unwrap_or(0);
+    let reply = PARTS;
+    assert!(rt; Spawner::on_threads(rt).start(Answerer { door, reply }));
+    assert!(rt; answered(rt, port)?.as_slice() == PARTS);
     Ok(())
 }
 
@@ -164,5 +187,23 @@ fn a_job_may_be_turned_at_once(rt: HostRuntime) -> Result<(), Fail> {
     let mut clock = MemClock::new(5);
     clock.pause();
     assert!(rt; clock.now() == 6);
+    Ok(())
+}
+
+#[test]
+fn a_spawner_refuses_what_is_listed(rt: HostRuntime) -> Result<(), Fail> {
+    let turns = Arc::new(rt.alloc(), AtomicU64::new(0))?;
+    let mut failing = Vec::new(rt.alloc());
+    failing.push(0)?;
+    let mut spawner: Spawner<HostRuntime> = Spawner::at_once(2, failing);
+    let first = Counting {
+        turns: Arc::try_clone(&turns)?,
+    };
+    assert!(rt; !spawner.start(first) && turns.load(Ordering::SeqCst) == 0);
+    let second = Counting {
+        turns: Arc::try_clone(&turns)?,
+    };
+    // It is turned twice at most.
+    assert!(rt; spawner.start(second) && turns.load(Ordering::SeqCst) == 2);
     Ok(())
 }

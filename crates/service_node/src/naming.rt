@@ -29,8 +29,8 @@ impl<D: Disk> Node<D> {
         }
     }
 
-    /// What a request says at a moment that belongs to the transaction whose coordinator's branch a key names, of a service that
-    /// stands at this place.
+    /// What a request says at a moment that belongs to a transaction, of a service that stands at this place. The key's number is that
+    /// of its branch, whatever object the key is of.
     #[tactic(auto, unfolding(coordinator::specs::Contexts::context_named))]
     pub fn context(&self, key: &ObjectKey, now: u64, at: &Endpoint) -> Result<Context, NodeFault>
         requires short { length at.now.host ≤ contexts.host_limit }
