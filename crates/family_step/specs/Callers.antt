@@ -94,12 +94,11 @@ answers_at at e = list_any (is_for at) e.finished
 abbrev pub places_at : List Entry → ℕ → CallPlaces
 places_at entries at = record { entry = at; answered = position (answers_at at) entries }
 
--- the place of the entry that answers the call at a place: the first that does so later, or its own, where it was answered at once or has
--- no answer yet
+-- the place of the first entry that has the call at a place among those that it answers, or that place, where none has
 abbrev pub answering : List Entry → ℕ → ℕ
 answering entries at = option_map_or (λ x. x) (position (answers_at at) entries) at
 
--- the place of the entry that answers the first call with a key
+-- and so for the first call with a key
 abbrev pub answered_at : List Entry → RetryKey → Option ℕ
 answered_at entries k = option_map (answering entries) (first_with entries k)
 

@@ -197,8 +197,8 @@ impl Family {
         kept(&self.state, &self.callers, key)
     }
 
-    /// The place in the history of the entry that answers the first call with this key. It is the call's own where it was answered
-    /// at once, and where it has no answer yet.
+    /// The place in the history of the first entry that says what the first call with this key was answered later, or of that
+    /// call's own entry, where no entry says so.
     pub fn answered_at(&self, key: &RetryKey) -> Option<usize>
         ensures { result ≡ answered_at (self.now.family).entries key.now }
     {

@@ -11,8 +11,8 @@ use std::io;
 use std::io::ErrorKind;
 use std::path::Path;
 
-/// A disk over a file that no other disk of this kind is over. Where the file can't be opened, or another has it, each call
-/// fails, which counts as one fault, and nothing is written.
+/// A disk over a file that it has locked. Where the file can't be opened, or another disk of this kind has locked it, there is
+/// no file: each call fails, and counts one fault.
 #[derive(Drop)]
 pub struct LockedFile {
     disk: Option<FileDisk>,

@@ -136,10 +136,13 @@ fn the_clock_goes_on(rt: HostRuntime) -> Result<(), Fail> {
 #[test]
 fn a_file_has_one_disk(rt: HostRuntime) -> Result<(), Fail> {
     let mut disk = LockedFile::open(&rt, "ots_locked_file");
-    assert!(rt; disk.write_at(0, b"abcd").is_ok() && disk.sync().is_ok());
+    assert!(rt; disk.write_at(0, b"abcd").is_ok() && disk.write_at(3, b"ef").is_ok());
+    assert!(rt; disk.sync().is_ok());
     let mut other = LockedFile::open(&rt, "ots_locked_file");
-    assert!(rt; other.len().is_err() && other.fault_count() == 1);
-    assert!(rt; disk.len() == Ok(4));
+    assert!(rt; other.len().is_err() && other.write_at(0, b"x").is_err() && other.sync().is_err());
+    assert!(rt; other.fault_count() == 3);
+    let mut kept = [0; 5];
+    assert!(rt; disk.read_at(0, &mut kept).is_ok() && kept == *b"abcef" && disk.len() == Ok(5));
     fs::remove_file(&rt, "ots_locked_file")?;
     Ok(())
 }

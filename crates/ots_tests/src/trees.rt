@@ -25,6 +25,7 @@ fn check_others(rt: &impl Abort, tree: &Tree) {
     if tree.count() == 3 {
         assert!(rt; tree.top_status(2) == Status::Active && tree.is_same(2, 2));
         assert!(rt; !tree.is_same(1, 2) && tree.is_related(1, 2));
+        assert!(rt; tree.parent(2) == Some(0) && tree.parent(0).is_none());
     }
 }
 
