@@ -47,6 +47,13 @@ pub record BelongTogether {D : Type 0} (journal : JournalState D) (recovered : R
   pub whole : IsWhole (node_of journal.service journal.found recovered.records families last generation)
   pub own : IsOfJournal journal recovered
 
+-- a node is whole, and it is of its journal: of its service, with what was found in it. No life is in doubt.
+pub record HangsTogether {D : Type 0} (n : NodeState D) : Type 0 where
+  pub whole : IsWhole n.node
+  pub service_is : n.node.service ≡ n.journal.service
+  pub found_is : n.node.found ≡ n.journal.found
+  pub life_stays : IfSome n.journal.doubted (λ r. (place : ℕ) → (with_record n.journal.found place r).life ≡ n.journal.found.life)
+
 -- a family is made as the definition says, and the journal stays
 pub record IsMade {D : Type 0} (before after : NodeState D) (said : Result ObjectKey NodeFault) (created : Created) : Type 0 where
   pub node : after.node ≡ created.node

@@ -4,6 +4,7 @@ ghost use Rattle.std.specs.Option.{option_and_then, option_copied, option_map};
 ghost use Rattle.recovery_coord.specs.declared.held.Held.{Held as HeldRecord};
 ghost use Rattle.coordinator.specs.Family.{FamilyParts as TheFamily};
 ghost use Rattle.coordinator.specs.Node as nodes;
+ghost use Rattle.service_node.specs.NodeState.{HangsTogether};
 
 use crate::node::Node;
 use decision_journal::Journal;
@@ -18,6 +19,13 @@ impl<D: Disk> Node<D> {
         ensures { result.now ≡ self.now.journal }
     {
         &self.journal
+    }
+
+    /// The node is whole, and its slots and records are of its journal. This does nothing.
+    pub fn hangs_together(&self)
+        ensures { HangsTogether self.now }
+    {
+        let _last = self.last;
     }
 
     /// The life that it is in.
