@@ -18,3 +18,4 @@ mod Replied
 mod Stepping
 mod Crashing
 mod Refused
+mod Staying

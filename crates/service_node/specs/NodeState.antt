@@ -54,6 +54,11 @@ pub record HangsTogether {D : Type 0} (n : NodeState D) : Type 0 where
   pub found_is : n.node.found ≡ n.journal.found
   pub life_stays : IfSome n.journal.doubted (λ r. (place : ℕ) → (with_record n.journal.found place r).life ≡ n.journal.found.life)
 
+-- a node stays of its service, and in its life
+pub record StaysInLife {D : Type 0} (before after : NodeState D) : Type 0 where
+  pub service_is : after.journal.service ≡ before.journal.service
+  pub life_is : after.journal.found.life ≡ before.journal.found.life
+
 -- a family is made as the definition says, and the journal stays
 pub record IsMade {D : Type 0} (before after : NodeState D) (said : Result ObjectKey NodeFault) (created : Created) : Type 0 where
   pub node : after.node ≡ created.node

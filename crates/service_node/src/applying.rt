@@ -12,7 +12,7 @@ ghost use Rattle.service_node.specs.Applying as applying;
 ghost use Rattle.service_node.specs.Applying.{HasSteppedAt, HasSteppedIn, IsApplied, IsGoneWhere, IsUnapplied, IsUnmovedAt};
 ghost use Rattle.service_node.specs.Crashes.{IsCrashSafe};
 ghost use Rattle.service_node.specs.Given.{node_makes};
-ghost use Rattle.service_node.specs.NodeState.{shown};
+ghost use Rattle.service_node.specs.NodeState.{StaysInLife, shown};
 
 use crate::hearing::keep_where;
 use crate::node::Node;
@@ -41,8 +41,10 @@ impl<D: Disk> Node<D> {
             result out.old.words out.new.words
             ⊎ IsUnapplied key.now event.entry.now self.old self.new result out.old.words out.new.words }
         ensures crash { IsCrashSafe D.told self.old self.new }
+        ensures stays { StaysInLife self.old self.new }
         ensures later { D.faults self.old.journal.disk ≤ D.faults self.new.journal.disk }
     {
+        self.hangs_together();
         self.kept();
         let said = self.call(key, event, out);
         self.kept();
