@@ -1,15 +1,17 @@
-ghost use Rattle.std.specs.Prelude.{◌≡◌, ◌⊎◌, false, true, if◌then◌else◌, None, Ok, IfErr, IfOk, IfSome, OnErr, OnOk, replicate};
+ghost use Rattle.std.specs.Prelude.{◌≡◌, ◌⊎◌, false, true, if◌then◌else◌, None, Ok, IfErr, IfOk, IfSome, IsErr, OnErr, OnOk, replicate};
 ghost use Rattle.coordinator.specs.Contexts.{context_named};
 ghost use Rattle.coordinator.specs.History.{is_later};
 ghost use Rattle.coordinator.specs.Node as nodes;
 ghost use Rattle.ots_context.specs.declared.context.AnyTail.TheVariants.{Null};
 ghost use Rattle.ots_outside.specs.Source.{raised};
 ghost use Rattle.service_node.specs.Given.{node_makes};
-ghost use Rattle.tree_room.specs.Room.{CanBeTold};
+ghost use Rattle.tree_room.specs.Room.{CanBeTold, IsNamed};
 ghost use Rattle.tree_room.specs.Answers as answers;
 ghost use Rattle.tree_room.specs.Answers.{HasTicked, HasTickedSome, IsAnswered, IsCreated, IsRefused, IsStarved, IsThereBy, IsUncreated};
 
 use crate::fault::RoomFault;
+use crate::locked::LockedNode;
+use crate::naming::Naming;
 use crate::ticket::Ticket;
 use coordinator::{Act, Answers, Effects, Event, Said, StepAnswer};
 use ior_refs::ObjectKey;
@@ -25,24 +27,26 @@ use std::sync::{Mutex, Wait};
 /// The transactions of a service in one life. Callers in several threads share it: one after another has the node for one
 /// step. Nobody has it while a word is out. Contracts see the room as a `RoomState`.
 #[derive(Drop)]
-pub struct Room<D: Disk> {
+pub struct Room<N: Naming, D: Disk> {
     alloc: Global,
     at: Endpoint,
     service: u64,
     life: u32,
-    node: Mutex<Node<D>>,
+    node: Mutex<LockedNode<N, D>>,
 }
 
-impl<D: Disk> Model for Room<D> {
-    ghost use Rattle.tree_room.specs.Room.{RoomState};
+impl<N: Naming, D: Disk> Model for Room<N, D> {
+    ghost use Rattle.tree_room.specs.Room.{IsNamedRoom, RoomState};
 
     ghost Value = { RoomState };
 
     ghost view = { λ room. record { at = room.at; service = room.service; life = room.life } };
 
-    ghost use Rattle.tree_room.specs.Room.{CanBeTold};
-
-    ghost invariant = { λ room. CanBeTold room.at };
+    ghost invariant = { λ room. IsNamedRoom N.service N.life (record {
+      at = room.at;
+      service = room.service;
+      life = room.life;
+    }) };
 }
 
 /// One caller of a room. Each thread that calls has its own. Contracts see it as the number of its calls.
@@ -61,9 +65,9 @@ impl Model for Pass {
 
 /// A room, and those who may call it.
 #[derive(Drop)]
-pub struct Opened<D: Disk> {
+pub struct Opened<N: Naming, D: Disk> {
     /// The room.
-    pub room: Room<D>,
+    pub room: Room<N, D>,
     /// Its callers.
     pub passes: Vec<Pass>,
 }
@@ -84,7 +88,7 @@ impl Pass {
     }
 }
 
-impl<D: Disk> Room<D> {
+impl<N: Naming, D: Disk> Room<N, D> {
     /// The room of this node, whose service stands at this place, with so many callers. Where memory is wanting, the node
     /// comes back.
     pub fn new(
@@ -92,8 +96,9 @@ impl<D: Disk> Room<D> {
         node: Node<D>,
         at: Endpoint,
         passes: u32,
-    ) -> Result<Opened<D>, Back<Node<D>, AllocError>>
+    ) -> Result<Opened<N, D>, Back<Node<D>, AllocError>>
         requires host { CanBeTold at }
+        requires named { IsNamed N.service N.life node }
         ensures room { IfOk result (λ opened. opened.room ≡ record {
           at = at;
           service = (node.journal).service;
@@ -102,6 +107,7 @@ impl<D: Disk> Room<D> {
         ensures passes { IfOk result (λ opened. opened.passes.items ≡ replicate passes 0) }
         ensures back { IfErr result (λ back. back.value ≡ node) }
     {
+        node.hangs_together();
         match new_passes(alloc, passes) {
             Ok(passes) => Ok(Opened {
                 room: Room {
@@ -109,7 +115,7 @@ impl<D: Disk> Room<D> {
                     at,
                     service: node.journal().service(),
                     life: node.life(),
-                    node: Mutex::new(node),
+                    node: Mutex::new(LockedNode::new(node)),
                 },
                 passes,
             }),
@@ -150,8 +156,9 @@ impl<D: Disk> Room<D> {
         now: u64,
         timeout: u32,
     ) -> Result<Ticket, RoomFault>
-        ensures made { IfOk result (λ ticket. IsCreated D now timeout (Ok ticket.key)) }
-        ensures refused { IfErr result (λ fault. IsUncreated D now timeout fault) }
+        ensures made { IfOk result (λ ticket. IsCreated D self.now.service self.now.life now timeout (Ok ticket.key)) }
+        ensures opened { IfOk result (λ ticket. (ticket.answer ≡ answers.opened) × (ticket.context ≡ None)) }
+        ensures refused { IfErr result (λ fault. IsUncreated D self.now.service self.now.life now timeout fault) }
         ensures counted { pass.new ≡ raised pass.old }
     {
         pass.count();
@@ -174,10 +181,11 @@ impl<D: Disk> Room<D> {
         out: &mut Outbox,
     ) -> Result<Ticket, RoomFault>
         requires given { node_makes (event.now).act ≡ false }
-        ensures answered { IfOk result (λ ticket. IsAnswered D.wants_memory D.told D.faults self.now.at key.now
-            event.entry.now ticket.answer ticket.context out.old.words out.new.words) }
-        ensures refused { IfErr result (λ fault. IsRefused D.wants_memory D.told D.faults key.now event.entry.now
-            fault out.old.words out.new.words ⊎ IsStarved fault out.old.words out.new.words) }
+        ensures answered { IfOk result (λ ticket. IsAnswered D.wants_memory D.told D.faults self.now.at
+            self.now.service self.now.life key.now event.entry.now ticket.answer ticket.context out.old.words out.new.words) }
+        ensures refused { IfErr result (λ fault. IsRefused D.wants_memory D.told D.faults self.now.service
+            self.now.life key.now event.entry.now fault out.old.words out.new.words
+            ⊎ IsStarved event.entry.now fault out.old.words out.new.words) }
         ensures key { IfOk result (λ ticket. ticket.key ≡ key.now) }
         ensures tail { IfOk result (λ ticket. IfSome ticket.context (λ c. c.tail ≡ Null)) }
         ensures later { IfOk result (λ ticket. is_later (ticket.answer).said ≡ true → ticket.context ≡ None) }
@@ -196,8 +204,8 @@ impl<D: Disk> Room<D> {
         now: u64,
         out: &mut Outbox,
     ) -> Result<(), RoomFault>
-        ensures ticked { OnOk result (HasTicked now out.old.words out.new.words) }
-        ensures some { OnErr result (HasTickedSome now out.old.words out.new.words) }
+        ensures ticked { OnOk result (HasTicked D self.now.service self.now.life now out.old.words out.new.words) }
+        ensures some { OnErr result (HasTickedSome D self.now.service self.now.life now out.old.words out.new.words) }
         ensures memory { IfErr result (λ fault. fault ≡ RoomFault.Memory) }
         ensures counted { pass.new ≡ raised pass.old }
     {
@@ -207,7 +215,7 @@ impl<D: Disk> Room<D> {
 
     /// Whether there is the object that a key names: one of a transaction that is there, or of a record that stands.
     pub fn holds<R: Wait>(&self, rt: &R, pass: &mut Pass, key: &ObjectKey) -> bool
-        ensures there { IsThereBy D key.now result }
+        ensures there { IsThereBy D self.now.service self.now.life key.now result }
         ensures counted { pass.new ≡ raised pass.old }
     {
         pass.count();
@@ -227,9 +235,13 @@ fn new_passes(alloc: Global, count: u32) -> Result<Vec<Pass>, AllocError>
 }
 
 /// A node makes a family.
-fn make<D: Disk>(node: &mut Node<D>, now: u64, timeout: u32) -> Result<ObjectKey, RoomFault>
-    ensures made { IfOk result (λ key. IsCreated D now timeout (Ok key)) }
-    ensures refused { IfErr result (λ fault. IsUncreated D now timeout fault) }
+fn make<N: Naming, D: Disk>(
+    node: &mut LockedNode<N, D>,
+    now: u64,
+    timeout: u32,
+) -> Result<ObjectKey, RoomFault>
+    ensures made { IfOk result (λ key. IsCreated D N.service N.life now timeout (Ok key)) }
+    ensures refused { IfErr result (λ fault. IsUncreated D N.service N.life now timeout fault) }
 {
     match node.create(now, timeout) {
         Ok(key) => Ok(key),
@@ -238,8 +250,8 @@ fn make<D: Disk>(node: &mut Node<D>, now: u64, timeout: u32) -> Result<ObjectKey
 }
 
 /// A node, whose service stands at this place, answers a call.
-fn call<D: Disk>(
-    node: &mut Node<D>,
+fn call<N: Naming, D: Disk>(
+    node: &mut LockedNode<N, D>,
     at: &Endpoint,
     key: &ObjectKey,
     event: &Event,
@@ -247,15 +259,16 @@ fn call<D: Disk>(
 ) -> Result<Ticket, RoomFault>
     requires host { CanBeTold at.now }
     requires given { node_makes (event.now).act ≡ false }
-    ensures answered { IfOk result (λ ticket. IsAnswered D.wants_memory D.told D.faults at.now key.now
-        event.entry.now ticket.answer ticket.context out.old.words out.new.words) }
-    ensures refused { IfErr result (λ fault. IsRefused D.wants_memory D.told D.faults key.now event.entry.now
-        fault out.old.words out.new.words ⊎ IsStarved fault out.old.words out.new.words) }
+    ensures answered { IfOk result (λ ticket. IsAnswered D.wants_memory D.told D.faults at.now N.service N.life
+        key.now event.entry.now ticket.answer ticket.context out.old.words out.new.words) }
+    ensures refused { IfErr result (λ fault. IsRefused D.wants_memory D.told D.faults N.service N.life key.now
+        event.entry.now fault out.old.words out.new.words
+        ⊎ IsStarved event.entry.now fault out.old.words out.new.words) }
     ensures key { IfOk result (λ ticket. ticket.key ≡ key.now) }
     ensures tail { IfOk result (λ ticket. IfSome ticket.context (λ c. c.tail ≡ Null)) }
     ensures later { IfOk result (λ ticket. is_later (ticket.answer).said ≡ true → ticket.context ≡ None) }
 {
-    let found = context_for(node, key, event, at)?;
+    let found = context_for(node.node(), key, event, at)?;
     match node.apply(key, event, out) {
         Ok(answer) => {
             let context = given_plainly(&answer.said, found);
@@ -285,24 +298,32 @@ fn given_plainly(said: &Said, found: Option<Context>) -> Option<Context>
 }
 
 /// Whether a node has the object that a key names.
-fn has_object<D: Disk>(node: &Node<D>, key: &ObjectKey) -> bool
-    ensures { IsThereBy D key.now result }
+fn has_object<N: Naming, D: Disk>(node: &LockedNode<N, D>, key: &ObjectKey) -> bool
+    ensures { IsThereBy D N.service N.life key.now result }
 {
-    node.has_object(key)
+    node.node().has_object(key)
 }
 
 /// The clock of a node goes on.
-fn go_on<D: Disk>(node: &mut Node<D>, now: u64, out: &mut Outbox) -> Result<(), RoomFault>
-    ensures ticked { OnOk result (HasTicked now out.old.words out.new.words) }
-    ensures some { OnErr result (HasTickedSome now out.old.words out.new.words) }
+fn go_on<N: Naming, D: Disk>(
+    node: &mut LockedNode<N, D>,
+    now: u64,
+    out: &mut Outbox,
+) -> Result<(), RoomFault>
+    ensures ticked { OnOk result (HasTicked D N.service N.life now out.old.words out.new.words) }
+    ensures some { OnErr result (HasTickedSome D N.service N.life now out.old.words out.new.words) }
     ensures memory { IfErr result (λ fault. fault ≡ RoomFault.Memory) }
 {
-    node.tick(now, out)?;
-    Ok(())
+    match node.tick(now, out) {
+        Ok(_happened) => Ok(()),
+        Err(fault) => Err(RoomFault::from(fault)),
+    }
 }
 
 /// What is said where a transaction was made.
-fn made(alloc: Global) -> StepAnswer {
+fn made(alloc: Global) -> StepAnswer
+    ensures { result ≡ answers.opened }
+{
     StepAnswer {
         position: 0,
         said: Said::State(Status::Active),
@@ -323,6 +344,7 @@ fn context_for<D: Disk>(
         then context_named at.now (event.entry.now).now key.now node.now.node else None)) }
     ensures tail { IfOk result (λ found. IfSome found (λ c. c.tail ≡ Null)) }
     ensures memory { IfErr result (λ fault. fault ≡ RoomFault.Memory) }
+    ensures asked { IsErr result → answers.asks_context (event.entry.now).act ≡ true }
 {
     if !matches!(event.act, Act::GetTxcontext) {
         return Ok(None);
