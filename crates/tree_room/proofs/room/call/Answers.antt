@@ -16,7 +16,7 @@ returns-in-Ok-clause-answered g c = record {
       (context_named c.args.at.now c.args.event.now.now c.args.key.now c.args.node.now.node)
       c.in_ok-found.found c.given_plainly-context.result
       (subst (λ (n : NodeState g.row.D.Denot). c.in_ok-found.found ≡ (if asks_context c.args.event.now.act
-          then context_named c.args.at.now c.args.event.now.now c.args.key.now n.node else None)) c.node.ensures.same c.in_ok-found.ensures.found)
+      then context_named c.args.at.now c.args.event.now.now c.args.key.now n.node else None)) c.node.ensures.same c.in_ok-found.ensures.found)
       c.given_plainly-context.ensures.given;
   crash = c.apply.ensures.crash;
 }
