@@ -26,7 +26,7 @@ pub(crate) struct CallPlaces {
 }
 
 impl CallPlaces {
-    /// The place of the entry that answers it, which is its own where none has answered it later.
+    /// The place of the first entry that answers it, which is its own where there is none.
     pub(crate) fn answering(self) -> u32
         ensures { result ≡ option_map_or (λ x. x) self.answered self.entry }
     {

@@ -197,8 +197,8 @@ impl Family {
         kept(&self.state, &self.callers, key)
     }
 
-    /// The place in the history of the first entry that says what the first call with this key was answered later, or of that
-    /// call's own entry, where no entry says so.
+    /// The place in the history of the first entry that has the first call with this key among those which it answers, or of
+    /// that call's own entry, where none has.
     pub fn answered_at(&self, key: &RetryKey) -> Option<usize>
         ensures { result ≡ answered_at (self.now.family).entries key.now }
     {

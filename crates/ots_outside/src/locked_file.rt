@@ -11,8 +11,8 @@ use std::io;
 use std::io::ErrorKind;
 use std::path::Path;
 
-/// A disk over a file that it has locked. Where the file can't be opened, or another disk of this kind has locked it, there is
-/// no file: each call fails, and counts one fault.
+/// A disk over a file that it has locked. There is no file where it or its folder can't be opened, or where it can't be locked,
+/// as when another disk of this kind has locked it: then each call fails, and counts one fault, up to the count's end.
 #[derive(Drop)]
 pub struct LockedFile {
     disk: Option<FileDisk>,
@@ -46,31 +46,19 @@ impl LockedFile {
 
 /// A disk over the file of this name, which is locked.
 fn open_locked<R: Files<File = File>>(rt: &R, name: &str) -> io::Result<FileDisk> {
-    let (file, is_new) = open_or_make(rt, name)?;
+    let file = File::options()
+        .read(true)
+        .write(true)
+        .create(true)
+        .open(rt, name)?;
     match file.try_lock() {
         Ok(()) => {}
         Err(TryLockError::Error(error)) => return Err(error),
         Err(TryLockError::WouldBlock) => return Err(ErrorKind::WouldBlock.into()),
     }
-    if is_new {
-        let folder = File::open(rt, folder_of(name))?;
-        return Ok(FileDisk::new(file, Some(folder)));
-    }
-    Ok(FileDisk::new(file, None))
-}
-
-/// The file of this name, and whether it was just made.
-fn open_or_make<R: Files<File = File>>(rt: &R, name: &str) -> io::Result<(File, bool)> {
-    let mut options = File::options();
-    options.read(true).write(true);
-    match options.open(rt, name) {
-        Ok(file) => Ok((file, false)),
-        Err(error) if error.kind() == ErrorKind::NotFound => {
-            options.create_new(true);
-            Ok((options.open(rt, name)?, true))
-        }
-        Err(error) => Err(error),
-    }
+    // A file that was there may have been made by a server that ended before it synced the folder.
+    let folder = File::open(rt, folder_of(name))?;
+    Ok(FileDisk::new(file, Some(folder)))
 }
 
 /// The folder in which the file of this name is.

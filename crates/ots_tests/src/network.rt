@@ -148,6 +148,14 @@ fn a_file_has_one_disk(rt: HostRuntime) -> Result<(), Fail> {
 }
 
 #[test]
+fn a_file_that_cannot_be_opened_has_no_disk(rt: HostRuntime) -> Result<(), Fail> {
+    let mut disk = LockedFile::open(&rt, "ots_no_such_folder/file");
+    assert!(rt; disk.len().is_err() && disk.write_at(0, b"x").is_err() && disk.sync().is_err());
+    assert!(rt; disk.fault_count() == 3);
+    Ok(())
+}
+
+#[test]
 fn a_link_in_memory_gives_its_answers(rt: HostRuntime) -> Result<(), Fail> {
     let alloc = rt.alloc();
     let mut answers = Vec::new(alloc);

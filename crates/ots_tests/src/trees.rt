@@ -21,6 +21,20 @@ fn a_subtransaction_ends_once(rt: HostRuntime) -> Result<(), Fail> {
     Ok(())
 }
 
+/// The parent of a branch is the one it was made in, however deep that is.
+#[test]
+fn a_nested_branch_has_its_own_parent(rt: HostRuntime) -> Result<(), Fail> {
+    let mut tree = Tree::new(rt.alloc())?;
+    assert!(rt; tree.create_sub(0).is_ok() && tree.count() == 2);
+    if tree.count() == 2 {
+        assert!(rt; tree.create_sub(1).is_ok() && tree.count() == 3);
+    }
+    if tree.count() == 3 {
+        assert!(rt; tree.parent(1) == Some(0) && tree.parent(2) == Some(1));
+    }
+    Ok(())
+}
+
 fn check_others(rt: &impl Abort, tree: &Tree) {
     if tree.count() == 3 {
         assert!(rt; tree.top_status(2) == Status::Active && tree.is_same(2, 2));
