@@ -18,7 +18,7 @@ abbrev pub is_later : Said → Bool
 is_later said.Later = true
 is_later _ = false
 
--- the answer to the call at a place, among those that came later
+-- the first answer to the call at a place, among those that entries have
 abbrev pub is_for : ℕ → Finished → Bool
 is_for at a = a.position == at
 

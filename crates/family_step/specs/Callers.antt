@@ -115,7 +115,7 @@ call_for places (Some k) = call_in places k
 abbrev pub answer_in : ℕ → Option Entry → Option Said
 answer_in at o = option_and_then (λ (e : Entry). answer_among at e.finished) o
 
--- what a call was answered later
+-- what the first entry that answers a call says of it
 abbrev pub answered_later : List Entry → CallPlaces → Option Said
 answered_later entries c = option_and_then (λ (place : ℕ). answer_in c.entry (slice_get entries place)) c.answered
 

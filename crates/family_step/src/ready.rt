@@ -268,7 +268,7 @@ fn answer_to<'a>(entries: &'a [Entry], call: CallPlaces, entry: &'a Entry) -> &'
     }
 }
 
-/// What a call was answered later.
+/// What the first entry that answers a call says of it.
 fn answered_later(entries: &[Entry], call: CallPlaces) -> Option<&Said>
     ensures { option_copied result ≡ answered_later entries.now call }
 {

@@ -3,7 +3,6 @@ use Rattle.std.specs.Prelude.{ℕ}
 use Rattle.ots_outside.specs.declared.tcp_link.TcpLink.{TcpLink}
 use Rattle.ots_outside.specs.declared.tcp_door.TcpDoor.{TcpDoor}
 use Rattle.ots_outside.specs.declared.system_clock.SystemClock.{SystemClock}
-use Rattle.ots_outside.specs.declared.locked_file.LockedFile.{LockedFile}
 
 -- how many calls of a link have failed
 abbrev pub tcp_faults : {R : Type 0} → TcpLink R → ℕ
@@ -20,7 +19,3 @@ door_given door = door.given
 -- the greatest moment that the system's clock has told
 abbrev pub clock_moment : {R : Type 0} → SystemClock R → ℕ
 clock_moment clock = clock.moment
-
--- how many calls of a locked file have failed
-abbrev pub locked_faults : LockedFile → ℕ
-locked_faults disk = disk.faults

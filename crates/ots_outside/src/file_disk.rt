@@ -22,8 +22,8 @@ pub struct FileDisk {
 impl FileDisk {
     ghost use Rattle.ots_outside.specs.Streams.{StaysLost, file_disk_faults, file_disk_file, file_disk_folder, file_disk_lost};
 
-    /// A disk over this file, which is open for reading and writing, without faults. Where the file was just made, `folder`
-    /// is what it was made in: the first sync that succeeds syncs it too.
+    /// A disk over this file, which is open for reading and writing, without faults. `folder`, where it is given, is the one
+    /// that the file is in: the first sync that succeeds syncs it too.
     pub fn new(file: File, folder: Option<File>) -> FileDisk
         ensures file { file_disk_file result ≡ file }
         ensures folder { file_disk_folder result ≡ folder }

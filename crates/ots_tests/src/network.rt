@@ -1,4 +1,4 @@
-//! Tests of what is over the network, threads, the system's clock and a locked file, one of each, and of the same in memory.
+//! Tests of what is over the network, threads, the system's clock and a locked file, and of the same in memory.
 
 use ots_model::{Endpoint, Octets};
 use ots_outside::{
@@ -150,8 +150,9 @@ fn a_file_has_one_disk(rt: HostRuntime) -> Result<(), Fail> {
 #[test]
 fn a_file_that_cannot_be_opened_has_no_disk(rt: HostRuntime) -> Result<(), Fail> {
     let mut disk = LockedFile::open(&rt, "ots_no_such_folder/file");
-    assert!(rt; disk.len().is_err() && disk.write_at(0, b"x").is_err() && disk.sync().is_err());
-    assert!(rt; disk.fault_count() == 3);
+    assert!(rt; disk.len().is_err() && disk.read_at(0, &mut [0]).is_err());
+    assert!(rt; disk.write_at(0, b"x").is_err() && disk.sync().is_err());
+    assert!(rt; disk.fault_count() == 4);
     Ok(())
 }
 

@@ -21,7 +21,7 @@ fn a_subtransaction_ends_once(rt: HostRuntime) -> Result<(), Fail> {
     Ok(())
 }
 
-/// The parent of a branch is the one it was made in, however deep that is.
+/// The parent of a branch below a subtransaction is that subtransaction.
 #[test]
 fn a_nested_branch_has_its_own_parent(rt: HostRuntime) -> Result<(), Fail> {
     let mut tree = Tree::new(rt.alloc())?;

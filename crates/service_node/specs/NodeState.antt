@@ -36,7 +36,7 @@ node_of service found records families last generation = record {
   generation = generation;
 }
 
--- what is held of records is that of this journal: they are told again by its service, in its life. No life is in doubt.
+-- what is held of records is that of this journal: they are told again by its service, in its life. A record in doubt leaves the life.
 pub record IsOfJournal {D : Type 0} (journal : JournalState D) (recovered : Recoveries) : Type 0 where
   pub service_is : recovered.service ≡ journal.service
   pub life_is : recovered.life ≡ journal.found.life
@@ -47,14 +47,14 @@ pub record BelongTogether {D : Type 0} (journal : JournalState D) (recovered : R
   pub whole : IsWhole (node_of journal.service journal.found recovered.records families last generation)
   pub own : IsOfJournal journal recovered
 
--- a node is whole, and it is of its journal: of its service, with what was found in it. No life is in doubt.
+-- a node is whole, and it is of its journal: of its service, with what was found in it. A record in doubt leaves the life.
 pub record HangsTogether {D : Type 0} (n : NodeState D) : Type 0 where
   pub whole : IsWhole n.node
   pub service_is : n.node.service ≡ n.journal.service
   pub found_is : n.node.found ≡ n.journal.found
   pub life_stays : IfSome n.journal.doubted (λ r. (place : ℕ) → (with_record n.journal.found place r).life ≡ n.journal.found.life)
 
--- a node stays of its service, and in its life
+-- the journal of a node keeps its service and its life
 pub record StaysInLife {D : Type 0} (before after : NodeState D) : Type 0 where
   pub service_is : after.journal.service ≡ before.journal.service
   pub life_is : after.journal.found.life ≡ before.journal.found.life

@@ -21,7 +21,7 @@ impl<D: Disk> Node<D> {
         &self.journal
     }
 
-    /// The node is whole, and its slots and records are of its journal. This does nothing.
+    /// The node is whole, its slots and records are of its journal, and a record in doubt leaves the life. This does nothing.
     pub fn hangs_together(&self)
         ensures { HangsTogether self.now }
     {
