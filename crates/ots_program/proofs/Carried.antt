@@ -1,5 +1,5 @@
 -- What the world's answer makes of a line's turn.
-use Rattle.std.proofs.Common.{◌≡◌, ℕ, ◌+◌, ◌⊎◌, inl, inr, List, Ok, Err, refl}
+use Rattle.std.proofs.Common.{◌≡◌, ℕ, ◌+◌, inl, inr, List, Ok, Err, refl}
 use Rattle.ots_world.specs.declared.fault.WorldFault.{WorldFault}
 use Rattle.ots_world.specs.declared.fault.WorldFault.TheVariants as faults
 use Rattle.ots_world.specs.declared.script.ScriptEvent.{ScriptEvent}
@@ -11,7 +11,6 @@ use Rattle.nodes_replay.specs.Stands as stands
 use Rattle.ots_program.specs.declared.player.Stop.TheVariants as stops
 use Rattle.ots_program.specs.PlayingInside.{Turns, StopsWithin, stop_by, lines_of}
 use Rattle.ots_program.specs.Replay.{Place, Limited, turn_by}
-use Rattle.ots_program.proofs.Told.{Tells-none}
 
 -- memory ran out
 TellsPart-stopped : (t : Stepped) (p : Place) (lines : List Told) (before after : List ℕ) → stands.MayTell t lines → TellsPart lines before after → TellsPart (lines_of (turn_by p t)) before after

@@ -14,3 +14,5 @@ pub mod ReadBack
 pub mod Safely
 pub mod Showing
 pub mod MessageLineLemmas
+pub mod Numerals
+pub mod Serving

@@ -143,6 +143,9 @@ Writes-ahead (statuses.Script line) lines r taken more after e h = rw (h, e, tex
 Writes-ahead (statuses.Limit line number) lines r taken more after e h =
     (h.0, rw (h.1, e, append_assoc lines r.lines (take h.0 r.further), text-append lines (r.lines ++ take h.0 r.further), append_assoc) refl)
 Writes-ahead statuses.Usage lines r taken more after e h = TakesFront-ahead lines r taken more after e h
+Writes-ahead statuses.DiskFault lines r taken more after e h = TakesFront-ahead lines r taken more after e h
+Writes-ahead statuses.DoorFault lines r taken more after e h = TakesFront-ahead lines r taken more after e h
+Writes-ahead (statuses.BadJournal at) lines r taken more after e h = TakesFront-ahead lines r taken more after e h
 Writes-ahead (statuses.BadMessage place fault) lines r taken more after e h = TakesFront-ahead lines r taken more after e h
 Writes-ahead statuses.ReadFault lines r taken more after e h = TakesSome-ahead lines r taken more after e h
 Writes-ahead statuses.WriteFault lines r taken more after e h = TakesFront-ahead lines r taken more after e h

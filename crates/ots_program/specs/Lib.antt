@@ -12,3 +12,4 @@ pub mod MessageLineInside
 pub mod Show
 pub mod ShowInside
 pub mod Exit
+pub mod Serve

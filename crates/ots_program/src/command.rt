@@ -1,33 +1,55 @@
-ghost use Rattle.std.specs.Prelude.{◌≡◌};
+ghost use Rattle.std.specs.Prelude.{◌≡◌, ◌⊎◌, [], ◌∷◌, IfNone, IfSome};
+ghost use Rattle.ots_outside.specs.Source.{HasRisen};
+ghost use Rattle.ots_outside.specs.Spawning.{refused, started};
 ghost use Rattle.ots_program.specs.Answers.{HasReadFault, HasWriteFault, IsDoneAtEnd, Replays};
+ghost use Rattle.ots_program.specs.Serve.{HasServed, IsUnloaded, OfService, TellsLine, line_of};
 ghost use Rattle.ots_program.specs.Show.{Shows};
-ghost use Rattle.ots_program.specs.Words.{IsReplay, IsShow, IsUsage, command_of};
+ghost use Rattle.ots_program.specs.Words.{Asks, AsksNothing, IsReplay, IsServe, IsShow, IsUsage, Serving, asked_by};
 
 use crate::devices::{Devices, Word};
 use crate::replay::replay_script;
+use crate::serve::{Service, serve};
 use crate::show::show_messages;
 use crate::status::Status;
-use ots_outside::{Sink, Source};
+use ots_outside::{Clock, Disk, Door, Link, Sink, Source};
 use std::alloc::Global;
 use std::sync::Wait;
+use std::thread::Threads;
 
 /// What a command line asks for.
 #[derive(Clone, Copy)]
-pub enum Command {
+pub enum Command<'a> {
     /// The script on the source is replayed.
     Replay,
     /// The messages of the source are shown.
     Show,
+    /// Transactions are served.
+    Serve(Service<'a>),
 }
 
-impl Command {
+impl<'a> Command<'a> {
     /// What these words ask for, where they are a command line.
-    pub fn of(words: &[Word]) -> Option<Command>
-        ensures { result ≡ command_of words.now }
+    pub fn of(words: &'a [Word]) -> Option<Command<'a>>
+        ensures some { IfSome result (λ command. Asks words.now (asked_by command)) }
+        ensures none { IfNone result (AsksNothing words.now) }
     {
-        let [word] = words else {
-            return None;
-        };
+        match words {
+            [word] => Command::of_one(word),
+            [word, number, file, host, port] if word.bytes() == b"serve".as_slice() => {
+                match Service::of(number, file, host, port) {
+                    Some(service) => Some(Command::Serve(service)),
+                    None => None,
+                }
+            }
+            _ => None,
+        }
+    }
+
+    /// What this word asks for alone.
+    fn of_one(word: &Word) -> Option<Command<'a>>
+        ensures some { IfSome result (λ command. Asks (word.now ∷ []) (asked_by command)) }
+        ensures none { IfNone result (AsksNothing (word.now ∷ [])) }
+    {
         if word.bytes() == b"replay".as_slice() {
             Some(Command::Replay)
         } else if word.bytes() == b"show".as_slice() {
@@ -38,14 +60,18 @@ impl Command {
     }
 }
 
-/// Carries out the command line on its devices. A show may have to wait for its source: the clauses hold if it
-/// returns.
-pub fn run<R: Wait, S: Source, K: Sink>(
-    rt: &R,
-    alloc: Global,
-    words: &[Word],
-    devices: &mut Devices<S, K>,
-) -> Status
+/// Carries out the command line on its devices. A show may have to wait for its source, and a service serves until its door
+/// ends: the clauses hold if it returns.
+#[tactic(auto, using(crate::proofs::Serving::host_of))]
+pub fn run<
+    R: Wait + Threads + Copy + Send + Sync + Drop + 'static,
+    S: Source,
+    K: Sink,
+    D: Disk + Send + Drop + 'static,
+    O: Door,
+    L: Link + Send + Drop + 'static,
+    C: Clock + Send + Drop + 'static,
+>(rt: &R, alloc: Global, words: &[Word], devices: &mut Devices<S, K, D, O, L, C, R>) -> Status
     // Usage comes exactly where the words are no command line, and then the devices are as they were.
     ensures usage { IsUsage result words.now }
     ensures idle { result ≡ Status.Usage → devices.new ≡ devices.old }
@@ -56,12 +82,28 @@ pub fn run<R: Wait, S: Source, K: Sink>(
     ensures shows { IsShow words.now →
         Shows result (S.remaining devices.old.source) (K.taken devices.old.sink) (K.taken devices.new.sink) }
 
-    // Done comes once the source was read to its end.
-    ensures end { IsDoneAtEnd result (S.remaining devices.old.source) (S.remaining devices.new.source) }
+    // Done comes once the source was read to its end, or, of a service, once its door has ended.
+    ensures end { IsReplay words.now ⊎ IsShow words.now
+        → IsDoneAtEnd result (S.remaining devices.old.source) (S.remaining devices.new.source) }
+    ensures served { (service : Serving) → IsServe words.now service → result ≡ Status.Done
+        → HasServed (O.ended devices.new.door) (O.given devices.old.door) (O.given devices.new.door)
+        (started devices.old.spawner) (started devices.new.spawner)
+        (refused devices.old.spawner) (refused devices.new.spawner) }
 
-    // A fault of a device is told exactly where that device has failed.
+    // A service ends by a status of its own, and what it has written then.
+    ensures of_service { (service : Serving) → IsServe words.now service → OfService result }
+    ensures tells { (service : Serving) → IsServe words.now service
+        → TellsLine result (line_of service) (K.taken devices.old.sink) (K.taken devices.new.sink) }
+
+    // A fault of a device is told exactly where that device has failed, and that of a door only there.
     ensures read_fault { HasReadFault result (S.faults devices.old.source) (S.faults devices.new.source) }
     ensures write_fault { HasWriteFault result (K.faults devices.old.sink) (K.faults devices.new.sink) }
+    ensures door_fault { result ≡ Status.DoorFault
+        → HasRisen (O.faults devices.old.door) (O.faults devices.new.door) }
+
+    // Why a service has loaded nothing from its disk.
+    ensures unloaded { (service : Serving) → IsServe words.now service
+        → IsUnloaded D.told D.faults result service.number devices.old.disk devices.new.disk }
 {
     let Some(command) = Command::of(words) else {
         return Status::Usage;
@@ -69,10 +111,11 @@ pub fn run<R: Wait, S: Source, K: Sink>(
     match command {
         Command::Replay => replay_script(alloc, &mut devices.source, &mut devices.sink),
         Command::Show => show_messages(rt, alloc, &mut devices.source, &mut devices.sink),
+        Command::Serve(service) => serve(rt, alloc, &service, devices),
     }
 }
 
-/// Carries out a command line that is no `show` on a source and a sink. It returns.
+/// Carries out a command line that is no `show` and no `serve` on a source and a sink. It returns.
 pub fn run_plain<S: Source, K: Sink>(
     alloc: Global,
     words: &[Word],
@@ -80,6 +123,7 @@ pub fn run_plain<S: Source, K: Sink>(
     sink: &mut K,
 ) -> Status
     requires plain { ¬ (IsShow words.now) }
+    requires idle { (service : Serving) → ¬ (IsServe words.now service) }
 
     // Usage comes exactly where the words are no command line, and then the devices are as they were.
     ensures usage { IsUsage result words.now }
@@ -99,7 +143,7 @@ pub fn run_plain<S: Source, K: Sink>(
 {
     match Command::of(words) {
         Some(Command::Replay) => replay_script(alloc, source, sink),
-        Some(Command::Show) => unreachable!(),
+        Some(Command::Show | Command::Serve(_)) => unreachable!(),
         None => Status::Usage,
     }
 }

@@ -1,5 +1,6 @@
 ghost use Rattle.std.specs.Prelude.{◌≡◌};
 
+use ots_outside::Spawner;
 use std::marker::Model;
 
 /// A word of the command line, as octets. Contracts see it as the list of them.
@@ -32,11 +33,21 @@ impl Word {
     }
 }
 
-/// What the program reads from and writes to.
+/// What the program reads from and writes to, and what a service needs beside that.
 #[derive(Drop)]
-pub struct Devices<S, K> {
+pub struct Devices<S, K, D, O, L, C, R> {
     /// Where the input comes from.
     pub source: S,
     /// Where the output goes.
     pub sink: K,
+    /// Where a journal is kept, until a service takes it.
+    pub disk: Option<D>,
+    /// Where a service's connections come in.
+    pub door: O,
+    /// Over which the words of a service go out, one link for each session at once and one for ticks, until it takes them.
+    pub links: Vec<L>,
+    /// The clocks of a service, as many as the links, until it takes them.
+    pub clocks: Vec<C>,
+    /// What starts the sessions of a service.
+    pub spawner: Spawner<R>,
 }

@@ -3,17 +3,19 @@
 #![tactic(auto)]
 
 pub use arguments::words_of;
-pub use command::{run, run_plain};
+pub use command::{Command, run, run_plain};
 pub use devices::{Devices, Word};
 pub use input::{PIECE, Pieces};
 pub use laws::{replays_are_safe, what_is_read_is_safe};
 pub use replay::replay_script;
+pub use serve::{SERVER_COUNT, Service};
 pub use show::show_messages;
 pub use status::Status;
 
 mod arguments;
 mod command;
 mod devices;
+mod digits;
 mod input;
 mod laws;
 mod limits;
@@ -21,5 +23,6 @@ mod message_line;
 mod output;
 mod player;
 mod replay;
+mod serve;
 mod show;
 mod status;

@@ -9,7 +9,7 @@ use std::process::{ExitCode, Termination};
 /// How a run ends.
 #[derive(Clone, Copy, Debug, PartialEq, Eq)]
 pub enum Status {
-    /// The input was read to its end, and all was written.
+    /// The input was read to its end, and all was written; or the door of a service has ended.
     Done,
     /// The words are no command line, or they can't be read.
     Usage,
@@ -19,11 +19,18 @@ pub enum Status {
     ReadFault,
     /// Writing failed.
     WriteFault,
-    /// At this line a count would pass its limit, which is the second number.
+    /// At this line a count would pass its limit, which is the second number. The line is 0 where it is the room of a
+    /// service's journal.
     Limit(u64, u64),
     /// The part of the stream at this offset is refused for this reason; or the input ends inside the message that
     /// begins there, which is `Short`.
     BadMessage(u64, FrameFault),
+    /// The disk failed.
+    DiskFault,
+    /// The door failed.
+    DoorFault,
+    /// The octets of the disk are no journal of this service, from this place on; or its lives are spent, which is place 0.
+    BadJournal(u32),
     /// Memory ran out.
     Memory,
 }
@@ -43,6 +50,9 @@ impl Status {
             Status::WriteFault => 5,
             Status::Limit(..) => 6,
             Status::BadMessage(..) => 7,
+            Status::DiskFault => 8,
+            Status::DoorFault => 9,
+            Status::BadJournal(_) => 10,
             Status::Memory => 11,
         }
     }
@@ -64,6 +74,9 @@ impl fmt::Display for Status {
             Status::WriteFault => writeln!(f, "ots: write fault"),
             Status::Limit(line, limit) => writeln!(f, "ots: limit {limit} at line {line}"),
             Status::BadMessage(place, _) => writeln!(f, "ots: bad message at {place}"),
+            Status::DiskFault => writeln!(f, "ots: disk fault"),
+            Status::DoorFault => writeln!(f, "ots: door fault"),
+            Status::BadJournal(place) => writeln!(f, "ots: bad journal at {place}"),
             Status::Memory => writeln!(f, "ots: out of memory"),
         }
     }

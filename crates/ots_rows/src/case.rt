@@ -1,14 +1,20 @@
-ghost use Rattle.std.specs.Prelude.{◌≡◌, false};
-ghost use Rattle.ots_program.specs.Words.{IsShow};
+ghost use Rattle.std.specs.Prelude.{IsTrue};
+ghost use Rattle.ots_program.specs.Words.{IsServe, IsShow, Serving};
 
 use crate::pieces::Pieces;
-use crate::{input, lines, statuses};
-use ots_outside::{Failure, MemSink, MemSource};
+use crate::service::PortDoor;
+use crate::{input, lines, service, statuses};
+use ots_outside::{Failure, MemClock, MemDisk, MemDoor, MemLink, MemSink, MemSource, Spawner};
 use ots_program::{Devices, Word, run, run_plain};
 use std::alloc::Global;
+use std::collections::VecDeque;
 use std::io;
 use std::io::{ErrorKind, Write};
 use std::sync::Wait;
+use std::thread::Threads;
+
+/// The devices of a case, all of them in memory.
+type MemDevices<R> = Devices<Pieces, MemSink, MemDisk, PortDoor, MemLink, MemClock, R>;
 
 /// How many octets are shown of a line at most.
 const MOST: usize = 4000;
@@ -40,6 +46,12 @@ pub struct Case {
     most: usize,
     failing_reads: Vec<u64>,
     failing_writes: Vec<Failure>,
+    /// What the disk of a service holds.
+    disk: Vec<u8>,
+    failing_disk: Vec<u64>,
+    failing_door: Vec<u64>,
+    /// The port of a service is in use.
+    in_use: bool,
     hex: bool,
     /// How many octets the input lacks at its end.
     cut: usize,
@@ -65,6 +77,10 @@ impl Case {
             most: usize::MAX,
             failing_reads: Vec::new(alloc),
             failing_writes: Vec::new(alloc),
+            disk: Vec::new(alloc),
+            failing_disk: Vec::new(alloc),
+            failing_door: Vec::new(alloc),
+            in_use: false,
             hex: false,
             cut: 0,
             fronts: false,
@@ -73,12 +89,12 @@ impl Case {
         };
         for part in parts {
             let part: Vec<&str> = part.split_whitespace().collect(alloc)?;
-            case.take_part(part.as_slice())?;
+            case.take_part(alloc, part.as_slice())?;
         }
         Ok(case)
     }
 
-    fn take_part(&mut self, part: &[&str]) -> io::Result<()> {
+    fn take_part(&mut self, alloc: Global, part: &[&str]) -> io::Result<()> {
         match part {
             ["pieces", most] => self.most = number(most)?,
             ["fail", "read", call] => self.failing_reads.push(number(call)? as u64)?,
@@ -86,6 +102,10 @@ impl Case {
                 call: number(call)? as u64,
                 taken: number(taken)?,
             })?,
+            ["disk", octets] => self.disk = input::octets(alloc, octets)?,
+            ["fail", "disk", call] => self.failing_disk.push(number(call)? as u64)?,
+            ["in", "use"] => self.in_use = true,
+            ["fail", "door", call] => self.failing_door.push(number(call)? as u64)?,
             ["hex"] => self.hex = true,
             ["cut", count] => self.cut = number(count)?,
             ["fronts"] => self.fronts = true,
@@ -110,7 +130,12 @@ impl Case {
     }
 
     /// Tries the case with this input, and tells what came.
-    pub fn told<R: Wait>(&self, rt: &R, alloc: Global, input: &[u8]) -> io::Result<Vec<u8>> {
+    pub fn told<R: Wait + Threads + Copy + Send + Sync + Drop + 'static>(
+        &self,
+        rt: &R,
+        alloc: Global,
+        input: &[u8],
+    ) -> io::Result<Vec<u8>> {
         let mut told = Vec::new(alloc);
         match self.subject {
             Subject::Command => return self.run(rt, alloc, input),
@@ -121,17 +146,15 @@ impl Case {
     }
 
     /// Runs the command on this input, and tells what came.
-    fn run<R: Wait>(&self, rt: &R, alloc: Global, input: &[u8]) -> io::Result<Vec<u8>> {
-        let source = MemSource::new(input.to_vec(alloc)?, self.failing_reads.clone()?);
-        let mut devices = Devices {
-            source: Pieces {
-                source,
-                most: self.most,
-            },
-            sink: MemSink::new(alloc, self.failing_writes.clone()?),
-        };
+    fn run<R: Wait + Threads + Copy + Send + Sync + Drop + 'static>(
+        &self,
+        rt: &R,
+        alloc: Global,
+        input: &[u8],
+    ) -> io::Result<Vec<u8>> {
+        let mut devices = self.devices(alloc, input)?;
         let words = self.words.as_slice();
-        let status = if self.plain && !is_show(words) {
+        let status = if self.plain && is_plain(words) {
             run_plain(alloc, words, &mut devices.source, &mut devices.sink)
         } else {
             run(rt, alloc, words, &mut devices)
@@ -145,6 +168,29 @@ impl Case {
             "-- {number} {status:?}, faults {reads} {writes}\n{status}"
         )?;
         Ok(told)
+    }
+
+    /// The devices, with this input.
+    fn devices<R: Wait + Threads + Copy + Send + Sync + Drop + 'static>(
+        &self,
+        alloc: Global,
+        input: &[u8],
+    ) -> io::Result<MemDevices<R>> {
+        let source = MemSource::new(input.to_vec(alloc)?, self.failing_reads.clone()?);
+        let disk = MemDisk::new(alloc, self.disk.clone()?, self.failing_disk.clone()?)?;
+        let door = MemDoor::new(VecDeque::new(alloc), self.failing_door.clone()?);
+        Ok(Devices {
+            source: Pieces {
+                source,
+                most: self.most,
+            },
+            sink: MemSink::new(alloc, self.failing_writes.clone()?),
+            disk: Some(disk),
+            door: PortDoor::new(door, self.in_use),
+            links: service::links(alloc)?,
+            clocks: service::clocks(alloc)?,
+            spawner: Spawner::at_once(1, Vec::new(alloc)),
+        })
     }
 
     /// The last lines of what was written.
@@ -175,13 +221,15 @@ fn show_line(shown: &mut Vec<u8>, line: &[u8]) -> io::Result<()> {
     Ok(())
 }
 
-/// Whether these words ask for a show.
-fn is_show(words: &[Word]) -> bool
-    ensures { result ≡ false → ¬ (IsShow words.now) }
+/// Whether these words ask for no show, and not for a service.
+fn is_plain(words: &[Word]) -> bool
+    ensures show { IsTrue result → ¬ (IsShow words.now) }
+    ensures serve { IsTrue result → (service : Serving) → ¬ (IsServe words.now service) }
 {
     match words {
-        [word] => word.bytes() == b"show".as_slice(),
-        _ => false,
+        [] => true,
+        [word] => word.bytes() != b"show".as_slice(),
+        [word, ..] => word.bytes() != b"serve".as_slice(),
     }
 }
 

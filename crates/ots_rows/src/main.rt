@@ -1,4 +1,5 @@
-//! Runs the cases on standard input, each with a source and a sink in memory, and tells what came of it.
+//! Runs the cases on standard input, each with devices in memory, and tells what came of it. A service has a door at which
+//! nobody waits, a link and a clock for each of two workers, and turns a job once, as it is started.
 //!
 //! A case begins with a line `== WORDS | PART | PART ..`. The words are the command line, or one of these, which is no
 //! command:
@@ -10,12 +11,14 @@
 //!
 //! - `pieces N`: a read gives at most N octets.
 //! - `fail read N`, `fail write N taken K`: that call fails, counted from 0. Of what it was to write K octets go out.
+//! - `disk HEX`: the disk of a service holds these octets; without it, none.
+//! - `fail disk N`, `fail door N`: that call of the disk or the door fails. `in use`: the door can't be opened.
 //! - `hex`: the input is in hexadecimal digits. Each word of them is whole octets.
 //! - `cut N`: the input is without its last N octets.
 //! - `fronts`: the case is run on each front of its input, from none of the octets to all. What comes is told where it
 //!   isn't what came of the front before.
 //! - `last N`: only the last N lines that were written are shown. Where there were more, it is told how many.
-//! - `plain`: `run_plain` takes the place of `run`, but for a show.
+//! - `plain`: `run_plain` takes the place of `run`, but for a show and a service.
 //! - `# ..`: a remark.
 //!
 //! The lines up to the next case are the input, each with a line feed. A line `= N M LINE` stands for N times M lines:
@@ -34,6 +37,7 @@ mod case;
 mod input;
 mod lines;
 mod pieces;
+mod service;
 mod statuses;
 
 fn main(rt: HostRuntime) -> io::Result<()> {

@@ -1,4 +1,4 @@
-use Rattle.std.proofs.Common.{◌≡◌, [], ◌∷◌, ap, ◌∙◌}
+use Rattle.std.proofs.Common.{[], ◌∷◌, ap, ◌∙◌}
 use Rattle.ots_program.proofs.Fed.{fed_joined, stopped_joined}
 use Rattle.ots_program.proofs.player.Player.take_front.Goals as goal
 
