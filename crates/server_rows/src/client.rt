@@ -1,0 +1,159 @@
+//! A client of a service: what it sends, and what the words are answered that come of it.
+
+use crate::answers::answer_octets;
+use crate::requests::{call_octets, call_of_line, key_of_words, message_octets};
+use crate::text::{front, known, number, octets_of};
+use ior_refs::ObjectKey;
+use ots_calls::{Bare, Call, Called};
+use ots_model::{Octets, RetryKey};
+use ots_server::factory_key;
+use std::alloc::Global;
+use std::{io, mem};
+
+/// What was asked: the line, and the call as whose answer the reply is read.
+#[derive(Drop)]
+pub struct Asked<'a> {
+    /// The words for the object.
+    pub to: &'a str,
+    /// The line of the case.
+    pub line: &'a str,
+    /// The call.
+    pub call: Call,
+}
+
+/// What goes to one session.
+#[derive(Drop)]
+pub struct Batch<'a> {
+    /// What the client sends.
+    pub input: Vec<u8>,
+    /// What it asks, each under its place here as the request_id.
+    pub asked: Vec<Asked<'a>>,
+    /// What the words of the session are answered, in order.
+    pub answers: Vec<Octets>,
+    /// Which of them are lost instead.
+    pub lost: Vec<u64>,
+}
+
+impl Batch<'_> {
+    /// Nothing.
+    pub fn new(alloc: Global) -> Batch<'static> {
+        Batch {
+            input: Vec::new(alloc),
+            asked: Vec::new(alloc),
+            answers: Vec::new(alloc),
+            lost: Vec::new(alloc),
+        }
+    }
+}
+
+/// A client.
+#[derive(Drop)]
+pub struct Client<'a> {
+    alloc: Global,
+    /// The object that is asked, and the words for it.
+    key: ObjectKey,
+    to: &'a str,
+    flags: u8,
+    retry: Option<RetryKey>,
+    batch: Batch<'a>,
+}
+
+impl<'a> Client<'a> {
+    /// A client that has sent nothing. It asks the factory, for a reply.
+    pub fn new(alloc: Global) -> Client<'a> {
+        Client {
+            alloc,
+            key: factory_key(1),
+            to: "factory",
+            flags: 3,
+            retry: None,
+            batch: Batch::new(alloc),
+        }
+    }
+
+    /// What it has sent since it was asked last.
+    pub fn take(&mut self) -> Batch<'a> {
+        mem::replace(&mut self.batch, Batch::new(self.alloc))
+    }
+
+    /// Carries out a line.
+    pub fn play(&mut self, line: &'a str) -> io::Result<()> {
+        let (word, rest) = front(line);
+        match word {
+            "to" => {
+                self.key = key_of_words(self.alloc, rest)?;
+                self.to = rest;
+            }
+            "flags" => self.flags = known(rest.parse().ok())?,
+            "retry" => self.retry = Some(retry_key(number(rest)?)),
+            "answer" => self.answer(rest)?,
+            "octets" => self.put(&octets_of(self.alloc, rest)?)?,
+            "cut" => self.cut(number(rest)? as usize),
+            "locate" | "raw" | "cancel" | "close" => self.send(line)?,
+            _ => self.call(line)?,
+        }
+        Ok(())
+    }
+
+    /// The next word is answered so.
+    fn answer(&mut self, words: &str) -> io::Result<()> {
+        let (id, name) = front(words);
+        if name == "lost" {
+            let place = self.batch.answers.len() as u64;
+            self.batch.lost.push(place)?;
+        }
+        let octets = answer_octets(self.alloc, number(id)?, name)?;
+        self.batch.answers.push(Octets::from_vec(octets))?;
+        Ok(())
+    }
+
+    /// Sends these octets.
+    fn put(&mut self, octets: &[u8]) -> io::Result<()> {
+        self.batch.input.extend_from_slice(octets)?;
+        Ok(())
+    }
+
+    /// The last octets don't come, so many.
+    fn cut(&mut self, count: usize) {
+        let left = self.batch.input.len().saturating_sub(count);
+        self.batch.input.truncate(left);
+    }
+
+    /// Sends the message that a line is. A reply to it is read as one to `_non_existent`.
+    fn send(&mut self, line: &'a str) -> io::Result<()> {
+        let octets = message_octets(self.alloc, self.id()?, &self.key, self.flags, line)?;
+        self.ask(line, Call::Bare(Bare::NonExistent), &octets)
+    }
+
+    /// Sends the call that a line is.
+    fn call(&mut self, line: &'a str) -> io::Result<()> {
+        let called = Called {
+            key: self.key,
+            call: call_of_line(self.alloc, self.key.kind, line)?,
+            retry: self.retry.take(),
+            context: None,
+        };
+        let octets = call_octets(self.alloc, self.id()?, self.flags, &called)?;
+        self.ask(line, called.call, &octets)
+    }
+
+    /// The next request_id.
+    fn id(&self) -> io::Result<u32> {
+        known(u32::try_from(self.batch.asked.len()).ok())
+    }
+
+    /// Sends the octets of what a line asks.
+    fn ask(&mut self, line: &'a str, call: Call, octets: &[u8]) -> io::Result<()> {
+        let to = self.to;
+        self.batch.asked.push(Asked { to, line, call })?;
+        self.put(octets)
+    }
+}
+
+/// The retry key of this number.
+fn retry_key(number: u32) -> RetryKey {
+    RetryKey {
+        client: 7,
+        number: u64::from(number),
+    }
+}
