@@ -185,8 +185,8 @@ pub record IsRefusal (r : Request) (reply : Reply) : Type 0 where
   pub cause : requests.Refuses fault r
   pub reply_is : reply_of r.id (without_step (exception_of fault)) ≡ Ok reply
 
--- an answer is told as it is, where it is one of the operation's. Another one is that of an earlier call, with the same retry
--- key, of another operation: then the reply is BAD_PARAM
+-- an answer is told as it is, where it is one of the operation's, and else as BAD_PARAM: it may be that of an earlier call of
+-- another operation, with the same retry key
 pub record IsTold (operation : Operation) (answer told : Answer) : Type 0 where
   pub own : IsOf operation answer → told ≡ answer
   pub foreign : ¬ IsOf operation answer → told ≡ without_step systems.BadParam

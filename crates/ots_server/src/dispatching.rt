@@ -100,7 +100,7 @@ fn answer_request<R: Wait, N: Naming, D: Disk, L: Link>(
     let answer = answer_call(desk, pass, called, link)?;
     match write_answer(desk.alloc, id, &called.call, &answer) {
         Ok(reply) => Ok(reply),
-        // It is the answer of another operation, which had the same retry key.
+        // As where an earlier call of another operation had the same retry key.
         Err(CallFault::BadParam) => {
             let reply = refuse(desk.alloc, id, CallFault::BadParam)?;
             Ok(reply)

@@ -14,14 +14,14 @@
 //! - `both`: it is served, and what was put aside at once with it: from when the first word of the first session is out, which
 //!   isn't answered until the second session is over. It is told where either has waited for 1,000,000 turns in vain.
 //! - `door`, the last line of a life: it comes in by a door with one connection, and the service goes on until that has ended.
-//!   Its clock has gone on four times before, by a second each.
-//! - `full`: the disk is full. `free`: it isn't any more.
+//!   Four ticks come first, at the moment and at the three seconds behind it; the clock of the session stands still.
+//! - `full`: the disk is full from now on, also for what was sent but isn't served yet. `free`: it isn't any more.
 //! - `at N`: the moment. `tick`: the clock of the service goes on.
 //! - Each other line is a call: the operation, and what it takes: seconds, `reports` where `commit` asks for them, a repository
 //!   id, or a reference, by `IOR:..` or by the name of a host, where it is to the object `R 9 0 0 0 0` at its port 7.
 //!
 //! Of a session it is told what its requests were answered, each behind the object and the first 80 octets of the line, then
-//! which words went out, and how it ended.
+//! which words went out, and how it ended; of a door, only the answers and how that ended.
 #![tactic(auto)]
 
 use lives::tell_lives;
