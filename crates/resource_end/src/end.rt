@@ -160,6 +160,16 @@ impl<D: Disk> ResourceEnd<D> {
         self.contents.stored(cell)
     }
 
+    /// How the resource of a key stands. One that the key doesn't name is as one that was forgotten.
+    pub fn state(&self, key: &ObjectKey) -> State
+        ensures { result ≡ end.state_named key.now self.now.end }
+    {
+        match self.contents.state_of(self.journal.service(), key) {
+            Some(state) => state,
+            None => State::Forgotten,
+        }
+    }
+
     /// What the last word, or the last answer to an ask, made of its resource; nothing where there was none since the load.
     pub fn changed(&self) -> Option<Status>
         ensures { result ≡ self.now.end.changed }
