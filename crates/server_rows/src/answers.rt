@@ -12,10 +12,16 @@ use ots_model::Vote;
 use std::alloc::Global;
 use std::io;
 
+/// Octets that are no message: where they spell `GIOX`, a reply has `GIOP`.
+const GARBLED: &[u8] = b"GIOX\x01\x02\x00\x01\x00\x00\x00\x00";
+
 /// The octets of this answer to the word with this request_id. There are none of what isn't an answer.
 pub fn answer_octets(alloc: Global, id: u32, name: &str) -> io::Result<Vec<u8>> {
     if name == "lost" || name == "silence" {
         return Ok(Vec::new(alloc));
+    }
+    if name == "garbled" {
+        return Ok(GARBLED.to_vec(alloc)?);
     }
     let Some(answer) = answer_named(name) else {
         return known(None);

@@ -1,4 +1,5 @@
 use crate::client::{Batch, Client};
+use crate::crowd::Crowd;
 use crate::kept_disk::{KeptDisk, Shelf};
 use crate::links::{Gate, HeldLink};
 use crate::sessions::{Host, Session, serve_both, serve_door};
@@ -141,5 +142,16 @@ impl<'a> Life<'a> {
         let other = self.session(Batch::new(self.alloc), None)?;
         let served = serve_door(rt, self.alloc, room, session, other)?;
         served.tell(rt, self.alloc, &mut self.told)
+    }
+
+    /// Serves a crowd, of which each connection sends what was sent.
+    pub fn end_in_crowd<R: Host, N: Naming + Send + Sync + 'static>(
+        &mut self,
+        rt: &R,
+        room: Room<N, KeptDisk<R>>,
+    ) -> io::Result<()> {
+        let batch = self.client.take();
+        let crowd = Crowd::new(self.alloc, batch)?;
+        crowd.serve(rt, self.alloc, room, &mut self.passes, &mut self.told)
     }
 }

@@ -82,21 +82,38 @@ fn open<N: Naming + Send + Sync + 'static, R: Host>(
     }
 }
 
-/// Plays a life in a room. Its last line may be the door.
+/// What the last line of a life is.
+#[derive(Clone, Copy)]
+enum Last {
+    Crash,
+    Door,
+    Crowd,
+}
+
+/// The lines of a life before its last one, and that.
+fn last_of(lines: &str) -> (&str, Last) {
+    if let Some((lines, _)) = lines.split_once("\ndoor") {
+        return (lines, Last::Door);
+    }
+    match lines.split_once("\ncrowd") {
+        Some((lines, _)) => (lines, Last::Crowd),
+        None => (lines, Last::Crash),
+    }
+}
+
+/// Plays a life in a room. Its last line may be the door, or the crowd.
 fn play<N: Naming + Send + Sync + 'static, R: Host>(
     rt: &R,
     room: Room<N, KeptDisk<R>>,
     life: &mut Life<'_>,
 ) -> io::Result<()> {
-    let (lines, is_at_door) = match life.lines.split_once("\ndoor") {
-        Some((lines, _)) => (lines, true),
-        None => (life.lines, false),
-    };
+    let (lines, last) = last_of(life.lines);
     for line in lines.split('\n') {
         life.play(rt, &room, line)?;
     }
-    if is_at_door {
-        return life.end_at_door(rt, room);
+    match last {
+        Last::Crash => Ok(()),
+        Last::Door => life.end_at_door(rt, room),
+        Last::Crowd => life.end_in_crowd(rt, room),
     }
-    Ok(())
 }

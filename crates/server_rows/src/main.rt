@@ -9,12 +9,16 @@
 //!   octets are sent. `cut N`: the last N octets that were sent don't come.
 //! - `answer ID ANSWER`: the next word is answered so, under this request_id: `ok`, `votes_commit`, `votes_rollback`,
 //!   `votes_read_only`, `mixed` (HeuristicMixed), `nobody` (OBJECT_NOT_EXIST), `undone` (TRANSACTION_ROLLEDBACK), `silence`
-//!   (no octets), or `lost` (its call fails). Where nothing is said of a word, it is lost.
+//!   (no octets), `garbled` (twelve octets that are no message), or `lost` (its call fails). Where nothing is said of a word, it is lost.
 //! - `serve`: what was sent so far is served as a session. `aside`: it is put aside for a second session.
 //! - `both`: it is served, and what was put aside at once with it: from when the first word of the first session is out, which
 //!   isn't answered until the second session is over. It is told where either has waited for 1,000,000 turns in vain.
 //! - `door`, the last line of a life: it comes in by a door with one connection, and the service goes on until that has ended.
 //!   Four ticks come first, at the moment and at the three seconds behind it; the clock of the session stands still.
+//! - `crowd`, the last line of a life: it comes in by each of four connections at a door, where there are two workers for
+//!   sessions and one for ticks, and each session is on a thread of its own. A session that has answered goes on until another
+//!   was begun beside it, and 0.3 seconds longer. It is told where one was alone for 10 seconds, how many were open at most
+//!   when the door was asked for the next, and whether all workers were let go in the 10 seconds behind its end.
 //! - `full`: the disk is full from now on, also for what was sent but isn't served yet. `free`: it isn't any more.
 //! - `at N`: the moment. `tick`: the clock of the service goes on.
 //! - Each other line is a call: the operation, and what it takes: seconds, `reports` where `commit` asks for them, a repository
@@ -30,6 +34,7 @@ use std::io::Write;
 
 mod answers;
 mod client;
+mod crowd;
 mod kept_disk;
 mod life;
 mod links;
