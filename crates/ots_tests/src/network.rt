@@ -93,6 +93,82 @@ fn a_link_reads_a_reply_in_parts(rt: HostRuntime) -> Result<(), Fail> {
     Ok(())
 }
 
+/// Takes one connection, reads a request, writes these octets, and then says nothing until the other side is over.
+#[derive(Drop)]
+struct Hanging<R> {
+    door: TcpDoor<R>,
+    octets: &'static [u8],
+    over: Arc<AtomicU64, Global>,
+    clock: SystemClock<R>,
+}
+
+impl<R: Net<Listener = TcpListener, Stream = TcpStream> + time::Clock + Drop> Job for Hanging<R> {
+    fn turn(&mut self) -> bool {
+        if let Ok(Some(mut conn)) = self.door.next() {
+            let _ = answer(&mut conn, self.octets);
+            for _ in 0..40 {
+                if self.over.load(Ordering::SeqCst) == 0 {
+                    self.clock.pause();
+                }
+            }
+        }
+        false
+    }
+}
+
+/// A peer that writes these octets and then hangs until the other side is over.
+fn peer_saying(
+    rt: HostRuntime,
+    octets: &'static [u8],
+    over: &Arc<AtomicU64, Global>,
+) -> Result<Hanging<HostRuntime>, Fail> {
+    let mut door = door_here(rt)?;
+    if door.open().is_err() {
+        return Err("no door".into());
+    }
+    Ok(Hanging {
+        door,
+        octets,
+        over: Arc::try_clone(over)?,
+        clock: SystemClock::new(rt),
+    })
+}
+
+/// Whether a link to this port fails once, between 5 and 30 seconds later.
+fn fails_late(rt: HostRuntime, port: u16) -> Result<bool, Fail> {
+    let mut clock = SystemClock::new(rt);
+    let start = clock.now();
+    let host = Octets::new(rt.alloc(), b"127.0.0.1")?;
+    let mut link = TcpLink::new(rt, rt.alloc());
+    let mut reply = Vec::new(rt.alloc());
+    let heard = link.invoke(&Endpoint { host, port }, &REQUEST, &mut reply);
+    let seconds = clock.now().saturating_sub(start);
+    let is_unsaid = heard == Err(LinkRefusal::Failed) && reply.is_empty();
+    Ok(is_unsaid && link.faults() == 1 && seconds >= 5 && seconds < 30)
+}
+
+#[test]
+fn a_link_fails_whose_peer_says_nothing(rt: HostRuntime) -> Result<(), Fail> {
+    let over = Arc::new(rt.alloc(), AtomicU64::new(0))?;
+    let peer = peer_saying(rt, &[], &over)?;
+    let port = peer.door.port().unwrap_or(0);
+    assert!(rt; Spawner::on_threads(rt).start(peer));
+    assert!(rt; fails_late(rt, port)?);
+    over.store(1, Ordering::SeqCst);
+    Ok(())
+}
+
+#[test]
+fn a_link_fails_whose_peer_says_half_a_header(rt: HostRuntime) -> Result<(), Fail> {
+    let over = Arc::new(rt.alloc(), AtomicU64::new(0))?;
+    let peer = peer_saying(rt, &REPLY[..6], &over)?;
+    let port = peer.door.port().unwrap_or(0);
+    assert!(rt; Spawner::on_threads(rt).start(peer));
+    assert!(rt; fails_late(rt, port)?);
+    over.store(1, Ordering::SeqCst);
+    Ok(())
+}
+
 /// Counts its turns, of which there are three.
 #[derive(Drop)]
 struct Counting {
