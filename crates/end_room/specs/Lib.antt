@@ -1,0 +1,5 @@
+pub mod Place
+pub mod Sharing
+pub mod Deeds
+pub mod Own
+pub mod Inside
