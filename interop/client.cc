@@ -57,19 +57,6 @@ struct Transaction {
     std::string status() { return word_of(coordinator->get_status()); }
 };
 
-// What a case has shown.
-struct Shown {
-    std::string text;
-    Shown &operator<<(const std::string &more) {
-        text += (text.empty() ? "" : "; ") + more;
-        return *this;
-    }
-    Shown &told() {
-        std::string words = notes.take();
-        return *this << (words.empty() ? "nothing told" : words);
-    }
-};
-
 template <class Exception> static std::function<void()> raising() {
     return [] { throw Exception(); };
 }
@@ -79,8 +66,6 @@ static Bidding voting(Vote vote) {
     bidding.vote = vote;
     return bidding;
 }
-
-static std::string flag(CORBA::Boolean yes) { return yes ? "true" : "false"; }
 
 static void empty(Shown &shown) {
     Transaction t = Transaction::begin();

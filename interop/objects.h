@@ -35,6 +35,21 @@ private:
 
 extern Notes notes;
 
+// What a case has shown.
+struct Shown {
+    std::string text;
+    Shown &operator<<(const std::string &more) {
+        text += (text.empty() ? "" : "; ") + more;
+        return *this;
+    }
+    Shown &told() {
+        std::string words = notes.take();
+        return *this << (words.empty() ? "nothing told" : words);
+    }
+};
+
+inline std::string flag(CORBA::Boolean yes) { return yes ? "true" : "false"; }
+
 // What a resource does when it is told a word, beside noting it. It may raise an exception.
 struct Bidding {
     CosTransactions::Vote vote = CosTransactions::VoteCommit;
