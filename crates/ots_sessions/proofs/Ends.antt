@@ -13,7 +13,7 @@ use Rattle.ots_calls.specs.declared.answer.Answer.{Answer}
 use Rattle.ots_calls.specs.declared.call.Called.{Called}
 use Rattle.ots_outside.specs.Source.{GivesOf, HasRisen}
 use Rattle.ots_sessions.proofs.Going.{begun, untorn}
-use Rattle.ots_sessions.specs.Sessions.{EndsSo, HasRead, HasReadAll, IsSession, Sides, none}
+use Rattle.ots_sessions.specs.Sessions.{EndsSo, HasRead, HasReadAll, IsCutOff, IsDone, IsSession, Sides, none}
 use Rattle.ots_sessions.specs.SessionsInside.{EndsGoing, GoesOn, IsGoing, IsSoFar}
 use Rattle.ots_sessions.specs.declared.session.SessionEnd.{SessionEnd}
 use Rattle.ots_sessions.specs.declared.session.SessionEnd.TheVariants as ends
@@ -73,6 +73,24 @@ nothing_more : IsUnfinished (nothing_of profile_versions) → ⊥
 nothing_more (inl more) = more refl
 nothing_more (inr more) = more refl
 
+empty_or_not : {A : Type 0} (xs : List A) → (xs ≡ []) ⊎ (xs ≢ [])
+empty_or_not [] = inl refl
+empty_or_not (x ∷ xs) = inr (λ e. absurd (cc (e)))
+
+neither : {A B : Type 0} {xs : List A} {ys : List B} → xs ≡ [] → ys ≡ [] → (xs ≢ []) ⊎ (ys ≢ []) → ⊥
+neither first second (inl more) = more first
+neither first second (inr more) = more second
+
+some_or_neither : {A B : Type 0} {xs : List A} {ys : List B} → (xs ≡ []) ⊎ (xs ≢ []) → (ys ≡ []) ⊎ (ys ≢ [])
+    → ((xs ≢ []) ⊎ (ys ≢ [])) ⊎ (¬ ((xs ≢ []) ⊎ (ys ≢ [])))
+some_or_neither (inr more) either = inl (inl more)
+some_or_neither (inl first) (inr more) = inl (inr more)
+some_or_neither (inl first) (inl second) = inr (neither first second)
+
+-- a stream holds some octets of a message that isn't whole, or none
+unfinished_or_not : (stream : Held) → IsUnfinished stream ⊎ (¬ IsUnfinished stream)
+unfinished_or_not stream = some_or_neither (empty_or_not stream.unfinished) (empty_or_not stream.rest)
+
 -- ---- counts of faults
 
 risen_since : (a b c : ℕ) → a ≤ b → b ≤ c → HasRisen b c → HasRisen a c
@@ -103,20 +121,47 @@ module _ {S : Type 0} (finds : S → ObjectKey → Bool → S → Type 0) (answe
   }
 
   module _ (stream : Held) (left midway : Option (List ℕ)) (before now : Sides S) (h : IsSoFar finds answers stream left midway before now) where
+    -- all messages are answered, and no octets of another have come, or some
+    done : ¬ IsUnfinished stream → IsDone finds answers h.octets before now
+    done finished =
+        let no_rest = no_more stream.rest (λ more. finished (inr more)) in
+        let no_message = no_more stream.unfinished (λ more. finished (inl more)) in
+        record {
+          read = h.going.read;
+          whole = record {
+            parts = h.going.holds.parts;
+            splits = subst (λ r. Splits profile_versions h.octets h.going.holds.parts h.going.read r) no_rest h.going.holds.splits;
+            finished = trans (sym h.going.holds.unfinished_are) no_message;
+          };
+          served = h.going.served;
+        }
+
+    cut_off : IsUnfinished stream → IsCutOff finds answers h.octets before now
+    cut_off more = record {
+      read = h.going.read;
+      place = earliest (offset h.going.holds.parts) (unfinished h.going.holds.parts);
+      cut = record {
+        parts = h.going.holds.parts;
+        rest = stream.rest;
+        splits = h.going.holds.splits;
+        partial = subst (λ v. part_at v stream.rest ≡ Err Short) h.going.holds.versions_are (h.partial more);
+        inside = subst (λ u. (u ≢ []) ⊎ (stream.rest ≢ [])) h.going.holds.unfinished_are more;
+        place_is = refl;
+      };
+      served = h.going.served;
+    }
+
+    done_or_cut_off : IsUnfinished stream ⊎ (¬ IsUnfinished stream) → IsDone finds answers h.octets before now ⊎ IsCutOff finds answers h.octets before now
+    done_or_cut_off (inl more) = inr (cut_off more)
+    done_or_cut_off (inr finished) = inl (done finished)
+
     -- reading has failed
     pub ends_read : (later : Option (List ℕ)) (a b c : ℕ) (writes : ℕ × ℕ) → later ≡ midway → a ≤ b → b ≤ c → HasRisen b c
         → IsSession finds answers ends.ReadFault left later before now (a, c) writes
     ends_read later a b c writes same low high risen = record {
       octets = h.octets;
       has_read = subst (λ l. HasRead h.octets left l) (sym same) h.has_read;
-      ends_so = (
-        risen_since a b c low high risen,
-        record {
-          read = h.going.read;
-          begun = begun h.octets h.going.read stream h.going.holds;
-          served = h.going.served;
-        },
-      );
+      ends_so = (risen_since a b c low high risen, done_or_cut_off (unfinished_or_not stream));
     }
 
     -- nothing more comes
@@ -126,50 +171,13 @@ module _ {S : Type 0} (finds : S → ObjectKey → Bool → S → Type 0) (answe
       ends_whole b gives some tells never =
           let finished : ¬ IsUnfinished stream = λ more. cc (never, tells.1 more) in
           let all = read_all h.octets filled places left midway later h.has_read gives some in
-          let no_rest = no_more stream.rest (λ more. finished (inr more)) in
-          let no_message = no_more stream.unfinished (λ more. finished (inl more)) in
-          record {
-            octets = h.octets;
-            has_read = all.1;
-            ends_so = inl (
-              all.0,
-              record {
-                read = h.going.read;
-                whole = record {
-                  parts = h.going.holds.parts;
-                  splits = subst (λ r. Splits profile_versions h.octets h.going.holds.parts h.going.read r) no_rest h.going.holds.splits;
-                  finished = trans (sym h.going.holds.unfinished_are) no_message;
-                };
-                served = h.going.served;
-              },
-            );
-          }
+          record { octets = h.octets; has_read = all.1; ends_so = inl (all.0, done finished) }
 
       pub ends_cut : (b : Bool) → GivesOf midway places 0 filled later → 0 < places → (IsTrue b ↔ IsUnfinished stream) → b ≡ true
           → IsSession finds answers ends.Cut left later before now reads writes
       ends_cut b gives some tells so =
-          let more : IsUnfinished stream = tells.0 so in
           let all = read_all h.octets filled places left midway later h.has_read gives some in
-          record {
-            octets = h.octets;
-            has_read = all.1;
-            ends_so = (
-              all.0,
-              record {
-                read = h.going.read;
-                place = earliest (offset h.going.holds.parts) (unfinished h.going.holds.parts);
-                cut = record {
-                  parts = h.going.holds.parts;
-                  rest = stream.rest;
-                  splits = h.going.holds.splits;
-                  partial = subst (λ v. part_at v stream.rest ≡ Err Short) h.going.holds.versions_are (h.partial more);
-                  inside = subst (λ u. (u ≢ []) ⊎ (stream.rest ≢ [])) h.going.holds.unfinished_are more;
-                  place_is = refl;
-                };
-                served = h.going.served;
-              },
-            );
-          }
+          record { octets = h.octets; has_read = all.1; ends_so = (all.0, cut_off (tells.0 so)) }
 
     -- memory is wanted for what comes
     pub ends_hungry : (filled : List ℕ) (places n : ℕ) (later : Option (List ℕ)) (reads writes : ℕ × ℕ) → GivesOf midway places n filled later

@@ -102,10 +102,11 @@ module _ {S : Type 0} (finds : S → ObjectKey → Bool → S → Type 0) (answe
     pub written : Takes before.taken (spelling V1_2 (messages.LocateReply reply)) after.taken
 
   -- what a message that was read is answered: a request that wants it one reply, a LocateRequest one LocateReply, and any other
-  -- nothing
+  -- nothing. CloseConnection isn't answered: it ends the session
   abbrev pub Serves : Message → Sides S → Sides S → Type 0
   Serves (messages.Request r) before after = ServesRequest r before after
   Serves (messages.Locate l) before after = ServesLocate l before after
+  Serves messages.Close before after = ⊥
   Serves message before after = after ≡ before
 
   -- these messages were answered, one after another
@@ -129,13 +130,7 @@ module _ {S : Type 0} (finds : S → ObjectKey → Bool → S → Type 0) (answe
     pub cut : IsCut profile_versions read place octets
     pub served : ServesAll before read after
 
-  -- all that come first in these octets are answered
-  pub record IsServed (octets : List ℕ) (before after : Sides S) : Type 0 where
-    pub read : List Framed
-    pub begun : IsBegun profile_versions read octets
-    pub served : ServesAll before read after
-
-  -- and behind them CloseConnection has come
+  -- all that come first in these octets are answered, and behind them CloseConnection has come
   pub record IsClosedByPeer (octets : List ℕ) (before after : Sides S) : Type 0 where
     pub read : List Framed
     pub close : Framed
@@ -197,7 +192,8 @@ module _ {S : Type 0} (finds : S → ObjectKey → Bool → S → Type 0) (answe
       (HasReadAll octets left × IsDone octets before after) ⊎ IsClosedByPeer octets before after
   EndsSo ends.Cut octets left before after reads writes = HasReadAll octets left × IsCutOff octets before after
   EndsSo (ends.Refused fault) octets left before after reads writes = IsRefusedWith octets fault before after
-  EndsSo ends.ReadFault octets left before after reads writes = HasRisen reads.0 reads.1 × IsServed octets before after
+  EndsSo ends.ReadFault octets left before after reads writes =
+      HasRisen reads.0 reads.1 × (IsDone octets before after ⊎ IsCutOff octets before after)
   EndsSo ends.WriteFault octets left before after reads writes = HasRisen writes.0 writes.1 × IsTornOff octets before after
   EndsSo ends.Memory octets left before after reads writes = IsBrokenOff octets before after
 

@@ -248,8 +248,8 @@ fn located(alloc: Global, id: u32, here: bool) -> Located
 fn write<O: Sink>(alloc: Global, sink: &mut O, message: &Message) -> Result<(), SessionEnd>
     requires { octets_in message.now < 2 ^ 31 }
     ensures written { OnOk result (Takes (O.taken sink.old) (spelling V1_2 message.now) (O.taken sink.new)) }
-    ensures unwritten { IfErr result (λ end. IsUnwritten end (spelling V1_2 message.now) (O.taken sink.old) (O.taken sink.new)
-        (O.faults sink.old, O.faults sink.new)) }
+    ensures unwritten { IfErr result (λ end. IsUnwritten end (spelling V1_2 message.now)
+        (O.taken sink.old) (O.taken sink.new) (O.faults sink.old, O.faults sink.new)) }
     ensures later { O.faults sink.old ≤ O.faults sink.new }
 {
     let mut octets = Vec::new(alloc);

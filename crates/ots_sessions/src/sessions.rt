@@ -71,6 +71,13 @@ impl<S: Servant + Drop> Hall<S> {
         *self.ticker.lock(rt) = Some(servant);
     }
 
+    /// Ticks, where no job does.
+    fn tick_unless<R: Wait>(&self, rt: &R, is_job: bool) {
+        if !is_job {
+            self.tick(rt);
+        }
+    }
+
     /// Lets some time go by, by the servant that is kept for ticks.
     fn pause<R: Wait>(&self, rt: &R) {
         let Some(mut servant) = self.ticker.lock(rt).take() else {
@@ -181,9 +188,7 @@ fn serve_door<
     });
     for _ in rt.forever() {
         hall.wait_for_servant(rt);
-        if !ticks {
-            hall.tick(rt);
-        }
+        hall.tick_unless(rt, ticks);
         let conn = match door.next() {
             Ok(Some(conn)) => conn,
             Ok(None) => return ServeEnd::Ended,

@@ -2,7 +2,7 @@ use Rattle.std.proofs.Common.{rules, ◌<◌, sym, arith, length, take}
 use Rattle.giop_streams.specs.Held.{HasCome}
 use Rattle.ots_outside.specs.Source.{GivesOf}
 use Rattle.ots_sessions.specs.Sessions.{sides}
-use Rattle.ots_sessions.proofs.Ends.{ends_by, ends_cut, ends_hungry, ends_whole, on_ok, reads_on}
+use Rattle.ots_sessions.proofs.Ends.{ends_by, ends_cut, ends_hungry, ends_read, ends_whole, on_ok, reads_on}
 use Rattle.ots_sessions.proofs.session.serve_session.Goals as goal
 
 pub returns-in-Ok-eq0-clause-session : goal.returns-in-Ok-eq0-clause-session
@@ -63,3 +63,11 @@ returns-in-Err-serve_messages-clause-session g c =
     c.in-Ok.ensures.octets come c.in-Err-serve_messages.end (g.I.Source.faults c.args.source.now, g.I.Source.faults c.read.new.self)
     (g.O.Sink.faults c.args.sink.now) (g.O.Sink.faults c.loop.sink) (g.O.Sink.faults c.serve_messages.new.sink) c.loop.invariant.writes c.serve_messages.ensures.counts
     c.in-Err-serve_messages.ensures.ends
+
+pub returns-in-Err-clause-session : goal.returns-in-Err-clause-session
+returns-in-Err-clause-session g c =
+    let start = sides (g.O.Sink.taken c.args.sink.now) c.args.servant.now in
+    let now = sides (g.O.Sink.taken c.loop.sink) c.loop.servant in
+    ends_read g.S.Servant.finds g.S.Servant.answers c.loop.stream (g.I.Source.remaining c.args.source.now) (g.I.Source.remaining c.loop.source) start now c.loop.invariant.so_far
+    (g.I.Source.remaining c.read.new.self) (g.I.Source.faults c.args.source.now) (g.I.Source.faults c.loop.source) (g.I.Source.faults c.read.new.self)
+    (g.O.Sink.faults c.args.sink.now, g.O.Sink.faults c.loop.sink) c.in-Err.ensures.untouched c.loop.invariant.reads c.read.ensures.later c.in-Err.ensures.cause
