@@ -75,7 +75,8 @@ fn ask<L: Link>(
     link: &mut L,
 ) -> Result<Heard, Unheard>
     ensures exchange { IfSome (L.exchanged link.old)
-        (λ done. IsSent (home at.now sender.service sender.resource_kind) word.now (heard_by result) done (L.exchanged link.new)) }
+        (λ done. IsSent (home at.now sender.service sender.resource_kind) word.now (heard_by result)
+        done (L.exchanged link.new)) }
     ensures lost { IsLostBy (heard_by result) (L.faults link.old) (L.faults link.new) }
     ensures later { L.faults link.old ≤ L.faults link.new }
 {
@@ -131,7 +132,8 @@ fn called_for(
     sender: Sender,
     word: &Outward,
 ) -> Result<Called, Unheard>
-    ensures called { IfOk result (λ called. called ≡ words.called_for (home at.now sender.service sender.resource_kind) word.now) }
+    ensures called { IfOk result
+        (λ called. called ≡ words.called_for (home at.now sender.service sender.resource_kind) word.now) }
     ensures none { IfErr result (λ unheard. IsStarved unheard.0) }
 {
     Ok(Called {
@@ -145,7 +147,8 @@ fn called_for(
 /// The call of a word.
 #[tactic(auto, unfolding(crate::specs::Words::home))]
 fn call_for(alloc: Global, at: &Endpoint, sender: Sender, word: &Outward) -> Result<Call, Unheard>
-    ensures call { IfOk result (λ call. call ≡ words.call_for (home at.now sender.service sender.resource_kind) word.now (word.now).word) }
+    ensures call { IfOk result
+        (λ call. call ≡ words.call_for (home at.now sender.service sender.resource_kind) word.now (word.now).word) }
     ensures none { IfErr result (λ unheard. IsStarved unheard.0) }
 {
     Ok(match word.word {
@@ -245,7 +248,8 @@ fn request_for(
     ensures spelled { IfOk result (λ octets. (request : TheRequest)
         × IsRequestFor (home at.now sender.service sender.resource_kind) word.now place.now request
         × (octets.items ≡ spelling V1_2 (messages.Request request))) }
-    ensures none { IfErr result (λ unheard. IsUnspoken (home at.now sender.service sender.resource_kind) word.now place.now unheard.0) }
+    ensures none { IfErr result
+        (λ unheard. IsUnspoken (home at.now sender.service sender.resource_kind) word.now place.now unheard.0) }
 {
     let key = Octets::new(alloc, place.key.bytes())?;
     let request = match write_call(alloc, word.number.serial, called) {
