@@ -5,10 +5,12 @@ use Rattle.std.specs.List.{list_any}
 use Rattle.ots_model.specs.declared.tree.Heard.{Heard}
 use Rattle.ots_model.specs.declared.tree.Outward.{Outward}
 use Rattle.resource_end.specs.declared.fault.EndFault.{EndFault}
+use Rattle.std.specs.Prelude.{OnOk}
 use Rattle.std.specs.Result.{is_err}
 use Rattle.outward_calls.specs.Moment.{LinkMoment}
 use Rattle.end_room.specs.Deeds.{Deed, Asks}
 use Rattle.end_room.specs.Place.{EndPlace}
+use Rattle.ots_sessions.specs.declared.fault.ServeFault.{ServeFault}
 use Rattle.end_server.specs.Serving.{EndSide, side}
 use Rattle.end_server.specs.Ticking.{HaveAsked, HaveAskedSo, IsAsking, TicksEnd, is_want, none, one_more}
 
@@ -43,19 +45,27 @@ done_of : (said : Result (Unit {0}) EndFault) → is_err said ≡ false → said
 done_of (Ok done) is = refl
 done_of (Err fault) is = absurd (cc (is))
 
--- all that wait for an outcome have asked
+-- there was memory for all, where that is said
+pub fed_of : (said : Result (Unit {0}) ServeFault) (asking : Result (Unit {0}) EndFault) (starved wanted : Bool) → starved ≡ wanted
+    → OnOk said ((is_err asking ≡ false) × (starved ≡ false)) → OnOk said ((asking ≡ Ok tt) × (wanted ≡ false))
+fed_of (Ok done) asking starved wanted same fed = (done_of asking fed.0, sym same ∙ fed.1)
+fed_of (Err fault) asking starved wanted same fed = tt
+
+-- those that wait for an outcome have asked
 pub ticks_end : {E : Type 0} (does : E → Deed → E → Type 0) (place own : EndPlace) → own ≡ place → (ends asked : E) (link : LinkMoment)
-    (first words : List Outward) → first ≡ [] → (said : Result (Unit {0}) EndFault) → is_err said ≡ false → does ends (Asks first words said) asked
-    → (starved : Bool) → starved ≡ false → (after : EndSide E) → HaveAskedSo does own words (side asked link) starved [] after
-    → TicksEnd does place (side ends link) after
-ticks_end does place own same ends asked link first words none_before said done asks starved fed after h = record {
+    (first words : List Outward) → first ≡ [] → (asking : Result (Unit {0}) EndFault) → does ends (Asks first words asking) asked
+    → (starved : Bool) (after : EndSide E) → HaveAskedSo does own words (side asked link) starved [] after
+    → (said : Result (Unit {0}) ServeFault) → OnOk said ((is_err asking ≡ false) × (starved ≡ false))
+    → TicksEnd does place (side ends link) said after
+ticks_end does place own same ends asked link first words none_before asking asks starved after h said fed = record {
+  asking = asking;
   words = words;
   midway = side asked link;
   asks = record {
-    deed_is = subst (λ x. does ends (Asks [] words x) asked) (done_of said done) (subst (λ x. does ends (Asks x words said) asked) none_before asks);
+    deed_is = subst (λ x. does ends (Asks x words asking) asked) none_before asks;
     unsaid = refl;
   };
   heards = h.heards;
   asked = subst (λ p. HaveAsked does p words (side asked link) h.heards [] after) same h.asked;
-  fed = sym h.starved_is ∙ fed;
+  fed = fed_of said asking starved (list_any is_want h.heards) h.starved_is fed;
 }

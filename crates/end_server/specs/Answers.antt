@@ -4,6 +4,7 @@ use Rattle.std.specs.Option.{option_map}
 use Rattle.ior_refs.specs.declared.key.ObjectKey.{ObjectKey}
 use Rattle.ots_calls.specs.declared.answer.Answer.{Answer}
 use Rattle.ots_calls.specs.declared.answer.Answer.TheVariants as answers
+use Rattle.ots_calls.specs.declared.answer.Completed.{Completed}
 use Rattle.ots_calls.specs.declared.answer.Completed.TheVariants as completed
 use Rattle.ots_calls.specs.declared.answer.Given.TheVariants as given
 use Rattle.ots_calls.specs.declared.call.Called.{Called}
@@ -57,24 +58,25 @@ answer_heard phase_hears.Other = without_step systems.Unknown
 answer_heard phase_hears.Lost = without_step systems.Unknown
 answer_heard phase_hears.Starved = without_step systems.Unknown
 
--- the answer of a call that the end refuses. Where its journal or its memory fails it isn't known whether the call was done
-abbrev pub refused_by : EndFault → Answer
-refused_by (faults.Transient number) = without_step systems.Transient
-refused_by faults.Inactive = without_step systems.InvalidTransaction
-refused_by faults.ObjectNotExist = without_step systems.ObjectNotExist
-refused_by faults.PersistStore = answers.System systems.PersistStore 0 completed.Maybe
-refused_by faults.NoResources = without_step systems.NoResources
-refused_by (faults.Start fault) = answers.System systems.PersistStore 0 completed.Maybe
-refused_by faults.Memory = answers.System systems.NoMemory 0 completed.Maybe
+-- the answer of a call that the end refuses. Where its journal fails it isn't known whether the call was done; nor where its
+-- memory does, but before the call's first step
+abbrev pub refused_by : Completed → EndFault → Answer
+refused_by so_far (faults.Transient number) = without_step systems.Transient
+refused_by so_far faults.Inactive = without_step systems.InvalidTransaction
+refused_by so_far faults.ObjectNotExist = without_step systems.ObjectNotExist
+refused_by so_far faults.PersistStore = answers.System systems.PersistStore 0 completed.Maybe
+refused_by so_far faults.NoResources = without_step systems.NoResources
+refused_by so_far (faults.Start fault) = answers.System systems.PersistStore 0 completed.Maybe
+refused_by so_far faults.Memory = answers.System systems.NoMemory 0 so_far
 
 -- the answer of a put, and of a word to a resource
-abbrev pub answer_to_put : Result (Unit {0}) EndFault → Answer
-answer_to_put (Ok done) = nothing
-answer_to_put (Err fault) = refused_by fault
+abbrev pub answer_to_put : Completed → Result (Unit {0}) EndFault → Answer
+answer_to_put so_far (Ok done) = nothing
+answer_to_put so_far (Err fault) = refused_by so_far fault
 
 abbrev pub answer_to_word : Result Heard EndFault → Answer
 answer_to_word (Ok heard) = answer_heard (of_participant heard)
-answer_to_word (Err fault) = refused_by fault
+answer_to_word (Err fault) = refused_by completed.Maybe fault
 
 -- the answer of a put whose resource wasn't registered, by what was heard of that
 abbrev pub unregistered : Heard → Answer
@@ -103,14 +105,14 @@ module _ {E : Type 0} (does : E → Deed → E → Type 0) where
   IsAnsweredAlone own before answer after = (answer ≡ own) × (after ≡ before)
 
   -- a resource puts a value into a cell
-  abbrev pub PutsInto : ObjectKey → ℕ → ℕ → EndSide E → Answer → EndSide E → Type 0
-  PutsInto key cell value before answer after =
-      (said : Result (Unit {0}) EndFault) × DoesOne (Puts key cell value said) before after × (answer ≡ answer_to_put said)
+  abbrev pub PutsInto : Completed → ObjectKey → ℕ → ℕ → EndSide E → Answer → EndSide E → Type 0
+  PutsInto so_far key cell value before answer after =
+      (said : Result (Unit {0}) EndFault) × DoesOne (Puts key cell value said) before after × (answer ≡ answer_to_put so_far said)
 
   -- once it is bound
   abbrev pub OnBound : Result (Unit {0}) EndFault → ObjectKey → ℕ → ℕ → EndSide E → Answer → EndSide E → Type 0
-  OnBound (Ok done) key cell value before answer after = PutsInto key cell value before answer after
-  OnBound (Err fault) key cell value before answer after = IsAnsweredAlone (refused_by fault) before answer after
+  OnBound (Ok done) key cell value before answer after = PutsInto completed.Maybe key cell value before answer after
+  OnBound (Err fault) key cell value before answer after = IsAnsweredAlone (refused_by completed.Maybe fault) before answer after
 
   -- the resource of a transaction is registered, and puts
   abbrev pub PutsRegistered : List ℕ → List ℕ → ObjectKey → ℕ → ℕ → EndSide E → Answer → EndSide E → Type 0
@@ -141,8 +143,10 @@ module _ {E : Type 0} (does : E → Deed → E → Type 0) where
   OnEntered place context cell value (Ok (New key)) before answer after = PutsNew place context key cell value before answer after
   OnEntered place context cell value (Ok Registering) before answer after =
       IsAnsweredAlone (without_step systems.Transient) before answer after
-  OnEntered place context cell value (Ok (Known key)) before answer after = PutsInto key cell value before answer after
-  OnEntered place context cell value (Err fault) before answer after = IsAnsweredAlone (refused_by fault) before answer after
+  OnEntered place context cell value (Ok (Known key)) before answer after =
+      PutsInto completed.No key cell value before answer after
+  OnEntered place context cell value (Err fault) before answer after =
+      IsAnsweredAlone (refused_by completed.No fault) before answer after
 
   -- a transaction puts a value into a cell
   abbrev pub PutsWithin : EndPlace → Context → ℕ → ℕ → EndSide E → Answer → EndSide E → Type 0

@@ -1,6 +1,6 @@
 -- The clock of a resource end goes on: what waits for an outcome asks for it (our profile; CosTransactions: RecoveryCoordinator,
 -- replay_completion).
-use Rattle.std.specs.Prelude.{◌≡◌, ◌++◌, ℕ, Bool, true, false, List, [], ◌∷◌, Result, Ok}
+use Rattle.std.specs.Prelude.{◌≡◌, ◌++◌, ℕ, Bool, true, false, List, [], ◌∷◌, Result, Ok, OnOk}
 use Rattle.std.specs.List.{list_any}
 use Rattle.ior_refs.specs.declared.key.ObjectKey.{ObjectKey}
 use Rattle.ots_model.specs.declared.completion.Heard.TheVariants as phase_hears
@@ -11,6 +11,7 @@ use Rattle.resource_end.specs.Limits.{resource_kind}
 use Rattle.resource_end.specs.declared.fault.EndFault.{EndFault}
 use Rattle.end_room.specs.Deeds.{Deed, Asks, Learns}
 use Rattle.end_room.specs.Place.{EndPlace}
+use Rattle.ots_sessions.specs.declared.fault.ServeFault.{ServeFault}
 use Rattle.end_server.specs.Answers.{DoesOne}
 use Rattle.end_server.specs.Serving.{EndSide, GoesOut}
 
@@ -50,11 +51,13 @@ module _ {E : Type 0} (does : E → Deed → E → Type 0) where
     pub asked : HaveAsked place words before heards rest after
     pub starved_is : starved ≡ list_any is_want heards
 
-  -- all that wait for an outcome have asked for it, each once, with memory for each
-  pub record TicksEnd (place : EndPlace) (before after : EndSide E) : Type 0 where
+  -- those that wait for an outcome have asked for it, each once: all of them, with memory for each, where it is Ok; else those
+  -- for whose words there was memory
+  pub record TicksEnd (place : EndPlace) (before : EndSide E) (said : Result (Unit {0}) ServeFault) (after : EndSide E) : Type 0 where
+    pub asking : Result (Unit {0}) EndFault
     pub words : List Outward
     pub midway : EndSide E
-    pub asks : DoesOne does (Asks [] words (Ok tt)) before midway
+    pub asks : DoesOne does (Asks [] words asking) before midway
     pub heards : List Heard
     pub asked : HaveAsked place words midway heards [] after
-    pub fed : list_any is_want heards ≡ false
+    pub fed : OnOk said ((asking ≡ Ok tt) × (list_any is_want heards ≡ false))

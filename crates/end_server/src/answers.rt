@@ -16,7 +16,7 @@ pub(crate) fn answer_to_word(said: Result<Heard, EndFault>) -> Answer
 {
     match said {
         Ok(heard) => answer_heard(heard.of_participant()),
-        Err(fault) => refused_by(fault),
+        Err(fault) => refused_by(Completed::Maybe, fault),
     }
 }
 
@@ -50,9 +50,9 @@ fn heuristic(disposition: Disposition) -> UserException
     }
 }
 
-/// The answer of a call that the end refuses. Where its journal or its memory fails it isn't known whether the call was done.
-pub(crate) fn refused_by(fault: EndFault) -> Answer
-    ensures answer { result ≡ answers.refused_by fault }
+/// The answer of a call that the end refuses, by whether a step of it may have been made so far.
+pub(crate) fn refused_by(so_far: Completed, fault: EndFault) -> Answer
+    ensures answer { result ≡ answers.refused_by so_far fault }
     ensures short { IsWritable result }
 {
     match fault {
@@ -64,7 +64,7 @@ pub(crate) fn refused_by(fault: EndFault) -> Answer
             SystemException::PersistStore,
             Completed::Maybe,
         ),
-        EndFault::Memory => Answer::system(SystemException::NoMemory, Completed::Maybe),
+        EndFault::Memory => Answer::system(SystemException::NoMemory, so_far),
     }
 }
 

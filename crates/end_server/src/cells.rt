@@ -11,7 +11,7 @@ ghost use Rattle.std.specs.Option.{option_copied, option_map};
 use crate::answers::{refused_by, unregistered};
 use end_room::{Ends, Entered};
 use ior_refs::{ObjectKey, ObjectRef};
-use ots_calls::{Answer, Given, SystemException};
+use ots_calls::{Answer, Completed, Given, SystemException};
 use ots_context::Context;
 use ots_model::tree::{Heard, Outward, Word};
 use ots_model::{CallNumber, PhaseHeard};
@@ -42,32 +42,39 @@ pub(crate) fn put<E: Ends, L: Link>(
 {
     let tid = context.current.otid.tid();
     match ends.enter(tid) {
-        Ok(Entered::Known(key)) => put_into(ends, &key, cell, value),
+        Ok(Entered::Known(key)) => put_into(Completed::No, ends, &key, cell, value),
         Ok(Entered::Registering) => answer_without_step(SystemException::Transient),
         Ok(Entered::New(key)) => match register(alloc, ends, link, &context.current.coord, &key) {
             Heard::Enlisted(recovery) => match ends.bind(tid, &key, recovery) {
-                Ok(()) => put_into(ends, &key, cell, value),
-                Err(fault) => refused_by(fault),
+                Ok(()) => put_into(Completed::Maybe, ends, &key, cell, value),
+                Err(fault) => refused_by(Completed::Maybe, fault),
             },
             heard => {
                 ends.unmake(&key);
                 unregistered(&heard)
             }
         },
-        Err(fault) => refused_by(fault),
+        Err(fault) => refused_by(Completed::No, fault),
     }
 }
 
-/// A resource puts a value into a cell.
-fn put_into<E: Ends>(ends: &mut E, key: &ObjectKey, cell: u64, value: u64) -> Answer
+/// A resource puts a value into a cell. It is told whether a step of the call may have been made so far.
+fn put_into<E: Ends>(
+    so_far: Completed,
+    ends: &mut E,
+    key: &ObjectKey,
+    cell: u64,
+    value: u64,
+) -> Answer
     ensures answer { (faults : ℕ) → (exchanged : Option (List Exchange))
-        → PutsInto E.does key.now cell value (side ends.old (moment faults exchanged)) result (side ends.new (moment faults exchanged)) }
+        → PutsInto E.does so_far key.now cell value
+        (side ends.old (moment faults exchanged)) result (side ends.new (moment faults exchanged)) }
     ensures stays { E.place ends.new ≡ E.place ends.old }
     ensures short { IsWritable result }
 {
     match ends.put(key, cell, value) {
         Ok(()) => Answer::Plain(Given::Nothing),
-        Err(fault) => refused_by(fault),
+        Err(fault) => refused_by(so_far, fault),
     }
 }
 
@@ -108,7 +115,8 @@ fn register<E: Ends, L: Link>(
 /// What a transaction, or nobody, sees of a cell.
 pub(crate) fn get<E: Ends>(ends: &mut E, context: Option<&Context>, cell: u64) -> Answer
     ensures answer { (faults : ℕ) → (exchanged : Option (List Exchange))
-        → Gets E.does (option_copied context.entry) cell (side ends.old (moment faults exchanged)) result (side ends.new (moment faults exchanged)) }
+        → Gets E.does (option_copied context.entry) cell
+        (side ends.old (moment faults exchanged)) result (side ends.new (moment faults exchanged)) }
     ensures stays { E.place ends.new ≡ E.place ends.old }
     ensures short { IsWritable result }
 {

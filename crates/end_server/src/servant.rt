@@ -59,7 +59,8 @@ impl<R: Wait, E: Ends, L: Link, C: Clock> EndServant<R, E, L, C> {
 
     /// The answer of a put.
     fn answer_put(&mut self, called: &Called, cell: u64, value: u64) -> Answer
-        ensures answer { AnswersAsked E.does (E.place self.old.ends) (called.now).key (called.now).context (asks.Put cell value)
+        ensures answer { AnswersAsked E.does (E.place self.old.ends) (called.now).key (called.now).context
+            (asks.Put cell value)
             (side self.old.ends (moment (L.faults self.old.link) (L.exchanged self.old.link))) result
             (side self.new.ends (moment (L.faults self.new.link) (L.exchanged self.new.link))) }
         ensures stays { E.place self.new.ends ≡ E.place self.old.ends }
@@ -84,7 +85,8 @@ impl<R: Wait, E: Ends, L: Link, C: Clock> EndServant<R, E, L, C> {
 
     /// The answer of a get.
     fn answer_get(&mut self, called: &Called, cell: u64) -> Answer
-        ensures answer { AnswersAsked E.does (E.place self.old.ends) (called.now).key (called.now).context (asks.Get cell)
+        ensures answer { AnswersAsked E.does (E.place self.old.ends) (called.now).key (called.now).context
+            (asks.Get cell)
             (side self.old.ends (moment (L.faults self.old.link) (L.exchanged self.old.link))) result
             (side self.new.ends (moment (L.faults self.new.link) (L.exchanged self.new.link))) }
         ensures stays { E.place self.new.ends ≡ E.place self.old.ends }
@@ -178,7 +180,8 @@ pub fn servants_of<R: Copy + Wait, D: Disk + Drop, L: Drop, C: Drop>(
     clocks: Vec<C>,
 ) -> Result<Vec<EndServant<R, SharedEnd<R, D>, L, C>>, AllocError>
     ensures count { IfOk result (λ servants. length servants.items ≡ min (length links.items) (length clocks.items)) }
-    ensures place { IfOk result (λ servants. All (λ servant. place_of servant.ends ≡ place_of shared.now) servants.items) }
+    ensures place { IfOk result
+        (λ servants. All (λ servant. place_of servant.ends ≡ place_of shared.now) servants.items) }
 {
     let mut links = links;
     let mut clocks = clocks;

@@ -1,5 +1,5 @@
 // What waits for an outcome asks for it.
-ghost use Rattle.std.specs.Prelude.{◌≡◌, ◌≤◌, [], OnOk};
+ghost use Rattle.std.specs.Prelude.{◌≡◌, ◌≤◌, []};
 ghost use Rattle.outward_calls.specs.Moment.{moment};
 ghost use Rattle.end_server.specs.Serving.{side};
 ghost use Rattle.ots_model.specs.declared.tree.Heard.{Heard as WhatIsHeard};
@@ -26,9 +26,9 @@ pub fn tick_end<R: Wait, E: Ends, L: Link>(
     ends: &mut E,
     link: &mut L,
 ) -> Result<(), ServeFault>
-    ensures ticked { OnOk result (TicksEnd E.does (E.place ends.old)
-        (side ends.old (moment (L.faults link.old) (L.exchanged link.old)))
-        (side ends.new (moment (L.faults link.new) (L.exchanged link.new)))) }
+    ensures ticked { TicksEnd E.does (E.place ends.old)
+        (side ends.old (moment (L.faults link.old) (L.exchanged link.old))) result
+        (side ends.new (moment (L.faults link.new) (L.exchanged link.new))) }
     ensures stays { E.place ends.new ≡ E.place ends.old }
     ensures later { L.faults link.old ≤ L.faults link.new }
 {
