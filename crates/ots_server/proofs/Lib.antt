@@ -1,10 +1,3 @@
-pub mod Calls
-pub mod Contexts
-pub mod Ends
-pub mod Going
-pub mod Hearing
-pub mod Jobs
-pub mod Located
-pub mod Sending
-pub mod Told
-pub mod Unfit
+mod Calls
+mod Counts
+mod Told

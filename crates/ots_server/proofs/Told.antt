@@ -20,11 +20,12 @@ use Rattle.ots_server.specs.Said.{answer_of}
 use Rattle.tree_room.specs.declared.fault.RoomFault.{RoomFault}
 use Rattle.ots_model.specs.declared.tree.Heard.{Heard}
 use Rattle.std.specs.Prelude.{IfSome}
-use Rattle.ots_server.specs.References.{coordinator_key}
-use Rattle.ots_server.specs.Words.{IsLostBy, IsSent}
-use Rattle.ots_server.specs.Site.{Answers, LinkMoment, Refuses, Site}
+use Rattle.ots_sessions.specs.References.{coordinator_key}
+use Rattle.outward_calls.specs.Moment.{LinkMoment}
+use Rattle.outward_calls.specs.Words.{IsLostBy, IsSent, home}
+use Rattle.ots_server.specs.Site.{Answers, Refuses, Site}
 use Rattle.ots_server.specs.StepsInside.{AreTold, EndsStep, HasGoneNext, HaveGoneSo, IsToldBy, at_once, finished_in, or_among}
-use Rattle.ots_server.specs.Telling.{HaveGone, Telling, event_of, is_starved, is_want, none, one_more, or_overtaken, overtaken, said_in_the_end}
+use Rattle.ots_server.specs.Telling.{HaveGone, Telling, event_of, home_of, is_starved, is_want, none, one_more, or_overtaken, overtaken, said_in_the_end}
 
 trans : {A : Type 0} {x y z : A} → x ≡ y → y ≡ z → x ≡ z
 trans p q = p ∙ q
@@ -103,15 +104,22 @@ module _ {D : Type 0} (s : Site D) (now : ℕ) (word : Outward) (heard : Heard) 
 
 pub goes_next_told : {D : Type 0} (s : Site D) (now : ℕ) (words : List Outward) (word : Outward) (before after : LinkMoment) (heard : Heard)
     (starved : Bool) (finished : List Finished) (more : List Outward) → slice_get words 0 ≡ Some word
-    → IfSome before.exchanged (λ done. IsSent s.room word heard done after.exchanged) → IsLostBy heard before.faults after.faults
+    → (at : Endpoint) (service : ℕ) → at ≡ s.room.at → service ≡ s.room.service
+    → IfSome before.exchanged (λ done. IsSent (home at service 85) word heard done after.exchanged) → IsLostBy heard before.faults after.faults
     → before.faults ≤ after.faults → starved ≡ is_want heard → IsToldBy s now word heard finished (drop 1 words) more
     → HasGoneNext s now words before starved finished more after
-goes_next_told s now words word before after heard starved finished more first sent lost later starved_is told = record {
+goes_next_told s now words word before after heard starved finished more first at service at_is service_is sent lost later starved_is told = record {
   word = word;
   rest = drop 1 words;
   words_are = first_word words word first;
   telling = record { heard = heard; finished = finished };
-  told = record { sent = sent; lost = lost; later = later; told = told };
+  told = record {
+    sent = subst (λ n. IfSome before.exchanged (λ done. IsSent (home s.room.at n 85) word heard done after.exchanged)) service_is
+        (subst (λ a. IfSome before.exchanged (λ done. IsSent (home a service 85) word heard done after.exchanged)) at_is sent);
+    lost = lost;
+    later = later;
+    told = told;
+  };
   starved_is = starved_is;
   finished_are = refl;
 }

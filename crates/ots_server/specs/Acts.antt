@@ -16,7 +16,7 @@ use Rattle.ots_model.specs.declared.completion.Word.TheVariants as phases
 use Rattle.ots_model.specs.declared.tree.Word.TheVariants as words
 use Rattle.coordinator.specs.declared.event.Act.{Act}
 use Rattle.coordinator.specs.declared.event.Act.TheVariants as acts
-use Rattle.ots_server.specs.References.{aware_id}
+use Rattle.ots_sessions.specs.References.{aware_id}
 
 -- the act of an operation that takes nothing; of some there is no object here
 abbrev pub bare_act : Bare → Option Act

@@ -1,11 +1,6 @@
 pub mod Acts
-pub mod References
-pub mod Replies
+pub mod Answers
 pub mod Said
-pub mod Sessions
 pub mod Site
 pub mod Telling
-pub mod Words
-pub mod SessionsInside
 pub mod StepsInside
-pub mod WordsInside

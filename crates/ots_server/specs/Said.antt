@@ -21,7 +21,7 @@ use Rattle.ots_context.specs.declared.context.Context.{Context}
 use Rattle.ots_model.specs.declared.service.Endpoint.{Endpoint}
 use Rattle.coordinator.specs.declared.said.Said.{Said}
 use Rattle.coordinator.specs.declared.said.Said.TheVariants as says
-use Rattle.ots_server.specs.References.{reference_to}
+use Rattle.ots_sessions.specs.References.{reference_to}
 
 -- the reference to another object of the family whose object was called, by its letter and its number
 abbrev pub sibling : Endpoint → ObjectKey → ℕ → ℕ → Given

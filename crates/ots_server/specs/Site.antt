@@ -1,10 +1,9 @@
--- Where requests are served: a room, with what is known of the disk under it, and the link for its words (our profile).
+-- Where calls are answered: a room, with what is known of the disk under it (our profile).
 use Rattle.std.specs.Prelude.{◌⊎◌, ℕ, Bool, List, Option}
 use Rattle.ior_refs.specs.declared.key.ObjectKey.{ObjectKey}
 use Rattle.ots_context.specs.declared.context.Context.{Context}
 use Rattle.ots_model.specs.declared.tree.Outward.{Outward}
 use Rattle.ots_outside.specs.Disk.{DiskState}
-use Rattle.ots_outside.specs.declared.link.Exchange.{Exchange}
 use Rattle.coordinator.specs.declared.event.Event.{Event}
 use Rattle.coordinator.specs.declared.said.StepAnswer.{StepAnswer}
 use Rattle.tree_room.specs.Answers.{IsAnswered, IsRefused, IsStarved}
@@ -18,11 +17,6 @@ pub record Site (D : Type 0) : Type 0 where
   pub counts : D → ℕ
   pub room : RoomState
 
--- a link at a moment: how often it has failed, and its exchanges so far, where it tells them
-pub record LinkMoment : Type 0 where
-  pub faults : ℕ
-  pub exchanged : Option (List Exchange)
-
 -- the room has answered a call so, and these are the words that went out before and after it
 abbrev pub Answers : {D : Type 0} → Site D → ObjectKey → Event → StepAnswer → Option Context → List Outward → List Outward → Type 0
 Answers s key event answer context words more =
@@ -35,6 +29,3 @@ Refuses s key event fault words more =
 
 abbrev pub site : {D : Type 0} → Bool → (D → Option DiskState) → (D → ℕ) → RoomState → Site D
 site wants told counts room = record { wants = wants; told = told; counts = counts; room = room }
-
-abbrev pub moment : ℕ → Option (List Exchange) → LinkMoment
-moment faults exchanged = record { faults = faults; exchanged = exchanged }

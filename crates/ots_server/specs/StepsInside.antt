@@ -1,14 +1,8 @@
 -- How far the words of a step have gone, and what its call is answered so far.
-use Rattle.std.specs.Prelude.{◌≡◌, ◌<◌, ◌^◌, ◌⊎◌, ℕ, Bool, true, false, List, [], ◌∷◌, flat_map, Option, Some, None, Ok, if◌then◌else◌}
+use Rattle.std.specs.Prelude.{◌≡◌, ◌⊎◌, ℕ, Bool, List, [], ◌∷◌, flat_map, Option, Some, None, if◌then◌else◌}
 use Rattle.std.specs.Option.{option_map}
-use Rattle.giop_frames.specs.declared.message.Reply.{Reply}
-use Rattle.ots_calls.specs.Answer.{IsOwn}
-use Rattle.ots_calls.specs.AnswerWriting.{given_length, reply_of}
-use Rattle.ots_calls.specs.Call.{operation_of}
 use Rattle.ots_calls.specs.declared.answer.Answer.{Answer}
 use Rattle.ots_calls.specs.declared.call.Called.{Called}
-use Rattle.ots_calls.specs.declared.fault.CallFault.{CallFault}
-use Rattle.ots_calls.specs.declared.fault.CallFault.TheVariants as faults
 use Rattle.ots_context.specs.declared.context.Context.{Context}
 use Rattle.ots_model.specs.declared.service.Endpoint.{Endpoint}
 use Rattle.ots_model.specs.declared.tree.Heard.{Heard}
@@ -16,10 +10,11 @@ use Rattle.ots_model.specs.declared.tree.Outward.{Outward}
 use Rattle.coordinator.specs.History.{answer_among, is_later}
 use Rattle.coordinator.specs.declared.said.Finished.{Finished}
 use Rattle.coordinator.specs.declared.said.StepAnswer.{StepAnswer}
-use Rattle.ots_server.specs.Replies.{AnswersCall, IsTold, answer_after}
+use Rattle.ots_server.specs.Answers.{answer_after}
 use Rattle.ots_server.specs.Said.{answer_of}
-use Rattle.ots_server.specs.Site.{LinkMoment, Site}
+use Rattle.ots_server.specs.Site.{Site}
 use Rattle.ots_server.specs.Telling.{HaveGone, IsTelling, IsToldTo, IsToldToNobody, Telling, is_starved, is_want}
+use Rattle.outward_calls.specs.Moment.{LinkMoment}
 
 -- these words have gone out, and whether memory was wanted for one of them
 pub record HaveGoneSo {D : Type 0} (s : Site D) (now : ℕ) (words : List Outward) (before : LinkMoment) (starved : Bool) (more : List Outward) (after : LinkMoment) : Type 0 where
@@ -66,24 +61,8 @@ pub record EndsStep {D : Type 0} (s : Site D) (now : ℕ) (called : Called) (ste
   pub gone : HaveGone s now words before tellings [] after
   pub answer_is : a ≡ answer_after s.room.at called step context tellings
 
--- a reply can be written with an answer: it is short, and a system exception of it has our own minor code
-abbrev pub IsWritable : Answer → Type 0
-IsWritable answer = (given_length answer < 2 ^ 31) × IsOwn answer
-
--- the reply to a request with this id that is this call
-pub record IsAnsweredBy {D : Type 0} (s : Site D) (now id : ℕ) (called : Called) (before after : LinkMoment) (reply : Reply) : Type 0 where
-  pub answer : Answer
-  pub answers : AnswersCall s now called before after answer
-  pub told : Answer
-  pub told_is : IsTold (operation_of called.call) answer told
-  pub reply_is : reply_of id told ≡ Ok reply
-
 -- what was heard of a word is told, and these calls were answered by it
 abbrev pub IsToldBy : {D : Type 0} → Site D → ℕ → Outward → Heard → List Finished → List Outward → List Outward → Type 0
 IsToldBy s now word heard finished rest more =
     IsToldTo s now word (record { heard = heard; finished = finished }) rest more
     ⊎ IsToldToNobody s now word (record { heard = heard; finished = finished }) rest more
-
-abbrev pub is_memory : CallFault → Bool
-is_memory faults.Memory = true
-is_memory fault = false

@@ -20,9 +20,11 @@ use Rattle.coordinator.specs.declared.said.StepAnswer.{StepAnswer}
 use Rattle.coordinator.specs.History.{answer_among, is_later}
 use Rattle.tree_room.specs.Answers.{HasTicked}
 use Rattle.tree_room.specs.declared.fault.RoomFault.{RoomFault}
-use Rattle.ots_server.specs.References.{coordinator_key}
-use Rattle.ots_server.specs.Site.{Answers, LinkMoment, Refuses, Site}
-use Rattle.ots_server.specs.Words.{IsLostBy, IsSent}
+use Rattle.tree_room.specs.Room.{RoomState}
+use Rattle.ots_server.specs.Site.{Answers, Refuses, Site}
+use Rattle.ots_sessions.specs.References.{coordinator_key}
+use Rattle.outward_calls.specs.Moment.{LinkMoment}
+use Rattle.outward_calls.specs.Words.{Home, IsLostBy, IsSent, home}
 
 -- what came of a word: what was heard, and which earlier calls were answered by that
 pub record Telling : Type 0 where
@@ -45,9 +47,13 @@ pub record IsToldToNobody {D : Type 0} (s : Site D) (now : ℕ) (word : Outward)
   pub refused : Refuses s (coordinator_key s.room.service word.number 0) (event_of now word telling.heard) fault rest more
   pub nobody : telling.finished ≡ []
 
+-- who sends the words of a room: its service. The resources that it hands over are those of its subordinates (U)
+abbrev pub home_of : RoomState → Home
+home_of room = home room.at room.service 85
+
 -- a word went out, was heard, and was told
 pub record IsTelling {D : Type 0} (s : Site D) (now : ℕ) (word : Outward) (telling : Telling) (rest more : List Outward) (before after : LinkMoment) : Type 0 where
-  pub sent : IfSome before.exchanged (λ done. IsSent s.room word telling.heard done after.exchanged)
+  pub sent : IfSome before.exchanged (λ done. IsSent (home_of s.room) word telling.heard done after.exchanged)
   pub lost : IsLostBy telling.heard before.faults after.faults
   pub later : before.faults ≤ after.faults
   pub told : IsToldTo s now word telling rest more ⊎ IsToldToNobody s now word telling rest more

@@ -4,16 +4,15 @@ ghost use Rattle.std.specs.Str.{bytes_eq};
 ghost use Rattle.ior_refs.specs.Reference.{canonical_octets};
 ghost use Rattle.ots_server.specs.Acts as acts;
 ghost use Rattle.ots_server.specs.Acts.{IsActOf};
-ghost use Rattle.ots_server.specs.References.{aware_id};
+ghost use Rattle.ots_sessions.specs.References.{aware_id};
 ghost use Rattle.service_node.specs.Given.{node_makes};
 
-use crate::fault::ServeFault;
-use crate::references::is_aware_id;
 use coordinator::Act;
 use ior_refs::{IorFault, ObjectKey, ObjectRef, iiop, key_of};
 use ots_calls::{Bare, Call, Called, Handing};
 use ots_model::tree::Word;
 use ots_model::{PhaseWord, RefBytes};
+use ots_sessions::{ServeFault, is_aware_id};
 use std::alloc::Global;
 
 /// The act of a call on an object of a transaction. None is of no object of this service.

@@ -5,10 +5,8 @@ ghost use Rattle.ots_calls.specs.declared.answer.Answer.TheVariants as answers;
 ghost use Rattle.ots_calls.specs.declared.answer.Given.TheVariants as gives;
 ghost use Rattle.ots_context.specs.Writing.{kept_length};
 ghost use Rattle.ots_server.specs.Said as says;
-ghost use Rattle.ots_server.specs.StepsInside.{IsWritable};
+ghost use Rattle.ots_sessions.specs.Replies.{IsWritable};
 
-use crate::fault::ServeFault;
-use crate::references::reference_to;
 use coordinator::Said;
 use ior_refs::ObjectKey;
 use ots_calls::{
@@ -16,6 +14,7 @@ use ots_calls::{
 };
 use ots_context::Context;
 use ots_model::{Endpoint, Octets};
+use ots_sessions::{ServeFault, reference_to};
 use std::alloc::Global;
 
 /// How many octets a name of a transaction has at most.

@@ -1,17 +1,17 @@
 // The words of an outbox go out one after another, and what is heard of each is told to its transaction.
 ghost use Rattle.std.specs.Prelude.{◌≡◌, ◌≤◌, ◌||◌, [], IfOk, IfSome, None, Ok};
-ghost use Rattle.ots_server.specs.Site.{moment, site};
+ghost use Rattle.ots_server.specs.Site.{site};
 ghost use Rattle.ots_server.specs.StepsInside.{HasGoneNext, IsToldBy};
 ghost use Rattle.ots_server.specs.Telling as tellings;
+ghost use Rattle.outward_calls.specs.Moment.{moment};
 
 use crate::desk::Desk;
-use crate::fault::ServeFault;
-use crate::references::coordinator_key;
-use crate::words::send;
 use coordinator::{Act, Answers, Event};
 use ots_model::PhaseHeard;
 use ots_model::tree::{Heard, Outward};
 use ots_outside::{Disk, Link};
+use ots_sessions::{ServeFault, coordinator_key};
+use outward_calls::{Sender, send};
 use recovery_coord::Outbox;
 use std::sync::Wait;
 use tree_room::{Naming, Pass, RoomFault};
@@ -55,7 +55,11 @@ pub(crate) fn tell_next<R: Wait, N: Naming, D: Disk, L: Link>(
     let Some(word) = out.take() else {
         return Ok(None);
     };
-    let heard = send(desk.alloc, desk.room, &word, link);
+    let sender = Sender {
+        service: desk.room.service(),
+        resource_kind: b'U',
+    };
+    let heard = send(desk.alloc, desk.room.at(), sender, &word, link);
     let starved = is_want(&heard);
     let finished = tell(desk, pass, &word, heard, out)?;
     Ok(Some(Told { starved, finished }))

@@ -1,12 +1,13 @@
 ghost use Rattle.std.specs.Prelude.{◌≡◌, ◌≤◌, [], IfOk, OnOk};
-ghost use Rattle.ots_server.specs.Site.{moment, site};
+ghost use Rattle.ots_server.specs.Site.{site};
 ghost use Rattle.ots_server.specs.StepsInside.{HaveGoneSo};
 ghost use Rattle.ots_server.specs.Telling.{Ticks};
+ghost use Rattle.outward_calls.specs.Moment.{moment};
 
 use crate::desk::Desk;
-use crate::fault::ServeFault;
 use crate::telling::tell_next;
 use ots_outside::{Disk, Link};
+use ots_sessions::ServeFault;
 use recovery_coord::Outbox;
 use std::alloc::Global;
 use std::sync::Wait;

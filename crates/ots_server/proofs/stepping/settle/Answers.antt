@@ -1,4 +1,5 @@
-use Rattle.ots_server.specs.Site.{moment, site}
+use Rattle.ots_server.specs.Site.{site}
+use Rattle.outward_calls.specs.Moment.{moment}
 use Rattle.ots_server.proofs.Told.{ends_answered}
 use Rattle.ots_server.proofs.stepping.settle.Goals as goal
 

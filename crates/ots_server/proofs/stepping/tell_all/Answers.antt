@@ -1,7 +1,8 @@
 use Rattle.std.proofs.Common.{sym, subst, arith}
 use Rattle.ots_server.specs.StepsInside.{AreTold, HasGoneNext}
 use Rattle.ots_server.specs.declared.telling.Told.{Told}
-use Rattle.ots_server.specs.Site.{moment, site}
+use Rattle.ots_server.specs.Site.{site}
+use Rattle.outward_calls.specs.Moment.{moment}
 use Rattle.ots_server.proofs.Told.{some_of, told_first, told_next}
 use Rattle.ots_server.proofs.stepping.tell_all.Goals as goal
 

@@ -1,7 +1,9 @@
 use Rattle.std.proofs.Common.{◌≤◌}
 use Rattle.std.specs.Prelude.{IfSome}
-use Rattle.ots_server.specs.Site.{moment, site}
-use Rattle.ots_server.specs.StepsInside.{AreTold, IsWritable}
+use Rattle.ots_server.specs.Site.{site}
+use Rattle.ots_server.specs.StepsInside.{AreTold}
+use Rattle.ots_sessions.specs.Replies.{IsWritable}
+use Rattle.outward_calls.specs.Moment.{moment}
 use Rattle.ots_server.proofs.stepping.tell_all.Given as goal
 
 abbrev pub invariant-loop : goal.invariant-loop

@@ -1,7 +1,8 @@
 use Rattle.std.proofs.Common.{sym, subst, arith}
 use Rattle.ots_server.specs.StepsInside.{HasGoneNext, HaveGoneSo}
 use Rattle.ots_server.specs.declared.telling.Told.{Told}
-use Rattle.ots_server.specs.Site.{moment, site}
+use Rattle.ots_server.specs.Site.{site}
+use Rattle.outward_calls.specs.Moment.{moment}
 use Rattle.ots_server.proofs.Told.{goes_first, goes_next, some_of}
 use Rattle.ots_server.proofs.ticking.tell_rest.Goals as goal
 

@@ -1,5 +1,6 @@
 use Rattle.std.proofs.Common.{◌≤◌}
-use Rattle.ots_server.specs.Site.{moment, site}
+use Rattle.ots_server.specs.Site.{site}
+use Rattle.outward_calls.specs.Moment.{moment}
 use Rattle.ots_server.specs.StepsInside.{HaveGoneSo}
 use Rattle.ots_server.proofs.ticking.tell_rest.Given as goal
 

@@ -1,16 +1,6 @@
--- The reply to a request, and in which order a request is refused (CORBA, General Inter-ORB Protocol, Reply Message; Transaction
--- Service 1.4, module CosTransactions): by its target, then as it is no call, then by the object that is called.
-use Rattle.std.specs.Prelude.{◌≡◌, ◌≢◌, ◌⊎◌, ◌&&◌, ◌||◌, ℕ, Bool, true, false, not, List, [], ◌∷◌, Option, Some, None, Ok, if◌then◌else◌}
-use Rattle.std.specs.Str.{bytes_eq}
-use Rattle.cdr_values.specs.declared.order.Order.TheVariants.{Big}
-use Rattle.giop_frames.specs.declared.message.Reply.{Reply}
-use Rattle.giop_frames.specs.declared.message.Request.{Request}
+-- What calls on the objects of a room are answered (Transaction Service 1.4, module CosTransactions).
+use Rattle.std.specs.Prelude.{◌≡◌, ◌≢◌, ◌≤◌, ◌⊎◌, ℕ, Bool, true, false, List, [], Option, Some, None, Ok, if◌then◌else◌}
 use Rattle.ior_refs.specs.declared.key.ObjectKey.{ObjectKey}
-use Rattle.ots_calls.specs.Answer.{IsOf}
-use Rattle.ots_calls.specs.AnswerWriting.{reply_of}
-use Rattle.ots_calls.specs.Call.{operation_of}
-use Rattle.ots_calls.specs.Request as requests
-use Rattle.ots_calls.specs.Request.{HasNoKey, IsFor, called_with}
 use Rattle.ots_calls.specs.declared.answer.Answer.{Answer}
 use Rattle.ots_calls.specs.declared.answer.Answer.TheVariants as answers
 use Rattle.ots_calls.specs.declared.answer.Completed.TheVariants as completed
@@ -18,10 +8,6 @@ use Rattle.ots_calls.specs.declared.answer.Given.TheVariants as given
 use Rattle.ots_calls.specs.declared.call.Call.{Call}
 use Rattle.ots_calls.specs.declared.call.Call.TheVariants as calls
 use Rattle.ots_calls.specs.declared.call.Called.{Called}
-use Rattle.ots_calls.specs.declared.fault.CallFault.{CallFault}
-use Rattle.ots_calls.specs.declared.fault.CallFault.TheVariants as faults
-use Rattle.ots_calls.specs.declared.operation.Bare.TheVariants as bares
-use Rattle.ots_calls.specs.declared.operation.Operation.{Operation}
 use Rattle.ots_calls.specs.declared.system.SystemException.{SystemException}
 use Rattle.ots_calls.specs.declared.system.SystemException.TheVariants as systems
 use Rattle.ots_context.specs.declared.context.Context.{Context}
@@ -35,26 +21,14 @@ use Rattle.tree_room.specs.Room.{RoomState}
 use Rattle.tree_room.specs.declared.fault.RoomFault.{RoomFault}
 use Rattle.tree_room.specs.declared.fault.RoomFault.TheVariants as refusals
 use Rattle.ots_server.specs.Acts.{IsActOf}
-use Rattle.ots_server.specs.References.{aware_id, factory_key, object_id, reference_to, resource_id, type_id_of}
 use Rattle.ots_server.specs.Said.{answer_of}
-use Rattle.ots_server.specs.Site.{Answers, LinkMoment, Refuses, Site}
+use Rattle.ots_server.specs.Site.{Answers, Refuses, Site}
 use Rattle.ots_server.specs.Telling.{HaveGone, Telling, is_starved, said_in_the_end}
+use Rattle.ots_sessions.specs.References.{factory_key, reference_to}
+use Rattle.ots_sessions.specs.Replies.{without_step}
+use Rattle.outward_calls.specs.Moment.{LinkMoment}
 
 -- ---- refusals
-
--- the exception of a request that is no call
-abbrev pub exception_of : CallFault → SystemException
-exception_of faults.BadOperation = systems.BadOperation
-exception_of (faults.Marshal fault) = systems.Marshal
-exception_of (faults.Garbled fault) = systems.Marshal
-exception_of faults.BadParam = systems.BadParam
-exception_of faults.BadTarget = systems.ObjectNotExist
-exception_of faults.BadKey = systems.ObjectNotExist
-exception_of faults.Memory = systems.NoMemory
-
--- a system exception of a call that has done nothing
-abbrev pub without_step : SystemException → Answer
-without_step exception = answers.System exception 0 completed.No
 
 -- the exception of a call that the room refuses
 abbrev pub exception_by : RoomFault → SystemException
@@ -66,32 +40,14 @@ exception_by refusals.Memory = systems.NoMemory
 abbrev pub refused_by : RoomFault → Answer
 refused_by fault = without_step (exception_by fault)
 
--- NEEDS_ADDRESSING_MODE: a key is wanted (KeyAddr)
-abbrev pub wants_key : ℕ → Reply
-wants_key id = record { id = id; status = 5; contexts = []; order = Big; body = 0 ∷ 0 ∷ [] }
-
--- ---- calls
-
--- the interface with this repository id is, or is derived from, the one with another
-abbrev pub derives : List ℕ → List ℕ → Bool
-derives type_id id = bytes_eq id type_id || (bytes_eq id object_id || (bytes_eq type_id aware_id && bytes_eq id resource_id))
-
--- objects with keys of this kind have the interface of this repository id
-abbrev pub has_interface : ℕ → List ℕ → Bool
-has_interface kind id = derives (type_id_of kind) id
+-- ---- which objects there are
 
 -- whether there is the object that a key names: the factory is, and of the others the room tells it
 pub record IsThere (D : Type 0) (room : RoomState) (key : ObjectKey) (there : Bool) : Type 0 where
   pub factory : key ≡ factory_key room.service → there ≡ true
   pub others : key ≢ factory_key room.service → IsThereBy D room.service room.life key there
 
--- what `_non_existent` and `_is_a` are answered
-abbrev pub absent : Bool → Answer
-absent there = answers.Plain (given.Flag (not there))
-
-abbrev pub is_a : Bool → ℕ → List ℕ → Answer
-is_a there kind id =
-    if there then answers.Plain (given.Flag (has_interface kind id)) else without_step systems.ObjectNotExist
+-- ---- the factory
 
 -- the control of a transaction that was made with this coordinator
 abbrev pub control : RoomState → ObjectKey → Answer
@@ -108,10 +64,8 @@ pub record IsOfFactory (service : ℕ) (key : ObjectKey) (a : Answer) (Own : Typ
   pub own : key ≡ factory_key service → Own
   pub foreign : key ≢ factory_key service → a ≡ without_step systems.ObjectNotExist
 
--- what a call is answered at a moment that brings no words: one of the factory, or of every object
+-- what a call on the factory is answered at a moment; it brings no words
 abbrev pub AnswersAlone : (D : Type 0) → RoomState → ℕ → ObjectKey → Call → Answer → Type 0
-AnswersAlone D room now key (calls.Bare bares.NonExistent) a = (there : Bool) × IsThere D room key there × (a ≡ absent there)
-AnswersAlone D room now key (calls.IsA id) a = (there : Bool) × IsThere D room key there × (a ≡ is_a there key.kind id)
 AnswersAlone D room now key (calls.Create seconds) a = IsOfFactory room.service key a (IsCreation D room now seconds a)
 AnswersAlone D room now key (calls.Recreate context) a = IsOfFactory room.service key a (a ≡ without_step systems.NoImplement)
 AnswersAlone D room now key call a = ⊥
@@ -160,10 +114,8 @@ pub record IsAnsweredAlone {D : Type 0} (s : Site D) (now : ℕ) (called : Calle
   pub answers : AnswersAlone D s.room now called.key called.call a
   pub unsaid : after ≡ before
 
--- a call goes to no object of a transaction: it is one of the factory, or of every object
+-- a call goes to no object of a transaction: it is one of the factory
 abbrev pub is_alone : Call → Bool
-is_alone (calls.Bare bares.NonExistent) = true
-is_alone (calls.IsA id) = true
 is_alone (calls.Create seconds) = true
 is_alone (calls.Recreate context) = true
 is_alone call = false
@@ -176,37 +128,9 @@ AnswersBy false s now called before after a = IsStepped s now called before afte
 abbrev pub AnswersCall : {D : Type 0} → Site D → ℕ → Called → LinkMoment → LinkMoment → Answer → Type 0
 AnswersCall s now called before after a = AnswersBy (is_alone called.call) s now called before after a
 
--- ---- replies
-
--- the target of a request is a key, but it is no call, and is refused by the first cause
-pub record IsRefusal (r : Request) (reply : Reply) : Type 0 where
-  pub keyed : ¬ HasNoKey r.target
-  pub fault : CallFault
-  pub cause : requests.Refuses fault r
-  pub reply_is : reply_of r.id (without_step (exception_of fault)) ≡ Ok reply
-
--- an answer is told as it is, where it is one of the operation's, and else as BAD_PARAM: it may be that of an earlier call of
--- another operation, with the same retry key
-pub record IsTold (operation : Operation) (answer told : Answer) : Type 0 where
-  pub own : IsOf operation answer → told ≡ answer
-  pub foreign : ¬ IsOf operation answer → told ≡ without_step systems.BadParam
-
--- the request is a call, and is answered
-pub record IsAnswered {D : Type 0} (s : Site D) (now : ℕ) (r : Request) (before after : LinkMoment) (reply : Reply) : Type 0 where
-  pub called : Called
-  pub key : IsFor called.key r.target
-  pub read : called_with called.key r ≡ Ok called
-  pub answer : Answer
-  pub answers : AnswersCall s now called before after answer
-  pub told : Answer
-  pub told_is : IsTold (operation_of called.call) answer told
-  pub reply_is : reply_of r.id told ≡ Ok reply
-
--- a request that is answered without a step: its target is no key, or it is no call
-abbrev pub IsUncalled : Request → Reply → Type 0
-IsUncalled r reply = (HasNoKey r.target × (reply ≡ wants_key r.id)) ⊎ IsRefusal r reply
-
--- the reply to a request at a moment, and what has gone over the link
-abbrev pub IsReply : {D : Type 0} → Site D → ℕ → Request → LinkMoment → LinkMoment → Reply → Type 0
-IsReply s now r before after reply =
-    (IsUncalled r reply × (after ≡ before)) ⊎ IsAnswered s now r before after reply
+-- what it is answered, at a moment that the clock told meanwhile
+pub record AnswersWithin {D : Type 0} (s : Site D) (called : Called) (first last : ℕ) (before after : LinkMoment) (a : Answer) : Type 0 where
+  pub now : ℕ
+  pub begins : first ≤ now
+  pub ends : now ≤ last
+  pub answers_call : AnswersCall s now called before after a
