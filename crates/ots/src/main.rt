@@ -1,6 +1,9 @@
 //! `ots replay` replays the script on standard input, and tells on standard output what happened. `ots show` writes a
-//! line for each message of the octets on standard input. `ots serve` serves transactions to CORBA programs.
+//! line for each message of the octets on standard input. `ots serve` serves transactions to CORBA programs, and `ots resource`
+//! cells that take part in them.
 #![tactic(auto)]
+
+ghost use Rattle.std.specs.Prelude.{◌≡◌, IfOk, length};
 
 use ots_outside::{
     Address, LockedFile, Spawner, StdSink, StdSource, SystemClock, TcpDoor, TcpLink,
@@ -20,7 +23,7 @@ fn main(rt: HostRuntime) -> Status {
         Err(status) => return status,
     };
     let service = match Command::of(words.as_slice()) {
-        Some(Command::Serve(service)) => Some(service),
+        Some(Command::Serve(service) | Command::Resource(service)) => Some(service),
         _ => None,
     };
     let (Ok(links), Ok(clocks), Ok(door)) = (
@@ -42,25 +45,29 @@ fn main(rt: HostRuntime) -> Status {
     run(&rt, alloc, words.as_slice(), &mut devices)
 }
 
-/// A link over TCP for each worker of a service.
+/// A link over TCP for each session of a service, and for its ticks.
 fn links_over<R: Net + Clock + Copy + Drop>(
     alloc: Global,
     rt: R,
-) -> Result<Vec<TcpLink<R>>, AllocError> {
+) -> Result<Vec<TcpLink<R>>, AllocError>
+    ensures { IfOk result (λ links. length links.items ≡ 65) }
+{
     let mut links = Vec::with_capacity(alloc, SERVER_COUNT as usize)?;
-    for _ in 0..SERVER_COUNT {
+    for number in 0..SERVER_COUNT {
         links.push(TcpLink::new(rt, alloc))?;
     }
     Ok(links)
 }
 
-/// The system's clock for each worker of a service.
+/// The system's clock for each session of a service, and for its ticks.
 fn clocks_of<R: Clock + Copy + Drop>(
     alloc: Global,
     rt: R,
-) -> Result<Vec<SystemClock<R>>, AllocError> {
+) -> Result<Vec<SystemClock<R>>, AllocError>
+    ensures { IfOk result (λ clocks. length clocks.items ≡ 65) }
+{
     let mut clocks = Vec::with_capacity(alloc, SERVER_COUNT as usize)?;
-    for _ in 0..SERVER_COUNT {
+    for number in 0..SERVER_COUNT {
         clocks.push(SystemClock::new(rt))?;
     }
     Ok(clocks)

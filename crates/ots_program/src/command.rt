@@ -2,12 +2,13 @@ ghost use Rattle.std.specs.Prelude.{◌≡◌, ◌⊎◌, [], ◌∷◌, IfNone,
 ghost use Rattle.ots_outside.specs.Source.{HasRisen};
 ghost use Rattle.ots_outside.specs.Spawning.{refused, started};
 ghost use Rattle.ots_program.specs.Answers.{HasReadFault, HasWriteFault, IsDoneAtEnd, Replays};
-ghost use Rattle.ots_program.specs.Serve.{HasServed, IsUnloaded, OfService, TellsLine, line_of};
+ghost use Rattle.ots_program.specs.Serve.{HasServed, HasTwo, IsUnloaded, IsUnloadedEnd, OfService, TellsLine, cells_line, factory_line};
 ghost use Rattle.ots_program.specs.Show.{Shows};
-ghost use Rattle.ots_program.specs.Words.{Asks, AsksNothing, IsReplay, IsServe, IsShow, IsUsage, Serving, asked_by};
+ghost use Rattle.ots_program.specs.Words.{Asks, AsksNothing, IsReplay, IsResource, IsServe, IsService, IsShow, IsUsage, Serving, asked_by};
 
 use crate::devices::{Devices, Word};
 use crate::replay::replay_script;
+use crate::resource::serve_end;
 use crate::serve::{Service, serve};
 use crate::show::show_messages;
 use crate::status::Status;
@@ -25,6 +26,8 @@ pub enum Command<'a> {
     Show,
     /// Transactions are served.
     Serve(Service<'a>),
+    /// A resource end is served.
+    Resource(Service<'a>),
 }
 
 impl<'a> Command<'a> {
@@ -38,6 +41,12 @@ impl<'a> Command<'a> {
             [word, number, file, host, port] if word.bytes() == b"serve".as_slice() => {
                 match Service::of(number, file, host, port) {
                     Some(service) => Some(Command::Serve(service)),
+                    None => None,
+                }
+            }
+            [word, number, file, host, port] if word.bytes() == b"resource".as_slice() => {
+                match Service::of(number, file, host, port) {
+                    Some(service) => Some(Command::Resource(service)),
                     None => None,
                 }
             }
@@ -62,7 +71,7 @@ impl<'a> Command<'a> {
 
 /// Carries out the command line on its devices. A show may have to wait for its source, and a service serves until its door
 /// ends: the clauses hold if it returns.
-#[tactic(auto, using(crate::proofs::Serving::host_of))]
+#[tactic(auto, using(crate::proofs::Serving::host_of, crate::proofs::Serving::two_of, crate::proofs::Serving::two_of_end))]
 pub fn run<
     R: Wait + Threads + Copy + Send + Sync + Drop + 'static,
     S: Source,
@@ -72,6 +81,9 @@ pub fn run<
     L: Link + Send + Drop + 'static,
     C: Clock + Send + Drop + 'static,
 >(rt: &R, alloc: Global, words: &[Word], devices: &mut Devices<S, K, D, O, L, C, R>) -> Status
+    // What serves has links and clocks for its sessions and for its ticks.
+    requires two { (service : Serving) → IsService words.now service → HasTwo devices.old }
+
     // Usage comes exactly where the words are no command line, and then the devices are as they were.
     ensures usage { IsUsage result words.now }
     ensures idle { result ≡ Status.Usage → devices.new ≡ devices.old }
@@ -85,15 +97,17 @@ pub fn run<
     // Done comes once the source was read to its end, or, of a service, once its door has ended.
     ensures end { IsReplay words.now ⊎ IsShow words.now
         → IsDoneAtEnd result (S.remaining devices.old.source) (S.remaining devices.new.source) }
-    ensures served { (service : Serving) → IsServe words.now service → result ≡ Status.Done
+    ensures served { (service : Serving) → IsService words.now service → result ≡ Status.Done
         → HasServed (O.ended devices.new.door) (O.given devices.old.door) (O.given devices.new.door)
         (started devices.old.spawner) (started devices.new.spawner)
         (refused devices.old.spawner) (refused devices.new.spawner) }
 
     // A service ends by a status of its own, and what it has written then.
-    ensures of_service { (service : Serving) → IsServe words.now service → OfService result }
-    ensures tells { (service : Serving) → IsServe words.now service
-        → TellsLine result (line_of service) (K.taken devices.old.sink) (K.taken devices.new.sink) }
+    ensures of_service { (service : Serving) → IsService words.now service → OfService result }
+    ensures tells_factory { (service : Serving) → IsServe words.now service
+        → TellsLine result (factory_line service) (K.taken devices.old.sink) (K.taken devices.new.sink) }
+    ensures tells_cells { (service : Serving) → IsResource words.now service
+        → TellsLine result (cells_line service) (K.taken devices.old.sink) (K.taken devices.new.sink) }
 
     // A fault of a device is told exactly where that device has failed, and that of a door only there.
     ensures read_fault { HasReadFault result (S.faults devices.old.source) (S.faults devices.new.source) }
@@ -103,7 +117,9 @@ pub fn run<
 
     // Why a service has loaded nothing from its disk.
     ensures unloaded { (service : Serving) → IsServe words.now service
-        → IsUnloaded D.told D.faults result service.number devices.old.disk devices.new.disk }
+        → IsUnloaded D.told D.faults service.number result devices.old.disk devices.new.disk }
+    ensures unloaded_end { (service : Serving) → IsResource words.now service
+        → IsUnloadedEnd D.told D.faults service.number result devices.old.disk devices.new.disk }
 {
     let Some(command) = Command::of(words) else {
         return Status::Usage;
@@ -112,10 +128,11 @@ pub fn run<
         Command::Replay => replay_script(alloc, &mut devices.source, &mut devices.sink),
         Command::Show => show_messages(rt, alloc, &mut devices.source, &mut devices.sink),
         Command::Serve(service) => serve(rt, alloc, &service, devices),
+        Command::Resource(service) => serve_end(rt, alloc, &service, devices),
     }
 }
 
-/// Carries out a command line that is no `show` and no `serve` on a source and a sink. It returns.
+/// Carries out a command line that is no `show`, no `serve` and no `resource` on a source and a sink. It returns.
 pub fn run_plain<S: Source, K: Sink>(
     alloc: Global,
     words: &[Word],
@@ -123,7 +140,7 @@ pub fn run_plain<S: Source, K: Sink>(
     sink: &mut K,
 ) -> Status
     requires plain { ¬ (IsShow words.now) }
-    requires idle { (service : Serving) → ¬ (IsServe words.now service) }
+    requires idle { (service : Serving) → ¬ (IsService words.now service) }
 
     // Usage comes exactly where the words are no command line, and then the devices are as they were.
     ensures usage { IsUsage result words.now }
@@ -143,7 +160,7 @@ pub fn run_plain<S: Source, K: Sink>(
 {
     match Command::of(words) {
         Some(Command::Replay) => replay_script(alloc, source, sink),
-        Some(Command::Show | Command::Serve(_)) => unreachable!(),
+        Some(Command::Show | Command::Serve(_) | Command::Resource(_)) => unreachable!(),
         None => Status::Usage,
     }
 }

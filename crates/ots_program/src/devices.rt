@@ -1,7 +1,9 @@
 ghost use Rattle.std.specs.Prelude.{◌≡◌};
 
 use ots_outside::Spawner;
+use std::alloc::Global;
 use std::marker::Model;
+use std::mem;
 
 /// A word of the command line, as octets. Contracts see it as the list of them.
 #[derive(Debug, Drop)]
@@ -50,4 +52,17 @@ pub struct Devices<S, K, D, O, L, C, R> {
     pub clocks: Vec<C>,
     /// What starts the sessions of a service.
     pub spawner: Spawner<R>,
+}
+
+impl<S, K, D, O, L: Drop, C: Drop, R> Devices<S, K, D, O, L, C, R> {
+    /// Takes the links and the clocks. None are left.
+    pub(crate) fn take_workers(&mut self, alloc: Global) -> (Vec<L>, Vec<C>)
+        ensures links { (result.0).items ≡ (self.old.links).items }
+        ensures clocks { (result.1).items ≡ (self.old.clocks).items }
+        ensures others { self.new ≡ record self.old { links = self.new.links; clocks = self.new.clocks } }
+    {
+        let links = mem::replace(&mut self.links, Vec::new(alloc));
+        let clocks = mem::replace(&mut self.clocks, Vec::new(alloc));
+        (links, clocks)
+    }
 }

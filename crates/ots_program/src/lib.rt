@@ -13,6 +13,7 @@ pub use show::show_messages;
 pub use status::Status;
 
 mod arguments;
+mod attending;
 mod command;
 mod devices;
 mod digits;
@@ -23,6 +24,7 @@ mod message_line;
 mod output;
 mod player;
 mod replay;
+mod resource;
 mod serve;
 mod show;
 mod status;

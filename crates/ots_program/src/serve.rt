@@ -1,33 +1,29 @@
-ghost use Rattle.std.specs.Prelude.{◌≡◌, ◌≢◌, Err, IfErr, IfNone, IfOk, IfSome, OnOk};
+ghost use Rattle.std.specs.Prelude.{◌≡◌, ◌≢◌, IfErr, IfNone, IfSome};
 ghost use Rattle.ots_outside.specs.Source.{HasRisen};
 ghost use Rattle.ots_outside.specs.Spawning.{refused, started};
-ghost use Rattle.ots_outside.specs.Sink.{Takes};
-ghost use Rattle.ots_program.specs.Serve.{HasServed, IsUnloaded, TellsLine, is_of_load, is_of_session, is_of_telling, line_of, OfService, reference_line, status_by, status_of_load};
+ghost use Rattle.ots_program.specs.Serve.{HasServed, HasTwo, IsUnloaded, OfService, TellsLine, factory_line, is_of_load, is_of_session, status_of_load};
 ghost use Rattle.tree_room.specs.Room as rooms;
 ghost use Rattle.ots_program.specs.Words.{IsNamed, IsServed, Serving, served};
 
+use crate::attending::{attend, endpoint_of, reference_line};
 use crate::devices::{Devices, Word};
 use crate::digits::number_in;
+use crate::limits::AREA_LIMIT;
 use crate::status::Status;
 use coordinator::NodeFault;
-use decision_journal::JournalFault;
-use ior_refs::print_ior;
-use ots_model::{Endpoint, Octets};
 use ots_outside::{Clock, Disk, Door, Link, Sink};
-use ots_server::{ServeEnd, ServeFault, Worker, factory_reference, serve_sessions};
+use ots_server::servants_of;
+use ots_sessions::factory_key;
 use service_node::Node;
-use std::alloc::{AllocError, Global};
+use std::alloc::Global;
 use std::marker::Brand;
 use std::str;
-use std::sync::Wait;
+use std::sync::{Arc, Wait};
 use std::thread::Threads;
-use tree_room::{Naming, Opened, Pass, Room};
+use tree_room::{Naming, Opened, Room};
 
 /// How many sessions are served at once, and one more for ticks.
 pub const SERVER_COUNT: u32 = 65;
-
-/// How many octets a journal has at most.
-const AREA: u64 = 67_108_864;
 
 /// How many octets a name of a file or of a host has at most.
 const NAME_LIMIT: usize = 255;
@@ -79,29 +75,15 @@ fn name_in(octets: &[u8]) -> Option<&str>
     }
 }
 
+/// Where a node isn't loaded.
 impl From<NodeFault> for Status {
     ghost from_gives = { λ fault status. status ≡ status_of_load fault };
 
     fn from(fault: NodeFault) -> Status {
         match fault {
-            NodeFault::Journal(JournalFault::DiskFault) => Status::DiskFault,
-            NodeFault::Journal(JournalFault::Full { .. }) => Status::Limit(0, AREA),
-            NodeFault::Journal(JournalFault::BadHeader(place) | JournalFault::BadRecord(place)) => {
-                Status::BadJournal(place)
-            }
-            NodeFault::Journal(JournalFault::LivesSpent) => Status::BadJournal(0),
+            NodeFault::Journal(fault) => fault.into(),
             _ => Status::Memory,
         }
-    }
-}
-
-impl From<ServeFault> for Status {
-    ghost use Rattle.ots_program.specs.declared.status.Status.TheVariants.{Memory};
-
-    ghost from_gives = { λ _ status. status ≡ Memory };
-
-    fn from(_fault: ServeFault) -> Status {
-        Status::Memory
     }
 }
 
@@ -109,7 +91,7 @@ impl From<ServeFault> for Status {
 /// line.
 #[tactic(auto, using(crate::proofs::Serving::untold))]
 pub(crate) fn serve<
-    R: Wait + Threads + Copy + Send + Drop + 'static,
+    R: Wait + Threads + Copy + Send + Sync + Drop + 'static,
     S,
     K: Sink,
     D: Disk + Send + Drop + 'static,
@@ -123,7 +105,8 @@ pub(crate) fn serve<
     devices: &mut Devices<S, K, D, O, L, C, R>,
 ) -> Status
     requires host { IsNamed ((service.now).host).now }
-    ensures disk_fault { IsUnloaded D.told D.faults result (service.now).number devices.old.disk devices.new.disk }
+    requires two { HasTwo devices.old }
+    ensures disk_fault { IsUnloaded D.told D.faults (service.now).number result devices.old.disk devices.new.disk }
     ensures door_fault { result ≡ Status.DoorFault
         → HasRisen (O.faults devices.old.door) (O.faults devices.new.door) }
     ensures write_fault { result ≡ Status.WriteFault
@@ -133,7 +116,7 @@ pub(crate) fn serve<
         (started devices.old.spawner) (started devices.new.spawner)
         (refused devices.old.spawner) (refused devices.new.spawner) }
     ensures kind { OfService result }
-    ensures told { TellsLine result (line_of (served service.now)) (K.taken devices.old.sink) (K.taken devices.new.sink) }
+    ensures told { TellsLine result (factory_line (served service.now)) (K.taken devices.old.sink) (K.taken devices.new.sink) }
     ensures idle { devices.new.source ≡ devices.old.source }
     ensures calm { result ≢ Status.WriteFault → K.faults devices.new.sink ≡ K.faults devices.old.sink }
 {
@@ -144,12 +127,13 @@ pub(crate) fn serve<
 }
 
 /// The node of the service, by the journal on the disk. A load that is refused puts the disk back.
+#[tactic(auto, using(crate::proofs::Serving::unloaded))]
 fn load<S, K, D: Disk + Drop, O, L, C, R>(
     alloc: Global,
     service: &Service<'_>,
     devices: &mut Devices<S, K, D, O, L, C, R>,
 ) -> Result<Node<D>, Status>
-    ensures unloaded { IfErr result (λ status. IsUnloaded D.told D.faults status (service.now).number
+    ensures unloaded { IfErr result (λ status. IsUnloaded D.told D.faults (service.now).number status
         devices.old.disk devices.new.disk) }
     ensures kind { IfErr result is_of_load }
     ensures others { devices.new ≡ record devices.old { disk = devices.new.disk } }
@@ -157,7 +141,7 @@ fn load<S, K, D: Disk + Drop, O, L, C, R>(
     let Some(disk) = devices.disk.take() else {
         return Err(Status::DiskFault);
     };
-    match Node::load(alloc, disk, AREA, service.number) {
+    match Node::load(alloc, disk, AREA_LIMIT, service.number) {
         Ok(node) => Ok(node),
         Err(back) => {
             devices.disk = Some(back.value);
@@ -167,10 +151,10 @@ fn load<S, K, D: Disk + Drop, O, L, C, R>(
 }
 
 /// Serves a node, in a room of its name.
-#[tactic(auto, using(crate::proofs::Serving::can_be_told))]
+#[tactic(auto, using(crate::proofs::Serving::can_be_told, crate::proofs::Serving::told_as, crate::proofs::Serving::two_in_room))]
 fn open<
     N: Naming + Send + Sync + 'static,
-    R: Wait + Threads + Copy + Send + Drop + 'static,
+    R: Wait + Threads + Copy + Send + Sync + Drop + 'static,
     S,
     K: Sink,
     D: Disk + Send + Drop + 'static,
@@ -185,9 +169,10 @@ fn open<
     devices: &mut Devices<S, K, D, O, L, C, R>,
 ) -> Status
     requires host { IsNamed ((service.now).host).now }
+    requires two { HasTwo devices.old }
     requires named { rooms.IsNamed N.service N.life node }
     ensures kind { is_of_session result }
-    ensures told { TellsLine result (line_of (served service.now)) (K.taken devices.old.sink) (K.taken devices.new.sink) }
+    ensures told { TellsLine result (factory_line (served service.now)) (K.taken devices.old.sink) (K.taken devices.new.sink) }
     ensures door_fault { result ≡ Status.DoorFault
         → HasRisen (O.faults devices.old.door) (O.faults devices.new.door) }
     ensures write_fault { result ≡ Status.WriteFault
@@ -199,132 +184,22 @@ fn open<
     ensures idle { devices.new.source ≡ devices.old.source }
     ensures calm { result ≢ Status.WriteFault → K.faults devices.new.sink ≡ K.faults devices.old.sink }
 {
-    let Ok(host) = Octets::new(alloc, service.host.as_bytes()) else {
+    let Ok(at) = endpoint_of(alloc, service) else {
         return Status::Memory;
     };
-    let at = Endpoint {
-        host,
-        port: service.port,
+    let Ok(line) = reference_line(alloc, &at, &factory_key(service.number)) else {
+        return Status::Memory;
     };
-    match Room::<N, D>::new(alloc, node, at, SERVER_COUNT) {
-        Ok(opened) => serve_room(rt, alloc, service, opened, devices),
-        Err(_) => Status::Memory,
-    }
-}
-
-/// Serves the room.
-#[tactic(auto, using(crate::proofs::Serving::told_by))]
-fn serve_room<
-    N: Naming + Send + Sync + 'static,
-    R: Wait + Threads + Copy + Send + Drop + 'static,
-    S,
-    K: Sink,
-    D: Disk + Send + Drop + 'static,
-    O: Door,
-    L: Link + Send + Drop + 'static,
-    C: Clock + Send + Drop + 'static,
->(
-    rt: &R,
-    alloc: Global,
-    service: &Service<'_>,
-    opened: Opened<N, D>,
-    devices: &mut Devices<S, K, D, O, L, C, R>,
-) -> Status
-    ensures kind { is_of_session result }
-    ensures told { TellsLine result (reference_line ((opened.room).at) (service.now).number) (K.taken devices.old.sink) (K.taken devices.new.sink) }
-    ensures door_fault { result ≡ Status.DoorFault
-        → HasRisen (O.faults devices.old.door) (O.faults devices.new.door) }
-    ensures write_fault { result ≡ Status.WriteFault
-        → HasRisen (K.faults devices.old.sink) (K.faults devices.new.sink) }
-    ensures done { result ≡ Status.Done → HasServed (O.ended devices.new.door)
-        (O.given devices.old.door) (O.given devices.new.door)
-        (started devices.old.spawner) (started devices.new.spawner)
-        (refused devices.old.spawner) (refused devices.new.spawner) }
-    ensures idle { devices.new.source ≡ devices.old.source }
-    ensures calm { result ≢ Status.WriteFault → K.faults devices.new.sink ≡ K.faults devices.old.sink }
-{
+    let Ok(opened) = Room::<N, D>::new(alloc, node, at, SERVER_COUNT) else {
+        return Status::Memory;
+    };
     let Opened { room, passes } = opened;
-    let Ok(workers) = workers_of(alloc, passes, &mut devices.links, &mut devices.clocks) else {
+    let Ok(room) = Arc::new(alloc, room) else {
         return Status::Memory;
     };
-    if devices.door.open().is_err() {
-        return Status::DoorFault;
-    }
-    match tell_reference(alloc, room.at(), service.number, &mut devices.sink) {
-        Ok(()) => {}
-        Err(status) => return status,
-    }
-    serve_sessions(
-        rt,
-        alloc,
-        room,
-        workers,
-        &mut devices.door,
-        &mut devices.spawner,
-    )
-    .into()
-}
-
-/// How the program ends where a service ends so.
-impl From<ServeEnd> for Status {
-    ghost from_gives = { λ end status. status ≡ status_by end };
-
-    fn from(end: ServeEnd) -> Status {
-        match end {
-            ServeEnd::Ended => Status::Done,
-            ServeEnd::DoorFault => Status::DoorFault,
-            ServeEnd::Memory => Status::Memory,
-        }
-    }
-}
-
-/// A worker for each pass, link and clock.
-fn workers_of<L: Drop, C: Drop>(
-    alloc: Global,
-    passes: Vec<Pass>,
-    links: &mut Vec<L>,
-    clocks: &mut Vec<C>,
-) -> Result<Vec<Worker<L, C>>, AllocError> {
-    let mut workers = Vec::with_capacity(alloc, passes.len())?;
-    for pass in passes {
-        if let (Some(link), Some(clock)) = (links.pop(), clocks.pop()) {
-            workers.push(Worker { pass, link, clock })?;
-        }
-    }
-    Ok(workers)
-}
-
-/// Writes the reference of the factory as one line.
-fn tell_reference<K: Sink>(
-    alloc: Global,
-    at: &Endpoint,
-    service: u64,
-    sink: &mut K,
-) -> Result<(), Status>
-    ensures kind { IfErr result is_of_telling }
-    ensures told { OnOk result (Takes (K.taken sink.old) (reference_line at.now service) (K.taken sink.new)) }
-    ensures untold { IfErr result (λ status. TellsLine status (reference_line at.now service)
-        (K.taken sink.old) (K.taken sink.new)) }
-    ensures cause { result ≡ Err Status.WriteFault → HasRisen (K.faults sink.old) (K.faults sink.new) }
-    ensures calm { result ≢ Err Status.WriteFault → K.faults sink.new ≡ K.faults sink.old }
-{
-    let line = reference_line(alloc, at, service)?;
-    match sink.write(line.as_slice()) {
-        Ok(()) => Ok(()),
-        Err(_) => Err(Status::WriteFault),
-    }
-}
-
-/// The line.
-fn reference_line(alloc: Global, at: &Endpoint, service: u64) -> Result<Vec<u8>, Status>
-    ensures line { IfOk result (λ line. line.items ≡ reference_line at.now service) }
-    ensures memory { IfErr result (λ status. status ≡ Status.Memory) }
-{
-    let reference = factory_reference(alloc, at, service)?;
-    let text = print_ior(alloc, &reference)?;
-    let mut line = text.bytes().to_vec(alloc)?;
-    match line.push(b'\n') {
-        Ok(()) => Ok(line),
-        Err(_) => Err(Status::Memory),
-    }
+    let (links, clocks) = devices.take_workers(alloc);
+    let Ok(servants) = servants_of(rt, alloc, &room, passes, links, clocks) else {
+        return Status::Memory;
+    };
+    attend(rt, alloc, line.as_slice(), servants, devices)
 }

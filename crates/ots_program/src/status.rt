@@ -1,6 +1,8 @@
 ghost use Rattle.std.specs.Prelude.{◌≡◌};
 
+use crate::limits::AREA_LIMIT;
 use crate::player::Stop;
+use decision_journal::JournalFault;
 use giop_frames::FrameFault;
 use std::alloc::AllocError;
 use std::fmt;
@@ -116,5 +118,24 @@ impl From<AllocError> for Status {
 
     fn from(_error: AllocError) -> Status {
         Status::Memory
+    }
+}
+
+/// Where a journal isn't loaded.
+impl From<JournalFault> for Status {
+    ghost use Rattle.ots_program.specs.Serve.{status_of_journal};
+
+    ghost from_gives = { λ fault status. status ≡ status_of_journal fault };
+
+    fn from(fault: JournalFault) -> Status {
+        match fault {
+            JournalFault::DiskFault => Status::DiskFault,
+            JournalFault::Full { .. } => Status::Limit(0, AREA_LIMIT),
+            JournalFault::BadHeader(place) | JournalFault::BadRecord(place) => {
+                Status::BadJournal(place)
+            }
+            JournalFault::LivesSpent => Status::BadJournal(0),
+            JournalFault::Memory => Status::Memory,
+        }
     }
 }

@@ -1,5 +1,6 @@
-ghost use Rattle.std.specs.Prelude.{IsTrue};
-ghost use Rattle.ots_program.specs.Words.{IsServe, IsShow, Serving};
+ghost use Rattle.std.specs.Prelude.{IfOk, IsTrue};
+ghost use Rattle.ots_program.specs.Serve.{HasTwo};
+ghost use Rattle.ots_program.specs.Words.{IsService, IsShow, Serving};
 
 use crate::pieces::Pieces;
 use crate::service::PortDoor;
@@ -175,7 +176,9 @@ impl Case {
         &self,
         alloc: Global,
         input: &[u8],
-    ) -> io::Result<MemDevices<R>> {
+    ) -> io::Result<MemDevices<R>>
+        ensures { IfOk result HasTwo }
+    {
         let source = MemSource::new(input.to_vec(alloc)?, self.failing_reads.clone()?);
         let disk = MemDisk::new(alloc, self.disk.clone()?, self.failing_disk.clone()?)?;
         let door = MemDoor::new(VecDeque::new(alloc), self.failing_door.clone()?);
@@ -221,15 +224,17 @@ fn show_line(shown: &mut Vec<u8>, line: &[u8]) -> io::Result<()> {
     Ok(())
 }
 
-/// Whether these words ask for no show, and not for a service.
+/// Whether these words ask for no show and for no service.
 fn is_plain(words: &[Word]) -> bool
     ensures show { IsTrue result → ¬ (IsShow words.now) }
-    ensures serve { IsTrue result → (service : Serving) → ¬ (IsServe words.now service) }
+    ensures serve { IsTrue result → (service : Serving) → ¬ (IsService words.now service) }
 {
     match words {
         [] => true,
         [word] => word.bytes() != b"show".as_slice(),
-        [word, ..] => word.bytes() != b"serve".as_slice(),
+        [word, ..] => {
+            word.bytes() != b"serve".as_slice() && word.bytes() != b"resource".as_slice()
+        }
     }
 }
 

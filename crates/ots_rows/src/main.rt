@@ -1,5 +1,5 @@
 //! Runs the cases on standard input, each with devices in memory, and tells what came of it. A service has a door at which
-//! nobody waits, a link and a clock for each of two workers, and turns a job once, as it is started.
+//! nobody waits, a link and a clock for its sessions and for its ticks, and turns a job once, as it is started.
 //!
 //! A case begins with a line `== WORDS | PART | PART ..`. The words are the command line, or one of these, which is no
 //! command:

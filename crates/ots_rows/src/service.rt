@@ -1,27 +1,24 @@
-//! What a service has in memory: a door, and two workers, one for its sessions and one for its ticks.
+//! What a service has in memory: a door, and a link and a clock for its sessions, and for its ticks.
+
+ghost use Rattle.std.specs.Prelude.{◌≤◌, IfOk, length};
 
 use ots_outside::{Door, Failed, MemClock, MemConn, MemDoor, MemLink};
 use std::alloc::{AllocError, Global};
 
-/// How many workers there are.
-const WORKERS: u64 = 2;
-
-/// A link for each worker. None is answered.
-pub fn links(alloc: Global) -> Result<Vec<MemLink>, AllocError> {
-    let mut links = Vec::new(alloc);
-    for _ in 0..WORKERS {
-        links.push(MemLink::new(alloc, Vec::new(alloc), Vec::new(alloc)))?;
-    }
-    Ok(links)
+/// A link for sessions, and one for ticks. None is answered.
+pub fn links(alloc: Global) -> Result<Vec<MemLink>, AllocError>
+    ensures { IfOk result (λ links. 2 ≤ length links.items) }
+{
+    let sessions = MemLink::new(alloc, Vec::new(alloc), Vec::new(alloc));
+    let ticks = MemLink::new(alloc, Vec::new(alloc), Vec::new(alloc));
+    Ok(vec![in alloc; sessions, ticks]?)
 }
 
-/// A clock for each worker.
-pub fn clocks(alloc: Global) -> Result<Vec<MemClock>, AllocError> {
-    let mut clocks = Vec::new(alloc);
-    for _ in 0..WORKERS {
-        clocks.push(MemClock::new(0))?;
-    }
-    Ok(clocks)
+/// A clock for sessions, and one for ticks.
+pub fn clocks(alloc: Global) -> Result<Vec<MemClock>, AllocError>
+    ensures { IfOk result (λ clocks. 2 ≤ length clocks.items) }
+{
+    Ok(vec![in alloc; MemClock::new(0), MemClock::new(0)]?)
 }
 
 /// A door in memory, which can't be opened where its port is in use.
