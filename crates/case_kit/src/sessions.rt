@@ -1,33 +1,26 @@
 //! Sessions over devices in memory.
 
-use crate::client::{Asked, Batch};
-use crate::kept_disk::KeptDisk;
-use crate::links::{Gate, HeldLink};
+use crate::client::Asked;
+use crate::house::Host;
+use crate::links::Gate;
 use crate::tell::tell_replies;
+use crate::text::known;
 use crate::told_door::{Sent, ToldDoor};
-use ots_outside::{MemClock, MemConn, MemDoor, MemLink, MemSink, MemSource, Spawner};
-use ots_server::{ServeEnd, SessionEnd, Worker, serve_session, serve_sessions};
+use ots_outside::{Door, MemConn, MemDoor, MemSink, MemSource, Spawner};
+use ots_sessions::{Servant, ServeEnd, SessionEnd, serve_session, serve_sessions};
 use std::alloc::Global;
 use std::collections::VecDeque;
 use std::io::Write;
-use std::sync::{Arc, Wait};
-use std::thread::Threads;
 use std::{io, thread};
-use tree_room::{Naming, Pass, Room};
 
 /// How often a job of a service is turned at most.
 const TURNS: u64 = 4;
 
-/// What sessions run on.
-pub trait Host: Wait + Threads + Copy + Send + Sync + Drop + 'static {}
-
-impl<R: Wait + Threads + Copy + Send + Sync + Drop + 'static> Host for R {}
-
 /// A session.
 #[derive(Drop)]
-pub struct Session<'a> {
-    /// What it is served with.
-    pub worker: Worker<HeldLink, MemClock>,
+pub struct Session<'a, S> {
+    /// What serves it.
+    pub server: S,
     /// What the client sends and is sent.
     pub conn: MemConn,
     /// What the client asks.
@@ -36,44 +29,27 @@ pub struct Session<'a> {
     pub end: Option<SessionEnd>,
 }
 
-impl<'a> Session<'a> {
-    /// The session that has this batch, at this moment. Where there is a gate, its first word is held by that.
-    pub fn new(
-        alloc: Global,
-        pass: Pass,
-        now: u64,
-        batch: Batch<'a>,
-        gate: Option<Arc<Gate, Global>>,
-    ) -> Session<'a> {
-        let link = MemLink::new(alloc, batch.answers, batch.lost);
+impl<'a, S: Servant> Session<'a, S> {
+    /// The session in which a client sends this.
+    pub fn new(alloc: Global, server: S, input: Vec<u8>, asked: Vec<Asked<'a>>) -> Session<'a, S> {
         Session {
-            worker: Worker {
-                pass,
-                link: HeldLink::new(link, gate),
-                clock: MemClock::new(now),
-            },
+            server,
             conn: MemConn {
-                source: MemSource::new(batch.input, Vec::new(alloc)),
+                source: MemSource::new(input, Vec::new(alloc)),
                 sink: MemSink::new(alloc, Vec::new(alloc)),
             },
-            asked: batch.asked,
+            asked,
             end: None,
         }
     }
 
     /// Serves it.
-    pub fn serve<R: Host, N: Naming>(
-        &mut self,
-        rt: &R,
-        alloc: Global,
-        room: &Room<N, KeptDisk<R>>,
-    ) {
+    pub fn serve<R: Host>(&mut self, rt: &R, alloc: Global) {
         let conn = &mut self.conn;
         let end = serve_session(
             rt,
             alloc,
-            room,
-            &mut self.worker,
+            &mut self.server,
             &mut conn.source,
             &mut conn.sink,
         );
@@ -82,32 +58,30 @@ impl<'a> Session<'a> {
 }
 
 /// Serves a second session once a word of the first is out, and says whether one was in time.
-fn serve_behind<R: Host, N: Naming>(
+fn serve_behind<R: Host, S: Servant>(
     rt: &R,
     alloc: Global,
-    room: &Room<N, KeptDisk<R>>,
-    second: &mut Session<'_>,
+    second: &mut Session<'_, S>,
     gate: &Gate,
 ) -> bool {
     let in_time = gate.wait_for_word();
-    second.serve(rt, alloc, room);
+    second.serve(rt, alloc);
     gate.end();
     in_time
 }
 
 /// Serves two sessions at once, and says whether the first had a word out in time.
-pub fn serve_both<R: Host, N: Naming + Send + Sync + 'static>(
+pub fn serve_both<R: Host, S: Servant + Send>(
     rt: &R,
     alloc: Global,
-    room: &Room<N, KeptDisk<R>>,
-    first: &mut Session<'_>,
-    second: &mut Session<'_>,
+    first: &mut Session<'_, S>,
+    second: &mut Session<'_, S>,
     gate: &Gate,
 ) -> bool {
     let (in_time, ()) = thread::join(
         rt,
-        || serve_behind(rt, alloc, room, second, gate),
-        || first.serve(rt, alloc, room),
+        || serve_behind(rt, alloc, second, gate),
+        || first.serve(rt, alloc),
     );
     in_time
 }
@@ -129,28 +103,41 @@ impl Served<'_> {
     }
 }
 
-/// Serves the connection of a session at a door. The worker of another one is for ticks.
-pub fn serve_door<'a, R: Host, N: Naming + Send + Sync + 'static>(
+/// Serves the connection of a session at a door. The servant of another one is for ticks.
+pub fn serve_door<'a, R: Host, S: Servant + Send + Drop + 'static>(
     rt: &R,
     alloc: Global,
-    room: Room<N, KeptDisk<R>>,
-    session: Session<'a>,
-    other: Session<'_>,
+    session: Session<'a, S>,
+    other: Session<'_, S>,
 ) -> io::Result<Served<'a>> {
     let Session {
-        worker,
+        server,
         conn,
         asked,
         ..
     } = session;
-    let mut workers = Vec::new(alloc);
-    workers.push(worker)?;
-    workers.push(other.worker)?;
+    let mut servers = Vec::new(alloc);
+    servers.push(server)?;
+    servers.push(other.server)?;
     let mut waiting = VecDeque::new(alloc);
     waiting.push_back(conn)?;
     let mut door = ToldDoor::new(*rt, alloc, MemDoor::new(waiting, Vec::new(alloc)))?;
     let sent = door.sent()?;
     let mut spawner = Spawner::at_once(TURNS, Vec::new(alloc));
-    let end = serve_sessions(rt, alloc, room, workers, &mut door, &mut spawner);
+    let end = serve_at(rt, alloc, servers, &mut door, &mut spawner)?;
     Ok(Served { end, asked, sent })
+}
+
+/// Serves the connections of a door by these servants, of which there have to be two.
+pub fn serve_at<R: Host, S: Servant + Send + Drop + 'static, O: Door>(
+    rt: &R,
+    alloc: Global,
+    servers: Vec<S>,
+    door: &mut O,
+    spawner: &mut Spawner<R>,
+) -> io::Result<ServeEnd> {
+    if servers.len() < 2 {
+        return known(None);
+    }
+    Ok(serve_sessions(rt, alloc, servers, door, spawner))
 }

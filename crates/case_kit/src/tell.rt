@@ -1,12 +1,12 @@
 //! What is told of replies and of words.
 
 use crate::client::Asked;
-use crate::requests::MOST;
 use giop_frames::{Message, Reply, Request, Target};
 use giop_streams::Stream;
 use ior_refs::{ObjectRef, iiop, key_of};
-use ots_calls::{Answer, Given, read_answer};
+use ots_calls::{Answer, Call, Called, Given, Handing, read_answer, read_call};
 use ots_outside::{Exchange, Outcome};
+use ots_sessions::{MOST, is_short_request};
 use std::alloc::Global;
 use std::io;
 use std::io::Write;
@@ -112,9 +112,13 @@ fn tell_given(alloc: Global, told: &mut Vec<u8>, given: &Given) -> io::Result<()
         Given::Word(word) => writeln!(told, "{:?}", word.bytes()),
         Given::State(status) => writeln!(told, "{status:?}"),
         Given::Ballot(vote) => writeln!(told, "{vote:?}"),
-        Given::Reference(reference) => tell_reference(alloc, told, reference),
+        Given::Reference(reference) => {
+            tell_reference(alloc, told, reference)?;
+            writeln!(told)
+        }
         Given::Transaction(context) => writeln!(told, "a context of {} seconds", context.timeout),
-        _ => writeln!(told, "another value"),
+        Given::Found(Some(value)) => writeln!(told, "{value}"),
+        Given::Found(None) => writeln!(told, "none"),
     }
 }
 
@@ -126,9 +130,9 @@ fn tell_reference(alloc: Global, told: &mut Vec<u8>, reference: &ObjectRef) -> i
             tell_key(told, place.key.bytes())?;
             write!(told, " at ")?;
             told.write_all(place.host.bytes())?;
-            writeln!(told, ":{}", place.port)
+            write!(told, ":{}", place.port)
         }
-        Err(fault) => writeln!(told, " {fault:?}"),
+        Err(fault) => write!(told, " {fault:?}"),
     }
 }
 
@@ -166,7 +170,7 @@ fn tell_word(alloc: Global, told: &mut Vec<u8>, word: &Exchange) -> io::Result<(
     write!(told, ":{} ", word.to.port)?;
     let mut stream = Stream::new(alloc);
     match (stream.feed(word.request.bytes()), stream.next()) {
-        (Ok(()), Ok(Some(Message::Request(request)))) => tell_request(told, &request)?,
+        (Ok(()), Ok(Some(Message::Request(request)))) => tell_request(alloc, told, &request)?,
         _ => write!(told, "no request")?,
     }
     match &word.outcome {
@@ -175,11 +179,33 @@ fn tell_word(alloc: Global, told: &mut Vec<u8>, word: &Exchange) -> io::Result<(
     }
 }
 
-/// Tells the request that a word was.
-fn tell_request(told: &mut Vec<u8>, request: &Request) -> io::Result<()> {
+/// Tells the request that a word was. Of a registration, or an ask, it is told which resource it hands over.
+fn tell_request(alloc: Global, told: &mut Vec<u8>, request: &Request) -> io::Result<()> {
     told.write_all(request.operation.bytes())?;
     if let Target::Key(key) = &request.target {
         tell_key(told, key.bytes())?;
     }
-    write!(told, " #{}", request.id)
+    write!(told, " #{}", request.id)?;
+    if !request.contexts.items().is_empty() {
+        write!(told, " with contexts")?;
+    }
+    if let Some(resource) = resource_in(alloc, request) {
+        write!(told, " of ")?;
+        tell_reference(alloc, told, &resource)?;
+    }
+    Ok(())
+}
+
+/// The resource that a registration, or an ask, hands over.
+fn resource_in(alloc: Global, request: &Request) -> Option<ObjectRef> {
+    if !is_short_request(request) {
+        return None;
+    }
+    let Called { call, .. } = read_call(alloc, request).ok()?;
+    match call {
+        Call::Handing(Handing::RegisterResource | Handing::ReplayCompletion, resource) => {
+            Some(resource)
+        }
+        _ => None,
+    }
 }

@@ -1,23 +1,26 @@
 //! The messages of a client.
-ghost use Rattle.std.specs.Prelude.{◌<◌, ◌≤◌, ◌^◌, IfOk, IsTrue};
+ghost use Rattle.std.specs.Prelude.{◌≡◌, ◌<◌, ◌≤◌, ◌^◌, IfOk, IsTrue};
 ghost use Rattle.giop_frames.specs.Encode.{octets_in, octets_in_target};
 ghost use Rattle.ots_calls.specs.Writing.{carried_length, handed_length};
+ghost use Rattle.ots_context.specs.Writing.{kept_length};
 
 use crate::text::{front, known, number, numbers, octets_of};
 use cdr_values::Order;
 use giop_frames::{Contexts, Locate, Message, Request, Target, encode};
 use ior_refs::{ObjectKey, ObjectRef, key_octets, make_ref, parse_ior};
+use otid_names::Otid;
 use ots_calls::{Call, Called, Operation, write_call};
+use ots_context::{AnyTail, Context, Identities, Identity};
 use ots_model::{Endpoint, Octets};
-use ots_server::factory_key;
+use ots_sessions::{MOST, type_id_of};
 use std::alloc::Global;
 use std::io;
 
-/// How many octets a part of a message has at most.
-pub const MOST: usize = 1_000_000;
+/// The number of the service whose objects are named by their host alone.
+const OTHER_SERVICE: u64 = 9;
 
-/// The repository id of a resource.
-const RESOURCE_ID: &[u8] = b"IDL:omg.org/CosTransactions/Resource:1.0";
+/// The port of these objects.
+const PORT: u16 = 7;
 
 /// The key that these words say.
 pub fn key_of_words(alloc: Global, words: &str) -> io::Result<ObjectKey> {
@@ -104,12 +107,22 @@ fn call_of(alloc: Global, operation: Operation, rest: &str) -> io::Result<Call>
 {
     match operation {
         Operation::Bare(bare) => Ok(Call::Bare(bare)),
-        Operation::Handing(handing) => Ok(Call::Handing(handing, reference(alloc, rest)?)),
+        Operation::Handing(handing) => { Ok(Call::Handing(handing, reference(alloc, b'R', rest)?)) }
         Operation::Create => Ok(Call::Create(number(rest)?)),
         Operation::CommitTransaction => Ok(Call::CommitTransaction(rest == "reports")),
+        Operation::Put => put(rest),
+        Operation::Get => Ok(Call::Get(known(rest.parse().ok())?)),
         Operation::IsA => is_a(alloc, rest),
         _ => known(None),
     }
+}
+
+/// The call `put`, with this cell and this value.
+fn put(words: &str) -> io::Result<Call>
+    ensures { IfOk result (λ call. handed_length call < 2 ^ 31) }
+{
+    let (cell, value) = front(words);
+    Ok(Call::Put(known(cell.parse().ok())?, known(value.parse().ok())?))
 }
 
 /// The call `_is_a`, with this repository id.
@@ -123,21 +136,57 @@ fn is_a(alloc: Global, id: &str) -> io::Result<Call>
     Ok(Call::IsA(id))
 }
 
-/// The reference that a word says, or one to a resource at this host.
-fn reference(alloc: Global, word: &str) -> io::Result<ObjectRef> {
+/// The reference that a word says, or one to an object of this kind at this host.
+pub fn reference(alloc: Global, kind: u8, word: &str) -> io::Result<ObjectRef> {
     let text = word.as_bytes();
     if text.starts_with(b"IOR:") && text.len() <= MOST {
         return known(parse_ior(alloc, text).ok());
     }
     let at = Endpoint {
         host: Octets::new(alloc, text)?,
-        port: 7,
+        port: PORT,
     };
     let key = ObjectKey {
-        kind: b'R',
-        ..factory_key(9)
+        kind,
+        service: OTHER_SERVICE,
+        life: 0,
+        slot: 0,
+        generation: 0,
+        index: if kind == b'V' { 1 } else { 0 },
     };
-    known(make_ref(alloc, RESOURCE_ID, &at, &key).ok())
+    known(make_ref(alloc, type_id_of(kind), &at, &key).ok())
+}
+
+/// The context of the transaction that these words say last, behind its parents, from the top-level one down.
+pub fn context_of_words(alloc: Global, words: &str) -> io::Result<Context>
+    ensures { IfOk result (λ context. kept_length context.tail ≡ 0) }
+{
+    let mut identities = Vec::new(alloc);
+    let mut coordinator = None;
+    for word in words.split(' ') {
+        match coordinator.take() {
+            Some(named) => identities.push(identity(alloc, named, word)?)?,
+            None => coordinator = Some(word),
+        }
+    }
+    let current = known(identities.pop())?;
+    identities.reverse();
+    Ok(Context {
+        timeout: 0,
+        current,
+        parents: Identities::from_vec(identities),
+        tail: AnyTail::Null,
+    })
+}
+
+/// The identity of a transaction with this coordinator and the tid of these digits.
+fn identity(alloc: Global, coordinator: &str, digits: &str) -> io::Result<Identity> {
+    let tid = octets_of(alloc, digits)?;
+    Ok(Identity {
+        coord: reference(alloc, b'K', coordinator)?,
+        term: reference(alloc, b'T', coordinator)?,
+        otid: known(Otid::new(alloc, 0, 0, tid.as_slice()).ok())?,
+    })
 }
 
 /// Whether a message that is no call has few octets.

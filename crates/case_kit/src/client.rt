@@ -1,12 +1,15 @@
 //! A client of a service: what it sends, and what the words are answered that come of it.
+ghost use Rattle.std.specs.Prelude.{◌<◌, ◌^◌, IfOk};
+ghost use Rattle.ots_calls.specs.Writing.{carried_length};
 
 use crate::answers::answer_octets;
-use crate::requests::{call_octets, call_of_line, key_of_words, message_octets};
+use crate::links::Replies;
+use crate::requests::{call_octets, call_of_line, context_of_words, key_of_words, message_octets};
 use crate::text::{front, known, number, octets_of};
 use ior_refs::ObjectKey;
 use ots_calls::{Bare, Call, Called};
-use ots_model::{Octets, RetryKey};
-use ots_server::factory_key;
+use ots_context::Context;
+use ots_model::RetryKey;
 use std::alloc::Global;
 use std::{io, mem};
 
@@ -29,9 +32,7 @@ pub struct Batch<'a> {
     /// What it asks, each under its place here as the request_id.
     pub asked: Vec<Asked<'a>>,
     /// What the words of the session are answered, in order.
-    pub answers: Vec<Octets>,
-    /// Which of them are lost instead.
-    pub lost: Vec<u64>,
+    pub replies: Replies,
 }
 
 impl Batch<'_> {
@@ -40,8 +41,7 @@ impl Batch<'_> {
         Batch {
             input: Vec::new(alloc),
             asked: Vec::new(alloc),
-            answers: Vec::new(alloc),
-            lost: Vec::new(alloc),
+            replies: Replies::new(alloc),
         }
     }
 }
@@ -55,18 +55,21 @@ pub struct Client<'a> {
     to: &'a str,
     flags: u8,
     retry: Option<RetryKey>,
+    /// The words for the transaction that calls belong to, if any.
+    within: &'a str,
     batch: Batch<'a>,
 }
 
 impl<'a> Client<'a> {
-    /// A client that has sent nothing. It asks the factory, for a reply.
-    pub fn new(alloc: Global) -> Client<'a> {
+    /// A client that has sent nothing. It asks this object, for a reply.
+    pub fn new(alloc: Global, key: ObjectKey, to: &'a str) -> Client<'a> {
         Client {
             alloc,
-            key: factory_key(1),
-            to: "factory",
+            key,
+            to,
             flags: 3,
             retry: None,
+            within: "",
             batch: Batch::new(alloc),
         }
     }
@@ -84,6 +87,8 @@ impl<'a> Client<'a> {
                 self.key = key_of_words(self.alloc, rest)?;
                 self.to = rest;
             }
+            "within" => self.within = rest,
+            "outside" => self.within = "",
             "flags" => self.flags = known(rest.parse().ok())?,
             "retry" => self.retry = Some(retry_key(number(rest)?)),
             "answer" => self.answer(rest)?,
@@ -98,12 +103,14 @@ impl<'a> Client<'a> {
     /// The next word is answered so.
     fn answer(&mut self, words: &str) -> io::Result<()> {
         let (id, name) = front(words);
-        if name == "lost" {
-            let place = self.batch.answers.len() as u64;
-            self.batch.lost.push(place)?;
+        match name {
+            "lost" => self.batch.replies.lose(self.alloc)?,
+            "starved" => self.batch.replies.starve()?,
+            _ => {
+                let octets = answer_octets(self.alloc, number(id)?, name)?;
+                self.batch.replies.answer(octets)?;
+            }
         }
-        let octets = answer_octets(self.alloc, number(id)?, name)?;
-        self.batch.answers.push(Octets::from_vec(octets))?;
         Ok(())
     }
 
@@ -131,10 +138,20 @@ impl<'a> Client<'a> {
             key: self.key,
             call: call_of_line(self.alloc, self.key.kind, line)?,
             retry: self.retry.take(),
-            context: None,
+            context: self.context()?,
         };
         let octets = call_octets(self.alloc, self.id()?, self.flags, &called)?;
         self.ask(line, called.call, &octets)
+    }
+
+    /// The context of the transaction that calls belong to.
+    fn context(&self) -> io::Result<Option<Context>>
+        ensures { IfOk result (λ context. carried_length context < 2 ^ 31) }
+    {
+        if self.within == "" {
+            return Ok(None);
+        }
+        Ok(Some(context_of_words(self.alloc, self.within)?))
     }
 
     /// The next request_id.

@@ -1,8 +1,8 @@
 //! Links for the words of cases, and what holds a word until a second session is over.
 
-use ots_model::Endpoint;
+use ots_model::{Endpoint, Octets};
 use ots_outside::{Link, LinkRefusal, MemLink};
-use std::alloc::Global;
+use std::alloc::{AllocError, Global};
 use std::sync::Arc;
 use std::sync::atomic::{AtomicU64, Ordering};
 use std::thread;
@@ -48,22 +48,65 @@ fn is_up(flag: &AtomicU64) -> bool {
     false
 }
 
-/// A link in memory. Where it has a gate, its first word is held until that is open, or for a while.
+/// What the words of a session are answered.
+#[derive(Drop)]
+pub struct Replies {
+    answers: Vec<Octets>,
+    lost: Vec<u64>,
+    starving: Vec<u64>,
+}
+
+impl Replies {
+    /// Nothing is said of any word.
+    pub fn new(alloc: Global) -> Replies {
+        Replies {
+            answers: Vec::new(alloc),
+            lost: Vec::new(alloc),
+            starving: Vec::new(alloc),
+        }
+    }
+
+    /// The next word is answered these octets.
+    pub fn answer(&mut self, octets: Vec<u8>) -> Result<(), AllocError> {
+        self.answers.push(Octets::from_vec(octets))?;
+        Ok(())
+    }
+
+    /// The call of the next word fails.
+    pub fn lose(&mut self, alloc: Global) -> Result<(), AllocError> {
+        self.lost.push(self.answers.len() as u64)?;
+        self.answer(Vec::new(alloc))
+    }
+
+    /// The call of the next word wants memory.
+    pub fn starve(&mut self) -> Result<(), AllocError> {
+        let words = self.answers.len().saturating_add(self.starving.len());
+        self.starving.push(words as u64)?;
+        Ok(())
+    }
+}
+
+/// A link in memory. Where it has a gate, its first word is held until that is open, or for a while. The calls of some words want
+/// memory; these are no exchanges.
 #[derive(Drop)]
 pub struct HeldLink {
-    /// What the words are answered by.
+    /// What the other words are answered by.
     pub link: MemLink,
     gate: Option<Arc<Gate, Global>>,
+    starving: Vec<u64>,
+    words: u64,
     /// Whether a word was held in vain.
     pub gave_up: bool,
 }
 
 impl HeldLink {
     /// No word has gone over it.
-    pub fn new(link: MemLink, gate: Option<Arc<Gate, Global>>) -> HeldLink {
+    pub fn new(alloc: Global, replies: Replies, gate: Option<Arc<Gate, Global>>) -> HeldLink {
         HeldLink {
-            link,
+            link: MemLink::new(alloc, replies.answers, replies.lost),
             gate,
+            starving: replies.starving,
+            words: 0,
             gave_up: false,
         }
     }
@@ -90,6 +133,11 @@ impl Link for HeldLink {
     ) -> Result<(), LinkRefusal> {
         if let Some(gate) = self.gate.take() {
             self.gave_up = hold(&gate);
+        }
+        let word = self.words;
+        self.words = word.saturating_add(1);
+        if self.starving.contains(&word) {
+            return Err(LinkRefusal::Memory);
         }
         self.link.invoke(to, request, reply)
     }
