@@ -1,60 +1,21 @@
 // The client of serve.sh, over omniORB. It prints numbers alone, which the script puts into words:
-//   serve syncs CALL FILE SECONDS: the syncs a second, by fsync or fdatasync, of a file that is written as a journal is.
+//   serve syncs CALL SECONDS FILE: the syncs a second, by fsync or fdatasync, of a file that is written as a journal is.
 //   serve commits CLIENTS SECONDS REFERENCE PROCESS: the commits a second, and the processor seconds of that process a commit.
 //   serve calls CLIENTS SECONDS REFERENCE: the calls of get_status a second.
 //   serve longest CLIENTS SECONDS REFERENCE: the calls of get_status that were made while so many clients commit, one each
 //   millisecond, the milliseconds of the one in the middle, and of the longest.
 // Each client is a thread. The clock begins after half a second, when each has its connection.
+#include "clients.h"
 #include "objects.h"
 
 #include <algorithm>
-#include <atomic>
-#include <chrono>
-#include <fcntl.h>
-#include <fstream>
 #include <iostream>
-#include <iterator>
-#include <sstream>
-#include <thread>
 #include <unistd.h>
-#include <vector>
 
 using namespace CosTransactions;
-using Clock = std::chrono::steady_clock;
 
 static TransactionFactory_var factory;
-static std::atomic<long> done{0}, told{0};
-static std::atomic<bool> over{false};
-
-static double seconds_since(Clock::time_point start) {
-    return std::chrono::duration<double>(Clock::now() - start).count();
-}
-
-[[noreturn]] static void fail(const std::string &why) {
-    std::cerr << "serve: " << why << std::endl;
-    _exit(1);
-}
-
-// Makes these writes for a transaction, each with its sync: the record of a decision behind the gate, the gate, and
-// likewise its Done.
-static void syncs(const std::string &call, const char *file, double seconds) {
-    int (*sync)(int) = call == "fdatasync" ? fdatasync : fsync;
-    int opened = open(file, O_RDWR | O_CREAT | O_TRUNC, 0600);
-    std::vector<char> octets(366);
-    long count = 0, gate = 0;
-    auto put = [&](size_t size, long place) {
-        if (pwrite(opened, octets.data(), size, place) != ssize_t(size) || sync(opened) != 0) fail("can't write and sync");
-        count++;
-    };
-    Clock::time_point start = Clock::now();
-    while (seconds_since(start) < seconds)
-        for (size_t size : {366, 10}) {
-            put(size, gate + 1);
-            put(1, gate);
-            gate += size;
-        }
-    std::cout << count / seconds_since(start) << std::endl;
-}
+static std::atomic<long> told{0};
 
 // Commits one transaction after another. Its two resources vote for it; they serve all of them.
 static void commit_all() {
@@ -118,23 +79,6 @@ static void ask_at_times(std::vector<double> &took) {
     asked.end();
 }
 
-static std::thread session(std::function<void()> work) {
-    return std::thread([work] {
-        std::string end = outcome(work);
-        if (end != "ok") fail(end);
-    });
-}
-
-// The processor seconds that a process has had, those of threads that have ended too.
-static double processor(const std::string &process) {
-    std::ifstream file("/proc/" + process + "/stat");
-    std::string text((std::istreambuf_iterator<char>(file)), std::istreambuf_iterator<char>());
-    std::istringstream words(text.substr(text.rfind(')') + 1));
-    std::vector<std::string> fields{std::istream_iterator<std::string>(words), {}};
-    if (fields.size() < 13) fail("no process " + process);
-    return (std::stod(fields[11]) + std::stod(fields[12])) / sysconf(_SC_CLK_TCK);
-}
-
 static void serve(const std::string &what, int clients, double seconds, const std::string &process) {
     std::vector<double> took;
     std::vector<std::thread> threads;
@@ -165,7 +109,7 @@ static void serve(const std::string &what, int clients, double seconds, const st
 int main(int argc, char **argv) {
     std::string what = argc > 4 ? argv[1] : "";
     if (what == "syncs") {
-        syncs(argv[2], argv[3], atof(argv[4]));
+        std::cout << syncs(argv[2], {argv[4]}, atof(argv[3])) << std::endl;
         return 0;
     }
     try {

@@ -8,44 +8,8 @@
 set -u
 here=$(cd "$(dirname "$0")" && pwd)
 : "${1:?bench/serve.sh OTS [SECONDS]}"
-ots=$(realpath "$1")
-seconds=${2:-5}
-out=$here/out
-interop=$here/../interop
-TMPDIR=$(realpath "${TMPDIR:-$PWD}")
-export TMPDIR
-
-if ! [[ $seconds =~ ^[1-9][0-9]*$ ]]; then
-    echo "bench: SECONDS is a number from 1 on" >&2
-    exit 2
-fi
-
-if ! command -v omniidl >/dev/null || ! command -v g++ >/dev/null || ! [ -e /usr/include/omniORB4/CORBA.h ]; then
-    echo "bench: omniORB is missing. On Debian: apt-get install g++ omniidl libomniorb4-dev" >&2
-    exit 1
-fi
-case $(stat -f -c %T "$TMPDIR") in tmpfs | ramfs)
-    echo "bench: $TMPDIR lies in memory. Name a folder on a disk in TMPDIR" >&2
-    exit 1
-    ;;
-esac
-
-# newer PROGRAM TEXT..: whether the program is newer than these.
-newer() {
-    local program=$1
-    shift
-    for text in "$@"; do [ "$program" -nt "$text" ] || return 1; done
-}
-
-build() {
-    mkdir -p "$out"
-    newer "$out/serve" "$here/serve.cc" "$interop"/objects.{cc,h} "$interop/CosTransactions.idl" && return
-    omniidl -bcxx -Wbh=.hh -Wbs=.cc -C"$out" "$interop/CosTransactions.idl" &&
-        g++ -std=c++17 -O1 -Wall -Wno-unused -I"$out" -I"$interop" -o "$out/serve" \
-            "$here/serve.cc" "$interop/objects.cc" "$out/CosTransactions.cc" -lomniDynamic4 -lomniORB4 -lomnithread -lpthread
-}
-
-build || { echo "bench: the client can't be built" >&2; exit 1; }
+. "$here/clients.sh"
+build_client serve "$here/serve.cc" "$interop"/objects.{cc,h}
 
 . "$interop/service.sh"
 stop_all() {
@@ -63,20 +27,7 @@ client() {
 }
 
 # syncs CALL SECONDS: the syncs a second of a file beside the journal.
-syncs() { "$out/serve" syncs "$1" "$scratch/synced" "$2"; }
-
-# of EXPRESSION: its value.
-of() { awk "BEGIN { print $1 }"; }
-
-# say TEXT NUMBER..: prints the text, with a number in each place that is kept for one.
-say() { python3 -c 'import sys; print(sys.argv[1].format(*map(float, sys.argv[2:])), flush=True)' "$@"; }
-
-named() { if [ "$1" = 1 ]; then echo "1 client"; else echo "$1 clients"; fi; }
-
-ended() {
-    echo "bench: ${1:-a client has failed}" >&2
-    exit 1
-}
+syncs() { "$out/serve" syncs "$1" "$2" "$scratch/synced"; }
 
 start_somewhere || ended "the service doesn't start"
 say "the disk alone: {:,.0f} syncs a second by fsync, as the service does them, {:,.0f} by fdatasync" \
