@@ -31,6 +31,8 @@ pub struct Counts {
     most: AtomicU64,
     /// The servants that were let go.
     let_go: AtomicU64,
+    /// The pauses between ticks.
+    paused: AtomicU64,
     /// What never comes.
     never: AtomicU64,
 }
@@ -47,6 +49,7 @@ impl Counts {
             alone: AtomicU64::new(0),
             most: AtomicU64::new(0),
             let_go: AtomicU64::new(0),
+            paused: AtomicU64::new(0),
             never: AtomicU64::new(0),
         };
         match Arc::new(alloc, counts) {
@@ -91,7 +94,9 @@ impl Counts {
         } else {
             writeln!(told, "{most} open when the door was asked")?;
         }
-        writeln!(told, "all workers were let go: {are_gone}")
+        writeln!(told, "all workers were let go: {are_gone}")?;
+        let have_paused = self.paused.load(Ordering::SeqCst) > 0;
+        writeln!(told, "the ticks have paused: {have_paused}")
     }
 }
 
@@ -164,6 +169,7 @@ impl<R: Wait> Clock for CaseClock<R> {
 
     fn pause(&mut self) {
         if let Some(hold) = &self.hold {
+            hold.counts.paused.fetch_add(1, Ordering::SeqCst);
             let _ = comes(&self.rt, &hold.counts.never, 1, 1);
         }
         self.clock.pause();

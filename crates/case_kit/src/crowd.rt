@@ -3,16 +3,16 @@
 use crate::client::Batch;
 use crate::counts::{CaseClock, Counts, Shared, held};
 use crate::house::{Host, House};
-use crate::links::{HeldLink, Replies};
+use crate::links::{HeldLink, Replies, Way};
 use crate::sessions::serve_at;
 use crate::tell::tell_replies;
-use crate::told_door::Sent;
+use crate::told_door::{Sent, none_sent};
 use ots_outside::{Door, Failed, MemConn, MemDoor, MemSink, MemSource, Sink, Source, Spawner};
 use std::alloc::Global;
 use std::collections::VecDeque;
 use std::io;
-use std::io::{ErrorKind, Write};
-use std::sync::{Arc, Mutex, Wait};
+use std::io::Write;
+use std::sync::Wait;
 
 /// How many connections wait at the door.
 const CONNECTIONS: u32 = 4;
@@ -133,10 +133,7 @@ impl<'a> Crowd<'a> {
     pub fn new(alloc: Global, batch: Batch<'a>) -> io::Result<Crowd<'a>> {
         let mut sent = Vec::new(alloc);
         for _ in 0..CONNECTIONS {
-            match Arc::new(alloc, Mutex::new(Vec::new(alloc))) {
-                Ok(one) => sent.push(one)?,
-                Err(_) => return Err(ErrorKind::OutOfMemory.into()),
-            }
+            sent.push(none_sent(alloc)?)?;
         }
         Ok(Crowd {
             counts: Counts::new(alloc)?,
@@ -178,7 +175,7 @@ impl<'a> Crowd<'a> {
         let mut links = Vec::new(alloc);
         let mut clocks = Vec::new(alloc);
         for _ in 0..SERVERS {
-            links.push(HeldLink::new(alloc, Replies::new(alloc), None))?;
+            links.push(HeldLink::new(*rt, alloc, Replies::new(alloc), Way::Plain))?;
             clocks.push(CaseClock::counted(*rt, held(&self.counts)?))?;
         }
         house.servers(links, clocks)

@@ -1,6 +1,6 @@
 use crate::counts::CaseClock;
 use crate::links::HeldLink;
-use ots_sessions::{Servant, ServeFault};
+use ots_sessions::Servant;
 use std::io;
 use std::sync::Wait;
 use std::thread::Threads;
@@ -18,13 +18,10 @@ pub trait House<R: Host> {
     /// Servants with these links and clocks.
     fn servers(
         &mut self,
-        links: Vec<HeldLink>,
+        links: Vec<HeldLink<R>>,
         clocks: Vec<CaseClock<R>>,
     ) -> io::Result<Vec<Self::Server>>;
 
-    /// The clock of the service goes on.
-    fn tick(&self, server: &mut Self::Server) -> Result<(), ServeFault>;
-
     /// The link of a servant.
-    fn link(server: &Self::Server) -> &HeldLink;
+    fn link(server: &Self::Server) -> &HeldLink<R>;
 }

@@ -5,19 +5,31 @@ use ots_outside::{Disk, DiskRefusal, SureDisk};
 use std::alloc::Global;
 use std::sync::{Arc, Mutex, Wait};
 
-/// What is on a disk, and whether that is full.
+/// How much room a disk has.
+#[derive(Clone, Copy, PartialEq, Eq)]
+pub enum Room {
+    /// Enough.
+    Enough,
+    /// For half of what is written next, at each time.
+    Half,
+    /// None.
+    Full,
+}
+
+/// What is on a disk, and how much room it has.
 #[derive(Drop)]
 pub struct Stored {
     /// What is on it.
     pub disk: SureDisk,
-    /// Nothing more can be written.
-    pub full: bool,
+    /// How much room it has.
+    pub room: Room,
 }
 
 /// A disk, which outlasts the lives of its service.
 pub type Shelf = Arc<Mutex<Stored>, Global>;
 
-/// A disk in memory that stays where its service crashes. It tells nothing of its octets. A write fails where it is full.
+/// A disk in memory that stays where its service crashes. It tells nothing of its octets. A write fails where there is no room
+/// for all of it.
 #[derive(Drop)]
 pub struct KeptDisk<R> {
     rt: R,
@@ -35,9 +47,15 @@ impl<R: Wait> KeptDisk<R> {
         }
     }
 
-    /// Whether the disk is full.
-    fn is_full(&self) -> bool {
-        self.shelf.lock(&self.rt).full
+    /// How much room the disk has.
+    fn room(&self) -> Room {
+        self.shelf.lock(&self.rt).room
+    }
+
+    /// Writes the front half of the octets.
+    fn write_half(&self, place: u64, bytes: &[u8]) {
+        let half = bytes.get(..bytes.len() / 2).unwrap_or(bytes);
+        let _ = write(&mut self.shelf.lock(&self.rt).disk, place, half);
     }
 }
 
@@ -89,7 +107,11 @@ impl<R: Wait> Disk for KeptDisk<R> {
     }
 
     fn write_at(&mut self, place: u64, bytes: &[u8]) -> Result<(), DiskRefusal> {
-        if self.is_full() {
+        let room = self.room();
+        if room == Room::Half {
+            self.write_half(place, bytes);
+        }
+        if room != Room::Enough {
             self.faults = self.faults.saturating_add(1);
             return Err(DiskRefusal::Failed);
         }

@@ -17,18 +17,22 @@
 //! - `both`: it is served, and what was put aside at once with it: from when the first word of the first session is out, which
 //!   isn't answered until the second session is over. It is told where either has waited for 1,000,000 turns in vain.
 //! - `door`, the last line of a life: it comes in by a door with one connection, and the service goes on until that has ended.
-//!   Four ticks come first, at the moment and at the three seconds behind it; the clock of the session stands still.
+//!   Four ticks come first, at the moment and at the three seconds behind it; the clock of the session stands still. The words
+//!   of the ticks are answered as what was put aside says. `door alone`: the job of the ticks can't be started, so there is one
+//!   tick before the connection, and one before the end.
 //! - `crowd`, the last line of a life: it comes in by each of four connections at a door, where there are two servants for
 //!   sessions and one for ticks, and each session is on a thread of its own. A session that has answered goes on until another
 //!   was begun beside it, and 0.3 seconds longer. It is told where one was alone for 10 seconds, how many were open at most
-//!   when the door was asked for the next, and whether all servants were let go in the 10 seconds behind its end.
-//! - `full`: the disk is full from now on, also for what was sent but isn't served yet. `free`: it isn't any more.
+//!   when the door was asked for the next, and whether all servants were let go in the 10 seconds behind its end, and the ticks
+//!   had paused by then.
+//! - `full`: the disk is full from now on, also for what was sent but isn't served yet. `half`: so is it, but the front half of
+//!   what is written goes in each time. `free`: it isn't any more. A life that can't begin does this alone.
 //! - `at N`: the moment. `tick`: the clock of the service goes on. `disk`: the octets of the disk are told.
 //! - Each other line is a call: the operation, and what it takes: numbers, `reports` where `commit` asks for them, a repository
 //!   id, or a reference, by `IOR:..` or by the name of a host, where it is to the object `R 9 0 0 0 0` at its port 7.
 //!
 //! Of a session it is told what its requests were answered, each behind the object and the first 80 octets of the line, then
-//! which words went out, and how it ended; of a door, only the answers and how that ended.
+//! which words went out, and how it ended; of a door, the answers, the words, those of the ticks first, and how that ended.
 #![tactic(auto)]
 
 pub use counts::CaseClock;
@@ -38,6 +42,7 @@ pub use life::Life;
 pub use links::HeldLink;
 pub use lives::Lives;
 pub use text::known;
+pub use told_door::{Sent, ToldConn, ToldDoor};
 
 mod answers;
 mod client;

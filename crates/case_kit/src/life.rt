@@ -1,12 +1,13 @@
 use crate::client::{Batch, Client};
-use crate::counts::CaseClock;
+use crate::counts::{CaseClock, held};
 use crate::crowd::Crowd;
 use crate::house::{Host, House};
-use crate::kept_disk::Shelf;
-use crate::links::{Gate, HeldLink};
+use crate::kept_disk::{Room, Shelf};
+use crate::links::{Gate, HeldLink, Way};
 use crate::sessions::{Session, serve_both, serve_door};
 use crate::tell::{tell_replies, tell_words};
 use crate::text::{front, known, number};
+use crate::told_door::none_sent;
 use ior_refs::ObjectKey;
 use ots_sessions::Servant;
 use std::alloc::Global;
@@ -19,6 +20,7 @@ use std::{io, mem};
 enum Last {
     Crash,
     Door,
+    DoorAlone,
     Crowd,
 }
 
@@ -62,9 +64,32 @@ impl<'a> Life<'a> {
         }
         match last {
             Last::Crash => Ok(()),
-            Last::Door => self.end_at_door(rt, house),
+            Last::Door => self.end_at_door(rt, house, Vec::new(self.alloc)),
+            Last::DoorAlone => {
+                let mut failing = Vec::new(self.alloc);
+                failing.push(0)?;
+                self.end_at_door(rt, house, failing)
+            }
             Last::Crowd => self.end_in_crowd(rt, house),
         }
+    }
+
+    /// Carries out what its lines say of the room that the disk has, since its service couldn't be loaded.
+    pub fn pass<R: Host>(&self, rt: &R) {
+        for line in self.lines.split('\n') {
+            self.give_room(rt, line);
+        }
+    }
+
+    /// The disk has this much room from now on, where the word is one for that.
+    fn give_room<R: Host>(&self, rt: &R, word: &str) {
+        let room = match word {
+            "full" => Room::Full,
+            "half" => Room::Half,
+            "free" => Room::Enough,
+            _ => return,
+        };
+        self.shelf.lock(rt).room = room;
     }
 
     /// Carries out a line.
@@ -79,8 +104,7 @@ impl<'a> Life<'a> {
             "" => {}
             "at" => self.now = u64::from(number(rest)?),
             "aside" => self.aside = self.client.take(),
-            "full" => self.shelf.lock(rt).full = true,
-            "free" => self.shelf.lock(rt).full = false,
+            "full" | "half" | "free" => self.give_room(rt, word),
             "disk" => self.tell_disk(rt)?,
             "serve" => self.serve(rt, house)?,
             "both" => self.serve_both(rt, house)?,
@@ -104,7 +128,7 @@ impl<'a> Life<'a> {
         &self,
         rt: &R,
         house: &mut H,
-        link: HeldLink,
+        link: HeldLink<R>,
     ) -> io::Result<H::Server> {
         let mut links = Vec::new(self.alloc);
         links.push(link)?;
@@ -114,20 +138,20 @@ impl<'a> Life<'a> {
         known(servers.pop())
     }
 
-    /// The session that has this batch. Where there is a gate, its first word is held by that.
+    /// The session that has this batch. Its words go out this way.
     fn session<R: Host, H: House<R>>(
         &self,
         rt: &R,
         house: &mut H,
         batch: Batch<'a>,
-        gate: Option<Arc<Gate, Global>>,
+        way: Way,
     ) -> io::Result<Session<'a, H::Server>> {
         let Batch {
             input,
             asked,
             replies,
         } = batch;
-        let link = HeldLink::new(self.alloc, replies, gate);
+        let link = HeldLink::new(*rt, self.alloc, replies, way);
         let server = self.server(rt, house, link)?;
         Ok(Session::new(self.alloc, server, input, asked))
     }
@@ -135,7 +159,7 @@ impl<'a> Life<'a> {
     /// Serves what was sent.
     fn serve<R: Host, H: House<R>>(&mut self, rt: &R, house: &mut H) -> io::Result<()> {
         let batch = self.client.take();
-        let mut session = self.session(rt, house, batch, None)?;
+        let mut session = self.session(rt, house, batch, Way::Plain)?;
         session.serve(rt, self.alloc);
         self.tell_session("", &session, H::link(&session.server))
     }
@@ -146,9 +170,9 @@ impl<'a> Life<'a> {
             return Err(ErrorKind::OutOfMemory.into());
         };
         let batch = self.client.take();
-        let mut first = self.session(rt, house, batch, Arc::try_clone(&gate).ok())?;
+        let mut first = self.session(rt, house, batch, Way::Held(held(&gate)?))?;
         let batch = mem::replace(&mut self.aside, Batch::new(self.alloc));
-        let mut second = self.session(rt, house, batch, None)?;
+        let mut second = self.session(rt, house, batch, Way::Plain)?;
         if !serve_both(rt, self.alloc, &mut first, &mut second, &gate) {
             writeln!(self.told, "no word was out in time")?;
         }
@@ -159,20 +183,20 @@ impl<'a> Life<'a> {
     /// The clock of the service goes on.
     fn tick<R: Host, H: House<R>>(&mut self, rt: &R, house: &mut H) -> io::Result<()> {
         let Batch { replies, .. } = self.client.take();
-        let link = HeldLink::new(self.alloc, replies, None);
+        let link = HeldLink::new(*rt, self.alloc, replies, Way::Plain);
         let mut server = self.server(rt, house, link)?;
-        let ticked = house.tick(&mut server);
+        let ticked = server.tick();
         writeln!(self.told, "tick: {ticked:?}")?;
         let words = H::link(&server).link.exchanges();
         tell_words(self.alloc, &mut self.told, "", words)
     }
 
     /// Tells what came of a session with this link.
-    fn tell_session<S: Servant>(
+    fn tell_session<S: Servant, R>(
         &mut self,
         front: &str,
         session: &Session<'_, S>,
-        link: &HeldLink,
+        link: &HeldLink<R>,
     ) -> io::Result<()> {
         let told = &mut self.told;
         let octets = session.conn.sink.octets();
@@ -187,13 +211,25 @@ impl<'a> Life<'a> {
         }
     }
 
-    /// Serves the connection of a door, on which that was sent.
-    fn end_at_door<R: Host, H: House<R>>(&mut self, rt: &R, house: &mut H) -> io::Result<()> {
+    /// Serves the connection of a door, on which that was sent. The words of the ticks are answered as what was put aside says.
+    fn end_at_door<R: Host, H: House<R>>(
+        &mut self,
+        rt: &R,
+        house: &mut H,
+        failing: Vec<u64>,
+    ) -> io::Result<()> {
+        let words = none_sent(self.alloc)?;
         let batch = self.client.take();
-        let session = self.session(rt, house, batch, None)?;
-        let other = self.session(rt, house, Batch::new(self.alloc), None)?;
-        let served = serve_door(rt, self.alloc, session, other)?;
-        served.tell(rt, self.alloc, &mut self.told)
+        let session = self.session(rt, house, batch, Way::Told(held(&words)?, ""))?;
+        let Batch { replies, .. } = mem::replace(&mut self.aside, Batch::new(self.alloc));
+        let way = Way::Told(held(&words)?, "tick: ");
+        let link = HeldLink::new(*rt, self.alloc, replies, way);
+        let ticker = self.server(rt, house, link)?;
+        let served = serve_door(rt, self.alloc, session, ticker, failing)?;
+        served.tell_replies(rt, self.alloc, &mut self.told)?;
+        let words = words.lock(rt).to_vec(self.alloc)?;
+        self.told.write_all(words.as_slice())?;
+        served.tell_end(&mut self.told)
     }
 
     /// Serves a crowd, of which each connection sends what was sent.
@@ -206,6 +242,9 @@ impl<'a> Life<'a> {
 
 /// The lines of a life before its last one, and that.
 fn last_of(lines: &str) -> (&str, Last) {
+    if let Some((lines, _)) = lines.split_once("\ndoor alone") {
+        return (lines, Last::DoorAlone);
+    }
     if let Some((lines, _)) = lines.split_once("\ndoor") {
         return (lines, Last::Door);
     }

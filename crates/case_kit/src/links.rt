@@ -1,10 +1,12 @@
 //! Links for the words of cases, and what holds a word until a second session is over.
 
+use crate::tell::tell_word;
+use crate::told_door::Sent;
 use ots_model::{Endpoint, Octets};
 use ots_outside::{Link, LinkRefusal, MemLink};
 use std::alloc::{AllocError, Global};
-use std::sync::Arc;
 use std::sync::atomic::{AtomicU64, Ordering};
+use std::sync::{Arc, Wait};
 use std::thread;
 
 /// How often a flag is looked at.
@@ -86,28 +88,57 @@ impl Replies {
     }
 }
 
-/// A link in memory. Where it has a gate, its first word is held until that is open, or for a while. The calls of some words want
-/// memory; these are no exchanges.
+/// How the words of a link go out.
 #[derive(Drop)]
-pub struct HeldLink {
+pub enum Way {
+    /// As they come.
+    Plain,
+    /// The first one is held until this is open, or for a while.
+    Held(Arc<Gate, Global>),
+    /// Each is told there once it is answered, behind these words.
+    Told(Sent, &'static str),
+}
+
+/// A link in memory. The calls of some words want memory; these are no exchanges.
+#[derive(Drop)]
+pub struct HeldLink<R> {
+    rt: R,
+    alloc: Global,
     /// What the other words are answered by.
     pub link: MemLink,
-    gate: Option<Arc<Gate, Global>>,
+    way: Way,
     starving: Vec<u64>,
     words: u64,
     /// Whether a word was held in vain.
     pub gave_up: bool,
 }
 
-impl HeldLink {
+impl<R: Wait> HeldLink<R> {
     /// No word has gone over it.
-    pub fn new(alloc: Global, replies: Replies, gate: Option<Arc<Gate, Global>>) -> HeldLink {
+    pub fn new(rt: R, alloc: Global, replies: Replies, way: Way) -> HeldLink<R> {
         HeldLink {
+            rt,
+            alloc,
             link: MemLink::new(alloc, replies.answers, replies.lost),
-            gate,
+            way,
             starving: replies.starving,
             words: 0,
             gave_up: false,
+        }
+    }
+
+    /// Holds a word, where it is the one to be held, and says whether that was in vain.
+    fn is_held_in_vain(&self, word: u64) -> bool {
+        match (&self.way, word) {
+            (Way::Held(gate), 0) => hold(gate),
+            _ => false,
+        }
+    }
+
+    /// Tells the last exchange, where that is wanted.
+    fn tell(&self) {
+        if let (Way::Told(words, front), Some(last)) = (&self.way, self.link.exchanges().last()) {
+            let _ = tell_word(self.alloc, &mut words.lock(&self.rt), front, last);
         }
     }
 }
@@ -118,7 +149,7 @@ fn hold(gate: &Gate) -> bool {
     !is_up(&gate.over)
 }
 
-impl Link for HeldLink {
+impl<R: Wait> Link for HeldLink<R> {
     ghost use Rattle.std.specs.Prelude.{Some};
 
     ghost faults = { λ held. held.link.faults };
@@ -131,14 +162,14 @@ impl Link for HeldLink {
         request: &[u8],
         reply: &mut Vec<u8>,
     ) -> Result<(), LinkRefusal> {
-        if let Some(gate) = self.gate.take() {
-            self.gave_up = hold(&gate);
-        }
         let word = self.words;
         self.words = word.saturating_add(1);
+        self.gave_up = self.is_held_in_vain(word) || self.gave_up;
         if self.starving.contains(&word) {
             return Err(LinkRefusal::Memory);
         }
-        self.link.invoke(to, request, reply)
+        let answered = self.link.invoke(to, request, reply);
+        self.tell();
+        answered
     }
 }

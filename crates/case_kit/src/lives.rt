@@ -1,7 +1,7 @@
 //! The lives of a service over one disk.
 
 use crate::house::Host;
-use crate::kept_disk::{KeptDisk, Shelf, Stored};
+use crate::kept_disk::{KeptDisk, Room, Shelf, Stored};
 use crate::life::Life;
 use ior_refs::ObjectKey;
 use ots_outside::SureDisk;
@@ -23,7 +23,10 @@ impl<'a> Lives<'a> {
     /// Lives over a disk that is empty.
     pub fn new(alloc: Global, first: ObjectKey, named: &'a str) -> io::Result<Lives<'a>> {
         let disk = SureDisk::new(alloc, Vec::new(alloc))?;
-        let stored = Stored { disk, full: false };
+        let stored = Stored {
+            disk,
+            room: Room::Enough,
+        };
         match Arc::new(alloc, Mutex::new(stored)) {
             Ok(shelf) => Ok(Lives {
                 alloc,

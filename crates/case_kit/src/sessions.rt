@@ -95,20 +95,30 @@ pub struct Served<'a> {
 }
 
 impl Served<'_> {
-    /// Tells what the connection was sent, and the end.
-    pub fn tell<R: Host>(&self, rt: &R, alloc: Global, told: &mut Vec<u8>) -> io::Result<()> {
+    /// Tells what the connection was sent.
+    pub fn tell_replies<R: Host>(
+        &self,
+        rt: &R,
+        alloc: Global,
+        told: &mut Vec<u8>,
+    ) -> io::Result<()> {
         let sent = self.sent.lock(rt).to_vec(alloc)?;
-        tell_replies(alloc, told, "", sent.as_slice(), self.asked.as_slice())?;
+        tell_replies(alloc, told, "", sent.as_slice(), self.asked.as_slice())
+    }
+
+    /// Tells the end.
+    pub fn tell_end(&self, told: &mut Vec<u8>) -> io::Result<()> {
         writeln!(told, "door: {:?}", self.end)
     }
 }
 
-/// Serves the connection of a session at a door. The servant of another one is for ticks.
+/// Serves the connection of a session at a door, where one servant is for ticks. The starts of jobs with these numbers fail.
 pub fn serve_door<'a, R: Host, S: Servant + Send + Drop + 'static>(
     rt: &R,
     alloc: Global,
     session: Session<'a, S>,
-    other: Session<'_, S>,
+    ticker: S,
+    failing: Vec<u64>,
 ) -> io::Result<Served<'a>> {
     let Session {
         server,
@@ -118,12 +128,12 @@ pub fn serve_door<'a, R: Host, S: Servant + Send + Drop + 'static>(
     } = session;
     let mut servers = Vec::new(alloc);
     servers.push(server)?;
-    servers.push(other.server)?;
+    servers.push(ticker)?;
     let mut waiting = VecDeque::new(alloc);
     waiting.push_back(conn)?;
     let mut door = ToldDoor::new(*rt, alloc, MemDoor::new(waiting, Vec::new(alloc)))?;
     let sent = door.sent()?;
-    let mut spawner = Spawner::at_once(TURNS, Vec::new(alloc));
+    let mut spawner = Spawner::at_once(TURNS, failing);
     let end = serve_at(rt, alloc, servers, &mut door, &mut spawner)?;
     Ok(Served { end, asked, sent })
 }

@@ -158,14 +158,19 @@ pub fn tell_words(
     words: &[Exchange],
 ) -> io::Result<()> {
     for word in words {
-        write!(told, "{front}-> ")?;
-        tell_word(alloc, told, word)?;
+        tell_word(alloc, told, front, word)?;
     }
     Ok(())
 }
 
 /// Tells a word: where it went, the request that it was, and whether it was lost.
-fn tell_word(alloc: Global, told: &mut Vec<u8>, word: &Exchange) -> io::Result<()> {
+pub fn tell_word(
+    alloc: Global,
+    told: &mut Vec<u8>,
+    front: &str,
+    word: &Exchange,
+) -> io::Result<()> {
+    write!(told, "{front}-> ")?;
     told.write_all(word.to.host.bytes())?;
     write!(told, ":{} ", word.to.port)?;
     let mut stream = Stream::new(alloc);

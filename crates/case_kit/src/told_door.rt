@@ -1,13 +1,22 @@
 //! A door in memory that keeps what its connections are sent.
 
+use crate::counts::held;
 use ots_outside::{Door, Failed, MemConn, MemDoor, Sink, Source};
 use std::alloc::Global;
 use std::io;
 use std::io::ErrorKind;
 use std::sync::{Arc, Mutex, Wait};
 
-/// What connections were sent.
+/// Octets that several write to: those that connections were sent, or what is told of words.
 pub type Sent = Arc<Mutex<Vec<u8>>, Global>;
+
+/// No octets yet.
+pub fn none_sent(alloc: Global) -> io::Result<Sent> {
+    match Arc::new(alloc, Mutex::new(Vec::new(alloc))) {
+        Ok(sent) => Ok(sent),
+        Err(_) => Err(ErrorKind::OutOfMemory.into()),
+    }
+}
 
 /// A connection in memory, of which it is kept what it is sent.
 #[derive(Drop)]
@@ -48,25 +57,24 @@ impl<R: Wait> Sink for ToldConn<R> {
 #[derive(Drop)]
 pub struct ToldDoor<R> {
     rt: R,
-    door: MemDoor,
+    /// The door.
+    pub door: MemDoor,
     sent: Sent,
 }
 
 impl<R: Drop> ToldDoor<R> {
     /// This door. Nothing was sent.
     pub fn new(rt: R, alloc: Global, door: MemDoor) -> io::Result<ToldDoor<R>> {
-        match Arc::new(alloc, Mutex::new(Vec::new(alloc))) {
-            Ok(sent) => Ok(ToldDoor { rt, door, sent }),
-            Err(_) => Err(ErrorKind::OutOfMemory.into()),
-        }
+        Ok(ToldDoor {
+            rt,
+            door,
+            sent: none_sent(alloc)?,
+        })
     }
 
     /// What its connections are sent.
     pub fn sent(&self) -> io::Result<Sent> {
-        match Arc::try_clone(&self.sent) {
-            Ok(sent) => Ok(sent),
-            Err(_) => Err(ErrorKind::OutOfMemory.into()),
-        }
+        held(&self.sent)
     }
 }
 

@@ -108,27 +108,21 @@ abbrev pub EntersAs : {D : Type 0} → Option Enlisted → List ℕ → OwnState
 EntersAs (Some r) tid before said after = (said ≡ Ok (entered_as r)) × (after ≡ before)
 EntersAs None tid before said after = IsNew tid before said after ⊎ IsUnkept before said after
 
--- a resource that a transaction has is registered
-pub record IsBound {D : Type 0} (r : Enlisted) (tid recovery : List ℕ) (before : OwnState D) (said : Result (Unit {0}) EndFault)
+-- a transaction has the resource of this key registered, where that is its own; no name changes else
+pub record IsRegistered (r : Enlisted) (tid : List ℕ) (key : ObjectKey) (before after : Names) : Type 0 where
+  pub this : r.key ≡ key → IsNamed tid (record r { bound = true }) before after
+  pub another : r.key ≢ key → after ≡ before
+
+abbrev pub NamesBound : Option Enlisted → List ℕ → ObjectKey → Names → Names → Type 0
+NamesBound (Some r) tid key before after = IsRegistered r tid key before after
+NamesBound None tid key before after = after ≡ before
+
+-- a resource is bound, as the end does it. One that was told its end meanwhile may be its transaction's no more
+pub record IsBound {D : Type 0} (tid : List ℕ) (key : ObjectKey) (recovery : List ℕ) (before : OwnState D) (said : Result (Unit {0}) EndFault)
     (after : OwnState D) : Type 0 where
-  pub called : IsAlone before.end after.end said (calls.bind r.key recovery before.end.end)
+  pub called : IsAlone before.end after.end said (calls.bind key recovery before.end.end)
   pub stays : IsOnRecord before.end → IsOnRecord after.end
-  pub names : IsNamed tid (record r { bound = true }) before.names after.names
-
--- the one to be registered is not the transaction's: it is refused, and nothing changes
-abbrev pub IsUnbound : {D : Type 0} → OwnState D → Result (Unit {0}) EndFault → OwnState D → Type 0
-IsUnbound before said after = (said ≡ Err faults.ObjectNotExist) × (after ≡ before)
-
--- the resource that a transaction has is registered where it has this key, and no other
-pub record BindsThis {D : Type 0} (r : Enlisted) (tid : List ℕ) (key : ObjectKey) (recovery : List ℕ) (before : OwnState D)
-    (said : Result (Unit {0}) EndFault) (after : OwnState D) : Type 0 where
-  pub this : r.key ≡ key → IsBound r tid recovery before said after
-  pub another : r.key ≢ key → IsUnbound before said after
-
-abbrev pub BindsAs : {D : Type 0} → Option Enlisted → List ℕ → ObjectKey → List ℕ → OwnState D → Result (Unit {0}) EndFault
-    → OwnState D → Type 0
-BindsAs (Some r) tid key recovery before said after = BindsThis r tid key recovery before said after
-BindsAs None tid key recovery before said after = IsUnbound before said after
+  pub names : NamesBound (named tid before.names) tid key before.names after.names
 
 -- a resource is unmade, where it has put nothing
 pub record UnmakesAs {D : Type 0} (key : ObjectKey) (before after : OwnState D) : Type 0 where
@@ -179,7 +173,7 @@ pub record HasLearnt {D : Type 0} (wants : Bool) (told : D → Option DiskState)
 -- a call of an end has done this
 abbrev pub Does : {D : Type 0} → Bool → (D → Option DiskState) → (D → ℕ) → OwnState D → Deed → OwnState D → Type 0
 Does wants told counts before (Enters tid said) after = EntersAs (live tid before.names before.end.end) tid before said after
-Does wants told counts before (Binds tid key recovery said) after = BindsAs (named tid before.names) tid key recovery before said after
+Does wants told counts before (Binds tid key recovery said) after = IsBound tid key recovery before said after
 Does wants told counts before (Unmakes key) after = UnmakesAs key before after
 Does wants told counts before (Puts key cell value said) after = HasPut wants told counts key cell value before said after
 Does wants told counts before (Reads tid cell seen) after = (seen ≡ sees tid cell before.names before.end.end) × (after ≡ before)

@@ -52,8 +52,9 @@ pub trait Ends {
         ensures does { does self.old (deeds.Enters tid.now result) self.new }
         ensures stays { place self.new ≡ place self.old };
 
-    /// The resource of this key is registered, and has this recovery coordinator. Where it is not the transaction's resource
-    /// any more, it is refused (`ObjectNotExist`), and nothing changes.
+    /// The resource of this key is registered, and has this recovery coordinator; where it is the transaction's, that finds it
+    /// so. One that was told the end of its transaction meanwhile is the transaction's no more. It is refused where there is no
+    /// such resource (`ObjectNotExist`).
     fn bind(&mut self, tid: &[u8], key: &ObjectKey, recovery: RefBytes) -> Result<(), EndFault>
         ensures does { does self.old (deeds.Binds tid.now key.now recovery result) self.new }
         ensures stays { place self.new ≡ place self.old };

@@ -153,15 +153,10 @@ impl<D: Disk> Ends for OwnEnd<D> {
 
     fn bind(&mut self, tid: &[u8], key: &ObjectKey, recovery: RefBytes) -> Result<(), EndFault> {
         match self.given.get(tid) {
-            Some(enlisted) if enlisted.key == *key => {
-                self.given.bind(tid);
-                self.end.bind(key, recovery)
-            }
-            _ => {
-                drop(recovery);
-                Err(EndFault::ObjectNotExist)
-            }
+            Some(enlisted) if enlisted.key == *key => self.given.bind(tid),
+            _ => {}
         }
+        self.end.bind(key, recovery)
     }
 
     fn unmake(&mut self, key: &ObjectKey) {

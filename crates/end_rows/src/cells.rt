@@ -2,9 +2,9 @@
 
 use case_kit::{CaseClock, HeldLink, Host, House, KeptDisk, Life, Lives};
 use end_room::{OwnEnd, SharedEnd};
-use end_server::{EndServant, servants_of, tick_end};
+use end_server::{EndServant, servants_of};
 use ots_model::{Endpoint, Octets};
-use ots_sessions::{ServeFault, cells_key};
+use ots_sessions::cells_key;
 use resource_end::{EndFault, ResourceEnd};
 use std::alloc::Global;
 use std::io;
@@ -26,21 +26,17 @@ struct CellHouse<R: Wait> {
 }
 
 impl<R: Host> House<R> for CellHouse<R> {
-    type Server = EndServant<R, SharedEnd<R, KeptDisk<R>>, HeldLink, CaseClock<R>>;
+    type Server = EndServant<R, SharedEnd<R, KeptDisk<R>>, HeldLink<R>, CaseClock<R>>;
 
     fn servers(
         &mut self,
-        links: Vec<HeldLink>,
+        links: Vec<HeldLink<R>>,
         clocks: Vec<CaseClock<R>>,
     ) -> io::Result<Vec<Self::Server>> {
         Ok(servants_of(&self.rt, self.alloc, &self.shared, links, clocks)?)
     }
 
-    fn tick(&self, server: &mut Self::Server) -> Result<(), ServeFault> {
-        tick_end(&self.rt, self.alloc, &mut server.ends, &mut server.link)
-    }
-
-    fn link(server: &Self::Server) -> &HeldLink {
+    fn link(server: &Self::Server) -> &HeldLink<R> {
         &server.link
     }
 }
@@ -65,10 +61,13 @@ pub fn tell_case<R: Host>(rt: &R, alloc: Global, case: &str, told: &mut Vec<u8>)
 fn play<R: Host>(rt: &R, alloc: Global, disk: KeptDisk<R>, life: &mut Life<'_>) -> io::Result<()> {
     match ResourceEnd::load(alloc, disk, AREA, SERVICE) {
         Ok(end) => open(rt, alloc, end, life),
-        Err(back) => match back.fault {
-            EndFault::Start(fault) => writeln!(life.told, "{fault:?}"),
-            _ => writeln!(life.told, "no memory"),
-        },
+        Err(back) => {
+            life.pass(rt);
+            match back.fault {
+                EndFault::Start(fault) => writeln!(life.told, "{fault:?}"),
+                _ => writeln!(life.told, "no memory"),
+            }
+        }
     }
 }
 

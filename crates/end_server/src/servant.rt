@@ -133,6 +133,7 @@ impl<R: Wait, E: Ends, L: Link, C: Clock> Servant for EndServant<R, E, L, C> {
     ghost use Rattle.outward_calls.specs.Moment.{moment};
     ghost use Rattle.end_server.specs.Answers.{AnswersCall, IsThere};
     ghost use Rattle.end_server.specs.Serving.{side};
+    ghost use Rattle.end_server.specs.Ticking.{TicksEnd};
 
     ghost faults = { λ s. L.faults s.link };
 
@@ -143,6 +144,11 @@ impl<R: Wait, E: Ends, L: Link, C: Clock> Servant for EndServant<R, E, L, C> {
 
     ghost answers = { λ before called answer after. AnswersCall E.does (E.place before.ends) called
         (side before.ends (moment (L.faults before.link) (L.exchanged before.link))) answer
+        (side after.ends (moment (L.faults after.link) (L.exchanged after.link)))
+        × (E.place after.ends ≡ E.place before.ends) };
+
+    ghost ticks = { λ before said after. TicksEnd E.does (E.place before.ends)
+        (side before.ends (moment (L.faults before.link) (L.exchanged before.link))) said
         (side after.ends (moment (L.faults after.link) (L.exchanged after.link)))
         × (E.place after.ends ≡ E.place before.ends) };
 
@@ -160,9 +166,8 @@ impl<R: Wait, E: Ends, L: Link, C: Clock> Servant for EndServant<R, E, L, C> {
         }
     }
 
-    fn tick(&mut self) {
-        // What is wanting memory asks again at the next tick.
-        let _ = tick_end(&self.rt, self.alloc, &mut self.ends, &mut self.link);
+    fn tick(&mut self) -> Result<(), ServeFault> {
+        tick_end(&self.rt, self.alloc, &mut self.ends, &mut self.link)
     }
 
     fn pause(&mut self) {

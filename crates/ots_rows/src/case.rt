@@ -8,14 +8,13 @@ use crate::{input, lines, service, statuses};
 use ots_outside::{Failure, MemClock, MemDisk, MemDoor, MemLink, MemSink, MemSource, Spawner};
 use ots_program::{Devices, Word, run, run_plain};
 use std::alloc::Global;
-use std::collections::VecDeque;
 use std::io;
 use std::io::{ErrorKind, Write};
 use std::sync::Wait;
 use std::thread::Threads;
 
 /// The devices of a case, all of them in memory.
-type MemDevices<R> = Devices<Pieces, MemSink, MemDisk, PortDoor, MemLink, MemClock, R>;
+type MemDevices<R> = Devices<Pieces, MemSink, MemDisk, PortDoor<R>, MemLink, MemClock, R>;
 
 /// How many octets are shown of a line at most.
 const MOST: usize = 4000;
@@ -51,6 +50,8 @@ pub struct Case {
     disk: Vec<u8>,
     failing_disk: Vec<u64>,
     failing_door: Vec<u64>,
+    /// What the connections send that wait at the door.
+    conns: Vec<Vec<u8>>,
     /// The port of a service is in use.
     in_use: bool,
     hex: bool,
@@ -81,6 +82,7 @@ impl Case {
             disk: Vec::new(alloc),
             failing_disk: Vec::new(alloc),
             failing_door: Vec::new(alloc),
+            conns: Vec::new(alloc),
             in_use: false,
             hex: false,
             cut: 0,
@@ -105,6 +107,7 @@ impl Case {
             })?,
             ["disk", octets] => self.disk = input::octets(alloc, octets)?,
             ["fail", "disk", call] => self.failing_disk.push(number(call)? as u64)?,
+            ["conn", octets] => self.conns.push(input::octets(alloc, octets)?)?,
             ["in", "use"] => self.in_use = true,
             ["fail", "door", call] => self.failing_door.push(number(call)? as u64)?,
             ["hex"] => self.hex = true,
@@ -153,7 +156,8 @@ impl Case {
         alloc: Global,
         input: &[u8],
     ) -> io::Result<Vec<u8>> {
-        let mut devices = self.devices(alloc, input)?;
+        let mut devices = self.devices(rt, alloc, input)?;
+        let sent = devices.door.sent()?;
         let words = self.words.as_slice();
         let status = if self.plain && is_plain(words) {
             run_plain(alloc, words, &mut devices.source, &mut devices.sink)
@@ -161,6 +165,10 @@ impl Case {
             run(rt, alloc, words, &mut devices)
         };
         let mut told = self.shown(alloc, devices.sink.octets())?;
+        let octets = sent.lock(rt).to_vec(alloc)?;
+        if !octets.is_empty() {
+            writeln!(told, "sent {}", hex::encode(alloc, octets.as_slice())?)?;
+        }
         let number = status.number();
         let reads = devices.source.source.faults();
         let writes = devices.sink.faults();
@@ -174,6 +182,7 @@ impl Case {
     /// The devices, with this input.
     fn devices<R: Wait + Threads + Copy + Send + Sync + Drop + 'static>(
         &self,
+        rt: &R,
         alloc: Global,
         input: &[u8],
     ) -> io::Result<MemDevices<R>>
@@ -181,7 +190,8 @@ impl Case {
     {
         let source = MemSource::new(input.to_vec(alloc)?, self.failing_reads.clone()?);
         let disk = MemDisk::new(alloc, self.disk.clone()?, self.failing_disk.clone()?)?;
-        let door = MemDoor::new(VecDeque::new(alloc), self.failing_door.clone()?);
+        let conns = service::conns(alloc, self.conns.as_slice())?;
+        let door = MemDoor::new(conns, self.failing_door.clone()?);
         Ok(Devices {
             source: Pieces {
                 source,
@@ -189,7 +199,7 @@ impl Case {
             },
             sink: MemSink::new(alloc, self.failing_writes.clone()?),
             disk: Some(disk),
-            door: PortDoor::new(door, self.in_use),
+            door: PortDoor::new(*rt, alloc, door, self.in_use)?,
             links: service::links(alloc)?,
             clocks: service::clocks(alloc)?,
             spawner: Spawner::at_once(1, Vec::new(alloc)),

@@ -1,5 +1,5 @@
-//! Runs the cases on standard input, each with devices in memory, and tells what came of it. A service has a door at which
-//! nobody waits, a link and a clock for its sessions and for its ticks, and turns a job once, as it is started.
+//! Runs the cases on standard input, each with devices in memory, and tells what came of it. A service has a door, a link and a
+//! clock for its sessions and for its ticks, and turns a job once, as it is started.
 //!
 //! A case begins with a line `== WORDS | PART | PART ..`. The words are the command line, or one of these, which is no
 //! command:
@@ -12,6 +12,7 @@
 //! - `pieces N`: a read gives at most N octets.
 //! - `fail read N`, `fail write N taken K`: that call fails, counted from 0. Of what it was to write K octets go out.
 //! - `disk HEX`: the disk of a service holds these octets; without it, none.
+//! - `conn HEX`: a connection waits at the door of a service that sends these octets; without it, nobody does.
 //! - `fail disk N`, `fail door N`: that call of the disk or the door fails. `in use`: the door can't be opened.
 //! - `hex`: the input is in hexadecimal digits. Each word of them is whole octets.
 //! - `cut N`: the input is without its last N octets.

@@ -2,8 +2,12 @@
 
 ghost use Rattle.std.specs.Prelude.{◌≤◌, IfOk, length};
 
-use ots_outside::{Door, Failed, MemClock, MemConn, MemDoor, MemLink};
+use case_kit::{Sent, ToldConn, ToldDoor};
+use ots_outside::{Door, Failed, MemClock, MemConn, MemDoor, MemLink, MemSink, MemSource};
 use std::alloc::{AllocError, Global};
+use std::collections::VecDeque;
+use std::io;
+use std::sync::Wait;
 
 /// A link for sessions, and one for ticks. None is answered.
 pub fn links(alloc: Global) -> Result<Vec<MemLink>, AllocError>
@@ -21,33 +25,50 @@ pub fn clocks(alloc: Global) -> Result<Vec<MemClock>, AllocError>
     Ok(vec![in alloc; MemClock::new(0), MemClock::new(0)]?)
 }
 
+/// Connections that send these octets.
+pub fn conns(alloc: Global, inputs: &[Vec<u8>]) -> Result<VecDeque<MemConn>, AllocError> {
+    let mut conns = VecDeque::new(alloc);
+    for input in inputs {
+        conns.push_back(MemConn {
+            source: MemSource::new(input.to_vec(alloc)?, Vec::new(alloc)),
+            sink: MemSink::new(alloc, Vec::new(alloc)),
+        })?;
+    }
+    Ok(conns)
+}
+
 /// A door in memory, which can't be opened where its port is in use.
 #[derive(Drop)]
-pub struct PortDoor {
-    door: MemDoor,
+pub struct PortDoor<R> {
+    door: ToldDoor<R>,
     is_in_use: bool,
     faults: u64,
 }
 
-impl PortDoor {
+impl<R: Drop> PortDoor<R> {
     /// This door. It has not failed yet.
-    pub fn new(door: MemDoor, is_in_use: bool) -> PortDoor {
-        PortDoor {
-            door,
+    pub fn new(rt: R, alloc: Global, door: MemDoor, is_in_use: bool) -> io::Result<PortDoor<R>> {
+        Ok(PortDoor {
+            door: ToldDoor::new(rt, alloc, door)?,
             is_in_use,
             faults: 0,
-        }
+        })
+    }
+
+    /// What its connections are sent.
+    pub fn sent(&self) -> io::Result<Sent> {
+        self.door.sent()
     }
 }
 
-impl Door for PortDoor {
-    type Conn = MemConn;
+impl<R: Wait + Copy + Send + Drop + 'static> Door for PortDoor<R> {
+    type Conn = ToldConn<R>;
 
     ghost faults = { λ port. port.faults };
 
-    ghost given = { λ port. (port.door).given };
+    ghost given = { λ port. ((port.door).door).given };
 
-    ghost ended = { λ port. (port.door).ended };
+    ghost ended = { λ port. ((port.door).door).ended };
 
     fn open(&mut self) -> Result<(), Failed> {
         if self.is_in_use {
@@ -57,7 +78,7 @@ impl Door for PortDoor {
         Ok(())
     }
 
-    fn next(&mut self) -> Result<Option<MemConn>, Failed> {
+    fn next(&mut self) -> Result<Option<ToldConn<R>>, Failed> {
         match self.door.next() {
             Ok(conn) => Ok(conn),
             Err(failed) => {

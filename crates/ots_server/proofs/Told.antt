@@ -17,7 +17,7 @@ use Rattle.coordinator.specs.declared.said.Finished.{Finished}
 use Rattle.coordinator.specs.declared.said.Said.{Said}
 use Rattle.coordinator.specs.declared.said.StepAnswer.{StepAnswer}
 use Rattle.ots_server.specs.Said.{answer_of}
-use Rattle.tree_room.specs.declared.fault.RoomFault.{RoomFault}
+use Rattle.tree_room.specs.declared.fault.RoomFault.TheVariants as refusals
 use Rattle.ots_model.specs.declared.tree.Heard.{Heard}
 use Rattle.std.specs.Prelude.{IfSome}
 use Rattle.ots_sessions.specs.References.{coordinator_key}
@@ -97,10 +97,9 @@ module _ {D : Type 0} (s : Site D) (now : ℕ) (word : Outward) (heard : Heard) 
       → IsToldBy s now word heard answer.finished rest more
   told_to answer context answered = inl (record { answer = answer; context = context; answered = answered; finished_are = refl })
 
-  pub told_nobody : (fault : RoomFault)
-      → Refuses s (coordinator_key s.room.service word.number 0) (event_of now word heard) fault rest more
+  pub told_nobody : Refuses s (coordinator_key s.room.service word.number 0) (event_of now word heard) refusals.ObjectNotExist rest more
       → IsToldBy s now word heard [] rest more
-  told_nobody fault refused = inr (record { fault = fault; refused = refused; nobody = refl })
+  told_nobody gone = inr (record { gone = gone; nobody = refl })
 
 pub goes_next_told : {D : Type 0} (s : Site D) (now : ℕ) (words : List Outward) (word : Outward) (before after : LinkMoment) (heard : Heard)
     (starved : Bool) (finished : List Finished) (more : List Outward) → slice_get words 0 ≡ Some word

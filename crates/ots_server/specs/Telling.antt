@@ -19,7 +19,7 @@ use Rattle.coordinator.specs.declared.said.Said.TheVariants as says
 use Rattle.coordinator.specs.declared.said.StepAnswer.{StepAnswer}
 use Rattle.coordinator.specs.History.{answer_among, is_later}
 use Rattle.tree_room.specs.Answers.{HasTicked}
-use Rattle.tree_room.specs.declared.fault.RoomFault.{RoomFault}
+use Rattle.tree_room.specs.declared.fault.RoomFault.TheVariants as refusals
 use Rattle.tree_room.specs.Room.{RoomState}
 use Rattle.ots_server.specs.Site.{Answers, Refuses, Site}
 use Rattle.ots_sessions.specs.References.{coordinator_key}
@@ -35,7 +35,7 @@ pub record Telling : Type 0 where
 abbrev pub event_of : ℕ → Outward → Heard → Event
 event_of now word heard = record { key = None; branch = 0; now = now; act = acts.Answer word.number heard }
 
--- the transaction has heard it, and its words went behind the others; or the room has refused it, and nobody was answered
+-- the transaction has heard it, and its words went behind the others; or it isn't there any more, and nobody was answered
 pub record IsToldTo {D : Type 0} (s : Site D) (now : ℕ) (word : Outward) (telling : Telling) (rest more : List Outward) : Type 0 where
   pub answer : StepAnswer
   pub context : Option Context
@@ -43,8 +43,7 @@ pub record IsToldTo {D : Type 0} (s : Site D) (now : ℕ) (word : Outward) (tell
   pub finished_are : telling.finished ≡ answer.finished
 
 pub record IsToldToNobody {D : Type 0} (s : Site D) (now : ℕ) (word : Outward) (telling : Telling) (rest more : List Outward) : Type 0 where
-  pub fault : RoomFault
-  pub refused : Refuses s (coordinator_key s.room.service word.number 0) (event_of now word telling.heard) fault rest more
+  pub gone : Refuses s (coordinator_key s.room.service word.number 0) (event_of now word telling.heard) refusals.ObjectNotExist rest more
   pub nobody : telling.finished ≡ []
 
 -- who sends the words of a room: its service. The resources that it hands over are those of its subordinates (U)

@@ -56,9 +56,10 @@ impl<R: Wait, N: Naming, D: Disk, L: Link, C: Clock> RoomServant<R, N, D, L, C> 
 
 impl<R: Wait, N: Naming, D: Disk, L: Link, C: Clock> Servant for RoomServant<R, N, D, L, C> {
     ghost use Rattle.std.specs.Arc.{arc_value};
-    ghost use Rattle.std.specs.Prelude.{◌≡◌};
+    ghost use Rattle.std.specs.Prelude.{◌≡◌, ◌≤◌, OnOk};
     ghost use Rattle.ots_server.specs.Answers.{AnswersWithin, IsThere};
     ghost use Rattle.ots_server.specs.Site.{site};
+    ghost use Rattle.ots_server.specs.Telling.{Ticks};
     ghost use Rattle.outward_calls.specs.Moment.{moment};
 
     ghost faults = { λ s. L.faults s.link };
@@ -71,6 +72,11 @@ impl<R: Wait, N: Naming, D: Disk, L: Link, C: Clock> Servant for RoomServant<R, 
         (C.moment before.clock) (C.moment after.clock)
         (moment (L.faults before.link) (L.exchanged before.link)) (moment (L.faults after.link) (L.exchanged after.link)) answer
         × (after.room ≡ before.room) };
+
+    ghost ticks = { λ before said after. OnOk said (Ticks
+        (site D.wants_memory D.told D.faults (arc_value before.room)) (C.moment after.clock)
+        (moment (L.faults before.link) (L.exchanged before.link)) (moment (L.faults after.link) (L.exchanged after.link)))
+        × ((C.moment before.clock ≤ C.moment after.clock) × (after.room ≡ before.room)) };
 
     fn is_there(&mut self, key: &ObjectKey) -> bool {
         is_there(&self.rt, &self.room, &mut self.pass, key)
@@ -86,17 +92,16 @@ impl<R: Wait, N: Naming, D: Disk, L: Link, C: Clock> Servant for RoomServant<R, 
         answer_call(&desk, &mut self.pass, called, &mut self.link)
     }
 
-    fn tick(&mut self) {
+    fn tick(&mut self) -> Result<(), ServeFault> {
         let now = self.clock.now();
-        // Where memory is wanting, words of records that didn't go out are told again by the next tick.
-        let _ = tick_once(
+        tick_once(
             &self.rt,
             self.alloc,
             &self.room,
             &mut self.pass,
             now,
             &mut self.link,
-        );
+        )
     }
 
     fn pause(&mut self) {

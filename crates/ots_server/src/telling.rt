@@ -97,7 +97,8 @@ fn tell<R: Wait, N: Naming, D: Disk>(
             let answer = ticket.answer;
             Ok(answer.finished)
         }
-        Err(RoomFault::Memory) => Err(ServeFault::Memory),
-        Err(_) => Ok(Answers::from_vec(Vec::new(desk.alloc))),
+        Err(RoomFault::ObjectNotExist) => Ok(Answers::from_vec(Vec::new(desk.alloc))),
+        // The transaction is there, but hasn't heard it: memory was wanting, or room in its history.
+        Err(_) => Err(ServeFault::Memory),
     }
 }

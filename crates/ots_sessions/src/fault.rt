@@ -4,7 +4,7 @@ use std::alloc::AllocError;
 /// Why a request isn't answered.
 #[derive(Clone, Copy, Debug, PartialEq, Eq)]
 pub enum ServeFault {
-    /// Memory was wanting, or what is to be written is too long.
+    /// Memory was wanting, or what is to be written is too long, or a history has no room for what was heard.
     Memory,
 }
 

@@ -67,7 +67,8 @@ impl<S: Servant + Drop> Hall<S> {
         let Some(mut servant) = self.ticker.lock(rt).take() else {
             return;
         };
-        servant.tick();
+        // Where memory was wanting, the next tick goes on.
+        let _ = servant.tick();
         *self.ticker.lock(rt) = Some(servant);
     }
 

@@ -8,16 +8,20 @@ use ots_outside::{
 };
 use std::alloc::Global;
 use std::collections::VecDeque;
-use std::net::{Net, TcpListener, TcpStream};
+use std::net::{Net, TcpListener, TcpStream, ToSocketAddrs};
 use std::sync::Arc;
 use std::sync::atomic::{AtomicU64, Ordering};
 use std::test::Fail;
+use std::time::Duration;
 use std::{fs, time};
 
 /// A request, and what it is answered: two messages without a body.
 const REQUEST: [u8; 12] = *b"GIOP\x01\x02\x00\x00\x00\x00\x00\x00";
 
 const REPLY: [u8; 12] = *b"GIOP\x01\x02\x00\x01\x00\x00\x00\x00";
+
+/// The header of a reply that has 60 octets behind it.
+const LONG: &[u8] = b"GIOP\x01\x02\x00\x01\x00\x00\x00\x3c";
 
 /// A reply in two parts: the first in little endian with two octets behind its header, the second in big endian with one.
 const PARTS: &[u8] = b"GIOP\x01\x02\x03\x01\x02\x00\x00\x00abGIOP\x01\x02\x00\x07\x00\x00\x00\x01c";
@@ -93,11 +97,13 @@ fn a_link_reads_a_reply_in_parts(rt: HostRuntime) -> Result<(), Fail> {
     Ok(())
 }
 
-/// Takes one connection, reads a request, writes these octets, and then says nothing until the other side is over.
+/// Takes one connection, reads a request, writes these octets, and then the others, once in each second, until the other side is
+/// over.
 #[derive(Drop)]
 struct Hanging<R> {
     door: TcpDoor<R>,
     octets: &'static [u8],
+    others: &'static [u8],
     over: Arc<AtomicU64, Global>,
     clock: SystemClock<R>,
 }
@@ -108,6 +114,7 @@ impl<R: Net<Listener = TcpListener, Stream = TcpStream> + time::Clock + Drop> Jo
             let _ = answer(&mut conn, self.octets);
             for _ in 0..40 {
                 if self.over.load(Ordering::SeqCst) == 0 {
+                    let _ = conn.write(self.others);
                     self.clock.pause();
                 }
             }
@@ -116,10 +123,11 @@ impl<R: Net<Listener = TcpListener, Stream = TcpStream> + time::Clock + Drop> Jo
     }
 }
 
-/// A peer that writes these octets and then hangs until the other side is over.
+/// A peer that writes these octets, and then the others in each second, until the other side is over.
 fn peer_saying(
     rt: HostRuntime,
     octets: &'static [u8],
+    others: &'static [u8],
     over: &Arc<AtomicU64, Global>,
 ) -> Result<Hanging<HostRuntime>, Fail> {
     let mut door = door_here(rt)?;
@@ -129,13 +137,14 @@ fn peer_saying(
     Ok(Hanging {
         door,
         octets,
+        others,
         over: Arc::try_clone(over)?,
         clock: SystemClock::new(rt),
     })
 }
 
-/// Whether a link to this port fails once, between 5 and 30 seconds later.
-fn fails_late(rt: HostRuntime, port: u16) -> Result<bool, Fail> {
+/// Whether a link to this port fails once, so many seconds later at least, and fewer than 30.
+fn fails_late(rt: HostRuntime, port: u16, least: u64) -> Result<bool, Fail> {
     let mut clock = SystemClock::new(rt);
     let start = clock.now();
     let host = Octets::new(rt.alloc(), b"127.0.0.1")?;
@@ -144,16 +153,16 @@ fn fails_late(rt: HostRuntime, port: u16) -> Result<bool, Fail> {
     let heard = link.invoke(&Endpoint { host, port }, &REQUEST, &mut reply);
     let seconds = clock.now().saturating_sub(start);
     let is_unsaid = heard == Err(LinkRefusal::Failed) && reply.is_empty();
-    Ok(is_unsaid && link.faults() == 1 && seconds >= 5 && seconds < 30)
+    Ok(is_unsaid && link.faults() == 1 && seconds >= least && seconds < 30)
 }
 
 #[test]
 fn a_link_fails_whose_peer_says_nothing(rt: HostRuntime) -> Result<(), Fail> {
     let over = Arc::new(rt.alloc(), AtomicU64::new(0))?;
-    let peer = peer_saying(rt, &[], &over)?;
+    let peer = peer_saying(rt, &[], &[], &over)?;
     let port = peer.door.port().unwrap_or(0);
     assert!(rt; Spawner::on_threads(rt).start(peer));
-    assert!(rt; fails_late(rt, port)?);
+    assert!(rt; fails_late(rt, port, 13)?);
     over.store(1, Ordering::SeqCst);
     Ok(())
 }
@@ -161,11 +170,48 @@ fn a_link_fails_whose_peer_says_nothing(rt: HostRuntime) -> Result<(), Fail> {
 #[test]
 fn a_link_fails_whose_peer_says_half_a_header(rt: HostRuntime) -> Result<(), Fail> {
     let over = Arc::new(rt.alloc(), AtomicU64::new(0))?;
-    let peer = peer_saying(rt, &REPLY[..6], &over)?;
+    let peer = peer_saying(rt, &REPLY[..6], &[], &over)?;
     let port = peer.door.port().unwrap_or(0);
     assert!(rt; Spawner::on_threads(rt).start(peer));
-    assert!(rt; fails_late(rt, port)?);
+    assert!(rt; fails_late(rt, port, 13)?);
     over.store(1, Ordering::SeqCst);
+    Ok(())
+}
+
+#[test]
+fn a_link_fails_whose_peer_says_an_octet_a_second(rt: HostRuntime) -> Result<(), Fail> {
+    let over = Arc::new(rt.alloc(), AtomicU64::new(0))?;
+    let peer = peer_saying(rt, LONG, &[0], &over)?;
+    let port = peer.door.port().unwrap_or(0);
+    assert!(rt; Spawner::on_threads(rt).start(peer));
+    assert!(rt; fails_late(rt, port, 13)?);
+    over.store(1, Ordering::SeqCst);
+    Ok(())
+}
+
+/// Connects to a port of this machine until no more are taken there, and gives the connections.
+fn crowd_at(rt: HostRuntime, port: u16) -> Result<Vec<TcpStream>, Fail> {
+    let mut waiting = Vec::new(rt.alloc());
+    let mut addresses = ("127.0.0.1", port).to_socket_addrs(&rt)?;
+    let Some(address) = addresses.next() else {
+        return Err("no address".into());
+    };
+    for _ in 0..900 {
+        match TcpStream::connect_timeout(&rt, &address, Duration::from_secs(1)) {
+            Ok(stream) => waiting.push(stream)?,
+            Err(_) => return Ok(waiting),
+        }
+    }
+    Err("all were taken".into())
+}
+
+#[test]
+fn a_link_fails_that_is_not_taken(rt: HostRuntime) -> Result<(), Fail> {
+    let mut door = door_here(rt)?;
+    assert!(rt; door.open().is_ok());
+    let port = door.port().unwrap_or(0);
+    let waiting = crowd_at(rt, port)?;
+    assert!(rt; !waiting.is_empty() && fails_late(rt, port, 2)?);
     Ok(())
 }
 

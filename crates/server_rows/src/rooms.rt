@@ -3,9 +3,8 @@ ghost use Rattle.tree_room.specs.Room.{IsNamed};
 
 use case_kit::{CaseClock, HeldLink, Host, House, KeptDisk, Life, Lives, known};
 use ots_model::{Endpoint, Octets};
-use ots_outside::Clock;
-use ots_server::{RoomServant, servants_of, tick_once};
-use ots_sessions::{ServeFault, factory_key};
+use ots_server::{RoomServant, servants_of};
+use ots_sessions::factory_key;
 use service_node::Node;
 use std::alloc::Global;
 use std::io;
@@ -33,11 +32,11 @@ struct RoomHouse<R: Wait, N: Naming> {
 }
 
 impl<R: Host, N: Naming + Send + Sync + 'static> House<R> for RoomHouse<R, N> {
-    type Server = RoomServant<R, N, KeptDisk<R>, HeldLink, CaseClock<R>>;
+    type Server = RoomServant<R, N, KeptDisk<R>, HeldLink<R>, CaseClock<R>>;
 
     fn servers(
         &mut self,
-        links: Vec<HeldLink>,
+        links: Vec<HeldLink<R>>,
         clocks: Vec<CaseClock<R>>,
     ) -> io::Result<Vec<Self::Server>> {
         let mut passes = Vec::new(self.alloc);
@@ -47,19 +46,7 @@ impl<R: Host, N: Naming + Send + Sync + 'static> House<R> for RoomHouse<R, N> {
         Ok(servants_of(&self.rt, self.alloc, &self.room, passes, links, clocks)?)
     }
 
-    fn tick(&self, server: &mut Self::Server) -> Result<(), ServeFault> {
-        let now = server.clock.now();
-        tick_once(
-            &self.rt,
-            self.alloc,
-            &server.room,
-            &mut server.pass,
-            now,
-            &mut server.link,
-        )
-    }
-
-    fn link(server: &Self::Server) -> &HeldLink {
+    fn link(server: &Self::Server) -> &HeldLink<R> {
         &server.link
     }
 }
@@ -84,7 +71,10 @@ pub fn tell_case<R: Host>(rt: &R, alloc: Global, case: &str, told: &mut Vec<u8>)
 fn play<R: Host>(rt: &R, alloc: Global, disk: KeptDisk<R>, life: &mut Life<'_>) -> io::Result<()> {
     match Node::load(alloc, disk, AREA, SERVICE) {
         Ok(node) => open::<Brand, R>(rt, alloc, node, life),
-        Err(back) => writeln!(life.told, "{:?}", back.fault),
+        Err(back) => {
+            life.pass(rt);
+            writeln!(life.told, "{:?}", back.fault)
+        }
     }
 }
 
