@@ -10,6 +10,7 @@ use ior_refs::ObjectKey;
 use ots_calls::{Bare, Call, Called};
 use ots_context::Context;
 use ots_model::RetryKey;
+use ots_outside::Failure;
 use std::alloc::Global;
 use std::{io, mem};
 
@@ -33,6 +34,8 @@ pub struct Batch<'a> {
     pub asked: Vec<Asked<'a>>,
     /// What the words of the session are answered, in order.
     pub replies: Replies,
+    /// Which writes to the client fail.
+    pub failing: Vec<Failure>,
 }
 
 impl Batch<'_> {
@@ -42,6 +45,7 @@ impl Batch<'_> {
             input: Vec::new(alloc),
             asked: Vec::new(alloc),
             replies: Replies::new(alloc),
+            failing: Vec::new(alloc),
         }
     }
 }
@@ -92,6 +96,10 @@ impl<'a> Client<'a> {
             "flags" => self.flags = known(rest.parse().ok())?,
             "retry" => self.retry = Some(retry_key(number(rest)?)),
             "answer" => self.answer(rest)?,
+            "deaf" => self.batch.failing.push(Failure {
+                call: u64::from(number(rest)?),
+                taken: 0,
+            })?,
             "octets" => self.put(&octets_of(self.alloc, rest)?)?,
             "cut" => self.cut(number(rest)? as usize),
             "locate" | "raw" | "cancel" | "close" => self.send(line)?,

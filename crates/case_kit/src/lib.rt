@@ -11,6 +11,7 @@
 //!   `IOR:..` or by the name of a host, where it is the object `K 9 0 0 0 0` at its port 7. `outside`: they belong to none any more.
 //! - `raw OPERATION HEX`: a request with this body. `locate`, `cancel`, `close`: a message of that kind. `octets HEX`: these
 //!   octets are sent. `cut N`: the last N octets that were sent don't come.
+//! - `deaf N`: the N-th write to the client fails, from 0.
 //! - `answer ID ANSWER`: the next word is answered so, under this request_id, as `answers.rt` has it; or it is `lost` (its call
 //!   fails), or `starved` (its call wants memory). Where nothing is said of a word, it is lost.
 //! - `serve`: what was sent so far is served as a session. `aside`: it is put aside for a second session.
@@ -18,8 +19,8 @@
 //!   isn't answered until the second session is over. It is told where either has waited for 1,000,000 turns in vain.
 //! - `door`, the last line of a life: it comes in by a door with one connection, and the service goes on until that has ended.
 //!   Four ticks come first, at the moment and at the three seconds behind it; the clock of the session stands still. The words
-//!   of the ticks are answered as what was put aside says. `door alone`: the job of the ticks can't be started, so there is one
-//!   tick before the connection, and one before the end.
+//!   of the ticks are answered as what was put aside says. `door without N`: the job with this number can't be started: 0 is that
+//!   of the ticks, so there is one tick before the connection, and one before the end; 1 is that of the connection.
 //! - `crowd`, the last line of a life: it comes in by each of four connections at a door, where there are two servants for
 //!   sessions and one for ticks, and each session is on a thread of its own. A session that has answered goes on until another
 //!   was begun beside it, and 0.3 seconds longer. It is told where one was alone for 10 seconds, how many were open at most

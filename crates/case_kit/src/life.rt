@@ -3,7 +3,7 @@ use crate::counts::{CaseClock, held};
 use crate::crowd::Crowd;
 use crate::house::{Host, House};
 use crate::kept_disk::{Room, Shelf};
-use crate::links::{Gate, HeldLink, Way};
+use crate::links::{Gate, HeldLink, Replies, Way};
 use crate::sessions::{Session, serve_both, serve_door};
 use crate::tell::{tell_replies, tell_words};
 use crate::text::{front, known, number};
@@ -19,8 +19,8 @@ use std::{io, mem};
 #[derive(Clone, Copy)]
 enum Last {
     Crash,
-    Door,
-    DoorAlone,
+    /// The start of the job with this number fails.
+    Door(Option<u32>),
     Crowd,
 }
 
@@ -64,12 +64,7 @@ impl<'a> Life<'a> {
         }
         match last {
             Last::Crash => Ok(()),
-            Last::Door => self.end_at_door(rt, house, Vec::new(self.alloc)),
-            Last::DoorAlone => {
-                let mut failing = Vec::new(self.alloc);
-                failing.push(0)?;
-                self.end_at_door(rt, house, failing)
-            }
+            Last::Door(without) => self.end_at_door(rt, house, without),
             Last::Crowd => self.end_in_crowd(rt, house),
         }
     }
@@ -143,17 +138,13 @@ impl<'a> Life<'a> {
         &self,
         rt: &R,
         house: &mut H,
-        batch: Batch<'a>,
+        mut batch: Batch<'a>,
         way: Way,
     ) -> io::Result<Session<'a, H::Server>> {
-        let Batch {
-            input,
-            asked,
-            replies,
-        } = batch;
+        let replies = mem::replace(&mut batch.replies, Replies::new(self.alloc));
         let link = HeldLink::new(*rt, self.alloc, replies, way);
         let server = self.server(rt, house, link)?;
-        Ok(Session::new(self.alloc, server, input, asked))
+        Ok(Session::new(self.alloc, server, batch))
     }
 
     /// Serves what was sent.
@@ -216,8 +207,12 @@ impl<'a> Life<'a> {
         &mut self,
         rt: &R,
         house: &mut H,
-        failing: Vec<u64>,
+        without: Option<u32>,
     ) -> io::Result<()> {
+        let mut failing = Vec::new(self.alloc);
+        if let Some(job) = without {
+            failing.push(u64::from(job))?;
+        }
         let words = none_sent(self.alloc)?;
         let batch = self.client.take();
         let session = self.session(rt, house, batch, Way::Told(held(&words)?, ""))?;
@@ -242,11 +237,9 @@ impl<'a> Life<'a> {
 
 /// The lines of a life before its last one, and that.
 fn last_of(lines: &str) -> (&str, Last) {
-    if let Some((lines, _)) = lines.split_once("\ndoor alone") {
-        return (lines, Last::DoorAlone);
-    }
-    if let Some((lines, _)) = lines.split_once("\ndoor") {
-        return (lines, Last::Door);
+    if let Some((lines, rest)) = lines.split_once("\ndoor") {
+        let job = rest.trim().strip_prefix("without ");
+        return (lines, Last::Door(job.and_then(|job| job.parse().ok())));
     }
     match lines.split_once("\ncrowd") {
         Some((lines, _)) => (lines, Last::Crowd),

@@ -1,6 +1,6 @@
 //! Sessions over devices in memory.
 
-use crate::client::Asked;
+use crate::client::{Asked, Batch};
 use crate::house::Host;
 use crate::links::Gate;
 use crate::tell::tell_replies;
@@ -31,12 +31,18 @@ pub struct Session<'a, S> {
 
 impl<'a, S: Servant> Session<'a, S> {
     /// The session in which a client sends this.
-    pub fn new(alloc: Global, server: S, input: Vec<u8>, asked: Vec<Asked<'a>>) -> Session<'a, S> {
+    pub fn new(alloc: Global, server: S, batch: Batch<'a>) -> Session<'a, S> {
+        let Batch {
+            input,
+            asked,
+            failing,
+            ..
+        } = batch;
         Session {
             server,
             conn: MemConn {
                 source: MemSource::new(input, Vec::new(alloc)),
-                sink: MemSink::new(alloc, Vec::new(alloc)),
+                sink: MemSink::new(alloc, failing),
             },
             asked,
             end: None,
